@@ -1,0 +1,6 @@
+//! The values, marks, tables and outcomes that guest memory is made of.
+#![tactic(auto)]
+
+mod address;
+
+pub use address::{GuestAddress, MemoryRegionAddress};
