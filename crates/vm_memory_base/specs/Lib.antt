@@ -1,0 +1,5 @@
+pub mod Address
+pub mod Pages
+pub mod Permissions
+pub mod Runs
+pub mod Table

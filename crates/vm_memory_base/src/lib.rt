@@ -2,5 +2,7 @@
 #![tactic(auto)]
 
 mod address;
+mod iotlb;
 
 pub use address::{GuestAddress, MemoryRegionAddress};
+pub use iotlb::{Permissions, Reason};

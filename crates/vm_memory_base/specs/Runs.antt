@@ -1,0 +1,37 @@
+-- Runs of neighbouring addresses at which a function has one value.
+use Rattle.std.specs.Prelude.{◌≡◌, ℕ, zero, suc, ◌+◌, ◌<◌, ◌≤◌, Bool, false, ◌&&◌, cond, ◌==◌, List, [], ◌∷◌, Option, Some, None}
+use Rattle.vm_memory_base.specs.Address.{is_within}
+
+-- neighbouring addresses, and the value that they all have
+pub record Run (K : Type 0) : Type 0 where
+  pub start : ℕ
+  pub len : ℕ
+  pub value : K
+
+module _ {K : Type 0} (same : K → K → Bool) where
+  -- the runs with one more address before them, which joins the first where that begins right behind it and has the same value
+  abbrev pub with_front : ℕ → K → List (Run K) → List (Run K)
+  with_front a k [] = record { start = a; len = 1; value = k } ∷ []
+  with_front a k (r ∷ rs) = cond (r.start == a + 1 && same k r.value)
+      (record { start = a; len = r.len + 1; value = k } ∷ rs)
+      (record { start = a; len = 1; value = k } ∷ r ∷ rs)
+
+  abbrev pub with_value : ℕ → Option K → List (Run K) → List (Run K)
+  with_value a None rs = rs
+  with_value a (Some k) rs = with_front a k rs
+
+  -- the maximal runs of equal values among the n addresses from a on, ascending
+  unfoldable pub runs : (ℕ → Option K) → ℕ → ℕ → List (Run K)
+  runs f a zero = []
+  runs f a (suc n) = with_value a (f a) (runs f (a + 1) n)
+
+  -- ascending runs, none of them empty, which differ where they touch
+  abbrev pub IsCanonical : List (Run K) → Type 0
+  IsCanonical [] = Unit {0}
+  IsCanonical (r ∷ []) = 0 < r.len
+  IsCanonical (r ∷ s ∷ rs) = (0 < r.len) × (r.start + r.len ≤ s.start) × (r.start + r.len ≡ s.start → same r.value s.value ≡ false) × IsCanonical (s ∷ rs)
+
+-- the value of the run that an address lies in, if it lies in one
+abbrev pub value_at : {K : Type 0} → List (Run K) → ℕ → Option K
+value_at [] x = None
+value_at (r ∷ rs) x = cond (is_within r.start r.len x) (Some r.value) (value_at rs x)

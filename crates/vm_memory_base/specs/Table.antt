@@ -1,0 +1,108 @@
+-- What an I/O table says of each address, what the calls that change it make of that, and what a look-up gives.
+use Rattle.std.specs.Prelude.{ℕ, zero, suc, ◌+◌, ◌-◌, ◌%◌, ◌^◌, Bool, true, false, not, ◌&&◌, ◌||◌, cond, ◌==◌, nat_lt, List, [], ◌∷◌, map, Option, Some, None, is_some}
+use Rattle.vm_memory_base.specs.Address.{difference, is_within}
+use Rattle.vm_memory_base.specs.Permissions.{allow, same}
+use Rattle.vm_memory_base.specs.Runs.{Run, runs, value_at}
+use Rattle.vm_memory_base.specs.declared.iotlb.Permissions.{Permissions}
+use Rattle.vm_memory_base.specs.declared.iotlb.Reason.{Reason}
+use Rattle.vm_memory_base.specs.declared.iotlb.Reason.TheVariants.{MissingMapping, AccessNotAllowed}
+
+-- of an address that is mapped: how far on its target lies, and which accesses are permitted
+pub record Mapping : Type 0 where
+  pub difference : ℕ
+  pub permissions : Permissions
+
+abbrev pub same_mapping : Mapping → Mapping → Bool
+same_mapping m n = m.difference == n.difference && same m.permissions n.permissions
+
+-- the target of an address that has this mapping
+abbrev pub target : ℕ → Mapping → ℕ
+target x m = (x + m.difference) % 2 ^ 64
+
+-- what a table says of each address
+abbrev pub Says : Type 0
+Says = ℕ → Option Mapping
+
+-- a call that changes a table
+pub data TableCall : Type 0 where
+  Set : (iova to len : ℕ) (permissions : Permissions) → TableCall
+  Invalidate : (iova len : ℕ) → TableCall
+  InvalidateAll : TableCall
+
+-- what is said of x after a call, where old was said before it
+abbrev pub says_after : TableCall → ℕ → Option Mapping → Option Mapping
+says_after (Set iova to len permissions) x old = cond (is_within iova len x) (Some (record { difference = difference iova to; permissions = permissions })) old
+says_after (Invalidate iova len) x old = cond (is_within iova len x) None old
+says_after InvalidateAll x old = None
+
+-- what is said of x after calls, the earliest first, where old was said before them: the last one that covers x decides
+abbrev pub says_after_all : List TableCall → ℕ → Option Mapping → Option Mapping
+says_after_all [] x old = old
+says_after_all (call ∷ calls) x old = says_after_all calls x (says_after call x old)
+
+-- a new table says nothing of any address
+abbrev pub says_nothing : Says
+says_nothing x = None
+
+-- a table as it is kept: at most so many runs, if there is a limit, and its runs
+pub record Table : Type 0 where
+  pub limit : Option ℕ
+  pub ranges : List (Run Mapping)
+
+-- what a kept table says
+abbrev pub says : Table → Says
+says table x = value_at table.ranges x
+
+-- the canonical list: the maximal runs of neighbouring addresses with one mapping, ascending
+abbrev pub canonical_list : Says → List (Run Mapping)
+canonical_list f = runs same_mapping f 0 (2 ^ 64)
+
+-- whether what is said of an address grants the access
+abbrev pub grants : Permissions → Option Mapping → Bool
+grants access None = false
+grants access (Some m) = allow m.permissions access
+
+-- whether the test passes at each of the n addresses from a on
+unfoldable pub each : (Option Mapping → Bool) → Says → ℕ → ℕ → Bool
+each test f a zero = true
+each test f a (suc n) = test (f a) && each test f (a + 1) n
+
+-- whether the end of n addresses from a on is no address
+abbrev pub overruns : ℕ → ℕ → Bool
+overruns a n = nat_lt (2 ^ 64 - 1) (a + n)
+
+-- an access to n addresses from a on is allowed where each grants it
+abbrev pub is_allowed : Says → ℕ → ℕ → Permissions → Bool
+is_allowed f a n access = n == 0 || (not (overruns a n) && each (grants access) f a n)
+
+-- why an access that is not allowed is refused
+abbrev pub reason : Says → ℕ → ℕ → Reason
+reason f a n = cond (overruns a n || not (each is_some f a n)) MissingMapping AccessNotAllowed
+
+-- so many addresses from base on
+pub record Range : Type 0 where
+  pub base : ℕ
+  pub len : ℕ
+
+-- the pieces of a look-up: the runs of the asked addresses, each at the target of its first
+abbrev pub pieces : Says → ℕ → ℕ → List Range
+pieces f a n = map (λ r. record { base = target r.start r.value; len = r.len }) (runs same_mapping f a n)
+
+abbrev pub range_of : {K : Type 0} → Run K → Range
+range_of r = record { base = r.start; len = r.len }
+
+abbrev pub if_missing : Option Mapping → Option (Unit {0})
+if_missing None = Some tt
+if_missing (Some m) = None
+
+abbrev pub if_forbidden : Permissions → Option Mapping → Option Mapping
+if_forbidden access None = None
+if_forbidden access (Some m) = cond (allow m.permissions access) None (Some m)
+
+-- what is missed: the runs of the asked addresses that have no mapping, and the whole range where its end is no address
+abbrev pub misses : Says → ℕ → ℕ → List Range
+misses f a n = cond (overruns a n) (record { base = a; len = n } ∷ []) (map range_of (runs (λ _ _. true) (λ x. if_missing (f x)) a n))
+
+-- what fails: the runs of the asked addresses whose mapping forbids the access
+abbrev pub failures : Says → ℕ → ℕ → Permissions → List Range
+failures f a n access = cond (overruns a n) [] (map range_of (runs same_mapping (λ x. if_forbidden access (f x)) a n))

@@ -1,0 +1,98 @@
+//! I/O address translation: permissions, and what a table says of an address.
+ghost use Rattle.std.specs.Prelude.{◌≡◌};
+ghost use Rattle.vm_memory_base.specs.Permissions as set;
+
+use std::fmt;
+use std::ops::{BitAnd, BitOr};
+
+/// The accesses that a mapping permits, or that are asked for: a set of two bits.
+#[derive(Clone, Copy, Debug, PartialEq, Eq)]
+pub enum Permissions {
+    No = 0,
+    Read = 1,
+    Write = 2,
+    ReadWrite = 3,
+}
+
+impl Permissions {
+    // The set of these two bits.
+    fn of_bits(read: bool, write: bool) -> Permissions
+        ensures { result ≡ set.of_bits read write }
+    {
+        match (read, write) {
+            (false, false) => Permissions::No,
+            (true, false) => Permissions::Read,
+            (false, true) => Permissions::Write,
+            (true, true) => Permissions::ReadWrite,
+        }
+    }
+
+    /// Whether every access of `access` is among these: so `No` is always allowed.
+    pub fn allow(&self, access: Self) -> bool
+        ensures { result ≡ set.allow self.now access }
+    {
+        (!access.has_read() || self.has_read()) && (!access.has_write() || self.has_write())
+    }
+
+    fn has_read(&self) -> bool
+        ensures { result ≡ set.has_read self.now }
+    {
+        matches!(*self, Permissions::Read | Permissions::ReadWrite)
+    }
+
+    /// Whether writing is among these.
+    pub fn has_write(&self) -> bool
+        ensures { result ≡ set.has_write self.now }
+    {
+        matches!(*self, Permissions::Write | Permissions::ReadWrite)
+    }
+}
+
+/// The union of two sets.
+impl BitOr for Permissions {
+    type Output = Permissions;
+
+    ghost bitor_gives = { λ a b r. r ≡ set.union a b };
+
+    fn bitor(self, rhs: Permissions) -> Permissions {
+        Permissions::of_bits(
+            self.has_read() || rhs.has_read(),
+            self.has_write() || rhs.has_write(),
+        )
+    }
+}
+
+/// The intersection of two sets.
+impl BitAnd for Permissions {
+    type Output = Permissions;
+
+    ghost bitand_gives = { λ a b r. r ≡ set.intersection a b };
+
+    fn bitand(self, rhs: Permissions) -> Permissions {
+        Permissions::of_bits(
+            self.has_read() && rhs.has_read(),
+            self.has_write() && rhs.has_write(),
+        )
+    }
+}
+
+/// Why an I/O address range was refused.
+#[derive(Clone, Copy, Debug, PartialEq, Eq)]
+pub enum Reason {
+    /// An address of the range has no mapping.
+    MissingMapping,
+    /// A mapping of the range does not permit the access.
+    AccessNotAllowed,
+    /// For translators of a user's own.
+    NotConfigured,
+}
+
+impl fmt::Display for Reason {
+    fn fmt<W: fmt::Write>(&self, f: &mut fmt::Formatter<W>) -> fmt::Result {
+        f.write_str(match self {
+            Reason::MissingMapping => "missing mapping",
+            Reason::AccessNotAllowed => "access not allowed",
+            Reason::NotConfigured => "not configured",
+        })
+    }
+}
