@@ -2,7 +2,11 @@
 #![tactic(auto)]
 
 mod address;
+mod bitmap;
+mod io;
 mod iotlb;
 
 pub use address::{GuestAddress, MemoryRegionAddress};
+pub use bitmap::{Bitmap, BitmapId, BitmapRef, ExactBitmap, NewBitmap};
+pub use io::{VolatileMemoryError, VolatileMemoryResult};
 pub use iotlb::{Permissions, Reason};

@@ -1,0 +1,120 @@
+//! Dirty tracking: which pages of a block or a space were written.
+ghost use Rattle.std.specs.Prelude.{◌≡◌, ◌^◌, ℕ, Bool, ◌<◌, IfOk};
+ghost use Rattle.vm_memory_base.specs.Pages.{PageSet, IsPageSet, in_view};
+ghost use Rattle.vm_memory_base.specs.Pages as page_set;
+
+use std::alloc::{AllocError, Global};
+
+/// Tracks which parts of a range of bytes were written.
+///
+/// ```text
+/// bitmap.mark_dirty(offset, len);
+/// let written = bitmap.dirty_at(offset);
+/// ```
+pub trait Bitmap {
+    /// What a mark of so many bytes at an offset may leave of a bitmap: its own relation, which an
+    /// `ExactBitmap` ties to pages.
+    ghost marks: { Self → ℕ → ℕ → Self → Type 0 };
+
+    /// What may be told of the byte at an offset.
+    ghost tells: { Self → ℕ → Bool → Type 0 };
+
+    /// Marks `len` bytes from `offset` on as written.
+    fn mark_dirty(&mut self, offset: usize, len: usize)
+        ensures { marks self.old offset len self.new };
+
+    /// Whether the byte at `offset` is told to have been written.
+    fn dirty_at(&self, offset: usize) -> bool
+        ensures { tells self.now offset result };
+}
+
+/// A bitmap that tracks a set of pages, exactly: docs/DEFINITIONS.md, "Page sets".
+pub trait ExactBitmap: Bitmap {
+    /// The pages that it tracks.
+    ghost pages: { Self → PageSet };
+
+    /// The page size in bytes and the number of pages, or nothing where nothing is tracked. Every page
+    /// begins at an offset of 64 bits.
+    fn shape(&self) -> Option<(usize, usize)>
+        ensures value { result ≡ page_set.shape (pages self.now) }
+        ensures fits { IsPageSet (pages self.now) };
+
+    /// A mark makes the pages of its bytes dirty, and no other.
+    ghost marks_pages: { (old new : Self) (offset len : ℕ) → Self.marks old offset len new → pages new ≡ page_set.marked offset len (pages old) };
+
+    /// A byte is told to be written where its page is dirty.
+    ghost tells_pages: { (b : Self) (offset : ℕ) (told : Bool) → Self.tells b offset told → told ≡ page_set.is_dirty_at (pages b) offset };
+}
+
+/// A bitmap that can be made for a length in bytes.
+pub trait NewBitmap: Bitmap {
+    /// What is made for a length.
+    ghost made: { ℕ → Self → Type 0 };
+
+    /// A clean bitmap for `len` bytes.
+    fn with_len(alloc: Global, len: usize) -> Result<Self, AllocError>
+        ensures { IfOk result (made len) };
+}
+
+/// Tracks nothing.
+impl Bitmap for () {
+    ghost use Rattle.std.specs.Prelude.{◌≡◌, false};
+
+    ghost marks = { λ old offset len new. new ≡ old };
+
+    ghost tells = { λ b offset told. told ≡ false };
+
+    fn mark_dirty(&mut self, _offset: usize, _len: usize) {}
+
+    fn dirty_at(&self, _offset: usize) -> bool {
+        false
+    }
+}
+
+impl ExactBitmap for () {
+    ghost use Rattle.std.specs.Prelude.{None, refl};
+
+    ghost pages = { λ _. None };
+
+    ghost marks_pages = { λ old new offset len h. refl };
+
+    ghost tells_pages = { λ b offset told h. h };
+
+    fn shape(&self) -> Option<(usize, usize)> {
+        None
+    }
+}
+
+impl NewBitmap for () {
+    ghost made = { λ len b. Unit {0} };
+
+    fn with_len(_alloc: Global, _len: usize) -> Result<(), AllocError> {
+        Ok(())
+    }
+}
+
+/// Names a bitmap of a host: that of a block, or a space, by its number.
+#[derive(Clone, Copy, Debug, PartialEq, Eq)]
+pub enum BitmapId {
+    Block(usize),
+    Space(usize),
+}
+
+/// A view of a named bitmap, whose offset 0 is the bitmap's offset `base`.
+#[derive(Clone, Copy, Debug, PartialEq, Eq)]
+pub struct BitmapRef {
+    pub id: BitmapId,
+    pub base: usize,
+}
+
+impl BitmapRef {
+    /// The view that begins `offset` bytes further on, modulo 2^64.
+    pub fn slice_at(&self, offset: usize) -> BitmapRef
+        ensures { result ≡ record self.now { base = in_view self.now.base offset } }
+    {
+        BitmapRef {
+            id: self.id,
+            base: self.base.wrapping_add(offset),
+        }
+    }
+}
