@@ -2,8 +2,10 @@
 ghost use Rattle.std.specs.Prelude.{◌≡◌};
 ghost use Rattle.vm_memory_base.specs.Permissions as set;
 
+use crate::address::GuestAddress;
 use std::fmt;
 use std::ops::{BitAnd, BitOr};
+use thiserror::Error;
 
 /// The accesses that a mapping permits, or that are asked for: a set of two bits.
 #[derive(Clone, Copy, Debug, PartialEq, Eq)]
@@ -95,4 +97,36 @@ impl fmt::Display for Reason {
             Reason::NotConfigured => "not configured",
         })
     }
+}
+
+/// A range of I/O addresses: `length` of them from `base` on.
+#[derive(Clone, Copy, Debug, PartialEq, Eq)]
+pub struct IovaRange {
+    pub base: GuestAddress,
+    pub length: usize,
+}
+
+/// Why a translation was refused.
+#[derive(Debug, Drop, Error)]
+pub enum IommuError {
+    /// The range has an address without a mapping, or one whose mapping does not permit the access.
+    #[error("Cannot translate I/O virtual address range 0x{:x}+{}: {reason}", iova_range.base.0, iova_range.length)]
+    CannotResolve {
+        iova_range: IovaRange,
+        reason: Reason,
+    },
+    /// For translators of a user's own.
+    #[error("Expected 0x{:x}+{} to be a continuous I/O virtual address range, but only {continuous_length} bytes are", iova_range.base.0, iova_range.length)]
+    Fragmented {
+        iova_range: IovaRange,
+        continuous_length: usize,
+    },
+    /// For translators of a user's own.
+    #[error("IOMMU not configured correctly, cannot operate: {reason}")]
+    IommuMisconfigured {
+        reason: Reason,
+    },
+    /// There was no memory for the answer.
+    #[error("out of memory")]
+    Memory,
 }

@@ -9,4 +9,4 @@ mod iotlb;
 pub use address::{GuestAddress, MemoryRegionAddress};
 pub use bitmap::{Bitmap, BitmapId, BitmapRef, ExactBitmap, NewBitmap};
 pub use io::{VolatileMemoryError, VolatileMemoryResult};
-pub use iotlb::{Permissions, Reason};
+pub use iotlb::{IommuError, IovaRange, Permissions, Reason};

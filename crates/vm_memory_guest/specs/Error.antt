@@ -1,0 +1,26 @@
+-- The errors that name faults, and the items of a walk.
+use Rattle.std.specs.Prelude.{List, [], ◌∷◌, ◌++◌, map, Option, Some, None, option_map, Result, Ok, Err}
+use Rattle.vm_memory_base.specs.declared.iotlb.IommuError.TheVariants.{CannotResolve}
+use Rattle.vm_memory_guest.specs.Access.{Fault, NoRegion, NoHostBytes, Refused, Partial, Access, windows}
+use Rattle.vm_memory_guest.specs.Answer.{Reach}
+use Rattle.vm_memory_guest.specs.declared.region.GuestMemoryError.{GuestMemoryError}
+use Rattle.vm_memory_guest.specs.declared.region.GuestMemoryError.TheVariants.{InvalidGuestAddress, HostAddressNotAvailable, IommuError, PartialBuffer}
+use Rattle.vm_memory_guest.specs.declared.volatile_memory.slice.VolatileSlice.{VolatileSlice}
+
+abbrev pub error_of : Fault → GuestMemoryError
+error_of (NoRegion a) = InvalidGuestAddress (record { 0 = a })
+error_of NoHostBytes = HostAddressNotAvailable
+error_of (Refused iova len reason) = IommuError (CannotResolve (record { base = record { 0 = iova }; length = len }) reason)
+error_of (Partial expected completed) = PartialBuffer expected completed
+
+-- the windows of an access, and the error for what stops it
+abbrev pub reach_of : Access → Reach GuestMemoryError
+reach_of access = record { windows = windows access.path; fault = option_map error_of access.fault }
+
+-- what a walk gives: the windows in order, and then the error, if something stops it
+abbrev pub error_item : Option GuestMemoryError → List (Result VolatileSlice GuestMemoryError)
+error_item None = []
+error_item (Some e) = Err e ∷ []
+
+abbrev pub items_of : Reach GuestMemoryError → List (Result VolatileSlice GuestMemoryError)
+items_of reach = map (λ w. Ok w) reach.windows ++ error_item reach.fault

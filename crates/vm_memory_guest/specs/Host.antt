@@ -1,0 +1,73 @@
+-- What a host holds: blocks of bytes, each with a bitmap, spaces and tables, each kind by number from 0.
+use Rattle.std.specs.Prelude.{ℕ, zero, suc, ◌+◌, Bool, false, nat_lt, nat_le, IsTrue, List, [], ◌∷◌, length, map, slice_get, slice_set, slice_index, slice_index_or, Option, Some, None}
+use Rattle.std.specs.List.{list_all}
+use Rattle.vm_memory_base.specs.Table.{Table}
+
+-- the bytes of each block, the bitmap of each block, the bitmap of each space, and each table
+pub record Host (B : Type 0) : Type 0 where
+  pub blocks : List (List ℕ)
+  pub bitmaps : List B
+  pub spaces : List B
+  pub tables : List Table
+
+-- how long each block is, and how many spaces and tables there are
+pub record Shape : Type 0 where
+  pub blocks : List ℕ
+  pub spaces : ℕ
+  pub tables : ℕ
+
+abbrev pub shape_of : {B : Type 0} → Host B → Shape
+shape_of host = record { blocks = map length host.blocks; spaces = length host.spaces; tables = length host.tables }
+
+-- what a value can name in a host
+pub data Name : Type 0 where
+  Block : (block : ℕ) → Name
+  Place : (block offset len : ℕ) → Name
+  Space : (space : ℕ) → Name
+  Tlb : (table : ℕ) → Name
+
+-- so many bytes end within a block of this length, if there is one
+abbrev pub ends_within : Option ℕ → ℕ → Bool
+ends_within None end = false
+ends_within (Some len) end = nat_le end len
+
+-- a host of this shape holds what is named
+abbrev pub is_held : Shape → Name → Bool
+is_held shape (Block block) = nat_lt block (length shape.blocks)
+is_held shape (Place block offset len) = ends_within (slice_get shape.blocks block) (offset + len)
+is_held shape (Space space) = nat_lt space shape.spaces
+is_held shape (Tlb table) = nat_lt table shape.tables
+
+-- a host of this shape holds everything that is named
+abbrev pub Holds : Shape → List Name → Type 0
+Holds shape names = IsTrue (list_all (is_held shape) names)
+
+-- a byte of a block
+pub record Cell : Type 0 where
+  pub block : ℕ
+  pub offset : ℕ
+
+-- len bytes of a block from an offset on
+abbrev pub cells_from : ℕ → ℕ → ℕ → List Cell
+cells_from block offset zero = []
+cells_from block offset (suc len) = record { block = block; offset = offset } ∷ cells_from block (offset + 1) len
+
+-- the bytes of a block
+abbrev pub block_at : List (List ℕ) → ℕ → List ℕ
+block_at blocks block = slice_index_or blocks block []
+
+abbrev pub byte_at : List (List ℕ) → Cell → ℕ
+byte_at blocks cell = slice_index (block_at blocks cell.block) cell.offset
+
+-- the bytes in these cells
+abbrev pub bytes_at : List (List ℕ) → List Cell → List ℕ
+bytes_at blocks cells = map (byte_at blocks) cells
+
+abbrev pub with_byte : List (List ℕ) → Cell → ℕ → List (List ℕ)
+with_byte blocks cell byte = slice_set blocks cell.block (slice_set (block_at blocks cell.block) cell.offset byte)
+
+-- the blocks after the first bytes went into the cells, one after the other
+abbrev pub written : List Cell → List ℕ → List (List ℕ) → List (List ℕ)
+written [] bytes blocks = blocks
+written (cell ∷ cells) [] blocks = blocks
+written (cell ∷ cells) (byte ∷ bytes) blocks = written cells bytes (with_byte blocks cell byte)

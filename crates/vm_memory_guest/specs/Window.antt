@@ -1,0 +1,59 @@
+-- Windows: so many bytes of a block from an offset on, and the view of a bitmap that their writes mark.
+use Rattle.std.specs.Prelude.{◌≡◌, ℕ, ◌+◌, nat_lt, List, [], ◌∷◌, sum_by, flat_map, slice_get, slice_set, Some, MatchBool}
+use Rattle.vm_memory_base.specs.Pages.{in_view}
+use Rattle.vm_memory_base.specs.declared.bitmap.BitmapId.{BitmapId}
+use Rattle.vm_memory_base.specs.declared.bitmap.BitmapId.TheVariants.{Block, Space}
+use Rattle.vm_memory_guest.specs.Host as host
+use Rattle.vm_memory_guest.specs.Host.{Host, Name, Cell, cells_from, written}
+use Rattle.vm_memory_guest.specs.declared.volatile_memory.slice.VolatileSlice.{VolatileSlice}
+
+-- what names a bitmap
+abbrev pub bitmap_name : BitmapId → Name
+bitmap_name (Block block) = host.Block block
+bitmap_name (Space space) = host.Space space
+
+-- what a window names: its bytes and its bitmap
+abbrev pub window_names : VolatileSlice → List Name
+window_names w = host.Place w.block.0 w.offset w.size ∷ bitmap_name w.bitmap.id ∷ []
+
+-- the len bytes of a window from an offset on
+abbrev pub part : VolatileSlice → ℕ → ℕ → VolatileSlice
+part w offset len = record { block = w.block; offset = w.offset + offset; size = len; bitmap = record { id = w.bitmap.id; base = in_view w.bitmap.base offset } }
+
+-- how many bytes windows have
+abbrev pub span : List VolatileSlice → ℕ
+span windows = sum_by (λ w. w.size) windows
+
+-- the bytes of windows, in order
+abbrev pub cells_of : VolatileSlice → List Cell
+cells_of w = cells_from w.block.0 w.offset w.size
+
+abbrev pub cells : List VolatileSlice → List Cell
+cells windows = flat_map cells_of windows
+
+module _ {B : Type 0} (marks : B → ℕ → ℕ → B → Type 0) where
+  -- the bitmap of this number is marked, by the relation of its type, and no other
+  pub record MarksOne (number offset len : ℕ) (old new : List B) : Type 0 where
+    pub before : B
+    pub after : B
+    pub was : slice_get old number ≡ Some before
+    pub marked : marks before offset len after
+    pub is : new ≡ slice_set old number after
+
+  -- the named bitmap of a host is marked, and nothing else changes
+  abbrev pub Marks : BitmapId → ℕ → ℕ → Host B → Host B → Type 0
+  Marks (Block block) offset len old new = (bitmaps : List B) × MarksOne block offset len old.bitmaps bitmaps × (new ≡ record old { bitmaps = bitmaps })
+  Marks (Space space) offset len old new = (spaces : List B) × MarksOne space offset len old.spaces spaces × (new ≡ record old { spaces = spaces })
+
+  -- a window's bytes are marked, at once, unless it has none
+  abbrev pub MarksWindow : VolatileSlice → Host B → Host B → Type 0
+  MarksWindow w old new = MatchBool (nat_lt 0 w.size) (Marks w.bitmap.id w.bitmap.base w.size old new) (new ≡ old)
+
+  -- windows are marked one after the other
+  abbrev pub MarksAll : List VolatileSlice → Host B → Host B → Type 0
+  MarksAll [] old new = new ≡ old
+  MarksAll (w ∷ ws) old new = (mid : Host B) × MarksWindow w old mid × MarksAll ws mid new
+
+  -- the first bytes go into the windows, one after the other, and the windows are marked in order
+  abbrev pub Writes : List VolatileSlice → List ℕ → Host B → Host B → Type 0
+  Writes windows bytes old new = MarksAll windows (record old { blocks = written (cells windows) bytes old.blocks }) new

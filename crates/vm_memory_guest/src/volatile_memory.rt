@@ -1,0 +1,3 @@
+//! Host memory, and windows of it.
+pub mod host;
+pub mod slice;
