@@ -1,6 +1,5 @@
 -- What a host holds: blocks of bytes, each with a bitmap, spaces and tables, each kind by number from 0.
-use Rattle.std.specs.Prelude.{ℕ, zero, suc, ◌+◌, Bool, false, nat_lt, nat_le, IsTrue, List, [], ◌∷◌, length, map, slice_get, slice_set, slice_index, slice_index_or, Option, Some, None}
-use Rattle.std.specs.List.{list_all}
+use Rattle.std.specs.Prelude.{ℕ, zero, suc, ◌+◌, ◌<◌, ◌≤◌, List, [], ◌∷◌, length, map, slice_set, slice_index, slice_index_or}
 use Rattle.vm_memory_base.specs.Table.{Table}
 
 -- the bytes of each block, the bitmap of each block, the bitmap of each space, and each table
@@ -26,21 +25,17 @@ pub data Name : Type 0 where
   Space : (space : ℕ) → Name
   Tlb : (table : ℕ) → Name
 
--- so many bytes end within a block of this length, if there is one
-abbrev pub ends_within : Option ℕ → ℕ → Bool
-ends_within None end = false
-ends_within (Some len) end = nat_le end len
-
 -- a host of this shape holds what is named
-abbrev pub is_held : Shape → Name → Bool
-is_held shape (Block block) = nat_lt block (length shape.blocks)
-is_held shape (Place block offset len) = ends_within (slice_get shape.blocks block) (offset + len)
-is_held shape (Space space) = nat_lt space shape.spaces
-is_held shape (Tlb table) = nat_lt table shape.tables
+abbrev pub IsHeld : Shape → Name → Type 0
+IsHeld shape (Block block) = block < length shape.blocks
+IsHeld shape (Place block offset len) = (block < length shape.blocks) × (offset + len ≤ slice_index shape.blocks block)
+IsHeld shape (Space space) = space < shape.spaces
+IsHeld shape (Tlb table) = table < shape.tables
 
 -- a host of this shape holds everything that is named
 abbrev pub Holds : Shape → List Name → Type 0
-Holds shape names = IsTrue (list_all (is_held shape) names)
+Holds shape [] = Unit {0}
+Holds shape (name ∷ names) = IsHeld shape name × Holds shape names
 
 -- a byte of a block
 pub record Cell : Type 0 where

@@ -1,3 +1,15 @@
+//! Host memory: every block, bitmap and space, which each access is lent.
+ghost use Rattle.std.specs.Prelude.{◌≡◌, ℕ, ◌+◌, ◌-◌, ◌^◌, ◌<◌, ◌≤◌, ◌↔◌, ◌⊎◌, [], ◌∷◌, ◌++◌, List, length, take, drop, map, replicate, slice_get, slice_set, nat_lt, IsTrue, Some, IfOk, IfSome, OnOk, OnErr, IsErrOf};
+ghost use Rattle.vm_memory_guest.specs.Host as names;
+ghost use Rattle.vm_memory_guest.specs.Host.{Host, Shape, shape_of, Name, IsHeld, Holds, block_at, bytes_at, cells_from, written};
+ghost use Rattle.vm_memory_guest.specs.Inside.{blocks_of};
+
+use super::slice::VolatileSlice;
+use std::alloc::{AllocError, Global};
+use std::marker::Model;
+use thiserror::Error;
+use vm_memory_base::{Bitmap, BitmapId, BitmapRef, NewBitmap};
+
 /// The number of a block of a host, from 0 in the order of making.
 #[derive(Clone, Copy, Debug, PartialEq, Eq)]
 pub struct BlockId(pub usize);
@@ -9,3 +21,322 @@ pub struct SpaceId(pub usize);
 /// The number of an I/O table of a host.
 #[derive(Clone, Copy, Debug, PartialEq, Eq)]
 pub struct TlbId(pub usize);
+
+/// Why a block could not be made.
+#[derive(Debug, Drop, Error)]
+pub enum MmapRegionError {
+    /// A block has 1 to 2^63 - 1 bytes.
+    #[error("invalid block size")]
+    InvalidSize,
+    #[error("out of memory")]
+    Memory,
+}
+
+/// What a host holds, asked of any number: how long each block is, and which spaces and tables there are.
+#[derive(Drop)]
+pub struct HostShape {
+    blocks: Vec<usize>,
+    spaces: usize,
+    tables: usize,
+}
+
+impl Model for HostShape {
+    ghost use Rattle.vm_memory_guest.specs.Host.{Shape};
+
+    ghost Value = { Shape };
+
+    ghost view = { λ s. record { blocks = s.blocks.items; spaces = s.spaces; tables = s.tables } };
+}
+
+impl HostShape {
+    ghost use Rattle.vm_memory_guest.specs.Window.{bitmap_name};
+
+    fn new(alloc: Global) -> HostShape
+        ensures { result ≡ record { blocks = []; spaces = 0; tables = 0 } }
+    {
+        HostShape {
+            blocks: Vec::new(alloc),
+            spaces: 0,
+            tables: 0,
+        }
+    }
+
+    fn push_block(&mut self, size: usize) -> Result<(), AllocError>
+        ensures ok { OnOk result (self.new ≡ record self.old { blocks = self.old.blocks ++ size ∷ [] }) }
+        ensures err { OnErr result (self.new ≡ self.old) }
+    {
+        self.blocks.push(size)?;
+        Ok(())
+    }
+
+    /// The length of a block in bytes, if there is one of this number.
+    pub fn block_len(&self, block: BlockId) -> Option<usize>
+        ensures { result ≡ slice_get self.now.blocks block.0 }
+    {
+        self.blocks.get(block.0).copied()
+    }
+
+    /// Whether there is a space of this number.
+    pub fn has_space(&self, space: SpaceId) -> bool
+        ensures { result ≡ nat_lt space.0 self.now.spaces }
+    {
+        space.0 < self.spaces
+    }
+
+    /// Whether there is a table of this number.
+    pub fn has_table(&self, table: TlbId) -> bool
+        ensures { result ≡ nat_lt table.0 self.now.tables }
+    {
+        table.0 < self.tables
+    }
+
+    /// Whether so many bytes of a block from an offset on are there.
+    pub fn has_place(&self, block: BlockId, offset: usize, len: usize) -> bool
+        ensures { IsTrue result ↔ IsHeld self.now (names.Place block.0 offset len) }
+    {
+        match self.block_len(block) {
+            Some(all) => offset <= all && len <= all - offset,
+            None => false,
+        }
+    }
+
+    /// Whether there is a bitmap of this name.
+    pub fn has_bitmap(&self, bitmap: BitmapId) -> bool
+        ensures { IsTrue result ↔ IsHeld self.now (bitmap_name bitmap) }
+    {
+        match bitmap {
+            BitmapId::Block(block) => block < self.blocks.len(),
+            BitmapId::Space(space) => space < self.spaces,
+        }
+    }
+}
+
+/// A value that names parts of a host: blocks, places in them, spaces and tables.
+pub trait Named {
+    /// What it names.
+    ghost names: { Self → List Name };
+
+    /// Whether everything that it names is in a host of this shape.
+    fn held_by(&self, shape: &HostShape) -> bool
+        ensures { IsTrue result ↔ Holds shape.now (names self.now) };
+}
+
+/// All bytes, bitmaps and spaces. Numbers start at 0 in each kind, no number ever stops naming, and no
+/// block changes its length.
+#[derive(Drop)]
+pub struct HostMemory<B> {
+    alloc: Global,
+    blocks: Vec<Vec<u8>>,
+    bitmaps: Vec<B>,
+    spaces: Vec<B>,
+    shape: HostShape,
+}
+
+impl<B> Model for HostMemory<B> {
+    ghost use Rattle.std.specs.Prelude.{map, []};
+    ghost use Rattle.vm_memory_guest.specs.Host.{Host};
+
+    ghost Value = { Host B };
+
+    ghost use Rattle.vm_memory_guest.specs.Inside.{IsSound, blocks_of};
+
+    ghost view = { λ h. record { blocks = blocks_of h.blocks; bitmaps = h.bitmaps.items; spaces = h.spaces.items; tables = [] } };
+
+    ghost invariant = { λ h. IsSound h.shape (blocks_of h.blocks) h.bitmaps.items h.spaces.items };
+}
+
+impl<B> HostMemory<B> {
+    /// A host that holds nothing.
+    pub fn new(alloc: Global) -> Self
+        ensures { result ≡ record { blocks = []; bitmaps = []; spaces = []; tables = [] } }
+    {
+        HostMemory {
+            alloc,
+            blocks: Vec::new(alloc),
+            bitmaps: Vec::new(alloc),
+            spaces: Vec::new(alloc),
+            shape: HostShape::new(alloc),
+        }
+    }
+
+    /// What the host holds.
+    pub fn shape(&self) -> &HostShape
+        ensures { result.now ≡ shape_of self.now }
+    {
+        &self.shape
+    }
+
+    /// Whether the host holds everything that a value names.
+    pub fn holds<N: Named>(&self, named: &N) -> bool
+        ensures { IsTrue result ↔ Holds (shape_of self.now) (N.names named.now) }
+    {
+        named.held_by(self.shape())
+    }
+
+    /// The length of a block in bytes, 1 to 2^63 - 1.
+    pub fn block_len(&self, block: BlockId) -> usize
+        requires { Holds (shape_of self.now) (names.Block block.0 ∷ []) }
+        ensures value { result ≡ length (block_at self.now.blocks block.0) }
+        ensures some { 0 < result }
+        ensures bound { result < 2 ^ 63 }
+    {
+        self.blocks[block.0].len()
+    }
+
+    /// Makes a block of `size` zeroed bytes, tracked by a bitmap: the answer is its number. A size of 0 or
+    /// above 2^63 - 1 is refused as `InvalidSize`, and want of memory as `Memory`; then nothing changes.
+    pub fn new_block_with(&mut self, size: usize, bitmap: B) -> Result<BlockId, MmapRegionError>
+    where
+        B: Drop,
+        ensures number { IfOk result (λ block. block.0 ≡ length self.old.blocks) }
+        ensures ok { OnOk result (self.new ≡ record self.old { blocks = self.old.blocks ++ replicate size 0 ∷ []; bitmaps = self.old.bitmaps ++ bitmap ∷ [] }) }
+        ensures invalid { IsErrOf result MmapRegionError.InvalidSize ↔ ((size ≡ 0) ⊎ (2 ^ 63 ≤ size)) }
+        ensures sized { OnOk result ((0 < size) × (size < 2 ^ 63)) }
+        ensures err { OnErr result (self.new ≡ self.old) }
+    {
+        if size == 0 || size > MAX_BLOCK {
+            return Err(MmapRegionError::InvalidSize);
+        }
+        self.add_block(size, bitmap)
+            .map_err(|_| MmapRegionError::Memory)
+    }
+
+    // The pushes come last and find room, so that a refusal leaves everything.
+    fn add_block(&mut self, size: usize, bitmap: B) -> Result<BlockId, AllocError>
+    where
+        B: Drop,
+        requires some { 0 < size }
+        requires bound { size < 2 ^ 63 }
+        ensures number { IfOk result (λ block. block.0 ≡ length self.old.blocks) }
+        ensures ok { OnOk result (self.new ≡ record self.old { blocks = self.old.blocks ++ replicate size 0 ∷ []; bitmaps = self.old.bitmaps ++ bitmap ∷ [] }) }
+        ensures err { OnErr result (self.new ≡ self.old) }
+    {
+        let bytes = zeroed(self.alloc, size)?;
+        let block = BlockId(self.blocks.len());
+        self.blocks.reserve(1)?;
+        self.bitmaps.reserve(1)?;
+        self.shape.push_block(size)?;
+        self.blocks.push(bytes)?;
+        self.bitmaps.push(bitmap)?;
+        Ok(block)
+    }
+
+    /// Makes a space, the pages of which `bitmap` tracks: the answer is its number. Refused, nothing changes.
+    pub fn new_space(&mut self, bitmap: B) -> Result<SpaceId, AllocError>
+    where
+        B: Drop,
+        ensures number { IfOk result (λ space. space.0 ≡ length self.old.spaces) }
+        ensures ok { OnOk result (self.new ≡ record self.old { spaces = self.old.spaces ++ bitmap ∷ [] }) }
+        ensures err { OnErr result (self.new ≡ self.old) }
+    {
+        let space = SpaceId(self.spaces.len());
+        self.spaces.push(bitmap)?;
+        self.shape.spaces += 1;
+        Ok(space)
+    }
+}
+
+impl<B> HostMemory<B> {
+    ghost use Rattle.vm_memory_guest.specs.Window.{window_names, bitmap_name, cells_of, Marks, MarksWindow, Writes};
+
+    /// The bytes of a window.
+    pub fn bytes(&self, window: &VolatileSlice) -> &[u8]
+        requires { Holds (shape_of self.now) (window_names window.now) }
+        ensures { result.now ≡ bytes_at self.now.blocks (cells_of window.now) }
+    {
+        part_of(&self.blocks, window.block.0, window.offset, window.size)
+    }
+
+    // Moves bytes to a place of a block.
+    fn put(&mut self, block: usize, offset: usize, bytes: &[u8])
+        requires { Holds (shape_of self.old) (names.Place block offset (length bytes.now) ∷ []) }
+        ensures { self.new ≡ record self.old { blocks = written (cells_from block offset (length bytes.now)) bytes.now self.old.blocks } }
+    {
+        put_in(&mut self.blocks, block, offset, bytes);
+    }
+
+    // Marks `len` bytes of a view of a bitmap, from its base on.
+    fn mark(&mut self, at: BitmapRef, len: usize)
+    where
+        B: Bitmap,
+        requires { Holds (shape_of self.old) (bitmap_name at.id ∷ []) }
+        ensures { Marks B.marks at.id at.base len self.old self.new }
+    {
+        match at.id {
+            BitmapId::Block(block) => {
+                let bitmap = &mut self.bitmaps[block];
+                bitmap.mark_dirty(at.base, len);
+            }
+            BitmapId::Space(space) => {
+                let bitmap = &mut self.spaces[space];
+                bitmap.mark_dirty(at.base, len);
+            }
+        }
+    }
+
+    /// Moves bytes into a window of as many, and marks them, unless there are none.
+    pub fn write(&mut self, window: &VolatileSlice, bytes: &[u8])
+    where
+        B: Bitmap,
+        requires held { Holds (shape_of self.old) (window_names window.now) }
+        requires size { length bytes.now ≡ window.now.size }
+        ensures { Writes B.marks (window.now ∷ []) bytes.now self.old self.new }
+    {
+        self.put(window.block.0, window.offset, bytes);
+        if window.size > 0 {
+            self.mark(window.bitmap, window.size);
+        }
+    }
+}
+
+impl<B: NewBitmap + Drop> HostMemory<B> {
+    /// Makes a block of `size` zeroed bytes, tracked by a new bitmap for as many, as `new_block_with` does.
+    pub fn new_block(&mut self, size: usize) -> Result<BlockId, MmapRegionError>
+        ensures number { IfOk result (λ block. block.0 ≡ length self.old.blocks) }
+        ensures ok { OnOk result ((bitmap : B) × B.made size bitmap × (self.new ≡ record self.old { blocks = self.old.blocks ++ replicate size 0 ∷ []; bitmaps = self.old.bitmaps ++ bitmap ∷ [] })) }
+        ensures invalid { IsErrOf result MmapRegionError.InvalidSize ↔ ((size ≡ 0) ⊎ (2 ^ 63 ≤ size)) }
+        ensures sized { OnOk result ((0 < size) × (size < 2 ^ 63)) }
+        ensures err { OnErr result (self.new ≡ self.old) }
+    {
+        if size == 0 || size > MAX_BLOCK {
+            return Err(MmapRegionError::InvalidSize);
+        }
+        let bitmap = B::with_len(self.alloc, size).map_err(|_| MmapRegionError::Memory)?;
+        self.new_block_with(size, bitmap)
+    }
+}
+
+const MAX_BLOCK: usize = 0x7fff_ffff_ffff_ffff;
+
+fn zeroed(alloc: Global, size: usize) -> Result<Vec<u8>, AllocError>
+    ensures { IfOk result (λ bytes. bytes.items ≡ replicate size 0) }
+{
+    vec![in alloc; 0u8; size]
+}
+
+// The bytes of a block from an offset on.
+#[tactic(auto, using(crate::proofs::HostLemmas::block_lemmas))]
+fn part_of(blocks: &Vec<Vec<u8>>, block: usize, offset: usize, len: usize) -> &[u8]
+    requires there { block < length blocks.now.items }
+    requires within { offset + len ≤ length (block_at (blocks_of blocks.now) block) }
+    ensures { result.now ≡ bytes_at (blocks_of blocks.now) (cells_from block offset len) }
+{
+    &blocks[block].as_slice()[offset..offset + len]
+}
+
+// Moves bytes into a block at once.
+fn put_in(blocks: &mut Vec<Vec<u8>>, block: usize, offset: usize, bytes: &[u8])
+    requires there { block < length blocks.old.items }
+    requires within { offset + length bytes.now ≤ length (block_at (blocks_of blocks.old) block) }
+    ensures { blocks_of blocks.new ≡ written (cells_from block offset (length bytes.now)) bytes.now (blocks_of blocks.old) }
+{
+    let all = &mut blocks[block];
+    move_into(all.as_mut_slice(), offset, bytes);
+}
+
+fn move_into(block: &mut [u8], offset: usize, bytes: &[u8])
+    requires { offset + length bytes.now ≤ length block.old }
+    ensures { block.new ≡ take offset block.old ++ bytes.now ++ drop (offset + length bytes.now) block.old }
+{
+    block[offset..offset + bytes.len()].copy_from_slice(bytes);
+}
