@@ -48,10 +48,12 @@ written-block b o (x ∷ xs) blocks h k =
     let l : o < length block = omega arith in
     written-block b (o + 1) xs next h' k' ∙ rw (same, pasted o x xs block l, set-set)
 
+-- a stretch of n cells has n cells
 pub length-cells_from : (b o n : ℕ) → length (cells_from b o n) ≡ n
 length-cells_from b o zero = refl
 length-cells_from b o (suc n) = ap suc (length-cells_from b (o + 1) n)
 
+-- neighbouring stretches of a block are one stretch
 pub cells_from-append : (b o m n : ℕ) → cells_from b o (m + n) ≡ cells_from b o m ++ cells_from b (o + m) n
 cells_from-append b o zero n = rw (zero-add n, add-zero o)
 cells_from-append b o (suc m) n =
@@ -67,18 +69,23 @@ bytes_at-block b o (suc n) blocks h =
     let k : o + 1 + n ≤ length (block_at blocks b) = omega arith in
     rw (drop_more (block_at blocks b) o 0 l) (ap (λ (bs : List ℕ). get_or (block_at blocks b) o 0 ∷ bs) (bytes_at-block b (o + 1) n blocks k))
 
+-- there is a byte for each cell
 pub length-bytes_at : (blocks : List (List ℕ)) (cs : List Cell) → length (bytes_at blocks cs) ≡ length cs
 length-bytes_at blocks cs = length-map cs (byte_at blocks)
 
+-- the bytes in cells joined end to end are joined
 pub bytes_at-append : (blocks : List (List ℕ)) (xs ys : List Cell) → bytes_at blocks (xs ++ ys) ≡ bytes_at blocks xs ++ bytes_at blocks ys
 bytes_at-append blocks xs ys = map-append (byte_at blocks) xs ys
 
+-- a window more has its size in bytes more
 pub span-cons : (w : VolatileSlice) (ws : List VolatileSlice) → span (w ∷ ws) ≡ w.size + span ws
 span-cons w ws = sum_by-cons (λ (v : VolatileSlice). v.size) w ws
 
+-- windows joined end to end have the bytes of both
 pub span-append : (ws vs : List VolatileSlice) → span (ws ++ vs) ≡ span ws + span vs
 span-append ws vs = sum_by-append (λ (v : VolatileSlice). v.size) ws vs
 
+-- windows joined end to end have the cells of both
 pub cells-append : (ws vs : List VolatileSlice) → cells (ws ++ vs) ≡ cells ws ++ cells vs
 cells-append ws vs = flat_map-append cells_of ws vs
 
@@ -104,6 +111,7 @@ lengths-written [] bytes blocks = refl
 lengths-written (c ∷ cs) [] blocks = refl
 lengths-written (c ∷ cs) (b ∷ bytes) blocks = lengths-written cs bytes (with_byte blocks c b) ∙ lengths-with_byte blocks c.block c.offset b
 
+-- there are as many blocks as before a byte is written
 pub length-with_byte : (blocks : List (List ℕ)) (c : Cell) (byte : ℕ) → length (with_byte blocks c byte) ≡ length blocks
 length-with_byte blocks c byte = length-set blocks c.block (set (block_at blocks c.block) c.offset byte)
 
@@ -119,6 +127,7 @@ length-block_at [] b = refl
 length-block_at (block ∷ blocks) zero = refl
 length-block_at (block ∷ blocks) (suc b) = length-block_at blocks b
 
+-- each block is as long as before
 pub length-block_at-written : (cs : List Cell) (bytes : List ℕ) (blocks : List (List ℕ)) (b : ℕ) → length (block_at (written cs bytes blocks) b) ≡ length (block_at blocks b)
 length-block_at-written cs bytes blocks b = length-block_at (written cs bytes blocks) b ∙ ap (λ (ns : List ℕ). get_or ns b 0) (lengths-written cs bytes blocks) ∙ sym (length-block_at blocks b)
 
@@ -130,6 +139,7 @@ length-filled blocks cs buffer h =
     let c = length-drop (length cs) buffer in
     omega arith
 
+-- the front of a buffer that is filled has the bytes in the cells
 pub take-filled : (blocks : List (List ℕ)) (cs : List Cell) (buffer : List ℕ) → take (length cs) (filled blocks cs buffer) ≡ bytes_at blocks cs
 take-filled blocks cs buffer = take_at (bytes_at blocks cs) (drop (length cs) buffer) (length cs) (length-bytes_at blocks cs)
 
@@ -137,6 +147,7 @@ take-filled blocks cs buffer = take_at (bytes_at blocks cs) (drop (length cs) bu
 pub drop-filled : (blocks : List (List ℕ)) (cs : List Cell) (buffer : List ℕ) → drop (length cs) (filled blocks cs buffer) ≡ drop (length cs) buffer
 drop-filled blocks cs buffer = drop_at (bytes_at blocks cs) (drop (length cs) buffer) (length cs) (length-bytes_at blocks cs)
 
+-- no cells leave a buffer as it was
 pub filled-none : (blocks : List (List ℕ)) (buffer : List ℕ) → filled blocks [] buffer ≡ buffer
 filled-none blocks buffer = refl
 
