@@ -1,1 +1,3 @@
 pub mod HostLemmas
+pub mod MarkLaws
+pub mod WrittenLaws
