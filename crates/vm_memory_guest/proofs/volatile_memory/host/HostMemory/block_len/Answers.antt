@@ -1,18 +1,20 @@
-use Rattle.std.proofs.Common.{rules, ◌≡◌, ℕ, ◌<◌, ◌^◌, [], length, arith, map}
+use Rattle.std.proofs.Common.{◌≡◌, ℕ, ◌<◌, length, map, arith, ◌∙◌}
 use Rattle.std.proofs.lemmas.Grind.{common_steps}
 use Rattle.vm_memory_guest.specs.Host.{block_at}
+use Rattle.vm_memory_guest.specs.Inside.{blocks_of}
+use Rattle.vm_memory_guest.proofs.WrittenLaws.{length-block_at}
 use Rattle.vm_memory_guest.proofs.volatile_memory.host.HostMemory.block_len.Goals as goal
 
 pub returns-clause-some : goal.returns-clause-some
 returns-clause-some g c =
-    let there : c.args.block.0 < length (map (λ v. v.items) c.self.inside.blocks.items) = grind (arith, common_steps) in
-    let value : c.len.result ≡ length (block_at (map (λ v. v.items) c.self.inside.blocks.items) c.args.block.0) = grind (arith, common_steps) in
-    let sized = c.self.invariant.sized c.args.block.0 [] there in
-    rw value sized.0
+    let blocks = blocks_of c.self.inside.blocks in
+    let there : c.args.block.0 < length (map length blocks) = grind (arith, common_steps) in
+    let value : c.len.result ≡ length (block_at blocks c.args.block.0) = grind (arith, common_steps) in
+    rw (value, length-block_at blocks c.args.block.0) (c.self.invariant.sized c.args.block.0 0 there).0
 
 pub returns-clause-bound : goal.returns-clause-bound
 returns-clause-bound g c =
-    let there : c.args.block.0 < length (map (λ v. v.items) c.self.inside.blocks.items) = grind (arith, common_steps) in
-    let value : c.len.result ≡ length (block_at (map (λ v. v.items) c.self.inside.blocks.items) c.args.block.0) = grind (arith, common_steps) in
-    let sized = c.self.invariant.sized c.args.block.0 [] there in
-    rw value sized.1
+    let blocks = blocks_of c.self.inside.blocks in
+    let there : c.args.block.0 < length (map length blocks) = grind (arith, common_steps) in
+    let value : c.len.result ≡ length (block_at blocks c.args.block.0) = grind (arith, common_steps) in
+    rw (value, length-block_at blocks c.args.block.0) (c.self.invariant.sized c.args.block.0 0 there).1

@@ -1,0 +1,11 @@
+use Rattle.std.proofs.Common.{◌≡◌, sym, ◌∙◌, subst, map, length}
+use Rattle.vm_memory_guest.specs.Host.{Shape, Host, Holds, cells_from, shape_of}
+use Rattle.vm_memory_guest.specs.Window.{bitmap_name}
+use Rattle.vm_memory_guest.proofs.HostLemmas.{shape_of-written}
+use Rattle.vm_memory_guest.proofs.volatile_memory.host.HostMemory.write.Goals as goal
+
+pub mark-requires : goal.mark-requires
+mark-requires g c =
+    let w = c.args.window.now in
+    let same : shape_of c.put.new.self ≡ shape_of c.args.self.now = rw c.put.ensures (shape_of-written (cells_from w.block.0 w.offset (length c.args.bytes.now)) c.args.bytes.now c.args.self.now) in
+    rw same (c.requires.held.1)
