@@ -1,7 +1,9 @@
 -- Blocks as vectors, and as the lists of their bytes.
-use Rattle.std.proofs.Common.{◌≡◌, ℕ, zero, suc, ◌+◌, ◌<◌, ◌≤◌, List, [], ◌∷◌, map, length, get_or, refl, ap}
-use Rattle.vm_memory_guest.specs.Host.{Host, Shape, Cell, shape_of, block_at, written}
-use Rattle.vm_memory_guest.proofs.WrittenLaws.{lengths-written}
+use Rattle.std.proofs.Common.{◌≡◌, ℕ, zero, suc, ◌+◌, ◌<◌, ◌≤◌, List, [], ◌∷◌, map, length, get_or, refl, ap, take, ◌∙◌, add-zero}
+use Rattle.vm_memory_guest.specs.Host.{Host, Shape, Cell, shape_of, block_at, bytes_at, written}
+use Rattle.vm_memory_guest.specs.Slice.{Window}
+use Rattle.vm_memory_guest.specs.Window.{cells, cells_of, span, Writes}
+use Rattle.vm_memory_guest.proofs.WrittenLaws.{lengths-written, written-take, length-cells, length-bytes_at, length-cells_from, span-cons}
 
 -- the length of a block, as its host's shape has it
 pub slice_index-lengths : (blocks : List (List ℕ)) (block : ℕ) → get_or (map length blocks) block 0 ≡ length (block_at blocks block)
@@ -14,3 +16,17 @@ pub ruleset block_lemmas = slice_index-lengths
 -- a write of bytes keeps the shape
 pub shape_of-written : {B : Type 0} (cells : List Cell) (bytes : List ℕ) (host : Host B) → shape_of (record host { blocks = written cells bytes host.blocks }) ≡ shape_of host
 shape_of-written cells bytes host = ap (λ (lengths : List ℕ). let shape : Shape = record { blocks = lengths; spaces = length host.spaces; tables = length host.tables } in shape) (lengths-written cells bytes host.blocks)
+
+-- bytes past the windows are ignored
+pub Writes-taken : {B : Type 0} (marks : B → ℕ → ℕ → B → Type 0) (ws : List Window) (bytes : List ℕ) (old new : Host B) → Writes marks ws (take (span ws) bytes) old new → Writes marks ws bytes old new
+Writes-taken marks ws bytes old new writes =
+    let same : written (cells ws) bytes old.blocks ≡ written (cells ws) (take (span ws) bytes) old.blocks = written-take (cells ws) bytes old.blocks ∙ ap (λ n. written (cells ws) (take n bytes) old.blocks) (length-cells ws) in
+    rw same writes
+
+-- a window of whose bytes there are as many as it has
+pub length-bytes : (blocks : List (List ℕ)) (w : Window) → length (bytes_at blocks (cells_of w)) ≡ w.size
+length-bytes blocks w = length-bytes_at blocks (cells_of w) ∙ length-cells_from w.block.0 w.offset w.size
+
+-- one window has as many bytes as it has
+pub span-one : (w : Window) → span (w ∷ []) ≡ w.size
+span-one w = span-cons w [] ∙ add-zero w.size

@@ -1,5 +1,8 @@
 -- What accesses answer, and what they leave.
-use Rattle.std.specs.Prelude.{◌≡◌, ◌⊎◌, ℕ, ◌&&◌, cond, ◌==◌, nat_lt, List, [], ◌∷◌, ◌++◌, map, drop, length, slice_get, slice_set, Option, Some, None, Result, Ok, Err}
+use Rattle.std.specs.Prelude.{◌≡◌, ◌⊎◌, ℕ, ◌&&◌, cond, ◌==◌, nat_lt, List, [], ◌∷◌, ◌++◌, map, drop, length, slice_get, slice_set, Option, Some, None, Result, Ok, Err, ◌-◌, min}
+use Rattle.vm_memory_base.specs.declared.io.VolatileMemoryError.{VolatileMemoryError}
+use Rattle.vm_memory_base.specs.declared.io.VolatileMemoryError.TheVariants.{OutOfBounds}
+use Rattle.vm_memory_guest.specs.Window.{part}
 use Rattle.vm_memory_base.specs.Pages.{PageSet, marked}
 use Rattle.vm_memory_base.specs.declared.bitmap.BitmapId.{BitmapId}
 use Rattle.vm_memory_base.specs.declared.bitmap.BitmapId.TheVariants.{Block, Space}
@@ -30,6 +33,12 @@ module _ {E : Type 0} where
   abbrev pub Outcome : {T : Type 0} → (E → Type 0) → Result T E → Type 0 → Type 0 → Result T E → Type 0
   Outcome wants expected unchanged effect (Ok value) = (Ok value ≡ expected) × effect
   Outcome wants expected unchanged effect (Err e) = (wants e × unchanged) ⊎ ((Err e ≡ expected) × effect)
+
+-- n bytes of a window from an offset on: as many as it has, and none where the offset is past its last byte
+abbrev pub window_reach : VolatileSlice → ℕ → ℕ → Reach VolatileMemoryError
+window_reach w offset n = cond (nat_lt 0 n && nat_lt offset w.size)
+    (record { windows = part w offset (min n (w.size - offset)) ∷ []; fault = None })
+    (record { windows = []; fault = Some (OutOfBounds offset) })
 
 -- the buffer after the bytes in these cells came to its front
 abbrev pub filled : List (List ℕ) → List Cell → List ℕ → List ℕ

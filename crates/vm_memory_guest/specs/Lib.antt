@@ -5,4 +5,5 @@ pub mod Host
 pub mod Inside
 pub mod Memory
 pub mod Region
+pub mod Slice
 pub mod Window

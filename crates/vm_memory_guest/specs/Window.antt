@@ -1,6 +1,8 @@
 -- Windows: so many bytes of a block from an offset on, and the view of a bitmap that their writes mark.
-use Rattle.std.specs.Prelude.{◌≡◌, ℕ, ◌+◌, nat_lt, List, [], ◌∷◌, sum_by, flat_map, slice_get, slice_set, Some, MatchBool}
+use Rattle.std.specs.Prelude.{◌≡◌, ℕ, ◌+◌, nat_lt, List, [], ◌∷◌, sum_by, flat_map, slice_get, slice_set, Some, MatchBool, ◌^◌, ◌-◌, cond, nat_le, Result, Ok, Err}
 use Rattle.vm_memory_base.specs.Pages.{in_view}
+use Rattle.vm_memory_base.specs.declared.io.VolatileMemoryError.{VolatileMemoryError}
+use Rattle.vm_memory_base.specs.declared.io.VolatileMemoryError.TheVariants.{OutOfBounds, Overflow}
 use Rattle.vm_memory_base.specs.declared.bitmap.BitmapId.{BitmapId}
 use Rattle.vm_memory_base.specs.declared.bitmap.BitmapId.TheVariants.{Block, Space}
 use Rattle.vm_memory_guest.specs.Host as host
@@ -19,6 +21,18 @@ window_names w = host.Place w.block.0 w.offset w.size ∷ bitmap_name w.bitmap.i
 -- the len bytes of a window from an offset on
 abbrev pub part : VolatileSlice → ℕ → ℕ → VolatileSlice
 part w offset len = record { block = w.block; offset = w.offset + offset; size = len; bitmap = record { id = w.bitmap.id; base = in_view w.bitmap.base offset } }
+
+-- `count` bytes of a window from an offset on: refused where their sum is no number of 64 bits, or passes the window's length
+abbrev pub subslice_of : VolatileSlice → ℕ → ℕ → Result VolatileSlice VolatileMemoryError
+subslice_of w offset count = cond (nat_lt (offset + count) (2 ^ 64))
+    (cond (nat_le (offset + count) w.size) (Ok (part w offset count)) (Err (OutOfBounds (offset + count))))
+    (Err (Overflow offset count))
+
+-- the bytes of a window from count on: refused where their place in the block is no number of 64 bits, or passes the window's end
+abbrev pub offset_of : VolatileSlice → ℕ → Result VolatileSlice VolatileMemoryError
+offset_of w count = cond (nat_lt (w.offset + count) (2 ^ 64))
+    (cond (nat_le count w.size) (Ok (part w count (w.size - count))) (Err (OutOfBounds (w.offset + count))))
+    (Err (Overflow w.offset count))
 
 -- how many bytes windows have
 abbrev pub span : List VolatileSlice → ℕ

@@ -1,11 +1,220 @@
-use super::host::BlockId;
-use vm_memory_base::BitmapRef;
+//! Windows of host memory.
+ghost use Rattle.std.specs.Prelude.{◌≡◌, ℕ, ◌+◌, ◌-◌, ◌^◌, ◌<◌, ◌≤◌, ◌↔◌, ◌∷◌, [], ◌==◌, cond, nat_lt, IsTrue, IfOk, MatchResult};
+ghost use Rattle.vm_memory_guest.specs.Window.{window_names, part, offset_of, subslice_of};
+ghost use Rattle.vm_memory_guest.specs.Answer.{window_reach};
+ghost use Rattle.vm_memory_base.specs.declared.io.VolatileMemoryError.TheVariants.{PartialBuffer};
+
+use super::access::Bytes;
+use super::host::{BlockId, HostMemory, HostShape, Named};
+use std::marker::Model;
+use vm_memory_base::{Bitmap, BitmapRef, VolatileMemoryError, VolatileMemoryResult};
 
 /// A window: so many bytes of a block from an offset on, and the view of a bitmap that writes mark.
+///
+/// It is a plain value, which names its block and its bitmap by number.
 #[derive(Clone, Copy, Debug)]
 pub struct VolatileSlice {
-    pub block: BlockId,
-    pub offset: usize,
-    pub size: usize,
-    pub bitmap: BitmapRef,
+    pub(super) block: BlockId,
+    pub(super) offset: usize,
+    pub(super) size: usize,
+    pub(super) bitmap: BitmapRef,
+}
+
+impl Model for VolatileSlice {
+    ghost use Rattle.std.specs.Prelude.{◌+◌, ◌<◌, ◌^◌};
+    ghost use Rattle.vm_memory_guest.specs.Slice.{Window};
+
+    ghost Value = { Window };
+
+    ghost view = { λ w. record { block = w.block; offset = w.offset; size = w.size; bitmap = w.bitmap } };
+
+    ghost invariant = { λ w. w.offset + w.size < 2 ^ 64 };
+
+    ghost inverse = { λ w. record { block = w.block; offset = w.offset; size = w.size; bitmap = w.bitmap } };
+}
+
+impl VolatileSlice {
+    // `size` bytes of a block from an offset on.
+    pub(crate) fn new(
+        block: BlockId,
+        offset: usize,
+        size: usize,
+        bitmap: BitmapRef,
+    ) -> VolatileSlice
+        requires { offset + size < 2 ^ 64 }
+        ensures { result ≡ record { block = block; offset = offset; size = size; bitmap = bitmap } }
+    {
+        VolatileSlice {
+            block,
+            offset,
+            size,
+            bitmap,
+        }
+    }
+
+    /// The number of bytes.
+    #[inline]
+    pub fn len(&self) -> usize
+        ensures { result ≡ self.now.size }
+    {
+        self.size
+    }
+
+    /// Whether there are no bytes.
+    #[inline]
+    pub fn is_empty(&self) -> bool
+        ensures { IsTrue result ↔ (self.now.size ≡ 0) }
+    {
+        self.size == 0
+    }
+
+    /// The view of a bitmap that writes mark.
+    #[inline]
+    pub fn bitmap(&self) -> BitmapRef
+        ensures { result ≡ self.now.bitmap }
+    {
+        self.bitmap
+    }
+
+    /// `count` bytes from `offset` on. `Overflow` where their sum is no 64-bit number, `OutOfBounds` at the
+    /// sum where it passes the length.
+    pub fn subslice(&self, offset: usize, count: usize) -> VolatileMemoryResult<Self>
+        ensures { result ≡ subslice_of self.now offset count }
+    {
+        let Some(end) = offset.checked_add(count) else {
+            return Err(VolatileMemoryError::Overflow {
+                base: offset,
+                offset: count,
+            });
+        };
+        if end > self.size {
+            return Err(VolatileMemoryError::OutOfBounds { addr: end });
+        }
+        Ok(self.part(offset, count))
+    }
+
+    /// The bytes from `count` on. `Overflow` where the place in the block plus `count` is no 64-bit number,
+    /// `OutOfBounds` at that sum where `count` passes the length.
+    pub fn offset(&self, count: usize) -> VolatileMemoryResult<Self>
+        ensures { result ≡ offset_of self.now count }
+    {
+        let Some(start) = self.offset.checked_add(count) else {
+            return Err(VolatileMemoryError::Overflow {
+                base: self.offset,
+                offset: count,
+            });
+        };
+        if count > self.size {
+            return Err(VolatileMemoryError::OutOfBounds { addr: start });
+        }
+        Ok(self.part(count, self.size - count))
+    }
+
+    fn part(&self, offset: usize, size: usize) -> Self
+        requires { offset + size ≤ self.now.size }
+        ensures { result ≡ part self.now offset size }
+    {
+        VolatileSlice {
+            block: self.block,
+            offset: self.offset + offset,
+            size,
+            bitmap: self.bitmap.slice_at(offset),
+        }
+    }
+}
+
+impl Named for VolatileSlice {
+    ghost names = { window_names };
+
+    fn held_by(&self, shape: &HostShape) -> bool {
+        shape.has_place(self.block, self.offset, self.size) && shape.has_bitmap(self.bitmap.id)
+    }
+}
+
+impl VolatileSlice {
+    // The part of a window that an access of so many bytes at an offset reaches.
+    fn reached(&self, offset: usize, count: usize) -> VolatileMemoryResult<VolatileSlice>
+        requires { 0 < count }
+        ensures reach { MatchResult result (λ w. window_reach self.now offset count ≡ record { windows = w ∷ []; fault = None }) (λ e. window_reach self.now offset count ≡ record { windows = []; fault = Some e }) }
+        ensures at_most { IfOk result (λ w. w.size ≤ count) }
+    {
+        if offset >= self.size {
+            return Err(VolatileMemoryError::OutOfBounds { addr: offset });
+        }
+        Ok(self.part(offset, count.min(self.size - offset)))
+    }
+}
+
+impl Bytes<usize> for VolatileSlice {
+    type E = VolatileMemoryError;
+
+    ghost reach = { λ w tables offset count access. window_reach w offset count };
+
+    ghost partial = { PartialBuffer };
+
+    ghost wants = { λ w e. ⊥ };
+
+    fn write<B: Bitmap>(
+        &self,
+        host: &mut HostMemory<B>,
+        buf: &[u8],
+        addr: usize,
+    ) -> VolatileMemoryResult<usize> {
+        if buf.is_empty() {
+            return Ok(0);
+        }
+        let window = self.reached(addr, buf.len())?;
+        let count = window.len();
+        host.write(&window, &buf[..count]);
+        Ok(count)
+    }
+
+    fn read<B: Bitmap>(
+        &self,
+        host: &HostMemory<B>,
+        buf: &mut [u8],
+        addr: usize,
+    ) -> VolatileMemoryResult<usize> {
+        if buf.is_empty() {
+            return Ok(0);
+        }
+        let window = self.reached(addr, buf.len())?;
+        let count = window.len();
+        buf[..count].copy_from_slice(host.bytes(&window));
+        Ok(count)
+    }
+
+    fn write_slice<B: Bitmap>(
+        &self,
+        host: &mut HostMemory<B>,
+        buf: &[u8],
+        addr: usize,
+    ) -> VolatileMemoryResult<()> {
+        let completed = self.write(host, buf, addr)?;
+        whole(buf.len(), completed)
+    }
+
+    fn read_slice<B: Bitmap>(
+        &self,
+        host: &HostMemory<B>,
+        buf: &mut [u8],
+        addr: usize,
+    ) -> VolatileMemoryResult<()> {
+        let expected = buf.len();
+        let completed = self.read(host, buf, addr)?;
+        whole(expected, completed)
+    }
+}
+
+// Whether all that was expected was completed.
+fn whole(expected: usize, completed: usize) -> VolatileMemoryResult<()>
+    ensures { result ≡ cond (completed == expected) (Ok tt) (Err (VolatileMemoryError.PartialBuffer expected completed)) }
+{
+    if completed != expected {
+        return Err(VolatileMemoryError::PartialBuffer {
+            expected,
+            completed,
+        });
+    }
+    Ok(())
 }

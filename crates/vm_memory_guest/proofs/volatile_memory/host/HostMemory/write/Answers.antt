@@ -6,6 +6,7 @@ use Rattle.vm_memory_guest.proofs.volatile_memory.host.HostMemory.write.Goals as
 
 pub mark-requires : goal.mark-requires
 mark-requires g c =
-    let w = c.args.window.now in
+    let w = c.window.inside in
     let same : shape_of c.put.new.self ≡ shape_of c.args.self.now = rw c.put.ensures (shape_of-written (cells_from w.block.0 w.offset (length c.args.bytes.now)) c.args.bytes.now c.args.self.now) in
-    rw same (c.requires.held.1)
+    let held = rw (← c.window.view_is) at c.requires.held in
+    rw same held.1
