@@ -3,6 +3,7 @@
 
 mod address;
 mod iotlb;
+pub mod laws;
 
 pub use address::{GuestAddress, MemoryRegionAddress};
 pub use iotlb::{Permissions, Reason};
