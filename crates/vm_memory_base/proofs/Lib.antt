@@ -1,2 +1,3 @@
 pub mod PagesLaws
 pub mod RunsLaws
+pub mod TableLaws

@@ -1,4 +1,6 @@
-//! What holds of the definitions of page sets, runs and tables, whatever the code does: each function here is a theorem, and does nothing.
+//! What holds of the definitions of permissions, page sets, runs and tables, whatever the code does: each function here is a theorem, and does nothing.
 
 pub mod pages;
+pub mod permissions;
 pub mod runs;
+pub mod table;
