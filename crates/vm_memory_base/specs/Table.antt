@@ -50,6 +50,10 @@ says_after_all (call ∷ calls) x old = says_after_all calls x (says_after call 
 abbrev pub says_nothing : Says
 says_nothing x = None
 
+-- what a new table says after these calls
+abbrev pub new_table_after : List TableCall → Says
+new_table_after calls x = says_after_all calls x (says_nothing x)
+
 -- a table as it is kept: at most so many runs, if there is a limit, and its runs
 pub record Table : Type 0 where
   pub limit : Option ℕ
