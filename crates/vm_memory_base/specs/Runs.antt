@@ -1,5 +1,5 @@
 -- Runs of neighbouring addresses at which a function has one value.
-use Rattle.std.specs.Prelude.{◌≡◌, ℕ, zero, suc, ◌+◌, ◌<◌, ◌≤◌, Bool, false, ◌&&◌, cond, ◌==◌, List, [], ◌∷◌, Option, Some, None}
+use Rattle.std.specs.Prelude.{◌≡◌, ℕ, zero, suc, ◌+◌, ◌-◌, ◌<◌, ◌≤◌, min, max, Bool, true, false, ◌&&◌, cond, ◌==◌, nat_lt, List, [], ◌∷◌, Option, Some, None}
 use Rattle.vm_memory_base.specs.Address.{is_within}
 
 -- neighbouring addresses, and the value that they all have
@@ -7,6 +7,10 @@ pub record Run (K : Type 0) : Type 0 where
   pub start : ℕ
   pub len : ℕ
   pub value : K
+
+-- a test that passes exactly where its two values are equal
+abbrev pub TestsEquality : {K : Type 0} → (K → K → Bool) → Type 0
+TestsEquality {K} same = ((j k : K) → same j k ≡ true → j ≡ k) × ((k : K) → same k k ≡ true)
 
 module _ {K : Type 0} (same : K → K → Bool) where
   -- the runs with one more address before them, which joins the first where that begins right behind it and has the same value
@@ -35,3 +39,12 @@ module _ {K : Type 0} (same : K → K → Bool) where
 abbrev pub value_at : {K : Type 0} → List (Run K) → ℕ → Option K
 value_at [] x = None
 value_at (r ∷ rs) x = cond (is_within r.start r.len x) (Some r.value) (value_at rs x)
+
+-- the run from one address up to another, where there is any between them, before other runs
+abbrev pub cut_onto : {K : Type 0} → (from to : ℕ) → K → List (Run K) → List (Run K)
+cut_onto from to k rs = cond (nat_lt from to) (record { start = from; len = to - from; value = k } ∷ rs) rs
+
+-- what lies of each run in the n addresses from a on
+abbrev pub cut_to : {K : Type 0} → ℕ → ℕ → List (Run K) → List (Run K)
+cut_to a n [] = []
+cut_to a n (r ∷ rs) = cut_onto (max a r.start) (min (a + n) (r.start + r.len)) r.value (cut_to a n rs)

@@ -1,6 +1,6 @@
 -- What an I/O table says of each address, what the calls that change it make of that, and what a look-up gives.
 use Rattle.std.specs.Prelude.{ℕ, zero, suc, ◌+◌, ◌-◌, ◌%◌, ◌^◌, Bool, true, false, not, ◌&&◌, ◌||◌, cond, ◌==◌, nat_lt, List, [], ◌∷◌, map, Option, Some, None, is_some}
-use Rattle.vm_memory_base.specs.Address.{difference, is_within}
+use Rattle.vm_memory_base.specs.Address.{step, numbers, difference, is_within}
 use Rattle.vm_memory_base.specs.Permissions.{allow, same}
 use Rattle.vm_memory_base.specs.Runs.{Run, runs, value_at}
 use Rattle.vm_memory_base.specs.declared.iotlb.Permissions.{Permissions}
@@ -35,6 +35,12 @@ says_after (Set iova to len permissions) x old = cond (is_within iova len x) (So
 says_after (Invalidate iova len) x old = cond (is_within iova len x) None old
 says_after InvalidateAll x old = None
 
+-- whether a call says something of x
+abbrev pub covers : TableCall → ℕ → Bool
+covers (Set iova to len permissions) x = is_within iova len x
+covers (Invalidate iova len) x = is_within iova len x
+covers InvalidateAll x = true
+
 -- what is said of x after calls, the earliest first, where old was said before them: the last one that covers x decides
 abbrev pub says_after_all : List TableCall → ℕ → Option Mapping → Option Mapping
 says_after_all [] x old = old
@@ -43,6 +49,10 @@ says_after_all (call ∷ calls) x old = says_after_all calls x (says_after call 
 -- a new table says nothing of any address
 abbrev pub says_nothing : Says
 says_nothing x = None
+
+-- what a new table says after these calls
+abbrev pub new_table_after : List TableCall → Says
+new_table_after calls x = says_after_all calls x (says_nothing x)
 
 -- a table as it is kept: at most so many runs, if there is a limit, and its runs
 pub record Table : Type 0 where
@@ -75,6 +85,10 @@ overruns a n = nat_lt (2 ^ 64 - 1) (a + n)
 abbrev pub is_allowed : Says → ℕ → ℕ → Permissions → Bool
 is_allowed f a n access = n == 0 || (not (overruns a n) && each (grants access) f a n)
 
+-- whether a mapping forbids the access
+abbrev pub forbids : Permissions → Mapping → Bool
+forbids access m = not (allow m.permissions access)
+
 -- why an access that is not allowed is refused
 abbrev pub reason : Says → ℕ → ℕ → Reason
 reason f a n = cond (overruns a n || not (each is_some f a n)) MissingMapping AccessNotAllowed
@@ -84,9 +98,22 @@ pub record Range : Type 0 where
   pub base : ℕ
   pub len : ℕ
 
+-- where a run leads: as many addresses, from the target of its first on
+abbrev pub piece_of : Run Mapping → Range
+piece_of r = record { base = target r.start r.value; len = r.len }
+
 -- the pieces of a look-up: the runs of the asked addresses, each at the target of its first
 abbrev pub pieces : Says → ℕ → ℕ → List Range
-pieces f a n = map (λ r. record { base = target r.start r.value; len = r.len }) (runs same_mapping f a n)
+pieces f a n = map piece_of (runs same_mapping f a n)
+
+-- the addresses of a range, in order
+abbrev pub addresses : Range → List ℕ
+addresses r = map (step r.base) (numbers 0 r.len)
+
+-- the target of an address, if it is mapped
+abbrev pub target_if_any : ℕ → Option Mapping → List ℕ
+target_if_any x None = []
+target_if_any x (Some m) = target x m ∷ []
 
 abbrev pub range_of : {K : Type 0} → Run K → Range
 range_of r = record { base = r.start; len = r.len }

@@ -5,6 +5,7 @@ mod address;
 mod bitmap;
 mod io;
 mod iotlb;
+pub mod laws;
 
 pub use address::{GuestAddress, MemoryRegionAddress};
 pub use bitmap::{Bitmap, BitmapId, BitmapRef, ExactBitmap, NewBitmap};

@@ -1,0 +1,3 @@
+pub mod PagesLaws
+pub mod RunsLaws
+pub mod TableLaws

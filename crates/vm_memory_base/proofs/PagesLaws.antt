@@ -1,0 +1,271 @@
+-- The laws of page sets.
+use Rattle.std.proofs.Common.{◌≡◌, ℕ, zero, suc, ◌+◌, ◌*◌, ◌/◌, ◌^◌, ◌<◌, ◌≤◌, Bool, true, false, ◌&&◌, ◌||◌, ltb, leb, List, [], ◌∷◌, ◌++◌, length, get_or, Some, None, refl, sym, ap, inl, inr, ◌⊎◌, ◌↔◌, ◌∙◌, add-zero, zero-add, add-one, arith}
+use Rattle.std.proofs.Math.Nat.{lt-div-mul-add, div-mul-le_self}
+use Rattle.std.proofs.lemmas.Nat.{le-div, div_below}
+use Rattle.std.proofs.lemmas.Bool.{lt-ltb, le-ltb, and_left}
+use Rattle.std.proofs.lemmas.Bool.Decides.{nat_tests}
+use Rattle.std.proofs.lemmas.List.Elements.{All-nil, All-cons, All-weaker}
+use Rattle.std.specs.List.{All, AllPairs, Contains}
+use Rattle.vm_memory_base.specs.Address.{numbers}
+use Rattle.vm_memory_base.specs.Pages.{Pages, PageSet, shape, is_dirty_at, dirty_from, dirty_pages, last_byte, takes, flags_after, marked, marked_each, all_clean, cleaned, IsPageSet}
+
+or-false : (b : Bool) → (b || false) ≡ b
+or-false true = refl
+or-false false = refl
+
+or_assoc : (a b c : Bool) → ((a || b) || c) ≡ (a || (b || c))
+or_assoc true b c = refl
+or_assoc false b c = refl
+
+or_comm : (a b : Bool) → (a || b) ≡ (b || a)
+or_comm true true = refl
+or_comm true false = refl
+or_comm false true = refl
+or_comm false false = refl
+
+or_self : (a : Bool) → (a || a) ≡ a
+or_self true = refl
+or_self false = refl
+
+ltb-suc : (a b : ℕ) → ltb (suc a) (suc b) ≡ ltb a b
+ltb-suc a b = grind (arith, nat_tests)
+
+pub length-flags_after : (test : ℕ → Bool) (k : ℕ) (flags : List Bool) → length (flags_after test k flags) ≡ length flags
+length-flags_after test k [] = refl
+length-flags_after test k (dirty ∷ flags) = ap suc (length-flags_after test (k + 1) flags)
+
+-- only what a test says of the pages matters
+pub flags_after_agree : (p q : ℕ → Bool) → ((j : ℕ) → p j ≡ q j) → (k : ℕ) (flags : List Bool) → flags_after p k flags ≡ flags_after q k flags
+flags_after_agree p q h k [] = refl
+flags_after_agree p q h k (dirty ∷ flags) = let e = h k in let f = flags_after_agree p q h (k + 1) flags in cc
+
+pub flags_after-none : (test : ℕ → Bool) → ((j : ℕ) → test j ≡ false) → (k : ℕ) (flags : List Bool) → flags_after test k flags ≡ flags
+flags_after-none test h k [] = refl
+flags_after-none test h k (dirty ∷ flags) = let e = or-false dirty in let g = h k in let f = flags_after-none test h (k + 1) flags in cc
+
+pub flags_after_twice : (p q : ℕ → Bool) (k : ℕ) (flags : List Bool) → flags_after p k (flags_after q k flags) ≡ flags_after (λ j. q j || p j) k flags
+flags_after_twice p q k [] = refl
+flags_after_twice p q k (dirty ∷ flags) = let e = or_assoc dirty (q k) (p k) in let f = flags_after_twice p q (k + 1) flags in cc
+
+-- a mark of no bytes takes no page
+pub takes_nothing : (size start page : ℕ) → takes size start 0 page ≡ false
+takes_nothing size start page = refl
+
+-- the same pages with other flags
+abbrev with_flags : Pages → List Bool → PageSet
+with_flags p flags = Some (record { page_size = p.page_size; flags = flags })
+
+-- a mark of no bytes changes nothing
+pub marked-empty : (start : ℕ) (set : PageSet) → marked start 0 set ≡ set
+marked-empty start None = refl
+marked-empty start (Some p) = ap (with_flags p) (flags_after-none (takes p.page_size start 0) (takes_nothing p.page_size start) 0 p.flags)
+
+-- a mark keeps the page size and the number of pages
+pub shape-marked : (start len : ℕ) (set : PageSet) → shape (marked start len set) ≡ shape set
+shape-marked start len None = refl
+shape-marked start len (Some p) = ap (λ (n : ℕ). Some (p.page_size, n)) (length-flags_after (takes p.page_size start len) 0 p.flags)
+
+pub IsPageSet-marked : (start len : ℕ) (set : PageSet) → IsPageSet set → IsPageSet (marked start len set)
+IsPageSet-marked start len None h = tt
+IsPageSet-marked start len (Some p) h = (h.0, rw length-flags_after h.1)
+
+-- dirty after a mark: what was dirty, and the pages that the test takes
+pub get_or-flags_after : (test : ℕ → Bool) (k : ℕ) (flags : List Bool) (i : ℕ) → get_or (flags_after test k flags) i false ≡ (get_or flags i false || (ltb i (length flags) && test (k + i)))
+get_or-flags_after test k [] i = sym (and_left (ltb i 0) (test (k + i)) (le-ltb i 0 (omega arith)))
+get_or-flags_after test k (dirty ∷ flags) zero = rw (add-zero, lt-ltb 0 (suc (length flags)) (omega arith))
+get_or-flags_after test k (dirty ∷ flags) (suc i) = let e : k + 1 + i ≡ k + suc i = omega arith in rw (← e, ltb-suc i (length flags)) (get_or-flags_after test (k + 1) flags i)
+
+pub is_dirty_at-marked : (start len offset : ℕ) (p : Pages) → is_dirty_at (marked start len (Some p)) offset ≡ (is_dirty_at (Some p) offset || (ltb (offset / p.page_size) (length p.flags) && takes p.page_size start len (offset / p.page_size)))
+is_dirty_at-marked start len offset p = get_or-flags_after (takes p.page_size start len) 0 p.flags (offset / p.page_size) ∙ rw zero-add
+
+-- of two marks
+pub marked-marked : (a m b n : ℕ) (p : Pages) → marked a m (marked b n (Some p)) ≡ with_flags p (flags_after (λ k. takes p.page_size b n k || takes p.page_size a m k) 0 p.flags)
+marked-marked a m b n p = ap (with_flags p) (flags_after_twice (takes p.page_size a m) (takes p.page_size b n) 0 p.flags)
+
+-- marks may be made in any order
+pub marked_comm : (a m b n : ℕ) (set : PageSet) → marked a m (marked b n set) ≡ marked b n (marked a m set)
+marked_comm a m b n None = refl
+marked_comm a m b n (Some p) =
+    marked-marked a m b n p
+    ∙ ap (with_flags p) (flags_after_agree (λ k. takes p.page_size b n k || takes p.page_size a m k) (λ k. takes p.page_size a m k || takes p.page_size b n k) (λ k. or_comm (takes p.page_size b n k) (takes p.page_size a m k)) 0 p.flags)
+    ∙ sym (marked-marked b n a m p)
+
+-- a mark made twice is one
+pub marked_twice : (start len : ℕ) (set : PageSet) → marked start len (marked start len set) ≡ marked start len set
+marked_twice start len None = refl
+marked_twice start len (Some p) =
+    marked-marked start len start len p
+    ∙ ap (with_flags p) (flags_after_agree (λ k. takes p.page_size start len k || takes p.page_size start len k) (takes p.page_size start len) (λ k. or_self (takes p.page_size start len k)) 0 p.flags)
+
+-- ---- byte by byte
+
+div_mono : (s a b : ℕ) → 0 < s → a ≤ b → a / s ≤ b / s
+div_mono s a b pos le = le-div (a / s) b s pos (omega (arith, div-mul-le_self a s))
+
+-- the page of the next byte is the same or the next
+div_next : (s a : ℕ) → 0 < s → (a + 1) / s ≤ a / s + 1
+div_next s a pos =
+    let h : a < a / s * s + s = lt-div-mul-add pos in
+    let l : (a + 1) / s < a / s + 2 = div_below (a + 1) s (a / s + 2) pos (omega arith) in
+    omega arith
+
+-- the pages from p to r, in two parts
+split_range : (p q r k : ℕ) → p ≤ q → q ≤ p + 1 → q ≤ r → ((leb p k && leb k p) || (leb q k && leb k r)) ≡ (leb p k && leb k r)
+split_range p q r k a b c = grind (arith, nat_tests)
+
+-- a mark of n + 1 bytes takes the page of the first, and those that the others take
+takes_more : (size start n k : ℕ) → 0 < size → start + (n + 1) ≤ 2 ^ 64 → (takes size start 1 k || takes size (start + 1) n k) ≡ takes size start (n + 1) k
+takes_more size start zero k pos fits = rw or-false
+takes_more size start (suc n) k pos fits =
+    let e : last_byte start 1 ≡ start = omega arith in
+    let f : last_byte (start + 1) (suc n) ≡ start + suc n = omega arith in
+    let g : last_byte start (suc n + 1) ≡ start + suc n = omega arith in
+    let a : start / size ≤ (start + 1) / size = div_mono size start (start + 1) pos (omega arith) in
+    let b : (start + 1) / size ≤ (start + suc n) / size = div_mono size (start + 1) (start + suc n) pos (omega arith) in
+    let i : ltb 0 (suc n + 1) ≡ true = lt-ltb 0 (suc n + 1) (omega arith) in
+    let j : ltb 0 (suc n) ≡ true = lt-ltb 0 (suc n) (omega arith) in
+    rw (e, f, g, i, j) (split_range (start / size) ((start + 1) / size) ((start + suc n) / size) k a (div_next size start pos) b)
+
+marked_more : (start n : ℕ) (set : PageSet) → IsPageSet set → start + (n + 1) ≤ 2 ^ 64 → marked (start + 1) n (marked start 1 set) ≡ marked start (n + 1) set
+marked_more start n None h fits = refl
+marked_more start n (Some p) h fits =
+    marked-marked (start + 1) n start 1 p
+    ∙ ap (with_flags p) (flags_after_agree (λ k. takes p.page_size start 1 k || takes p.page_size (start + 1) n k) (takes p.page_size start (n + 1)) (λ k. takes_more p.page_size start n k h.0 fits) 0 p.flags)
+
+-- a mark is a mark of each of its bytes
+pub marked_each-numbers : (start n : ℕ) (set : PageSet) → IsPageSet set → start + n ≤ 2 ^ 64 → marked_each (numbers start n) set ≡ marked start n set
+marked_each-numbers start zero set h fits = sym (marked-empty start set)
+marked_each-numbers start (suc n) set h fits =
+    marked_each-numbers (start + 1) n (marked start 1 set) (IsPageSet-marked start 1 set h) (omega arith)
+    ∙ marked_more start n set h (omega arith)
+    ∙ ap (λ (k : ℕ). marked start k set) (add-one n)
+
+marked_each-append : (xs ys : List ℕ) (set : PageSet) → marked_each (xs ++ ys) set ≡ marked_each ys (marked_each xs set)
+marked_each-append [] ys set = refl
+marked_each-append (x ∷ xs) ys set = marked_each-append xs ys (marked x 1 set)
+
+pub numbers-append : (start m n : ℕ) → numbers start (m + n) ≡ numbers start m ++ numbers (start + m) n
+numbers-append start zero n = rw (zero-add, add-zero)
+numbers-append start (suc m) n =
+    let e : suc m + n ≡ suc (m + n) = omega arith in
+    let f : start + suc m ≡ start + 1 + m = omega arith in
+    rw (e, f) (ap (λ (xs : List ℕ). start ∷ xs) (numbers-append (start + 1) m n))
+
+-- marks of neighbouring ranges are one
+pub marked_on : (start m n : ℕ) (set : PageSet) → IsPageSet set → start + (m + n) ≤ 2 ^ 64 → marked (start + m) n (marked start m set) ≡ marked start (m + n) set
+marked_on start m n set h fits =
+    let by_bytes = marked_each-numbers start m set h (omega arith) in
+    let rest = marked_each-numbers (start + m) n (marked start m set) (IsPageSet-marked start m set h) (omega arith) in
+    let all = marked_each-numbers start (m + n) set h fits in
+    let joined = marked_each-append (numbers start m) (numbers (start + m) n) set in
+    let parts = numbers-append start m n in
+    cc
+
+marked-marked_each : (start len : ℕ) (xs : List ℕ) (set : PageSet) → marked_each xs (marked start len set) ≡ marked start len (marked_each xs set)
+marked-marked_each start len [] set = refl
+marked-marked_each start len (x ∷ xs) set = ap (marked_each xs) (marked_comm x 1 start len set) ∙ marked-marked_each start len xs (marked x 1 set)
+
+marked_each_turned : (xs ys : List ℕ) (set : PageSet) → marked_each ys (marked_each xs set) ≡ marked_each xs (marked_each ys set)
+marked_each_turned [] ys set = refl
+marked_each_turned (x ∷ xs) ys set = marked_each_turned xs ys (marked x 1 set) ∙ ap (marked_each xs) (marked-marked_each x 1 ys set)
+
+-- the marks of bytes may be made in any order
+pub marked_each_comm : (xs ys : List ℕ) (set : PageSet) → marked_each (xs ++ ys) set ≡ marked_each (ys ++ xs) set
+marked_each_comm xs ys set = marked_each-append xs ys set ∙ marked_each_turned xs ys set ∙ sym (marked_each-append ys xs set)
+
+-- ---- all clean
+
+length-all_clean : (flags : List Bool) → length (all_clean flags) ≡ length flags
+length-all_clean [] = refl
+length-all_clean (dirty ∷ flags) = ap suc (length-all_clean flags)
+
+get_or-all_clean : (flags : List Bool) (i : ℕ) → get_or (all_clean flags) i false ≡ false
+get_or-all_clean [] i = refl
+get_or-all_clean (dirty ∷ flags) zero = refl
+get_or-all_clean (dirty ∷ flags) (suc i) = get_or-all_clean flags i
+
+dirty_from-all_clean : (page : ℕ) (flags : List Bool) → dirty_from page (all_clean flags) ≡ []
+dirty_from-all_clean page [] = refl
+dirty_from-all_clean page (dirty ∷ flags) = dirty_from-all_clean (page + 1) flags
+
+pub shape-cleaned : (set : PageSet) → shape (cleaned set) ≡ shape set
+shape-cleaned None = refl
+shape-cleaned (Some p) = ap (λ (n : ℕ). Some (p.page_size, n)) (length-all_clean p.flags)
+
+pub IsPageSet-cleaned : (set : PageSet) → IsPageSet set → IsPageSet (cleaned set)
+IsPageSet-cleaned None h = tt
+IsPageSet-cleaned (Some p) h = (h.0, rw length-all_clean h.1)
+
+pub dirty_pages-cleaned : (set : PageSet) → dirty_pages (cleaned set) ≡ []
+dirty_pages-cleaned None = refl
+dirty_pages-cleaned (Some p) = dirty_from-all_clean 0 p.flags
+
+pub is_dirty_at-cleaned : (set : PageSet) (offset : ℕ) → is_dirty_at (cleaned set) offset ≡ false
+is_dirty_at-cleaned None offset = refl
+is_dirty_at-cleaned (Some p) offset = get_or-all_clean p.flags (offset / p.page_size)
+
+-- ---- the list of the dirty pages
+
+contains_head : (x : ℕ) (xs : List ℕ) → Contains (x ∷ xs) x
+contains_head x xs = (0, omega arith, refl)
+
+contains_tail : (x y : ℕ) (xs : List ℕ) → Contains xs y → Contains (x ∷ xs) y
+contains_tail x y xs (k, l, e) = (suc k, omega arith, e)
+
+contains_cases : (x y : ℕ) (xs : List ℕ) → Contains (x ∷ xs) y → (x ≡ y) ⊎ Contains xs y
+contains_cases x y xs (zero, l, e) = inl e
+contains_cases x y xs (suc k, l, e) = inr (k, omega arith, e)
+
+not_in_nil : (y : ℕ) → Contains [] y → ⊥
+not_in_nil y (k, l, e) = omega arith
+
+listed : (page : ℕ) (flags : List Bool) (i : ℕ) → get_or flags i false ≡ true → Contains (dirty_from page flags) (page + i)
+listed page [] i e = cc
+listed page (true ∷ flags) zero e = rw add-zero (contains_head page (dirty_from (page + 1) flags))
+listed page (false ∷ flags) zero e = cc
+listed page (true ∷ flags) (suc i) e =
+    let f : page + 1 + i ≡ page + suc i = omega arith in
+    contains_tail page (page + suc i) (dirty_from (page + 1) flags) (rw (← f) (listed (page + 1) flags i e))
+listed page (false ∷ flags) (suc i) e =
+    let f : page + 1 + i ≡ page + suc i = omega arith in
+    rw (← f) (listed (page + 1) flags i e)
+
+listed_later : (page other : ℕ) (dirty : Bool) (flags : List Bool) → (i : ℕ) × (other ≡ page + 1 + i) × (get_or flags i false ≡ true) → (i : ℕ) × (other ≡ page + i) × (get_or (dirty ∷ flags) i false ≡ true)
+listed_later page other dirty flags (i, e, g) = (suc i, omega arith, g)
+
+listed_is_dirty : (page : ℕ) (flags : List Bool) (other : ℕ) → Contains (dirty_from page flags) other → (i : ℕ) × (other ≡ page + i) × (get_or flags i false ≡ true)
+listed_is_dirty page [] other h = absurd (not_in_nil other h)
+listed_is_dirty page (true ∷ flags) other h =
+    elim (contains_cases page other (dirty_from (page + 1) flags) h) [
+      | inl e ↦ (0, omega arith, refl)
+      | inr k ↦ listed_later page other true flags (listed_is_dirty (page + 1) flags other k)
+    ]
+listed_is_dirty page (false ∷ flags) other h = listed_later page other false flags (listed_is_dirty (page + 1) flags other h)
+
+-- the dirty pages are listed, and no others
+pub Contains-dirty_pages : (p : Pages) (page : ℕ) → Contains (dirty_pages (Some p)) page ↔ (get_or p.flags page false ≡ true)
+Contains-dirty_pages p page = (
+  (λ h. let w : (i : ℕ) × (page ≡ 0 + i) × (get_or p.flags i false ≡ true) = listed_is_dirty 0 p.flags page h in let e : page ≡ w.0 = omega arith in rw e w.2),
+  (λ e. let f : 0 + page ≡ page = zero-add page in rw f at (listed 0 p.flags page e)),
+)
+
+from_page : (page : ℕ) (flags : List Bool) → All (λ other. page ≤ other) (dirty_from page flags)
+from_page page [] = All-nil (λ other. page ≤ other)
+from_page page (true ∷ flags) = All-cons (λ other. page ≤ other) page (dirty_from (page + 1) flags) (omega arith) (All-weaker (λ other. page + 1 ≤ other) (λ other. page ≤ other) (λ other h. omega arith) (dirty_from (page + 1) flags) (from_page (page + 1) flags))
+from_page page (false ∷ flags) = All-weaker (λ other. page + 1 ≤ other) (λ other. page ≤ other) (λ other h. omega arith) (dirty_from (page + 1) flags) (from_page (page + 1) flags)
+
+pairs_cons : (x : ℕ) (xs : List ℕ) → All (λ y. x < y) xs → AllPairs (λ y z. y < z) xs → AllPairs (λ y z. y < z) (x ∷ xs)
+pairs_cons x xs h g zero zero d l m = absurd (omega arith)
+pairs_cons x xs h g zero (suc j) d l m = h j d (omega arith)
+pairs_cons x xs h g (suc i) zero d l m = absurd (omega arith)
+pairs_cons x xs h g (suc i) (suc j) d l m = g i j d (omega arith) (omega arith)
+
+ascending_from : (page : ℕ) (flags : List Bool) → AllPairs (λ y z. y < z) (dirty_from page flags)
+ascending_from page [] = λ i j d l m. absurd (omega arith)
+ascending_from page (true ∷ flags) = pairs_cons page (dirty_from (page + 1) flags) (All-weaker (λ other. page + 1 ≤ other) (λ other. page < other) (λ other h. omega arith) (dirty_from (page + 1) flags) (from_page (page + 1) flags)) (ascending_from (page + 1) flags)
+ascending_from page (false ∷ flags) = ascending_from (page + 1) flags
+
+-- the dirty pages are listed in ascending order
+pub dirty_pages_ascend : (set : PageSet) → AllPairs (λ page other. page < other) (dirty_pages set)
+dirty_pages_ascend None = λ i j d l m. absurd (omega arith)
+dirty_pages_ascend (Some p) = ascending_from 0 p.flags

@@ -1,0 +1,5 @@
+use Rattle.vm_memory_base.proofs.TableLaws.{allow_by_bits, allow-No, ReadWrite-allow, allow-Read, allow-Write}
+use Rattle.vm_memory_base.proofs.laws.permissions.allowed_by_bits.Goals as goal
+
+pub returns : goal.returns
+returns c = record { bits = allow_by_bits; nothing_asked = allow-No; all_permitted = ReadWrite-allow; read_asked = allow-Read; write_asked = allow-Write }

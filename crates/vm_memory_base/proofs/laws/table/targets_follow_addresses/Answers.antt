@@ -1,0 +1,5 @@
+use Rattle.vm_memory_base.proofs.TableLaws.{target-set, target_steps}
+use Rattle.vm_memory_base.proofs.laws.table.targets_follow_addresses.Goals as goal
+
+pub returns : goal.returns
+returns c = record { set = target-set; steps = target_steps }

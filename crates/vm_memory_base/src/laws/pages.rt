@@ -1,0 +1,59 @@
+//! What holds of page sets and the marks that they take.
+ghost use Rattle.std.specs.Prelude.{◌≡◌, ◌↔◌, ℕ, ◌+◌, ◌/◌, ◌^◌, ◌<◌, ◌≤◌, Bool, false, true, ◌||◌, ◌&&◌, nat_lt, List, [], ◌++◌, None, Some, length, slice_index_or, AllPairs, Contains};
+ghost use Rattle.vm_memory_base.specs.Address.{numbers};
+ghost use Rattle.vm_memory_base.specs.Pages.{Pages, PageSet, shape, is_dirty_at, dirty_pages, takes, flags_after, marked, marked_each, cleaned, IsPageSet};
+
+/// A mark of no bytes changes nothing.
+pub fn empty_mark()
+    ensures { (start : ℕ) (set : PageSet) → marked start 0 set ≡ set }
+{}
+
+/// A mark keeps the page size and the number of pages.
+pub fn mark_keeps_shape()
+    ensures shape { (start len : ℕ) (set : PageSet) → shape (marked start len set) ≡ shape set }
+    ensures valid { (start len : ℕ) (set : PageSet) → IsPageSet set → IsPageSet (marked start len set) }
+{}
+
+/// After a mark the dirty pages are those that were dirty and those that the mark takes, among the pages that there are.
+pub fn mark_dirties()
+    ensures pages { (test : ℕ → Bool) (page : ℕ) (flags : List Bool) (i : ℕ) → slice_index_or (flags_after test page flags) i false ≡ (slice_index_or flags i false || (nat_lt i (length flags) && test (page + i))) }
+    ensures bytes { (start len offset : ℕ) (p : Pages) → is_dirty_at (marked start len (Some p)) offset ≡ (is_dirty_at (Some p) offset || (nat_lt (offset / p.page_size) (length p.flags) && takes p.page_size start len (offset / p.page_size))) }
+{}
+
+/// A mark is a mark of each of its bytes, one after another.
+pub fn mark_is_by_bytes()
+    ensures { (start len : ℕ) (set : PageSet) → IsPageSet set → start + len ≤ 2 ^ 64 → marked_each (numbers start len) set ≡ marked start len set }
+{}
+
+/// Marks of neighbouring ranges are one mark.
+pub fn neighbouring_marks()
+    ensures { (start m n : ℕ) (set : PageSet) → IsPageSet set → start + (m + n) ≤ 2 ^ 64 → marked (start + m) n (marked start m set) ≡ marked start (m + n) set }
+{}
+
+/// Marks may be made in any order and more than once.
+pub fn mark_order()
+    ensures any_order { (a m b n : ℕ) (set : PageSet) → marked a m (marked b n set) ≡ marked b n (marked a m set) }
+    ensures each_in_any_order { (xs ys : List ℕ) (set : PageSet) → marked_each (xs ++ ys) set ≡ marked_each (ys ++ xs) set }
+    ensures twice { (start len : ℕ) (set : PageSet) → marked start len (marked start len set) ≡ marked start len set }
+{}
+
+/// Where nothing is tracked nothing is dirty, before and after each mark.
+pub fn nothing_tracked()
+    ensures marked { (start len : ℕ) → marked start len None ≡ None }
+    ensures clean { (offset : ℕ) → is_dirty_at None offset ≡ false }
+    ensures no_page { dirty_pages None ≡ [] }
+{}
+
+/// Cleaning leaves the same pages, and none of them dirty.
+pub fn cleaned_is_clean()
+    ensures no_page { (set : PageSet) → dirty_pages (cleaned set) ≡ [] }
+    ensures no_byte { (set : PageSet) (offset : ℕ) → is_dirty_at (cleaned set) offset ≡ false }
+    ensures shape { (set : PageSet) → shape (cleaned set) ≡ shape set }
+    ensures valid { (set : PageSet) → IsPageSet set → IsPageSet (cleaned set) }
+{}
+
+/// The dirty pages are listed, no other pages are, and they ascend.
+pub fn dirty_pages_are_listed()
+    ensures exactly { (p : Pages) (page : ℕ) → Contains (dirty_pages (Some p)) page ↔ (slice_index_or p.flags page false ≡ true) }
+    ensures ascending { (set : PageSet) → AllPairs (λ page other. page < other) (dirty_pages set) }
+{}
