@@ -3,4 +3,6 @@
 
 mod address;
 
-pub use address::{GuestAddress, MemoryRegionAddress};
+pub use address::{
+    Address, AddressValue, AddressWord, GuestAddress, GuestUsize, MemoryRegionAddress,
+};
