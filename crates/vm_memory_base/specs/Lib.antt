@@ -1,1 +1,3 @@
 pub mod PowerOfTwo
+pub mod Bytes
+pub mod ByteCodes

@@ -2,7 +2,9 @@
 #![tactic(auto)]
 
 mod address;
+mod bytes;
 
 pub use address::{
     Address, AddressValue, AddressWord, GuestAddress, GuestUsize, MemoryRegionAddress,
 };
+pub use bytes::{ByteValued, FixedInteger};
