@@ -1,14 +1,16 @@
 -- The bytes of a number, the lowest first, and the number that bytes write.
-use Rattle.std.proofs.Common.{◌≡◌, ℕ, zero, suc, ◌+◌, ◌-◌, ◌*◌, ◌/◌, ◌%◌, ◌^◌, ◌<◌, ◌≤◌, List, [], ◌∷◌, ◌++◌, length, take, slice_index, slice_set, sym, ◌∙◌, ap, refl, arith, replicate, length-append, Fits}
+use Rattle.std.proofs.Common.{◌≡◌, ℕ, zero, suc, ◌+◌, ◌-◌, ◌*◌, ◌/◌, ◌%◌, ◌^◌, ◌<◌, ◌≤◌, List, [], ◌∷◌, ◌++◌, length, take, slice_index, slice_set, sym, ◌∙◌, ap, refl, arith, replicate, length-append, Fits, reverse, subst, inl, inr, Bool}
 use Rattle.std.specs.Int.{Width, w8, w16, w32, w64, w128, byte_at, byte_len, byte_worth, bytes_low_first, sum_through, to_le_bytes, from_le_bytes, cast_signed, cast_unsigned}
 use Rattle.std.specs.Int.RustNames.{FitsSigned}
 use mir.Val.{bits}
+use Rattle.std.specs.Bool.{Decides}
 use Rattle.std.proofs.Math.Facts.{Fits-lt-pow, Fits-bits, Fits-of_z, sfits_to_z}
 use Rattle.std.proofs.lemmas.Int.{to_z-of_z, of_z-to_z}
 use Rattle.std.proofs.Math.Nat.{pow-suc, pow-succ', div-div-eq-div-mul, mod-lt, zero-div}
 use Rattle.std.proofs.Math.Seq.{take-suc, take-set-lt}
-use Rattle.std.proofs.lemmas.List.{length-take-le, take_all, length-replicate}
+use Rattle.std.proofs.lemmas.List.{length-take-le, take_all, length-replicate, length-reverse, reverse-reverse, get_or-reverse, get_or_past}
 use Rattle.std.proofs.Math.ListN.{length-set}
+use Rattle.std.proofs.lemmas.Bool.{cases_lt}
 use Rattle.vm_memory_base.specs.Bytes.{AreBytes, IsByteCode}
 
 -- the number that bytes write, the lowest first
@@ -183,3 +185,45 @@ replaced k i b n m all small inside e h =
     let count : length (take k (slice_set all i b)) ≡ k =
     omega (arith, length-take-le k (slice_set all i b), length-set {A = ℕ}) in
     sym (ap (λ j. bytes_low_first 0 j m) count) ∙ h ∙ front
+
+-- the same for a type of values that are those of another
+pub wrapped_code : {V W : Type 0} {width : ℕ} {P : V → Type 0} {b : V → List ℕ} {v : List ℕ → V}
+    → (open_ : W → V) (close : V → W) → ((x : W) → close (open_ x) ≡ x) → ((y : V) → open_ (close y) ≡ y) → IsByteCode width P b v
+    → IsByteCode width (λ x. P (open_ x)) (λ x. b (open_ x)) (λ s. close (v s))
+wrapped_code {P = P} {b = b} open_ close closes opens code = record {
+  length_bytes = λ x. code.length_bytes (open_ x);
+  are_bytes = λ x. code.are_bytes (open_ x);
+  from_bytes = λ x valid. ap close (code.from_bytes (open_ x) valid) ∙ closes x;
+  to_bytes = λ s h all. ap b (opens _) ∙ code.to_bytes s h all;
+  is_value = λ s h all. subst P (sym (opens _)) (code.is_value s h all);
+}
+
+pub length-reversed : (s : List ℕ) {n : ℕ} → length s ≡ n → length (reverse s) ≡ n
+length-reversed s h = length-reverse s ∙ h
+
+reversed_are_bytes : (s : List ℕ) → AreBytes s → AreBytes (reverse s)
+reversed_are_bytes s all i =
+    elim (cases_lt i (length s)) [
+      | inl inside ↦ rw (get_or-reverse s i 0 inside) (all (length s - 1 - i))
+      | inr outside ↦ rw (get_or_past (reverse s) i 0 (omega (arith, length-reverse s))) (omega arith)
+    ]
+
+-- the same with the bytes in turned order
+pub reversed_code : {V W : Type 0} {width : ℕ} {P : V → Type 0} {b : V → List ℕ} {v : List ℕ → V}
+    → (open_ : W → V) (close : V → W) → ((x : W) → close (open_ x) ≡ x) → ((y : V) → open_ (close y) ≡ y) → IsByteCode width P b v
+    → IsByteCode width (λ x. P (open_ x)) (λ x. reverse (b (open_ x))) (λ s. close (v (reverse s)))
+reversed_code {P = P} {b = b} {v = v} open_ close closes opens code = record {
+  length_bytes = λ x valid. length-reversed (b (open_ x)) (code.length_bytes (open_ x) valid);
+  are_bytes = λ x. reversed_are_bytes (b (open_ x)) (code.are_bytes (open_ x));
+  from_bytes = λ x valid. ap close (ap v (reverse-reverse (b (open_ x))) ∙ code.from_bytes (open_ x) valid) ∙ closes x;
+  to_bytes = λ s h all.
+      ap (λ y. reverse (b y)) (opens _)
+      ∙ ap reverse (code.to_bytes (reverse s) (length-reversed s h) (reversed_are_bytes s all)) ∙ reverse-reverse s;
+  is_value = λ s h all. subst P (sym (opens _)) (code.is_value (reverse s) (length-reversed s h) (reversed_are_bytes s all));
+}
+
+-- equality of the values that another type's values are
+pub wrapped_equal : {V W : Type 0} {E : V → V → Bool} → (open_ : W → V) (close : V → W) → ((x : W) → close (open_ x) ≡ x)
+    → ((a b : V) → Decides (E a b) (a ≡ b)) → (x y : W) → Decides (E (open_ x) (open_ y)) (x ≡ y)
+wrapped_equal open_ close closes equal x y =
+    (λ e. sym (closes x) ∙ ap close ((equal (open_ x) (open_ y)).0 e) ∙ closes y, λ e. (equal (open_ x) (open_ y)).1 (ap open_ e))

@@ -7,6 +7,7 @@ ghost use Rattle.vm_memory_base.specs.Bytes.{IsByteCode};
 mod integers;
 
 pub use self::integers::FixedInteger;
+pub(crate) use self::integers::reversed;
 
 /// Types whose values stand one for one for the lists of a fixed number of bytes.
 ///

@@ -1,6 +1,6 @@
 //! The integers of a fixed number of bytes.
 
-ghost use Rattle.std.specs.Prelude.{◌≡◌, ℕ, ◌-◌, ◌^◌, ◌<◌, ◌≤◌, ◌++◌, List, length, replicate, slice_index, slice_set};
+ghost use Rattle.std.specs.Prelude.{◌≡◌, ℕ, ◌-◌, ◌^◌, ◌<◌, ◌≤◌, ◌++◌, List, length, replicate, reverse, slice_index, slice_set};
 ghost use Rattle.std.specs.Int.{w8, w16, w32, w64, w128, byte_len, bytes_low_first, to_le_bytes, from_le_bytes, cast_signed, cast_unsigned};
 ghost use Rattle.std.specs.Int.RustNames.{FitsSigned};
 ghost use Rattle.std.specs.Bool.{Decides};
@@ -105,6 +105,20 @@ pub(crate) fn with_byte(bits: u128, size: usize, i: usize, b: u8) -> u128
     let mut all = bits.to_le_bytes();
     all[i] = b;
     number_in(&all[..size])
+}
+
+/// The number of `size` bytes with its bytes in turned order.
+#[inline]
+pub(crate) fn reversed(bits: u128, size: usize) -> u128
+    requires { size ≤ 16 }
+    ensures bytes { bytes_low_first 0 size result ≡ reverse (bytes_low_first 0 size bits) }
+    ensures fits { result < 256 ^ size }
+{
+    let mut all = [0u8; 16];
+    let own = &mut all[..size];
+    write_number(bits, own);
+    own.reverse();
+    number_in(own)
 }
 
 impl FixedInteger for u8 {
