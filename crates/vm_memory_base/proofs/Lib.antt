@@ -1,3 +1,4 @@
 pub mod PagesLaws
 pub mod RunsLaws
 pub mod TableLaws
+pub mod AlignUp

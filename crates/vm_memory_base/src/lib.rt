@@ -2,12 +2,20 @@
 #![tactic(auto)]
 
 mod address;
+mod atomic_integer;
 mod bitmap;
+mod bytes;
+mod endian;
 mod io;
 mod iotlb;
 pub mod laws;
 
-pub use address::{GuestAddress, MemoryRegionAddress};
+pub use address::{
+    Address, AddressValue, AddressWord, GuestAddress, GuestUsize, MemoryRegionAddress,
+};
+pub use atomic_integer::AtomicInteger;
 pub use bitmap::{Bitmap, BitmapId, BitmapRef, ExactBitmap, NewBitmap};
+pub use bytes::{ByteValued, FixedInteger};
+pub use endian::{Be16, Be32, Be64, BeSize, BigEndian, Le16, Le32, Le64, LeSize, LittleEndian};
 pub use io::{VolatileMemoryError, VolatileMemoryResult};
 pub use iotlb::{IommuError, IovaRange, Permissions, Reason};

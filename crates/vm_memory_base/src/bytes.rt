@@ -1,0 +1,116 @@
+//! Values as bytes.
+
+ghost use Rattle.std.specs.Prelude.{◌≡◌, ℕ, ◌-◌, ◌^◌, ◌<◌, ◌≤◌, ◌↔◌, List, min, length, replicate, slice_index, slice_set, SomeIff, IsTrue};
+ghost use Rattle.std.specs.Bool.{OnTrue, OnFalse};
+ghost use Rattle.vm_memory_base.specs.Bytes.{IsByteCode};
+
+mod integers;
+
+pub use self::integers::FixedInteger;
+pub(crate) use self::integers::reversed;
+
+/// Types whose values stand one for one for the lists of a fixed number of bytes.
+///
+/// The integers hold their lowest byte first. An array holds its elements one after the other.
+///
+/// ```rust
+/// use vm_memory_base::ByteValued;
+///
+/// assert_eq!(rt; u32::from_slice(&[1, 2, 0, 0]), Some(0x0201));
+/// ```
+pub trait ByteValued: Copy {
+    // How many bytes a value takes.
+    ghost width: { ℕ };
+
+    // Holds of the values of the type.
+    ghost is_value: { Self → Type 0 };
+
+    // The bytes of a value, and the value with these bytes.
+    ghost bytes: { Self → List ℕ };
+
+    ghost value_of: { List ℕ → Self };
+
+    /// How many bytes a value takes, cut to 2^64 - 1.
+    fn size() -> usize
+        ensures { result ≡ min width (2 ^ 64 - 1) };
+
+    /// Byte `i` of the value.
+    fn byte(&self, i: usize) -> u8
+        requires { i < width }
+        ensures { result ≡ slice_index (bytes self.now) i };
+
+    /// Replaces byte `i` of the value.
+    fn set_byte(&mut self, i: usize, b: u8)
+        requires { i < width }
+        ensures { bytes self.new ≡ slice_set (bytes self.old) i b };
+
+    /// The value whose bytes are all 0.
+    fn zeroed() -> Self
+        ensures { bytes result ≡ replicate width 0 };
+
+    /// The value with the bytes of `data`, or `None` where these are not `size()` bytes.
+    fn from_slice(data: &[u8]) -> Option<Self>
+        ensures { SomeIff result (length «data».now ≡ width) (value_of «data».now) };
+
+    /// Writes the bytes of the value over `out`. Where `out` has not `size()` bytes, it writes nothing
+    /// and answers false.
+    fn to_slice(&self, out: &mut [u8]) -> bool
+        ensures fits { IsTrue result ↔ (length out.old ≡ width) }
+        ensures written { OnTrue result (out.new ≡ bytes self.now) }
+        ensures unchanged { OnFalse result (out.new ≡ out.old) };
+
+    /// Tells a proof that the value is one of the type. It does nothing.
+    fn known(&self)
+        ensures { is_value self.now };
+
+    // Values and lists of bytes stand for one another, so both round trips lead back.
+    ghost laws: { IsByteCode width is_value bytes value_of };
+}
+
+impl<T: FixedInteger> ByteValued for T {
+    ghost width = { T.width };
+
+    ghost is_value = { T.is_value };
+
+    ghost bytes = { T.bytes };
+
+    ghost value_of = { T.value_of };
+
+    fn size() -> usize {
+        T::bytes_count()
+    }
+
+    fn byte(&self, i: usize) -> u8 {
+        integers::byte_of(self.to_bits(), T::bytes_count(), i)
+    }
+
+    fn set_byte(&mut self, i: usize, b: u8) {
+        let bits = integers::with_byte(self.to_bits(), T::bytes_count(), i, b);
+        *self = T::from_bits(bits);
+    }
+
+    fn zeroed() -> T {
+        T::from_bits(0)
+    }
+
+    fn from_slice(data: &[u8]) -> Option<T> {
+        if data.len() != T::bytes_count() {
+            return None;
+        }
+        Some(T::from_bits(integers::number_in(data)))
+    }
+
+    fn to_slice(&self, out: &mut [u8]) -> bool {
+        if out.len() != T::bytes_count() {
+            return false;
+        }
+        integers::write_number(self.to_bits(), out);
+        true
+    }
+
+    fn known(&self) {
+        self.to_bits();
+    }
+
+    ghost laws = { T.FixedInteger.laws };
+}
