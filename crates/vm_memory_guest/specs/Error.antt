@@ -1,10 +1,13 @@
 -- The errors that name faults, and the items of a walk.
 use Rattle.std.specs.Prelude.{List, [], ◌∷◌, ◌++◌, map, Option, Some, None, option_map, Result, Ok, Err}
+use Rattle.vm_memory_base.specs.declared.io.VolatileMemoryError.{VolatileMemoryError}
+use Rattle.vm_memory_base.specs.declared.io.VolatileMemoryError.TheVariants.{OutOfBounds, Overflow}
+use Rattle.vm_memory_base.specs.declared.io.VolatileMemoryError.TheVariants as window
 use Rattle.vm_memory_base.specs.declared.iotlb.IommuError.TheVariants.{CannotResolve}
 use Rattle.vm_memory_guest.specs.Access.{Fault, NoRegion, NoHostBytes, Refused, Partial, Access, windows}
 use Rattle.vm_memory_guest.specs.Answer.{Reach}
 use Rattle.vm_memory_guest.specs.declared.region.GuestMemoryError.{GuestMemoryError}
-use Rattle.vm_memory_guest.specs.declared.region.GuestMemoryError.TheVariants.{InvalidGuestAddress, HostAddressNotAvailable, IommuError, PartialBuffer}
+use Rattle.vm_memory_guest.specs.declared.region.GuestMemoryError.TheVariants.{InvalidBackendAddress, InvalidGuestAddress, HostAddressNotAvailable, IommuError, PartialBuffer}
 use Rattle.vm_memory_guest.specs.declared.volatile_memory.slice.VolatileSlice.{VolatileSlice}
 
 abbrev pub error_of : Fault → GuestMemoryError
@@ -24,3 +27,9 @@ error_item (Some e) = Err e ∷ []
 
 abbrev pub items_of : Reach GuestMemoryError → List (Result VolatileSlice GuestMemoryError)
 items_of reach = map (λ w. Ok w) reach.windows ++ error_item reach.fault
+
+-- an access that does not fit its window does not fit the region
+abbrev pub of_window : VolatileMemoryError → GuestMemoryError
+of_window (OutOfBounds addr) = InvalidBackendAddress
+of_window (Overflow base offset) = InvalidBackendAddress
+of_window (window.PartialBuffer expected completed) = PartialBuffer expected completed

@@ -1,9 +1,11 @@
 pub mod Access
 pub mod Answer
+pub mod Collection
 pub mod Error
 pub mod Host
 pub mod Inside
 pub mod Memory
+pub mod Mmap
 pub mod Region
 pub mod Slice
 pub mod Window

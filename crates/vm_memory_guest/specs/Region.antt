@@ -1,7 +1,13 @@
 -- Regions of guest physical memory, and what lies at an address.
-use Rattle.std.specs.Prelude.{ℕ, ◌+◌, ◌-◌, ◌^◌, ◌<◌, ◌≤◌, Bool, ◌&&◌, ◌==◌, List, [], ◌∷◌, find, Option, Some, None}
+use Rattle.std.specs.Prelude.{ℕ, ◌+◌, ◌-◌, ◌^◌, ◌<◌, ◌≤◌, Bool, ◌&&◌, ◌==◌, List, [], ◌∷◌, find, Option, Some, None, cond, nat_lt, nat_le, Result, Ok, Err}
 use Rattle.vm_memory_base.specs.Address.{is_within}
+use Rattle.vm_memory_base.specs.declared.bitmap.BitmapId.TheVariants as bitmap
 use Rattle.vm_memory_guest.specs.Host as host
+use Rattle.vm_memory_guest.specs.Slice.{Window}
+use Rattle.vm_memory_guest.specs.declared.region.GuestMemoryError.{GuestMemoryError}
+use Rattle.vm_memory_guest.specs.declared.region.GuestMemoryError.TheVariants.{HostAddressNotAvailable, InvalidBackendAddress}
+use Rattle.vm_memory_guest.specs.declared.region.GuestRegionCollectionError.{GuestRegionCollectionError}
+use Rattle.vm_memory_guest.specs.declared.region.GuestRegionCollectionError.TheVariants.{NoMemoryRegion, MemoryRegionOverlap, UnsortedMemoryRegions}
 use Rattle.vm_memory_guest.specs.Host.{Name, Cell}
 
 -- len addresses from start on, and the cell of the first, where the region has host bytes: the others follow it
@@ -59,6 +65,37 @@ place_names (Some first) len = host.Place first.block first.offset len ∷ []
 
 abbrev pub region_names : Region → List Name
 region_names r = place_names r.place r.len
+
+-- the window of count bytes of a region from an offset on
+abbrev pub window_at : Cell → ℕ → ℕ → Window
+window_at first offset count = record { block = record { 0 = first.block }; offset = first.offset + offset; size = count; bitmap = record { id = bitmap.Block first.block; base = first.offset + offset } }
+
+abbrev pub slice_from : Option Cell → ℕ → ℕ → ℕ → Result Window GuestMemoryError
+slice_from None len offset count = Err HostAddressNotAvailable
+slice_from (Some first) len offset count = cond (nat_le (offset + count) len) (Ok (window_at first offset count)) (Err InvalidBackendAddress)
+
+-- what a region gives of so many bytes from an offset on
+abbrev pub slice_of : Region → ℕ → ℕ → Result Window GuestMemoryError
+slice_of r offset count = slice_from r.place r.len offset count
+
+-- whether a region may follow another in a layout: it starts no lower, and above the last address
+abbrev pub neighbours_of : Region → Region → Result (Unit {0}) GuestRegionCollectionError
+neighbours_of q r = cond (nat_lt r.start q.start) (Err UnsortedMemoryRegions) (cond (nat_le r.start (last q)) (Err MemoryRegionOverlap) (Ok tt))
+
+abbrev pub first_error : Result (Unit {0}) GuestRegionCollectionError → Option GuestRegionCollectionError → Option GuestRegionCollectionError
+first_error (Ok done) rest = rest
+first_error (Err e) rest = Some e
+
+-- the first fault of neighbours
+abbrev pub neighbours_error : List Region → Option GuestRegionCollectionError
+neighbours_error [] = None
+neighbours_error (r ∷ []) = None
+neighbours_error (q ∷ r ∷ rs) = first_error (neighbours_of q r) (neighbours_error (r ∷ rs))
+
+-- why regions make no layout, if they make none
+abbrev pub layout_error : List Region → Option GuestRegionCollectionError
+layout_error [] = Some NoMemoryRegion
+layout_error (r ∷ rs) = neighbours_error (r ∷ rs)
 
 -- regions in ascending order, none of which reaches the next
 abbrev pub IsLayout : List Region → Type 0

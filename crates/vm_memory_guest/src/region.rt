@@ -1,7 +1,19 @@
-//! Regions of guest physical memory.
+//! Regions of guest physical memory, and collections of them.
+ghost use Rattle.std.specs.Prelude.{◌≡◌, ℕ, ◌+◌, ◌-◌, ◌^◌, ◌<◌, ◌≤◌, ◌↔◌, nat_lt, List, map, IsTrue, Option, Some, None, IfSome, IfOk, MatchResult, OnOk, cond, option_map, length, get_or};
+ghost use Rattle.std.specs.declared.alloc.Global.{Global};
+ghost use Rattle.std.specs.declared.sync.Arc.{Arc};
+ghost use Rattle.vm_memory_guest.specs.Collection.{regions_of};
+ghost use Rattle.vm_memory_guest.specs.Region.{Region, IsRegion, last, home, region_names, IsLayout, neighbours_of, layout_error, slice_of};
 
+use crate::volatile_memory::host::{HostShape, Named};
+use crate::volatile_memory::slice::VolatileSlice;
+use std::alloc::{AllocError, Global};
+use std::marker::Model;
+use std::sync::Arc;
 use thiserror::Error;
-use vm_memory_base::{GuestAddress, IommuError};
+use vm_memory_base::{
+    Address, GuestAddress, GuestUsize, IommuError, MemoryRegionAddress, VolatileMemoryError,
+};
 
 /// Why an access of guest memory was refused.
 #[derive(Debug, Drop, Error)]
@@ -28,3 +40,196 @@ pub enum GuestMemoryError {
 
 /// The result of an access of guest memory.
 pub type GuestMemoryResult<T> = Result<T, GuestMemoryError>;
+
+/// An access that does not fit its window does not fit the region; a count stays a count.
+impl From<VolatileMemoryError> for GuestMemoryError {
+    ghost use Rattle.std.specs.Prelude.{◌≡◌};
+    ghost use Rattle.vm_memory_guest.specs.Error.{of_window};
+
+    ghost from_gives = { λ e r. r ≡ of_window e };
+
+    fn from(e: VolatileMemoryError) -> GuestMemoryError {
+        match e {
+            VolatileMemoryError::OutOfBounds { .. } | VolatileMemoryError::Overflow { .. } => {
+                GuestMemoryError::InvalidBackendAddress
+            }
+            VolatileMemoryError::PartialBuffer {
+                expected,
+                completed,
+            } => GuestMemoryError::PartialBuffer {
+                expected,
+                completed,
+            },
+        }
+    }
+}
+
+/// A range of guest physical addresses, with or without host bytes: docs/DEFINITIONS.md, "Regions".
+///
+/// A region with host bytes lies at one place of one block, and its windows mark that block's bitmap at
+/// the block's offsets. One without always answers `HostAddressNotAvailable`.
+///
+/// ```text
+/// let window = region.get_slice(MemoryRegionAddress(0x10), 4)?;
+/// ```
+pub trait GuestMemoryRegion: Named + Drop {
+    /// Its start, its length, and the place of its first byte.
+    ghost region: { Self → Region };
+
+    /// The number of addresses, above 0.
+    fn len(&self) -> GuestUsize
+        ensures { result ≡ (region self.now).len };
+
+    /// The first address.
+    fn start_addr(&self) -> GuestAddress
+        ensures { result.0 ≡ (region self.now).start };
+
+    /// The last address.
+    fn last_addr(&self) -> GuestAddress
+        ensures { result.0 ≡ last (region self.now) };
+
+    /// The window of `count` bytes from `offset` on: `InvalidBackendAddress` where it passes the region's end,
+    /// `HostAddressNotAvailable` where the region has no host bytes.
+    fn get_slice(
+        &self,
+        offset: MemoryRegionAddress,
+        count: usize,
+    ) -> GuestMemoryResult<VolatileSlice>
+        ensures { result ≡ slice_of (region self.now) offset.0 count };
+
+    /// Its addresses and its bytes' offsets fit 64 bits.
+    ghost fits: { (r : Self) → IsRegion (region r) };
+
+    /// It names the place of its bytes.
+    ghost names_place: { (r : Self) → Self.names r ≡ region_names (region r) };
+}
+
+/// Why regions make no layout.
+#[derive(Debug, Drop, Error)]
+pub enum GuestRegionCollectionError {
+    /// There is no region.
+    #[error("No memory region found")]
+    NoMemoryRegion,
+    /// A region reaches the next.
+    #[error("Some of the memory regions intersect with each other")]
+    MemoryRegionOverlap,
+    /// A region starts above the next.
+    #[error("The provided memory regions haven't been sorted")]
+    UnsortedMemoryRegions,
+    /// There was no memory for the collection.
+    #[error("out of memory")]
+    Memory,
+}
+
+/// A layout of guest physical memory: disjoint regions, ascending.
+#[derive(Drop)]
+pub struct GuestRegionCollection<R: GuestMemoryRegion> {
+    regions: Vec<Arc<R>>,
+}
+
+impl<R: GuestMemoryRegion> Model for GuestRegionCollection<R> {
+    ghost use Rattle.std.specs.Prelude.{List, map};
+    ghost use Rattle.vm_memory_guest.specs.Region.{IsLayout};
+    ghost use Rattle.vm_memory_guest.specs.Collection.{regions_of};
+
+    ghost Value = { List R };
+
+    ghost view = { λ c. regions_of c.regions };
+
+    ghost invariant = { λ c. IsLayout (map R.region (regions_of c.regions)) };
+}
+
+impl<R: GuestMemoryRegion> GuestRegionCollection<R> {
+    ghost use Rattle.vm_memory_guest.specs.Collection.{regions_of};
+
+    /// The layout of these regions, in order. No region at all is `NoMemoryRegion`; of the first two
+    /// neighbours that are not in order, `UnsortedMemoryRegions` where the earlier starts above the later, else
+    /// `MemoryRegionOverlap`.
+    pub fn from_arc_regions(regions: Vec<Arc<R>>) -> Result<Self, GuestRegionCollectionError>
+        ensures { MatchResult result
+            (λ c. (layout_error (map R.region (regions_of regions)) ≡ None) × (c ≡ regions_of regions))
+            (λ e. layout_error (map R.region (regions_of regions)) ≡ Some e) }
+    {
+        if regions.is_empty() {
+            return Err(GuestRegionCollectionError::NoMemoryRegion);
+        }
+        for next in 1..regions.len() {
+            neighbours(&*regions[next - 1], &*regions[next])?;
+        }
+        Ok(GuestRegionCollection { regions })
+    }
+
+    /// The region that holds an address, found by binary search.
+    pub fn find_region(&self, addr: GuestAddress) -> Option<&R>
+        ensures { option_map (λ r. R.region r.now) result ≡ home (map R.region self.now) addr.0 }
+    {
+        let next = first_above(self.regions.as_slice(), addr);
+        if next == 0 {
+            return None;
+        }
+        let region = &*self.regions[next - 1];
+        if addr <= region.last_addr() {
+            Some(region)
+        } else {
+            None
+        }
+    }
+}
+
+impl<R: GuestMemoryRegion> Clone for GuestRegionCollection<R> {
+    ghost use Rattle.std.specs.Prelude.{◌≡◌};
+
+    ghost is_clone = { λ old new. new ≡ old };
+
+    fn clone(&self) -> Result<Self, AllocError> {
+        let regions = shared(&self.regions)?;
+        Ok(GuestRegionCollection { regions })
+    }
+}
+
+// The number of the first region that starts above an address, or how many there are.
+fn first_above<R: GuestMemoryRegion>(regions: &[Arc<R>], addr: GuestAddress) -> usize
+    requires { IsLayout (map (λ (r : Arc R Global). R.region r.value) regions.now) }
+    ensures within { result ≤ length regions.now }
+    ensures below { (k : ℕ) (d : Region) → k < result → (get_or (map (λ (r : Arc R Global). R.region r.value) regions.now) k d).start ≤ addr.0 }
+    ensures above { (k : ℕ) (d : Region) → result ≤ k → k < length regions.now → addr.0 < (get_or (map (λ (r : Arc R Global). R.region r.value) regions.now) k d).start }
+{
+    let mut low = 0;
+    let mut high = regions.len();
+    while low < high {
+        let middle = low + (high - low) / 2;
+        if regions[middle].start_addr() <= addr {
+            low = middle + 1;
+        } else {
+            high = middle;
+        }
+    }
+    low
+}
+
+// The same regions, each shared once more.
+fn shared<R: Drop>(regions: &Vec<Arc<R>>) -> Result<Vec<Arc<R>>, AllocError>
+    ensures { IfOk result (λ copy. regions_of copy ≡ regions_of regions.now) }
+{
+    let mut copy = Vec::with_capacity(*regions.allocator(), regions.len())?;
+    for region in regions {
+        copy.push(region.clone()?)?;
+    }
+    Ok(copy)
+}
+
+// Whether two regions may follow one another.
+fn neighbours<R: GuestMemoryRegion>(
+    previous: &R,
+    next: &R,
+) -> Result<(), GuestRegionCollectionError>
+    ensures { result ≡ neighbours_of (R.region previous.now) (R.region next.now) }
+{
+    if previous.start_addr() > next.start_addr() {
+        return Err(GuestRegionCollectionError::UnsortedMemoryRegions);
+    }
+    if previous.last_addr() >= next.start_addr() {
+        return Err(GuestRegionCollectionError::MemoryRegionOverlap);
+    }
+    Ok(())
+}

@@ -1,0 +1,154 @@
+//! Regions over whole blocks of a host.
+ghost use Rattle.std.specs.Prelude.{◌≡◌, ℕ, ◌+◌, ◌-◌, ◌^◌, ◌<◌, ◌≤◌, ◌↔◌, ◌⊎◌, [], ◌∷◌, ◌++◌, length, replicate, Some, None, IfOk, IfSome, IsSome, OnOk, OnErr, IsErrOf, IsTrue};
+ghost use Rattle.vm_memory_guest.specs.Host as names;
+ghost use Rattle.vm_memory_guest.specs.Host.{shape_of, Holds, block_at};
+
+use crate::region::{
+    GuestMemoryError, GuestMemoryRegion, GuestMemoryResult, GuestRegionCollection,
+};
+use crate::volatile_memory::host::{BlockId, HostMemory, HostShape, MmapRegionError, Named};
+use crate::volatile_memory::slice::VolatileSlice;
+use std::sync::Arc;
+use vm_memory_base::{
+    BitmapId, BitmapRef, GuestAddress, GuestUsize, MemoryRegionAddress, NewBitmap,
+};
+
+/// A whole block of a host: 1 to 2^63 - 1 bytes.
+#[derive(Clone, Copy, Debug)]
+pub struct MmapRegion {
+    block: BlockId,
+    size: usize,
+    ghost some: { 0 < size },
+    ghost bound: { size < 2 ^ 63 },
+}
+
+impl MmapRegion {
+    /// Makes a block of `size` zeroed bytes in the host: `InvalidSize` for 0 or above 2^63 - 1, `Memory` for
+    /// want of it. A refusal changes nothing.
+    pub fn new<B: NewBitmap + Drop>(
+        host: &mut HostMemory<B>,
+        size: usize,
+    ) -> Result<MmapRegion, MmapRegionError>
+        ensures block { IfOk result (λ r. r.block.0 ≡ length host.old.blocks) }
+        ensures size { IfOk result (λ r. r.size ≡ size) }
+        ensures ok { OnOk result ((bitmap : B) × B.made size bitmap × (host.new ≡ record host.old { blocks = host.old.blocks ++ replicate size 0 ∷ []; bitmaps = host.old.bitmaps ++ bitmap ∷ [] })) }
+        ensures invalid { IsErrOf result MmapRegionError.InvalidSize ↔ ((size ≡ 0) ⊎ (2 ^ 63 ≤ size)) }
+        ensures err { OnErr result (host.new ≡ host.old) }
+    {
+        let block = host.new_block(size)?;
+        Ok(MmapRegion { block, size })
+    }
+
+    /// A whole block that the host holds.
+    pub fn of_block<B>(host: &HostMemory<B>, block: BlockId) -> MmapRegion
+        requires { Holds (shape_of host.now) (names.Block block.0 ∷ []) }
+        ensures block { result.block ≡ block }
+        ensures size { result.size ≡ length (block_at host.now.blocks block.0) }
+    {
+        MmapRegion {
+            block,
+            size: host.block_len(block),
+        }
+    }
+
+    /// The number of bytes.
+    pub fn size(&self) -> usize
+        ensures { result ≡ self.now.size }
+    {
+        self.size
+    }
+}
+
+/// A block of a host at a guest address. One block may lie at several.
+#[derive(Clone, Copy, Debug)]
+pub struct GuestRegionMmap {
+    mapping: MmapRegion,
+    guest_base: GuestAddress,
+    ghost fits: { guest_base.0 + mapping.size < 2 ^ 64 },
+}
+
+impl GuestRegionMmap {
+    ghost use Rattle.vm_memory_guest.specs.Mmap.{mmap_region};
+
+    /// The block at a guest address, or `None` exactly where the address plus the size passes 2^64 - 1.
+    pub fn new(mapping: MmapRegion, guest_base: GuestAddress) -> Option<Self>
+        ensures fits { IsSome result ↔ (guest_base.0 + mapping.size < 2 ^ 64) }
+        ensures value { IfSome result (λ r. mmap_region r ≡ record { start = guest_base.0; len = mapping.size; place = Some (record { block = mapping.block.0; offset = 0 }) }) }
+    {
+        guest_base.0.checked_add(mapping.size as u64)?;
+        Some(GuestRegionMmap {
+            mapping,
+            guest_base,
+        })
+    }
+
+    /// The shared block at a guest address, as `new` gives it.
+    pub fn with_arc(mapping: Arc<MmapRegion>, guest_base: GuestAddress) -> Option<Self>
+        ensures fits { IsSome result ↔ (guest_base.0 + mapping.value.size < 2 ^ 64) }
+        ensures value { IfSome result (λ r. mmap_region r ≡ record { start = guest_base.0; len = mapping.value.size; place = Some (record { block = mapping.value.block.0; offset = 0 }) }) }
+    {
+        GuestRegionMmap::new(*mapping, guest_base)
+    }
+
+    /// The block.
+    pub fn get_mmap(&self) -> MmapRegion
+        ensures { result ≡ self.now.mapping }
+    {
+        self.mapping
+    }
+}
+
+impl Named for GuestRegionMmap {
+    ghost use Rattle.vm_memory_guest.specs.Mmap.{mmap_region};
+    ghost use Rattle.vm_memory_guest.specs.Region.{region_names};
+
+    ghost names = { λ r. region_names (mmap_region r) };
+
+    fn held_by(&self, shape: &HostShape) -> bool {
+        shape.has_place(self.mapping.block, 0, self.mapping.size)
+    }
+}
+
+impl GuestMemoryRegion for GuestRegionMmap {
+    ghost use Rattle.std.specs.Prelude.{refl};
+    ghost use Rattle.std.proofs.Common.{rules};
+    ghost use Rattle.vm_memory_guest.specs.Mmap.{mmap_region, mmap_fits};
+
+    ghost region = { mmap_region };
+
+    ghost fits = { mmap_fits };
+
+    ghost names_place = { λ r. refl };
+
+    fn len(&self) -> GuestUsize {
+        self.mapping.size as u64
+    }
+
+    fn start_addr(&self) -> GuestAddress {
+        self.guest_base
+    }
+
+    fn last_addr(&self) -> GuestAddress {
+        GuestAddress(self.guest_base.0 + (self.mapping.size as u64 - 1))
+    }
+
+    fn get_slice(
+        &self,
+        offset: MemoryRegionAddress,
+        count: usize,
+    ) -> GuestMemoryResult<VolatileSlice> {
+        let size = self.mapping.size;
+        if offset.0 > size as u64 || count > size - offset.0 as usize {
+            return Err(GuestMemoryError::InvalidBackendAddress);
+        }
+        let start = offset.0 as usize;
+        let bitmap = BitmapRef {
+            id: BitmapId::Block(self.mapping.block.0),
+            base: start,
+        };
+        Ok(VolatileSlice::new(self.mapping.block, start, count, bitmap))
+    }
+}
+
+/// Guest memory of blocks of a host.
+pub type GuestMemoryMmap = GuestRegionCollection<GuestRegionMmap>;
