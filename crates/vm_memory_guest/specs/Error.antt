@@ -1,11 +1,13 @@
 -- The errors that name faults, and the items of a walk.
-use Rattle.std.specs.Prelude.{List, [], ◌∷◌, ◌++◌, map, Option, Some, None, option_map, Result, Ok, Err}
+use Rattle.std.specs.Prelude.{ℕ, List, [], ◌∷◌, ◌++◌, map, Option, Some, None, option_map, Result, Ok, Err}
 use Rattle.vm_memory_base.specs.declared.io.VolatileMemoryError.{VolatileMemoryError}
 use Rattle.vm_memory_base.specs.declared.io.VolatileMemoryError.TheVariants.{OutOfBounds, Overflow}
 use Rattle.vm_memory_base.specs.declared.io.VolatileMemoryError.TheVariants as window
 use Rattle.vm_memory_base.specs.declared.iotlb.IommuError.TheVariants.{CannotResolve}
-use Rattle.vm_memory_guest.specs.Access.{Fault, NoRegion, NoHostBytes, Refused, Partial, Access, windows}
+use Rattle.vm_memory_guest.specs.Access.{Fault, NoRegion, NoHostBytes, Refused, Partial, Access, windows, path, first_fault, meets}
 use Rattle.vm_memory_guest.specs.Answer.{Reach}
+use Rattle.vm_memory_guest.specs.Memory.{Direct}
+use Rattle.vm_memory_guest.specs.Region.{Region}
 use Rattle.vm_memory_guest.specs.declared.region.GuestMemoryError.{GuestMemoryError}
 use Rattle.vm_memory_guest.specs.declared.region.GuestMemoryError.TheVariants.{InvalidBackendAddress, InvalidGuestAddress, HostAddressNotAvailable, IommuError, PartialBuffer}
 use Rattle.vm_memory_guest.specs.declared.volatile_memory.slice.VolatileSlice.{VolatileSlice}
@@ -33,3 +35,7 @@ abbrev pub of_window : VolatileMemoryError → GuestMemoryError
 of_window (OutOfBounds addr) = InvalidBackendAddress
 of_window (Overflow base offset) = InvalidBackendAddress
 of_window (window.PartialBuffer expected completed) = PartialBuffer expected completed
+
+-- the items of a walk without translation
+abbrev pub direct_items : List Region → ℕ → ℕ → List (Result VolatileSlice GuestMemoryError)
+direct_items regions a n = items_of (reach_of (record { path = path (meets regions Direct a) 0 n; fault = first_fault (meets regions Direct a) 0 n }))
