@@ -7,11 +7,11 @@ use Rattle.std.proofs.lemmas.List.Elements.{All-head, All-tail, filter_agree}
 use Rattle.vm_memory_base.specs.Address.{step, numbers, difference, is_within}
 use Rattle.vm_memory_base.specs.Permissions.{has_read, has_write, union, intersection, allow, same}
 use Rattle.vm_memory_base.specs.Runs.{Run, TestsEquality, with_front, with_value, runs, IsCanonical, value_at, cut_to}
-use Rattle.vm_memory_base.specs.Table.{Mapping, same_mapping, target, Says, TableCall, Set, Invalidate, InvalidateAll, covers, says_after, says_after_all, canonical_list, grants, each, overruns, is_allowed, reason, Range, piece_of, pieces, addresses, target_if_any, forbids, range_of, if_missing, if_forbidden, misses, failures}
+use Rattle.vm_memory_base.specs.Table.{Mapping, same_mapping, target, Says, TableCall, Set, Invalidate, InvalidateAll, covers, says_after, says_after_all, new_table_after, canonical_list, grants, each, overruns, is_allowed, reason, Range, piece_of, pieces, addresses, target_if_any, forbids, range_of, if_missing, if_forbidden, misses, failures}
 use Rattle.vm_memory_base.specs.declared.iotlb.Permissions.{Permissions}
 use Rattle.vm_memory_base.specs.declared.iotlb.Permissions.TheVariants.{No, Read, Write, ReadWrite}
 use Rattle.vm_memory_base.specs.declared.iotlb.Reason.TheVariants.{MissingMapping, AccessNotAllowed}
-use Rattle.vm_memory_base.proofs.RunsLaws.{is_within-in, is_within-none, within_or_not, same_from_values, canonical_runs, value_at-runs, runs_agree, agree_from_runs, runs-value_at, none_past, runs-of_list, runs-part, runs-none, none_from_runs, keep, runs-keep, total_len, total_len-value, within_run, numbers-runs}
+use Rattle.vm_memory_base.proofs.RunsLaws.{is_within-in, is_within-above, is_within-join, is_within-none, within_or_not, same_from_values, canonical_runs, value_at-runs, runs_agree, agree_from_runs, runs-value_at, none_past, runs-of_list, runs-part, runs-none, none_from_runs, keep, runs-keep, total_len, total_len-value, within_run, numbers-runs}
 
 -- ---- permissions
 
@@ -155,6 +155,11 @@ same_mapping_itself m = and_from (eqb m.difference m.difference) (same m.permiss
 pub same_mapping_tests_equality : TestsEquality same_mapping
 same_mapping_tests_equality = (same_mapping_decides, same_mapping_itself)
 
+or_cond : {X : Type 0} (b c : Bool) (x y : X) → cond c x (cond b x y) ≡ cond (b || c) x y
+or_cond true true x y = refl
+or_cond true false x y = refl
+or_cond false c x y = refl
+
 -- a call says nothing of an address that it does not cover
 pub says_after-not_covered : (call : TableCall) (x : ℕ) (old : Option Mapping) → covers call x ≡ false → says_after call x old ≡ old
 says_after-not_covered (Set iova to len permissions) x old h = rw h
@@ -235,6 +240,18 @@ canonical_list-of_values rs h none =
 pub canonical_list-value_at : (rs : List (Run Mapping)) → IsCanonical same_mapping rs → All (λ r. r.start + r.len ≤ 2 ^ 64) rs → canonical_list (value_at rs) ≡ rs
 canonical_list-value_at rs h end =
     canonical_list-of_values rs h (λ x l. none_past rs (2 ^ 64) x end l)
+
+-- a range that is set behind another, with targets that follow, is one range with it
+pub sets_join : (iova to m n x : ℕ) (permissions : Permissions) (old : Option Mapping) → iova + m ≤ 2 ^ 64 → says_after_all (Set iova to m permissions ∷ Set (iova + m) (step to m) n permissions ∷ []) x old ≡ says_after (Set iova to (m + n) permissions) x old
+sets_join iova to m n x permissions old h =
+    let e : difference (iova + m) (step to m) ≡ difference iova to = omega arith in
+    let w = is_within-join iova m n x in
+    rw (e, w) (or_cond (is_within iova m x) (is_within (iova + m) n x) (Some (mapping (difference iova to) permissions)) old)
+
+-- the canonical list of a new table in which one range is set
+pub canonical_list-set : (iova to len : ℕ) (permissions : Permissions) → 0 < len → iova + len ≤ 2 ^ 64 → canonical_list (new_table_after (Set iova to len permissions ∷ [])) ≡ record { start = iova; len = len; value = mapping (difference iova to) permissions } ∷ []
+canonical_list-set iova to len permissions pos h =
+    canonical_list-of_values (record { start = iova; len = len; value = mapping (difference iova to) permissions } ∷ []) pos (λ x l. rw (is_within-above iova len x (omega arith)))
 
 -- ---- look-ups
 

@@ -2,7 +2,7 @@
 ghost use Rattle.std.specs.Prelude.{◌≡◌, ◌↔◌, ℕ, ◌+◌, ◌-◌, ◌^◌, ◌<◌, ◌≤◌, Bool, true, false, not, List, [], ◌∷◌, ◌++◌, map, filter, flat_map, sum_by, Option, Some, None, is_some, All};
 ghost use Rattle.vm_memory_base.specs.Address.{step, numbers, difference};
 ghost use Rattle.vm_memory_base.specs.Runs.{Run, TestsEquality, runs, IsCanonical, value_at, cut_to};
-ghost use Rattle.vm_memory_base.specs.Table.{Mapping, same_mapping, target, Says, TableCall, Set, Invalidate, InvalidateAll, covers, says_after, says_after_all, canonical_list, grants, each, overruns, is_allowed, reason, Range, piece_of, pieces, addresses, target_if_any, forbids, range_of, if_forbidden, misses, failures};
+ghost use Rattle.vm_memory_base.specs.Table.{Mapping, same_mapping, target, Says, TableCall, Set, Invalidate, InvalidateAll, covers, says_after, says_after_all, new_table_after, canonical_list, grants, each, overruns, is_allowed, reason, Range, piece_of, pieces, addresses, target_if_any, forbids, range_of, if_forbidden, misses, failures};
 ghost use Rattle.vm_memory_base.specs.declared.iotlb.Permissions.{Permissions};
 ghost use Rattle.vm_memory_base.specs.declared.iotlb.Reason.TheVariants.{MissingMapping, AccessNotAllowed};
 
@@ -27,6 +27,16 @@ pub fn last_call_decides()
 pub fn targets_follow_addresses()
     ensures set { (iova to x : ℕ) (permissions : Permissions) → iova < 2 ^ 64 → iova ≤ x → target x (record { difference = difference iova to; permissions = permissions }) ≡ step to (x - iova) }
     ensures steps { (x i : ℕ) (m : Mapping) → target (x + i) m ≡ step (target x m) i }
+{}
+
+/// A range that is set behind another, with targets that follow its targets and the same permissions, is one range with it.
+pub fn neighbouring_sets()
+    ensures { (iova to m n x : ℕ) (permissions : Permissions) (old : Option Mapping) → iova + m ≤ 2 ^ 64 → says_after_all (Set iova to m permissions ∷ Set (iova + m) (step to m) n permissions ∷ []) x old ≡ says_after (Set iova to (m + n) permissions) x old }
+{}
+
+/// One range that is set in a new table is one run.
+pub fn set_in_a_new_table()
+    ensures { (iova to len : ℕ) (permissions : Permissions) → 0 < len → iova + len ≤ 2 ^ 64 → canonical_list (new_table_after (Set iova to len permissions ∷ [])) ≡ record { start = iova; len = len; value = record { difference = difference iova to; permissions = permissions } } ∷ [] }
 {}
 
 /// `same_mapping` tells whether two mappings are equal.
