@@ -2,7 +2,7 @@
 ghost use Rattle.std.specs.Prelude.{◌≡◌, ◌↔◌, ℕ, ◌+◌, ◌-◌, ◌^◌, ◌<◌, ◌≤◌, Bool, true, false, not, List, [], ◌∷◌, ◌++◌, map, filter, flat_map, sum_by, Option, Some, None, is_some, All};
 ghost use Rattle.vm_memory_base.specs.Address.{step, numbers, difference};
 ghost use Rattle.vm_memory_base.specs.Runs.{Run, TestsEquality, runs, IsCanonical, value_at, cut_to};
-ghost use Rattle.vm_memory_base.specs.Table.{Mapping, same_mapping, target, Says, TableCall, Set, Invalidate, InvalidateAll, covers, says_after, says_after_all, new_table_after, canonical_list, grants, each, overruns, is_allowed, reason, Range, piece_of, pieces, addresses, target_if_any, forbids, range_of, if_forbidden, misses, failures};
+ghost use Rattle.vm_memory_base.specs.Table.{Mapping, same_mapping, target, Says, TableCall, Set, Invalidate, InvalidateAll, covers, says_after, says_after_all, new_table_after, canonical_list, each, overruns, is_allowed, reason, piece_of, pieces, addresses, target_if_any, forbids, range_of, if_forbidden, misses, failures};
 ghost use Rattle.vm_memory_base.specs.declared.iotlb.Permissions.{Permissions};
 ghost use Rattle.vm_memory_base.specs.declared.iotlb.Reason.TheVariants.{MissingMapping, AccessNotAllowed};
 
