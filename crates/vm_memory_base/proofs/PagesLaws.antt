@@ -2,7 +2,7 @@
 use Rattle.std.proofs.Common.{◌≡◌, ℕ, zero, suc, ◌+◌, ◌-◌, ◌*◌, ◌/◌, ◌^◌, ◌<◌, ◌≤◌, Bool, true, false, ◌&&◌, ◌||◌, ltb, leb, List, [], ◌∷◌, ◌++◌, length, get_or, Some, None, refl, sym, ap, inl, inr, ◌⊎◌, ◌↔◌, ◌∙◌, add-zero, zero-add, add-one, arith}
 use Rattle.std.proofs.Math.Nat.{div-lt_iff_lt-mul, le-div_iff_mul-le, mul-div_cancel, lt-div-mul-add, div-mul-le_self}
 use Rattle.std.proofs.lemmas.Nat.{le-div, div_below}
-use Rattle.std.proofs.lemmas.Bool.{ltb-true, leb-true, le-leb, lt-leb, and_parts, and_from, and_right, cases_lt, lt-ltb, le-ltb, and_left}
+use Rattle.std.proofs.lemmas.Bool.{or_left, or_right, ltb-true, leb-true, le-leb, lt-leb, and_parts, and_from, and_right, cases_lt, lt-ltb, le-ltb, and_left}
 use Rattle.std.proofs.lemmas.Bool.Decides.{nat_tests}
 use Rattle.std.proofs.lemmas.List.Elements.{All-nil, All-cons, All-weaker}
 use Rattle.std.specs.List.{All, AllPairs, Contains}
@@ -235,6 +235,19 @@ byte_taken size start len page offset pos w l e =
 -- a page is taken where one of the bytes that are marked lies in it
 pub takes-true : (size start len page : ℕ) → 0 < size → start < 2 ^ 64 → (takes size start len page ≡ true) ↔ ((offset : ℕ) × (is_within start len offset ≡ true) × (offset < 2 ^ 64) × (offset / size ≡ page))
 takes-true size start len page pos l = (taken_byte size start len page pos l, λ (offset, w, m, e). byte_taken size start len page offset pos w m e)
+
+-- a byte that is marked is dirty, where its page is one
+pub marked_is_dirty : (start len offset : ℕ) (p : Pages) → 0 < p.page_size → is_within start len offset ≡ true → offset < 2 ^ 64 → offset / p.page_size < length p.flags → is_dirty_at (marked start len (Some p)) offset ≡ true
+marked_is_dirty start len offset p pos w l h =
+    let t = byte_taken p.page_size start len (offset / p.page_size) offset pos w l refl in
+    let i = lt-ltb (offset / p.page_size) (length p.flags) h in
+    is_dirty_at-marked start len offset p ∙ or_right (is_dirty_at (Some p) offset) (ltb (offset / p.page_size) (length p.flags) && takes p.page_size start len (offset / p.page_size)) (and_from (ltb (offset / p.page_size) (length p.flags)) (takes p.page_size start len (offset / p.page_size)) i t)
+
+-- no mark cleans a byte
+pub stays_dirty : (start len offset : ℕ) (set : PageSet) → is_dirty_at set offset ≡ true → is_dirty_at (marked start len set) offset ≡ true
+stays_dirty start len offset None h = h
+stays_dirty start len offset (Some p) h =
+    is_dirty_at-marked start len offset p ∙ or_left (is_dirty_at (Some p) offset) (ltb (offset / p.page_size) (length p.flags) && takes p.page_size start len (offset / p.page_size)) h
 
 -- ---- all clean
 

@@ -27,6 +27,12 @@ pub fn mark_dirties()
     ensures bytes { (start len offset : ℕ) (p : Pages) → is_dirty_at (marked start len (Some p)) offset ≡ (is_dirty_at (Some p) offset || (nat_lt (offset / p.page_size) (length p.flags) && takes p.page_size start len (offset / p.page_size))) }
 {}
 
+/// A byte that is marked is dirty, where its page is one of the set's, and no mark cleans a byte.
+pub fn marked_bytes_are_dirty()
+    ensures marked { (start len offset : ℕ) (p : Pages) → 0 < p.page_size → is_within start len offset ≡ true → offset < 2 ^ 64 → offset / p.page_size < length p.flags → is_dirty_at (marked start len (Some p)) offset ≡ true }
+    ensures before { (start len offset : ℕ) (set : PageSet) → is_dirty_at set offset ≡ true → is_dirty_at (marked start len set) offset ≡ true }
+{}
+
 /// A mark goes no further than the greatest offset, and changes nothing past the last page.
 pub fn mark_ends()
     ensures offsets { (start len : ℕ) (set : PageSet) → start < 2 ^ 64 → 2 ^ 64 ≤ start + len → marked start len set ≡ marked start (2 ^ 64 - start) set }

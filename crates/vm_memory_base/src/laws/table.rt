@@ -1,8 +1,8 @@
 //! What holds of I/O tables and look-ups.
-ghost use Rattle.std.specs.Prelude.{◌≡◌, ◌↔◌, ℕ, ◌+◌, ◌-◌, ◌^◌, ◌<◌, ◌≤◌, Bool, true, false, not, List, [], ◌∷◌, ◌++◌, map, filter, flat_map, sum_by, Option, Some, None, is_some, All};
+ghost use Rattle.std.specs.Prelude.{◌≡◌, ◌↔◌, ℕ, ◌+◌, ◌-◌, ◌^◌, ◌<◌, ◌≤◌, ◌⊎◌, Bool, true, false, not, List, [], ◌∷◌, ◌++◌, map, filter, flat_map, sum_by, Option, Some, None, is_some, All};
 ghost use Rattle.vm_memory_base.specs.Address.{step, numbers, difference};
 ghost use Rattle.vm_memory_base.specs.Runs.{Run, TestsEquality, runs, IsCanonical, value_at, cut_to};
-ghost use Rattle.vm_memory_base.specs.Table.{Mapping, same_mapping, target, Says, TableCall, Set, Invalidate, InvalidateAll, covers, says_after, says_after_all, new_table_after, canonical_list, each, overruns, is_allowed, reason, piece_of, pieces, addresses, target_if_any, forbids, range_of, if_forbidden, misses, failures};
+ghost use Rattle.vm_memory_base.specs.Table.{Mapping, same_mapping, target, Says, Table, says, TableCall, Set, Invalidate, InvalidateAll, covers, says_after, says_after_all, new_table_after, canonical_list, grants, each, overruns, is_allowed, reason, piece_of, pieces, addresses, target_if_any, forbids, range_of, if_forbidden, misses, failures};
 ghost use Rattle.vm_memory_base.specs.declared.iotlb.Permissions.{Permissions};
 ghost use Rattle.vm_memory_base.specs.declared.iotlb.Reason.TheVariants.{MissingMapping, AccessNotAllowed};
 
@@ -57,11 +57,17 @@ pub fn canonical_list_decides_the_table()
 pub fn kept_list_is_the_canonical_list()
     ensures by_values { (rs : List (Run Mapping)) → IsCanonical same_mapping rs → ((x : ℕ) → 2 ^ 64 ≤ x → value_at rs x ≡ None) → canonical_list (value_at rs) ≡ rs }
     ensures by_ends { (rs : List (Run Mapping)) → IsCanonical same_mapping rs → All (λ r. r.start + r.len ≤ 2 ^ 64) rs → canonical_list (value_at rs) ≡ rs }
+    ensures of_a_table { (table : Table) → IsCanonical same_mapping table.ranges → All (λ r. r.start + r.len ≤ 2 ^ 64) table.ranges → canonical_list (says table) ≡ table.ranges }
 {}
 
 /// A test passes at each address exactly where it passes at the n addresses one by one.
 pub fn each_address()
     ensures { (test : Option Mapping → Bool) (f : Says) (a n : ℕ) → (each test f a n ≡ true) ↔ ((x : ℕ) → a ≤ x → x < a + n → test (f x) ≡ true) }
+{}
+
+/// An access is allowed to no address, and to addresses of which each grants it and the end is an address too.
+pub fn allowed_where_each_address_grants()
+    ensures { (f : Says) (a n : ℕ) (access : Permissions) → (is_allowed f a n access ≡ true) ↔ ((n ≡ 0) ⊎ ((a + n < 2 ^ 64) × ((x : ℕ) → a ≤ x → x < a + n → grants access (f x) ≡ true))) }
 {}
 
 /// An access is allowed exactly where its look-up has no miss and no failure. An empty range that begins past the last address is allowed though it is missed.
