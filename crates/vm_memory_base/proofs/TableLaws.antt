@@ -313,9 +313,6 @@ granted_is_permitted : (access : Permissions) (v : Option Mapping) → grants ac
 granted_is_permitted access None h = refl
 granted_is_permitted access (Some m) h = rw h
 
-misses-inside : (f : Says) (a n : ℕ) → overruns a n ≡ false → misses f a n ≡ map range_of (runs always (λ x. if_missing (f x)) a n)
-misses-inside f a n h = rw h
-
 -- nothing is missed where each address has a mapping
 pub misses-none : (f : Says) (a n : ℕ) → (misses f a n ≡ []) ↔ ((overruns a n ≡ false) × (each is_some f a n ≡ true))
 misses-none f a n =

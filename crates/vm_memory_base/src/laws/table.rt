@@ -83,6 +83,7 @@ pub fn reason_of_a_refusal()
 
 /// The pieces of a look-up are the canonical list, cut to the addresses asked for.
 pub fn pieces_are_cut()
+    ensures runs { (f : Says) (a n : ℕ) → a + n ≤ 2 ^ 64 → runs same_mapping f a n ≡ cut_to a n (canonical_list f) }
     ensures of_a_table { (f : Says) (a n : ℕ) → a + n ≤ 2 ^ 64 → pieces f a n ≡ map piece_of (cut_to a n (canonical_list f)) }
     ensures of_a_kept_list { (rs : List (Run Mapping)) (a n : ℕ) → IsCanonical same_mapping rs → pieces (value_at rs) a n ≡ map piece_of (cut_to a n rs) }
 {}
@@ -92,8 +93,8 @@ pub fn failures_are_runs()
     ensures { (f : Says) (a n : ℕ) (access : Permissions) → overruns a n ≡ false → failures f a n access ≡ map range_of (filter (λ r. forbids access r.value) (runs same_mapping f a n)) }
 {}
 
-/// Each address asked for lies in one piece or in one miss.
-pub fn pieces_and_misses_have_each_address()
+/// The pieces and the misses of a look-up have, together, as many addresses as are asked for.
+pub fn pieces_and_misses_add_up()
     ensures together { (f : Says) (a n : ℕ) → overruns a n ≡ false → sum_by (λ r. r.len) (pieces f a n) + sum_by (λ r. r.len) (misses f a n) ≡ n }
     ensures mapped { (f : Says) (a n : ℕ) → each is_some f a n ≡ true → sum_by (λ r. r.len) (pieces f a n) ≡ n }
 {}
