@@ -141,7 +141,7 @@ marked_each-numbers start (suc n) set h fits =
     ∙ marked_more start n set h (omega arith)
     ∙ ap (λ (k : ℕ). marked start k set) (add-one n)
 
-marked_each-append : (xs ys : List ℕ) (set : PageSet) → marked_each (xs ++ ys) set ≡ marked_each ys (marked_each xs set)
+pub marked_each-append : (xs ys : List ℕ) (set : PageSet) → marked_each (xs ++ ys) set ≡ marked_each ys (marked_each xs set)
 marked_each-append [] ys set = refl
 marked_each-append (x ∷ xs) ys set = marked_each-append xs ys (marked x 1 set)
 
