@@ -1,13 +1,14 @@
 -- The laws of page sets.
-use Rattle.std.proofs.Common.{◌≡◌, ℕ, zero, suc, ◌+◌, ◌*◌, ◌/◌, ◌^◌, ◌<◌, ◌≤◌, Bool, true, false, ◌&&◌, ◌||◌, ltb, leb, List, [], ◌∷◌, ◌++◌, length, get_or, Some, None, refl, sym, ap, inl, inr, ◌⊎◌, ◌↔◌, ◌∙◌, add-zero, zero-add, add-one, arith}
-use Rattle.std.proofs.Math.Nat.{lt-div-mul-add, div-mul-le_self}
+use Rattle.std.proofs.Common.{◌≡◌, ℕ, zero, suc, ◌+◌, ◌-◌, ◌*◌, ◌/◌, ◌^◌, ◌<◌, ◌≤◌, Bool, true, false, ◌&&◌, ◌||◌, ltb, leb, List, [], ◌∷◌, ◌++◌, length, get_or, Some, None, refl, sym, ap, inl, inr, ◌⊎◌, ◌↔◌, ◌∙◌, add-zero, zero-add, add-one, arith}
+use Rattle.std.proofs.Math.Nat.{div-lt_iff_lt-mul, le-div_iff_mul-le, mul-div_cancel, lt-div-mul-add, div-mul-le_self}
 use Rattle.std.proofs.lemmas.Nat.{le-div, div_below}
-use Rattle.std.proofs.lemmas.Bool.{lt-ltb, le-ltb, and_left}
+use Rattle.std.proofs.lemmas.Bool.{or_left, or_right, ltb-true, leb-true, le-leb, lt-leb, and_parts, and_from, and_right, cases_lt, lt-ltb, le-ltb, and_left}
 use Rattle.std.proofs.lemmas.Bool.Decides.{nat_tests}
 use Rattle.std.proofs.lemmas.List.Elements.{All-nil, All-cons, All-weaker}
 use Rattle.std.specs.List.{All, AllPairs, Contains}
-use Rattle.vm_memory_base.specs.Address.{numbers}
+use Rattle.vm_memory_base.specs.Address.{numbers, is_within}
 use Rattle.vm_memory_base.specs.Pages.{Pages, PageSet, shape, is_dirty_at, dirty_from, dirty_pages, last_byte, takes, flags_after, marked, marked_each, all_clean, cleaned, IsPageSet}
+use Rattle.vm_memory_base.proofs.RunsLaws.{is_within-in, within_from}
 
 or-false : (b : Bool) → (b || false) ≡ b
 or-false true = refl
@@ -140,7 +141,7 @@ marked_each-numbers start (suc n) set h fits =
     ∙ marked_more start n set h (omega arith)
     ∙ ap (λ (k : ℕ). marked start k set) (add-one n)
 
-marked_each-append : (xs ys : List ℕ) (set : PageSet) → marked_each (xs ++ ys) set ≡ marked_each ys (marked_each xs set)
+pub marked_each-append : (xs ys : List ℕ) (set : PageSet) → marked_each (xs ++ ys) set ≡ marked_each ys (marked_each xs set)
 marked_each-append [] ys set = refl
 marked_each-append (x ∷ xs) ys set = marked_each-append xs ys (marked x 1 set)
 
@@ -172,6 +173,81 @@ marked_each_turned (x ∷ xs) ys set = marked_each_turned xs ys (marked x 1 set)
 -- the marks of bytes may be made in any order
 pub marked_each_comm : (xs ys : List ℕ) (set : PageSet) → marked_each (xs ++ ys) set ≡ marked_each (ys ++ xs) set
 marked_each_comm xs ys set = marked_each-append xs ys set ∙ marked_each_turned xs ys set ∙ sym (marked_each-append ys xs set)
+
+pub shape-marked_each : (offsets : List ℕ) (set : PageSet) → shape (marked_each offsets set) ≡ shape set
+shape-marked_each [] set = refl
+shape-marked_each (offset ∷ offsets) set = shape-marked_each offsets (marked offset 1 set) ∙ shape-marked offset 1 set
+
+pub IsPageSet-marked_each : (offsets : List ℕ) (set : PageSet) → IsPageSet set → IsPageSet (marked_each offsets set)
+IsPageSet-marked_each [] set h = h
+IsPageSet-marked_each (offset ∷ offsets) set h = IsPageSet-marked_each offsets (marked offset 1 set) (IsPageSet-marked offset 1 set h)
+
+-- ---- where a mark ends
+
+-- a mark goes no further than the greatest offset
+pub marked_to_the_end : (start len : ℕ) (set : PageSet) → start < 2 ^ 64 → 2 ^ 64 ≤ start + len → marked start len set ≡ marked start (2 ^ 64 - start) set
+marked_to_the_end start len None l h = refl
+marked_to_the_end start len (Some p) l h =
+    let a : last_byte start len ≡ 2 ^ 64 - 1 = omega arith in
+    let b : last_byte start (2 ^ 64 - start) ≡ 2 ^ 64 - 1 = omega arith in
+    let c : ltb 0 len ≡ true = lt-ltb 0 len (omega arith) in
+    let d : ltb 0 (2 ^ 64 - start) ≡ true = lt-ltb 0 (2 ^ 64 - start) (omega arith) in
+    ap (with_flags p) (flags_after_agree (takes p.page_size start len) (takes p.page_size start (2 ^ 64 - start)) (λ k. rw (a, b, c, d)) 0 p.flags)
+
+none_taken : (test : ℕ → Bool) (page : ℕ) (flags : List Bool) → ((j : ℕ) → j < page + length flags → test j ≡ false) → flags_after test page flags ≡ flags
+none_taken test page [] h = refl
+none_taken test page (dirty ∷ flags) h =
+    let e = or-false dirty in
+    let g = h page (omega arith) in
+    let f = none_taken test (page + 1) flags (λ j l. h j (omega arith)) in
+    cc
+
+-- a mark past the last page changes nothing
+pub marked_past : (start len : ℕ) (p : Pages) → length p.flags ≤ start / p.page_size → marked start len (Some p) ≡ Some p
+marked_past start len p h =
+    ap (with_flags p) (none_taken (takes p.page_size start len) 0 p.flags (λ j l.
+    and_right (ltb 0 len) (leb (start / p.page_size) j && leb j (last_byte start len / p.page_size)) (and_left (leb (start / p.page_size) j) (leb j (last_byte start len / p.page_size)) (lt-leb (start / p.page_size) j (omega arith)))))
+
+-- ---- which pages a mark takes
+
+taken_byte : (size start len page : ℕ) → 0 < size → start < 2 ^ 64 → takes size start len page ≡ true → (offset : ℕ) × (is_within start len offset ≡ true) × (offset < 2 ^ 64) × (offset / size ≡ page)
+taken_byte size start len page pos l h =
+    let p = and_parts (ltb 0 len) (leb (start / size) page && leb page (last_byte start len / size)) h in
+    let q = and_parts (leb (start / size) page) (leb page (last_byte start len / size)) p.1 in
+    let some = ltb-true 0 len p.0 in
+    let from = leb-true (start / size) page q.0 in
+    let to = leb-true page (last_byte start len / size) q.1 in
+    elim (cases_lt (start / size) page) [
+      | inl m ↦
+          let low : start < page * size = (div-lt_iff_lt-mul pos).0 m in
+          let high : page * size ≤ last_byte start len = (le-div_iff_mul-le pos).0 to in
+          (page * size, is_within-in start len (page * size) (omega arith) (omega arith), omega arith, mul-div_cancel page pos)
+      | inr m ↦ (start, is_within-in start len start (omega arith) (omega arith), l, omega arith)
+    ]
+
+byte_taken : (size start len page offset : ℕ) → 0 < size → is_within start len offset ≡ true → offset < 2 ^ 64 → offset / size ≡ page → takes size start len page ≡ true
+byte_taken size start len page offset pos w l e =
+    let p = within_from start len offset w in
+    let low = div_mono size start offset pos p.0 in
+    let high = div_mono size offset (last_byte start len) pos (omega arith) in
+    and_from (ltb 0 len) (leb (start / size) page && leb page (last_byte start len / size)) (lt-ltb 0 len (omega arith)) (and_from (leb (start / size) page) (leb page (last_byte start len / size)) (le-leb (start / size) page (omega arith)) (le-leb page (last_byte start len / size) (omega arith)))
+
+-- a page is taken where one of the bytes that are marked lies in it
+pub takes-true : (size start len page : ℕ) → 0 < size → start < 2 ^ 64 → (takes size start len page ≡ true) ↔ ((offset : ℕ) × (is_within start len offset ≡ true) × (offset < 2 ^ 64) × (offset / size ≡ page))
+takes-true size start len page pos l = (taken_byte size start len page pos l, λ (offset, w, m, e). byte_taken size start len page offset pos w m e)
+
+-- a byte that is marked is dirty, where its page is one
+pub marked_is_dirty : (start len offset : ℕ) (p : Pages) → 0 < p.page_size → is_within start len offset ≡ true → offset < 2 ^ 64 → offset / p.page_size < length p.flags → is_dirty_at (marked start len (Some p)) offset ≡ true
+marked_is_dirty start len offset p pos w l h =
+    let t = byte_taken p.page_size start len (offset / p.page_size) offset pos w l refl in
+    let i = lt-ltb (offset / p.page_size) (length p.flags) h in
+    is_dirty_at-marked start len offset p ∙ or_right (is_dirty_at (Some p) offset) (ltb (offset / p.page_size) (length p.flags) && takes p.page_size start len (offset / p.page_size)) (and_from (ltb (offset / p.page_size) (length p.flags)) (takes p.page_size start len (offset / p.page_size)) i t)
+
+-- no mark cleans a byte
+pub stays_dirty : (start len offset : ℕ) (set : PageSet) → is_dirty_at set offset ≡ true → is_dirty_at (marked start len set) offset ≡ true
+stays_dirty start len offset None h = h
+stays_dirty start len offset (Some p) h =
+    is_dirty_at-marked start len offset p ∙ or_left (is_dirty_at (Some p) offset) (ltb (offset / p.page_size) (length p.flags) && takes p.page_size start len (offset / p.page_size)) h
 
 -- ---- all clean
 

@@ -31,6 +31,9 @@ is_within-one start x = grind (arith, nat_tests)
 is_within-more : (start len x : ℕ) → is_within start (len + 1) x ≡ (eqb x start || is_within (start + 1) len x)
 is_within-more start len x = grind (arith, nat_tests)
 
+pub is_within-join : (start m n x : ℕ) → is_within start (m + n) x ≡ (is_within start m x || is_within (start + m) n x)
+is_within-join start m n x = grind (arith, nat_tests)
+
 pub is_within-none : (start x : ℕ) → is_within start 0 x ≡ false
 is_within-none start x = grind (arith, nat_tests)
 
@@ -41,34 +44,34 @@ either false c x y = refl
 -- ---- canonical lists
 
 -- runs that can follow one that ends at an address and has this value
-abbrev CanFollow : {K : Type 0} → (K → K → Bool) → ℕ → K → List (Run K) → Type 0
+abbrev pub CanFollow : {K : Type 0} → (K → K → Bool) → ℕ → K → List (Run K) → Type 0
 CanFollow same end k [] = Unit {0}
 CanFollow same end k (s ∷ rs) = (end ≤ s.start) × (end ≡ s.start → same k s.value ≡ false)
 
-canonical_cons : {K : Type 0} (same : K → K → Bool) (r : Run K) (rs : List (Run K)) → 0 < r.len → CanFollow same (r.start + r.len) r.value rs → IsCanonical same rs → IsCanonical same (r ∷ rs)
+pub canonical_cons : {K : Type 0} (same : K → K → Bool) (r : Run K) (rs : List (Run K)) → 0 < r.len → CanFollow same (r.start + r.len) r.value rs → IsCanonical same rs → IsCanonical same (r ∷ rs)
 canonical_cons same r [] pos f h = pos
 canonical_cons same r (s ∷ rs) pos f h = (pos, f.0, f.1, h)
 
-canonical_pos : {K : Type 0} (same : K → K → Bool) (r : Run K) (rs : List (Run K)) → IsCanonical same (r ∷ rs) → 0 < r.len
+pub canonical_pos : {K : Type 0} (same : K → K → Bool) (r : Run K) (rs : List (Run K)) → IsCanonical same (r ∷ rs) → 0 < r.len
 canonical_pos same r [] h = h
 canonical_pos same r (s ∷ rs) h = h.0
 
-canonical_follow : {K : Type 0} (same : K → K → Bool) (r : Run K) (rs : List (Run K)) → IsCanonical same (r ∷ rs) → CanFollow same (r.start + r.len) r.value rs
+pub canonical_follow : {K : Type 0} (same : K → K → Bool) (r : Run K) (rs : List (Run K)) → IsCanonical same (r ∷ rs) → CanFollow same (r.start + r.len) r.value rs
 canonical_follow same r [] h = tt
 canonical_follow same r (s ∷ rs) h = (h.1, h.2)
 
-canonical_tail : {K : Type 0} (same : K → K → Bool) (r : Run K) (rs : List (Run K)) → IsCanonical same (r ∷ rs) → IsCanonical same rs
+pub canonical_tail : {K : Type 0} (same : K → K → Bool) (r : Run K) (rs : List (Run K)) → IsCanonical same (r ∷ rs) → IsCanonical same rs
 canonical_tail same r [] h = tt
 canonical_tail same r (s ∷ rs) h = h.3
 
 -- nothing has a value before a list that can follow
-none_before : {K : Type 0} (same : K → K → Bool) (end : ℕ) (k : K) (rs : List (Run K)) (x : ℕ) → CanFollow same end k rs → IsCanonical same rs → x < end → value_at rs x ≡ None
+pub none_before : {K : Type 0} (same : K → K → Bool) (end : ℕ) (k : K) (rs : List (Run K)) (x : ℕ) → CanFollow same end k rs → IsCanonical same rs → x < end → value_at rs x ≡ None
 none_before same end k [] x f h l = refl
 none_before same end k (s ∷ rs) x f h l =
     rw (is_within-below s.start s.len x (omega arith)) (none_before same (s.start + s.len) s.value rs x (canonical_follow same s rs h) (canonical_tail same s rs h) (omega arith))
 
 -- where a run ends, the next one has another value
-none_alike : {K : Type 0} (same : K → K → Bool) (end : ℕ) (k j : K) (rs : List (Run K)) → CanFollow same end k rs → IsCanonical same rs → value_at rs end ≡ Some j → same k j ≡ false
+pub none_alike : {K : Type 0} (same : K → K → Bool) (end : ℕ) (k j : K) (rs : List (Run K)) → CanFollow same end k rs → IsCanonical same rs → value_at rs end ≡ Some j → same k j ≡ false
 none_alike same end k j [] f h e = cc
 none_alike same end k j (s ∷ rs) f h e =
     let pos = canonical_pos same s rs h in
@@ -89,16 +92,16 @@ still_follows same end k s (t ∷ rs) f h = (omega arith, λ touch. absurd (omeg
 
 -- ---- what runs say
 
-value_at_start : {K : Type 0} (r : Run K) (rs : List (Run K)) → 0 < r.len → value_at (r ∷ rs) r.start ≡ Some r.value
+pub value_at_start : {K : Type 0} (r : Run K) (rs : List (Run K)) → 0 < r.len → value_at (r ∷ rs) r.start ≡ Some r.value
 value_at_start r rs pos = cond-true (is_within r.start r.len r.start) (Some r.value) (value_at rs r.start) (is_within-in r.start r.len r.start (omega arith) (omega arith))
 
-value_at_in : {K : Type 0} (r : Run K) (rs : List (Run K)) (x : ℕ) → r.start ≤ x → x < r.start + r.len → value_at (r ∷ rs) x ≡ Some r.value
+pub value_at_in : {K : Type 0} (r : Run K) (rs : List (Run K)) (x : ℕ) → r.start ≤ x → x < r.start + r.len → value_at (r ∷ rs) x ≡ Some r.value
 value_at_in r rs x a b = cond-true (is_within r.start r.len x) (Some r.value) (value_at rs x) (is_within-in r.start r.len x a b)
 
-value_at_past : {K : Type 0} (r : Run K) (rs : List (Run K)) (x : ℕ) → r.start + r.len ≤ x → value_at (r ∷ rs) x ≡ value_at rs x
+pub value_at_past : {K : Type 0} (r : Run K) (rs : List (Run K)) (x : ℕ) → r.start + r.len ≤ x → value_at (r ∷ rs) x ≡ value_at rs x
 value_at_past r rs x a = cond-false (is_within r.start r.len x) (Some r.value) (value_at rs x) (is_within-above r.start r.len x a)
 
-none_below : {K : Type 0} (same : K → K → Bool) (r : Run K) (rs : List (Run K)) (x : ℕ) → IsCanonical same (r ∷ rs) → x < r.start → value_at (r ∷ rs) x ≡ None
+pub none_below : {K : Type 0} (same : K → K → Bool) (r : Run K) (rs : List (Run K)) (x : ℕ) → IsCanonical same (r ∷ rs) → x < r.start → value_at (r ∷ rs) x ≡ None
 none_below same r rs x h l =
     rw (is_within-below r.start r.len x l) (none_before same (r.start + r.len) r.value rs x (canonical_follow same r rs h) (canonical_tail same r rs h) (omega arith))
 

@@ -1,17 +1,17 @@
 -- The laws of permissions, I/O tables and look-ups.
-use Rattle.std.proofs.Common.{◌≡◌, ℕ, zero, suc, ◌+◌, ◌-◌, ◌^◌, ◌<◌, ◌≤◌, Bool, true, false, not, cond, ◌&&◌, ◌||◌, eqb, List, [], ◌∷◌, ◌++◌, map, Option, Some, None, is_some, refl, sym, ap, inl, inr, ◌↔◌, ◌∙◌, add-one, arith}
-use Rattle.std.proofs.lemmas.Bool.{or_cases, or_right, not-true, not_from_false, le-ltb, and_parts, and_from, cases_order, cases_Bool, eqb-true, eq-eqb}
+use Rattle.std.proofs.Common.{◌≡◌, ℕ, zero, suc, ◌+◌, ◌-◌, ◌^◌, ◌<◌, ◌≤◌, Bool, true, false, not, cond, ◌&&◌, ◌||◌, eqb, List, [], ◌∷◌, ◌++◌, map, Option, Some, None, is_some, refl, sym, ap, inl, inr, ◌⊎◌, ◌↔◌, ◌∙◌, add-one, arith}
+use Rattle.std.proofs.lemmas.Bool.{or_left, ltb-false, or_cases, or_right, not-true, not_from_false, le-ltb, and_parts, and_from, cases_order, cases_Bool, eqb-true, eq-eqb}
 use Rattle.std.proofs.lemmas.List.Sums.{sum_by-cons}
 use Rattle.std.specs.List.{All, filter, flat_map, sum_by}
 use Rattle.std.proofs.lemmas.List.Elements.{All-head, All-tail, filter_agree}
 use Rattle.vm_memory_base.specs.Address.{step, numbers, difference, is_within}
 use Rattle.vm_memory_base.specs.Permissions.{has_read, has_write, union, intersection, allow, same}
 use Rattle.vm_memory_base.specs.Runs.{Run, TestsEquality, with_front, with_value, runs, IsCanonical, value_at, cut_to}
-use Rattle.vm_memory_base.specs.Table.{Mapping, same_mapping, target, Says, TableCall, Set, Invalidate, InvalidateAll, covers, says_after, says_after_all, canonical_list, grants, each, overruns, is_allowed, reason, Range, piece_of, pieces, addresses, target_if_any, forbids, range_of, if_missing, if_forbidden, misses, failures}
+use Rattle.vm_memory_base.specs.Table.{Mapping, same_mapping, target, Says, Table, says, TableCall, Set, Invalidate, InvalidateAll, covers, says_after, says_after_all, new_table_after, canonical_list, grants, each, overruns, is_allowed, reason, Range, piece_of, pieces, addresses, target_if_any, forbids, range_of, if_missing, if_forbidden, misses, failures}
 use Rattle.vm_memory_base.specs.declared.iotlb.Permissions.{Permissions}
 use Rattle.vm_memory_base.specs.declared.iotlb.Permissions.TheVariants.{No, Read, Write, ReadWrite}
 use Rattle.vm_memory_base.specs.declared.iotlb.Reason.TheVariants.{MissingMapping, AccessNotAllowed}
-use Rattle.vm_memory_base.proofs.RunsLaws.{is_within-in, is_within-none, within_or_not, same_from_values, canonical_runs, value_at-runs, runs_agree, agree_from_runs, runs-value_at, none_past, runs-of_list, runs-part, runs-none, none_from_runs, keep, runs-keep, total_len, total_len-value, within_run, numbers-runs}
+use Rattle.vm_memory_base.proofs.RunsLaws.{is_within-in, is_within-above, is_within-join, is_within-none, within_or_not, same_from_values, canonical_runs, value_at-runs, runs_agree, agree_from_runs, runs-value_at, none_past, runs-of_list, runs-part, runs-none, none_from_runs, keep, runs-keep, total_len, total_len-value, within_run, numbers-runs}
 
 -- ---- permissions
 
@@ -155,6 +155,11 @@ same_mapping_itself m = and_from (eqb m.difference m.difference) (same m.permiss
 pub same_mapping_tests_equality : TestsEquality same_mapping
 same_mapping_tests_equality = (same_mapping_decides, same_mapping_itself)
 
+or_cond : {X : Type 0} (b c : Bool) (x y : X) → cond c x (cond b x y) ≡ cond (b || c) x y
+or_cond true true x y = refl
+or_cond true false x y = refl
+or_cond false c x y = refl
+
 -- a call says nothing of an address that it does not cover
 pub says_after-not_covered : (call : TableCall) (x : ℕ) (old : Option Mapping) → covers call x ≡ false → says_after call x old ≡ old
 says_after-not_covered (Set iova to len permissions) x old h = rw h
@@ -236,6 +241,21 @@ pub canonical_list-value_at : (rs : List (Run Mapping)) → IsCanonical same_map
 canonical_list-value_at rs h end =
     canonical_list-of_values rs h (λ x l. none_past rs (2 ^ 64) x end l)
 
+pub canonical_list-kept : (table : Table) → IsCanonical same_mapping table.ranges → All (λ r. r.start + r.len ≤ 2 ^ 64) table.ranges → canonical_list (says table) ≡ table.ranges
+canonical_list-kept table = canonical_list-value_at table.ranges
+
+-- a range that is set behind another, with targets that follow, is one range with it
+pub sets_join : (iova to m n x : ℕ) (permissions : Permissions) (old : Option Mapping) → iova + m ≤ 2 ^ 64 → says_after_all (Set iova to m permissions ∷ Set (iova + m) (step to m) n permissions ∷ []) x old ≡ says_after (Set iova to (m + n) permissions) x old
+sets_join iova to m n x permissions old h =
+    let e : difference (iova + m) (step to m) ≡ difference iova to = omega arith in
+    let w = is_within-join iova m n x in
+    rw (e, w) (or_cond (is_within iova m x) (is_within (iova + m) n x) (Some (mapping (difference iova to) permissions)) old)
+
+-- the canonical list of a new table in which one range is set
+pub canonical_list-set : (iova to len : ℕ) (permissions : Permissions) → 0 < len → iova + len ≤ 2 ^ 64 → canonical_list (new_table_after (Set iova to len permissions ∷ [])) ≡ record { start = iova; len = len; value = mapping (difference iova to) permissions } ∷ []
+canonical_list-set iova to len permissions pos h =
+    canonical_list-of_values (record { start = iova; len = len; value = mapping (difference iova to) permissions } ∷ []) pos (λ x l. rw (is_within-above iova len x (omega arith)))
+
 -- ---- look-ups
 
 abbrev range : ℕ → ℕ → Range
@@ -293,9 +313,6 @@ granted_is_permitted : (access : Permissions) (v : Option Mapping) → grants ac
 granted_is_permitted access None h = refl
 granted_is_permitted access (Some m) h = rw h
 
-misses-inside : (f : Says) (a n : ℕ) → overruns a n ≡ false → misses f a n ≡ map range_of (runs always (λ x. if_missing (f x)) a n)
-misses-inside f a n h = rw h
-
 -- nothing is missed where each address has a mapping
 pub misses-none : (f : Says) (a n : ℕ) → (misses f a n ≡ []) ↔ ((overruns a n ≡ false) × (each is_some f a n ≡ true))
 misses-none f a n =
@@ -325,6 +342,24 @@ allowed_inside f a n access h t =
 
 inside_allowed : (f : Says) (a n : ℕ) (access : Permissions) → overruns a n ≡ false → each (grants access) f a n ≡ true → is_allowed f a n access ≡ true
 inside_allowed f a n access o e = or_right (eqb n 0) (not (overruns a n) && each (grants access) f a n) (and_from (not (overruns a n)) (each (grants access) f a n) (not_from_false (overruns a n) o) e)
+
+-- an access is allowed to no address, or where the end is an address and each address grants it
+pub is_allowed-each : (f : Says) (a n : ℕ) (access : Permissions) → (is_allowed f a n access ≡ true) ↔ ((n ≡ 0) ⊎ ((a + n < 2 ^ 64) × ((x : ℕ) → a ≤ x → x < a + n → grants access (f x) ≡ true)))
+is_allowed-each f a n access = (
+  (λ t.
+      elim (or_cases (eqb n 0) (not (overruns a n) && each (grants access) f a n) t) [
+        | inl e ↦ inl (eqb-true n 0 e)
+        | inr e ↦
+            let p = and_parts (not (overruns a n)) (each (grants access) f a n) e in
+            let inside = ltb-false (2 ^ 64 - 1) (a + n) (not-true (overruns a n) p.0) in
+            inr (omega arith, each_at (grants access) f a n p.1)
+      ]),
+  (λ h.
+      elim h [
+        | inl e ↦ or_left (eqb n 0) (not (overruns a n) && each (grants access) f a n) (eq-eqb n 0 e)
+        | inr g ↦ let end : a + n < 2 ^ 64 = g.0 in inside_allowed f a n access (le-ltb (2 ^ 64 - 1) (a + n) (omega arith)) (each_from (grants access) f a n g.1)
+      ]),
+)
 
 -- a look-up is allowed where it has no miss and no failure
 pub is_allowed-true : (f : Says) (a n : ℕ) (access : Permissions) → (n ≡ 0 → a < 2 ^ 64) → (is_allowed f a n access ≡ true) ↔ ((misses f a n ≡ []) × (failures f a n access ≡ []))

@@ -1,8 +1,8 @@
 //! What the definitions say in small cases.
-ghost use Rattle.std.specs.Prelude.{◌≡◌, ◌-◌, ◌^◌, true, false, [], ◌∷◌, None, Some};
-ghost use Rattle.vm_memory_base.specs.Pages.{Pages, dirty_pages, is_dirty_at, marked, in_view, IsPageSet};
-ghost use Rattle.vm_memory_base.specs.Runs.{Run, runs};
-ghost use Rattle.vm_memory_base.specs.Table.{Mapping, same_mapping, Set, Invalidate, says_nothing, new_table_after, is_allowed, reason, Range, pieces, misses, failures};
+ghost use Rattle.std.specs.Prelude.{◌≡◌, ◌-◌, ◌^◌, true, false, [], ◌∷◌, Some};
+ghost use Rattle.vm_memory_base.specs.Pages.{dirty_pages, is_dirty_at, marked, in_view, IsPageSet};
+ghost use Rattle.vm_memory_base.specs.Runs.{runs};
+ghost use Rattle.vm_memory_base.specs.Table.{same_mapping, Set, Invalidate, says_nothing, new_table_after, is_allowed, reason, pieces, misses, failures};
 ghost use Rattle.vm_memory_base.specs.declared.iotlb.Permissions.TheVariants.{No, Read, Write, ReadWrite};
 ghost use Rattle.vm_memory_base.specs.declared.iotlb.Reason.TheVariants.{MissingMapping, AccessNotAllowed};
 

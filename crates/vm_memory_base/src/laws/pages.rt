@@ -1,6 +1,6 @@
 //! What holds of page sets and the marks that they take.
-ghost use Rattle.std.specs.Prelude.{◌≡◌, ◌↔◌, ℕ, ◌+◌, ◌/◌, ◌^◌, ◌<◌, ◌≤◌, Bool, false, true, ◌||◌, ◌&&◌, nat_lt, List, [], ◌++◌, None, Some, length, slice_index_or, AllPairs, Contains};
-ghost use Rattle.vm_memory_base.specs.Address.{numbers};
+ghost use Rattle.std.specs.Prelude.{◌≡◌, ◌↔◌, ℕ, ◌+◌, ◌-◌, ◌/◌, ◌^◌, ◌<◌, ◌≤◌, Bool, false, true, ◌||◌, ◌&&◌, nat_lt, List, [], ◌++◌, None, Some, length, slice_index_or, AllPairs, Contains};
+ghost use Rattle.vm_memory_base.specs.Address.{is_within, numbers};
 ghost use Rattle.vm_memory_base.specs.Pages.{Pages, PageSet, shape, is_dirty_at, dirty_pages, takes, flags_after, marked, marked_each, cleaned, IsPageSet};
 
 /// A mark of no bytes changes nothing.
@@ -12,12 +12,31 @@ pub fn empty_mark()
 pub fn mark_keeps_shape()
     ensures shape { (start len : ℕ) (set : PageSet) → shape (marked start len set) ≡ shape set }
     ensures valid { (start len : ℕ) (set : PageSet) → IsPageSet set → IsPageSet (marked start len set) }
+    ensures shape_of_many { (offsets : List ℕ) (set : PageSet) → shape (marked_each offsets set) ≡ shape set }
+    ensures valid_of_many { (offsets : List ℕ) (set : PageSet) → IsPageSet set → IsPageSet (marked_each offsets set) }
+{}
+
+/// A mark takes a page where one of its bytes lies in it, among the offsets of 64 bits.
+pub fn mark_takes_the_pages_of_its_bytes()
+    ensures { (size start len page : ℕ) → 0 < size → start < 2 ^ 64 → (takes size start len page ≡ true) ↔ ((offset : ℕ) × (is_within start len offset ≡ true) × (offset < 2 ^ 64) × (offset / size ≡ page)) }
 {}
 
 /// After a mark the dirty pages are those that were dirty and those that the mark takes, among the pages that there are.
 pub fn mark_dirties()
     ensures pages { (test : ℕ → Bool) (page : ℕ) (flags : List Bool) (i : ℕ) → slice_index_or (flags_after test page flags) i false ≡ (slice_index_or flags i false || (nat_lt i (length flags) && test (page + i))) }
     ensures bytes { (start len offset : ℕ) (p : Pages) → is_dirty_at (marked start len (Some p)) offset ≡ (is_dirty_at (Some p) offset || (nat_lt (offset / p.page_size) (length p.flags) && takes p.page_size start len (offset / p.page_size))) }
+{}
+
+/// A byte that is marked is dirty, where its page is one of the set's, and no mark cleans a byte.
+pub fn marked_bytes_are_dirty()
+    ensures marked { (start len offset : ℕ) (p : Pages) → 0 < p.page_size → is_within start len offset ≡ true → offset < 2 ^ 64 → offset / p.page_size < length p.flags → is_dirty_at (marked start len (Some p)) offset ≡ true }
+    ensures before { (start len offset : ℕ) (set : PageSet) → is_dirty_at set offset ≡ true → is_dirty_at (marked start len set) offset ≡ true }
+{}
+
+/// A mark goes no further than the greatest offset, and changes nothing past the last page.
+pub fn mark_ends()
+    ensures offsets { (start len : ℕ) (set : PageSet) → start < 2 ^ 64 → 2 ^ 64 ≤ start + len → marked start len set ≡ marked start (2 ^ 64 - start) set }
+    ensures pages { (start len : ℕ) (p : Pages) → length p.flags ≤ start / p.page_size → marked start len (Some p) ≡ Some p }
 {}
 
 /// A mark is a mark of each of its bytes, one after another.

@@ -1,5 +1,5 @@
 //! What holds of runs of neighbouring addresses.
-ghost use Rattle.std.specs.Prelude.{◌≡◌, ℕ, ◌+◌, ◌<◌, ◌≤◌, Bool, false, cond, List, Option, None, All};
+ghost use Rattle.std.specs.Prelude.{◌≡◌, ℕ, ◌+◌, ◌<◌, ◌≤◌, Bool, false, cond, List, Option, None};
 ghost use Rattle.vm_memory_base.specs.Address.{is_within};
 ghost use Rattle.vm_memory_base.specs.Runs.{Run, TestsEquality, runs, IsCanonical, value_at, cut_to};
 

@@ -1,8 +1,8 @@
 //! What holds of I/O tables and look-ups.
-ghost use Rattle.std.specs.Prelude.{◌≡◌, ◌↔◌, ℕ, ◌+◌, ◌-◌, ◌^◌, ◌<◌, ◌≤◌, Bool, true, false, not, List, [], ◌∷◌, ◌++◌, map, filter, flat_map, sum_by, Option, Some, None, is_some, All};
+ghost use Rattle.std.specs.Prelude.{◌≡◌, ◌↔◌, ℕ, ◌+◌, ◌-◌, ◌^◌, ◌<◌, ◌≤◌, ◌⊎◌, Bool, true, false, not, List, [], ◌∷◌, ◌++◌, map, filter, flat_map, sum_by, Option, Some, None, is_some, All};
 ghost use Rattle.vm_memory_base.specs.Address.{step, numbers, difference};
 ghost use Rattle.vm_memory_base.specs.Runs.{Run, TestsEquality, runs, IsCanonical, value_at, cut_to};
-ghost use Rattle.vm_memory_base.specs.Table.{Mapping, same_mapping, target, Says, TableCall, Set, Invalidate, InvalidateAll, covers, says_after, says_after_all, canonical_list, grants, each, overruns, is_allowed, reason, Range, piece_of, pieces, addresses, target_if_any, forbids, range_of, if_forbidden, misses, failures};
+ghost use Rattle.vm_memory_base.specs.Table.{Mapping, same_mapping, target, Says, Table, says, TableCall, Set, Invalidate, InvalidateAll, covers, says_after, says_after_all, new_table_after, canonical_list, grants, each, overruns, is_allowed, reason, piece_of, pieces, addresses, target_if_any, forbids, range_of, if_forbidden, misses, failures};
 ghost use Rattle.vm_memory_base.specs.declared.iotlb.Permissions.{Permissions};
 ghost use Rattle.vm_memory_base.specs.declared.iotlb.Reason.TheVariants.{MissingMapping, AccessNotAllowed};
 
@@ -29,6 +29,16 @@ pub fn targets_follow_addresses()
     ensures steps { (x i : ℕ) (m : Mapping) → target (x + i) m ≡ step (target x m) i }
 {}
 
+/// A range that is set behind another, with targets that follow its targets and the same permissions, is one range with it.
+pub fn neighbouring_sets()
+    ensures { (iova to m n x : ℕ) (permissions : Permissions) (old : Option Mapping) → iova + m ≤ 2 ^ 64 → says_after_all (Set iova to m permissions ∷ Set (iova + m) (step to m) n permissions ∷ []) x old ≡ says_after (Set iova to (m + n) permissions) x old }
+{}
+
+/// One range that is set in a new table is one run.
+pub fn set_in_a_new_table()
+    ensures { (iova to len : ℕ) (permissions : Permissions) → 0 < len → iova + len ≤ 2 ^ 64 → canonical_list (new_table_after (Set iova to len permissions ∷ [])) ≡ record { start = iova; len = len; value = record { difference = difference iova to; permissions = permissions } } ∷ [] }
+{}
+
 /// `same_mapping` tells whether two mappings are equal.
 pub fn same_mappings()
     ensures { TestsEquality same_mapping }
@@ -47,11 +57,17 @@ pub fn canonical_list_decides_the_table()
 pub fn kept_list_is_the_canonical_list()
     ensures by_values { (rs : List (Run Mapping)) → IsCanonical same_mapping rs → ((x : ℕ) → 2 ^ 64 ≤ x → value_at rs x ≡ None) → canonical_list (value_at rs) ≡ rs }
     ensures by_ends { (rs : List (Run Mapping)) → IsCanonical same_mapping rs → All (λ r. r.start + r.len ≤ 2 ^ 64) rs → canonical_list (value_at rs) ≡ rs }
+    ensures of_a_table { (table : Table) → IsCanonical same_mapping table.ranges → All (λ r. r.start + r.len ≤ 2 ^ 64) table.ranges → canonical_list (says table) ≡ table.ranges }
 {}
 
 /// A test passes at each address exactly where it passes at the n addresses one by one.
 pub fn each_address()
     ensures { (test : Option Mapping → Bool) (f : Says) (a n : ℕ) → (each test f a n ≡ true) ↔ ((x : ℕ) → a ≤ x → x < a + n → test (f x) ≡ true) }
+{}
+
+/// An access is allowed to no address, and to addresses of which each grants it and the end is an address too.
+pub fn allowed_where_each_address_grants()
+    ensures { (f : Says) (a n : ℕ) (access : Permissions) → (is_allowed f a n access ≡ true) ↔ ((n ≡ 0) ⊎ ((a + n < 2 ^ 64) × ((x : ℕ) → a ≤ x → x < a + n → grants access (f x) ≡ true))) }
 {}
 
 /// An access is allowed exactly where its look-up has no miss and no failure. An empty range that begins past the last address is allowed though it is missed.
@@ -67,6 +83,7 @@ pub fn reason_of_a_refusal()
 
 /// The pieces of a look-up are the canonical list, cut to the addresses asked for.
 pub fn pieces_are_cut()
+    ensures runs { (f : Says) (a n : ℕ) → a + n ≤ 2 ^ 64 → runs same_mapping f a n ≡ cut_to a n (canonical_list f) }
     ensures of_a_table { (f : Says) (a n : ℕ) → a + n ≤ 2 ^ 64 → pieces f a n ≡ map piece_of (cut_to a n (canonical_list f)) }
     ensures of_a_kept_list { (rs : List (Run Mapping)) (a n : ℕ) → IsCanonical same_mapping rs → pieces (value_at rs) a n ≡ map piece_of (cut_to a n rs) }
 {}
@@ -76,8 +93,8 @@ pub fn failures_are_runs()
     ensures { (f : Says) (a n : ℕ) (access : Permissions) → overruns a n ≡ false → failures f a n access ≡ map range_of (filter (λ r. forbids access r.value) (runs same_mapping f a n)) }
 {}
 
-/// Each address asked for lies in one piece or in one miss.
-pub fn pieces_and_misses_have_each_address()
+/// The pieces and the misses of a look-up have, together, as many addresses as are asked for.
+pub fn pieces_and_misses_add_up()
     ensures together { (f : Says) (a n : ℕ) → overruns a n ≡ false → sum_by (λ r. r.len) (pieces f a n) + sum_by (λ r. r.len) (misses f a n) ≡ n }
     ensures mapped { (f : Says) (a n : ℕ) → each is_some f a n ≡ true → sum_by (λ r. r.len) (pieces f a n) ≡ n }
 {}
