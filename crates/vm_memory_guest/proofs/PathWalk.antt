@@ -1,5 +1,5 @@
 -- What a walk without translation gives, one window after the other.
-use Rattle.std.proofs.Common.{◌≡◌, ℕ, zero, suc, ◌+◌, ◌-◌, ◌^◌, ◌%◌, ◌<◌, ◌≤◌, ◌⊎◌, ◌&&◌, min, Bool, true, false, not, cond, List, [], ◌∷◌, ◌++◌, map, Contains, suc-le-suc, Option, Some, None, option_map, Result, Ok, Err, refl, sym, ap, ap₂, subst, ◌∙◌, inl, inr, add-zero, zero-add, suc-add, not-suc-le-zero, subst₂, mod-eq_of_lt, arith}
+use Rattle.std.proofs.Common.{◌≡◌, ℕ, zero, suc, ◌+◌, ◌-◌, ◌^◌, ◌%◌, ◌<◌, ◌≤◌, ◌⊎◌, ◌&&◌, min, Bool, true, false, not, cond, List, [], ◌∷◌, ◌++◌, map, length, Contains, suc-le-suc, Option, Some, None, option_map, Result, Ok, Err, refl, sym, ap, ap₂, subst, ◌∙◌, inl, inr, add-zero, zero-add, suc-add, not-suc-le-zero, subst₂, mod-eq_of_lt, arith}
 use Rattle.std.proofs.lemmas.Option.{none-some, same_Some}
 use Rattle.std.proofs.lemmas.Bool.{cond-true, cond-false, cases_lt, cases_Bool, and_parts, and_from, true≢false, leb-true, ltb-true, le-leb, lt-ltb, eqb-true, eq-eqb, false_from_ne_true}
 use Rattle.vm_memory_base.specs.Address.{step, is_within}
@@ -114,7 +114,7 @@ pub is_within-from : (start len x : ℕ) → start ≤ x → x < start + len →
 is_within-from start len x low high = and_from _ _ (le-leb start x low) (lt-ltb x (start + len) high)
 
 -- the region that is found is the first one, or it is found behind it
-home-cases : (x : Region) (xs : List Region) (a : ℕ) (r : Region) → home (x ∷ xs) a ≡ Some r → ((is_within x.start x.len a ≡ true) × (x ≡ r)) ⊎ ((is_within x.start x.len a ≡ false) × (home xs a ≡ Some r))
+pub home-cases : (x : Region) (xs : List Region) (a : ℕ) (r : Region) → home (x ∷ xs) a ≡ Some r → ((is_within x.start x.len a ≡ true) × (x ≡ r)) ⊎ ((is_within x.start x.len a ≡ false) × (home xs a ≡ Some r))
 home-cases x xs a r e = elim (cases_Bool (is_within x.start x.len a)) [
   | inl t ↦ inl (t, same_Some x r (sym (cond-true _ (Some x) (home xs a) t) ∙ e))
   | inr f ↦ inr (f, sym (cond-false _ (Some x) (home xs a) f) ∙ e)
@@ -231,19 +231,20 @@ pub walk-none : (regions : List Region) (a : ℕ) → direct_items regions a 0 �
 unfolding items stretches
 walk-none regions a = ap₂ items (path-none (meets regions Direct a) 0) (first_fault-none (meets regions Direct a) 0)
 
-walk_stops : (regions : List Region) (a n : ℕ) (fault : Fault) → 0 < n → meets regions Direct a 0 ≡ Stops fault → direct_items regions a n ≡ Err (error_of fault) ∷ []
+-- a walk that is stopped at its first byte
+pub walk-stops : (regions : List Region) (a n : ℕ) (fault : Fault) → 0 < n → meets regions Direct a 0 ≡ Stops fault → direct_items regions a n ≡ Err (error_of fault) ∷ []
 unfolding items stretches
-walk_stops regions a n fault h e = ap₂ items (path-stops (meets regions Direct a) 0 n fault e) (first_fault-stops (meets regions Direct a) 0 n fault h e)
+walk-stops regions a n fault h e = ap₂ items (path-stops (meets regions Direct a) 0 n fault e) (first_fault-stops (meets regions Direct a) 0 n fault h e)
 
 -- a walk from an address that no region holds
 pub walk-hole : (regions : List Region) (a n : ℕ) → a < 2 ^ 64 → home regions a ≡ None → 0 < n → direct_items regions a n ≡ Err (InvalidGuestAddress (record { 0 = a })) ∷ []
 walk-hole regions a n below e h =
     let at : step a 0 ≡ a = step-none a below in
-    walk_stops regions a n (NoRegion a) h (direct-hole regions a 0 (ap (home regions) at ∙ e) ∙ ap (λ (p : ℕ). Stops (NoRegion p)) at)
+    walk-stops regions a n (NoRegion a) h (direct-hole regions a 0 (ap (home regions) at ∙ e) ∙ ap (λ (p : ℕ). Stops (NoRegion p)) at)
 
 -- a walk from an address of a region without host bytes
 pub walk-bare : (regions : List Region) (a n : ℕ) (r : Region) → a < 2 ^ 64 → home regions a ≡ Some r → r.place ≡ None → 0 < n → direct_items regions a n ≡ Err HostAddressNotAvailable ∷ []
-walk-bare regions a n r below e none h = walk_stops regions a n NoHostBytes h (direct-bare regions a 0 r (ap (home regions) (step-none a below) ∙ e) none)
+walk-bare regions a n r below e none h = walk-stops regions a n NoHostBytes h (direct-bare regions a 0 r (ap (home regions) (step-none a below) ∙ e) none)
 
 module _ (regions : List Region) (a : ℕ) (r : Region) (first : Cell) (is_region : IsRegion r) where
   -- behind the last byte of a region there is a cut, or the path ends
@@ -335,3 +336,24 @@ walk-in_region regions a n r first layout found some is_region more = walk-in_fo
 
 pub windows-in_region : (regions : List Region) (a n : ℕ) (r : Region) (first : Cell) → IsLayout regions → home regions a ≡ Some r → r.place ≡ Some first → IsRegion r → 0 < n → windows (path (meets regions Direct a) 0 n) ≡ window_in r first a (len_in r a n) ∷ windows (path (meets regions Direct (step a (len_in r a n))) 0 (n - len_in r a n))
 windows-in_region regions a n r first layout found some is_region more = windows-in_found_region regions a n r first is_region some found (λ b w. home-layout regions a r b layout found w) more
+
+windows_items : List Stretch → Option Fault → List (Result VolatileSlice GuestMemoryError)
+windows_items ss fault = map (λ w. Ok w) (map window_of ss) ++ error_item (option_map error_of fault)
+
+-- a walk of some bytes gives something
+pub walk-some : (regions : List Region) (a n : ℕ) → 0 < n → 0 < length (direct_items regions a n)
+unfolding items stretches windows_items
+walk-some regions a zero h = absurd (not-suc-le-zero h)
+walk-some regions a (suc n) h = go (meets regions Direct a 0) refl
+  where
+    m : ℕ → Meets
+    m = meets regions Direct a
+
+    reached : (x : Reached) (ys : List Reached) (fault : Option Fault) → 0 < length (items (x ∷ ys) fault)
+    reached x ys fault =
+        let f = lengthened-first x (stretches ys) in
+        subst (λ (ss : List Stretch). 0 < length (windows_items ss fault)) (sym f.2) (omega arith)
+
+    go : (o : Meets) → m 0 ≡ o → 0 < length (items (path m 0 (suc n)) (first_fault m 0 (suc n)))
+    go (Reaches x) e = subst (λ (xs : List Reached). 0 < length (items xs (first_fault m 0 (suc n)))) (sym (path-reaches m 0 n x e)) (reached x (path m 1 n) (first_fault m 0 (suc n)))
+    go (Stops fault) e = subst (λ (xs : List (Result VolatileSlice GuestMemoryError)). 0 < length xs) (sym (walk-stops regions a (suc n) fault h e)) (omega arith)
