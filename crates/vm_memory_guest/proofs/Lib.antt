@@ -1,3 +1,5 @@
 pub mod HostLemmas
 pub mod MarkLaws
 pub mod WrittenLaws
+pub mod PathLaws
+pub mod PathWalk

@@ -3,6 +3,7 @@
 
 mod guest_memory;
 mod mmap;
+pub mod path_laws;
 mod region;
 mod volatile_memory;
 
