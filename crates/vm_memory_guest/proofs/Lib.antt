@@ -3,3 +3,4 @@ pub mod MarkLaws
 pub mod WrittenLaws
 pub mod PathLaws
 pub mod PathWalk
+pub mod WalkLemmas

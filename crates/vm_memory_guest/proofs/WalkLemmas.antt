@@ -1,0 +1,40 @@
+-- The walk through a backend, one call after the other.
+use Rattle.std.proofs.Common.{◌≡◌, ℕ, ◌+◌, ◌-◌, ◌^◌, ◌<◌, ◌≤◌, min, List, [], ◌∷◌, length, Option, Some, None, Result, Ok, Err, cond, true, false, refl, sym, ap, ◌∙◌, subst, arith, option_map}
+use Rattle.std.proofs.lemmas.Bool.Decides.{nat_tests}
+use Rattle.std.specs.Iterator.{MakesProgress, item_count}
+use Rattle.vm_memory_base.specs.Address.{step}
+use Rattle.vm_memory_guest.specs.Host.{Cell}
+use Rattle.vm_memory_guest.specs.Region.{Region, IsRegion, IsLayout, home, slice_of, slice_from, window_at}
+use Rattle.vm_memory_guest.specs.Slice.{Window}
+use Rattle.vm_memory_guest.specs.Error.{direct_items}
+use Rattle.vm_memory_guest.specs.declared.region.GuestMemoryError.{GuestMemoryError}
+use Rattle.vm_memory_guest.specs.declared.region.GuestMemoryError.TheVariants.{HostAddressNotAvailable}
+use Rattle.vm_memory_guest.proofs.PathWalk.{walk-bare, walk-in_region, home-within, is_within-bounds, window_in, len_in}
+
+-- an iterator that gave the first item of its list has fewer left
+pub first_goes : {S A : Type 0} (rest : S → List A) (s t : S) (x : A) → rest s ≡ x ∷ rest t → MakesProgress (λ _. Unit {0}) (item_count rest) s (Some x) t
+first_goes rest s t x gives =
+    let fewer : length (rest t) < length (rest s) = rw gives (omega arith) in
+    record { on = λ _. (tt, tt, fewer); keeps = tt; rests = λ _. tt }
+
+module _ (regions : List Region) (a n : ℕ) (r : Region) (layout : IsLayout regions) (found : home regions a ≡ Some r) (is_region : IsRegion r) (more : 0 < n) (below : a < 2 ^ 64) where
+  -- the window that a region gives of what of the access lies in it comes first, and the walk goes on behind it
+  pub walk-gives : (start len : ℕ) (w : Window) → start ≡ a - r.start → len ≡ min (r.len - start) n → (o : Option Cell) → r.place ≡ o → slice_from o r.len start len ≡ Ok w → direct_items regions a n ≡ Ok w ∷ direct_items regions (step a len) (n - len)
+  walk-gives start len w s l None bare gives = absurd (cc)
+  walk-gives start len w s l (Some first) some gives =
+      let within = is_within-bounds r.start r.len a (home-within regions a r found) in
+      let fits : start + len ≤ r.len = omega (arith, within.0, within.1) in
+      let window : window_at first start len ≡ w = grind (arith, nat_tests) in
+      let count : len_in r a n ≡ len = sym (l ∙ ap (λ x. min (r.len - x) n) s) in
+      walk-in_region regions a n r first layout found some is_region more
+      ∙ (ap (λ k. Ok (window_in r first a k) ∷ direct_items regions (step a k) (n - k)) count
+      ∙ (ap (λ x. Ok (window_at first x len) ∷ direct_items regions (step a len) (n - len)) (sym s)
+      ∙ ap (λ v. Ok v ∷ direct_items regions (step a len) (n - len)) window))
+
+  -- the error of a region without host bytes comes alone
+  pub walk-refuses : (start len : ℕ) (e : GuestMemoryError) → start ≡ a - r.start → len ≡ min (r.len - start) n → (o : Option Cell) → r.place ≡ o → slice_from o r.len start len ≡ Err e → direct_items regions a n ≡ Err e ∷ []
+  walk-refuses start len e s l None bare gives = walk-bare regions a n r below found bare more ∙ ap (λ x. x ∷ []) gives
+  walk-refuses start len e s l (Some first) some gives =
+      let within = is_within-bounds r.start r.len a (home-within regions a r found) in
+      let fits : start + len ≤ r.len = omega (arith, within.0, within.1) in
+      absurd (grind (arith, nat_tests))
