@@ -6,7 +6,7 @@ use Rattle.std.proofs.lemmas.List.Folds.{list_all-append}
 use Rattle.std.proofs.lemmas.List.Sums.{sum_by-cons}
 use Rattle.std.proofs.lemmas.List.Elements.{All-contains, All-from_recursion}
 use Rattle.std.proofs.lemmas.Option.{none-some, same_Some, slice_get_within}
-use Rattle.vm_memory_base.specs.Address.{step}
+use Rattle.vm_memory_base.specs.Address.{step, numbers}
 use Rattle.vm_memory_base.specs.Table.{Mapping, Says}
 use Rattle.vm_memory_base.specs.declared.bitmap.BitmapId.{BitmapId}
 use Rattle.vm_memory_guest.specs.Access.{Fault, Reached, Meets, Reaches, Stops, bitmap_of, mark_of, meets_at, meets, onto, or_fault, path, first_fault, same_mappings, is_cut, Stretch, stretches, window_of, windows, Access, allowed, refusal, access_of}
@@ -181,7 +181,7 @@ all_map P f (x ∷ xs) h = (h.0, all_map P f xs h.1)
 
 flat_map-map : {X Y A : Type 0} (g : Y → List A) (f : X → Y) (xs : List X) → flat_map g (map f xs) ≡ flat_map (λ x. g (f x)) xs
 flat_map-map g f [] = refl
-flat_map-map g f (x ∷ xs) = ap (λ (as' : List _). g (f x) ++ as') (flat_map-map g f xs)
+flat_map-map g f (x ∷ xs) = ap (◌++◌ (g (f x))) (flat_map-map g f xs)
 
 smooth_in_any : (xs : List Reached) → IsSmooth (λ x y. Unit {0}) xs
 smooth_in_any [] = tt
@@ -297,20 +297,16 @@ cells-windows regions route a n each =
     let g = λ (s : Stretch). cells_from s.first.cell.block s.first.cell.offset s.len in
     flat_map-map cells_of window_of (stretches xs) ∙ flat_map-stretches Follows (λ x. x.cell) g (λ x. refl) (λ x y len h. ap (cells_from x.cell.block x.cell.offset) (add-one len) ∙ ap (λ (c : Cell). x.cell ∷ cells_from c.block c.offset len) (sym h.cell)) xs (path-follows regions route a n each)
 
--- the offsets in a bitmap that len bytes mark, the first of them at base
-abbrev pub marks_from : BitmapId → ℕ → ℕ → List (BitmapId × ℕ)
-marks_from bitmap base zero = []
-marks_from bitmap base (suc len) = (bitmap, base) ∷ marks_from bitmap (base + 1) len
-
+-- the bitmap and the offsets in it that the bytes of a window mark
 abbrev pub marks_of : VolatileSlice → List (BitmapId × ℕ)
-marks_of w = marks_from w.bitmap.id w.bitmap.base w.size
+marks_of w = map (λ offset. (w.bitmap.id, offset)) (numbers w.bitmap.base w.size)
 
--- and so are their marks
+-- and so are the marks of their bytes
 pub marks-windows : (regions : List Region) (route : Route) (a n : ℕ) → All IsRegion regions → flat_map marks_of (windows (path (meets regions route a) 0 n)) ≡ map (λ x. (x.bitmap, x.mark)) (path (meets regions route a) 0 n)
 marks-windows regions route a n each =
     let xs = path (meets regions route a) 0 n in
-    let g = λ (s : Stretch). marks_from s.first.bitmap s.first.mark s.len in
-    flat_map-map marks_of window_of (stretches xs) ∙ flat_map-stretches Follows (λ x. (x.bitmap, x.mark)) g (λ x. refl) (λ x y len h. ap (marks_from x.bitmap x.mark) (add-one len) ∙ ap₂ (λ (b : BitmapId) (t : ℕ). (x.bitmap, x.mark) ∷ marks_from b t len) (sym h.bitmap) (sym h.mark)) xs (path-follows regions route a n each)
+    let marks = λ (bitmap : BitmapId) (base len : ℕ). map (λ (offset : ℕ). (bitmap, offset)) (numbers base len) in
+    flat_map-map marks_of window_of (stretches xs) ∙ flat_map-stretches Follows (λ x. (x.bitmap, x.mark)) (λ s. marks s.first.bitmap s.first.mark s.len) (λ x. refl) (λ x y len h. ap (marks x.bitmap x.mark) (add-one len) ∙ ap₂ (λ (b : BitmapId) (t : ℕ). (x.bitmap, x.mark) ∷ marks b t len) (sym h.bitmap) (sym h.mark)) xs (path-follows regions route a n each)
 
 -- an offset in a bitmap that a byte marks is one of 64 bits
 abbrev IsMark : Reached → Type 0

@@ -5,7 +5,8 @@ use Rattle.std.proofs.lemmas.Bool.{cond-true, cond-false, cases_lt, cases_Bool, 
 use Rattle.vm_memory_base.specs.Address.{step, is_within}
 use Rattle.vm_memory_base.specs.Table.{Mapping}
 use Rattle.vm_memory_base.specs.declared.bitmap.BitmapId.TheVariants.{Block}
-use Rattle.vm_memory_guest.specs.Access.{Fault, NoRegion, NoHostBytes, Reached, Meets, Reaches, Stops, meets_at, meets, onto, or_fault, path, first_fault, same_mappings, is_cut, Stretch, lengthened, stretches, window_of, windows}
+use Rattle.vm_memory_base.specs.declared.iotlb.Permissions.{Permissions}
+use Rattle.vm_memory_guest.specs.Access.{Fault, NoRegion, NoHostBytes, Reached, Meets, Reaches, Stops, meets_at, meets, onto, or_fault, path, first_fault, same_mappings, is_cut, Stretch, lengthened, stretches, window_of, windows, access_of}
 use Rattle.vm_memory_guest.specs.Error.{error_of, error_item, reach_of, items_of}
 use Rattle.vm_memory_guest.specs.Host.{Cell}
 use Rattle.vm_memory_guest.specs.Memory.{Direct}
@@ -186,7 +187,7 @@ home-layout (x ∷ xs) a r b h e w = elim (home-cases x xs a r e) [
       omega arith)) ∙ home-layout xs a r b (IsLayout-rest x xs h) k.1 w
 ]
 
--- byte p of a region whose first byte has this cell, reached without translation
+-- the byte at an address of a region whose first byte has this cell, reached without translation
 abbrev pub reached_in : Region → Cell → ℕ → Reached
 reached_in r first p = record { cell = record { block = first.block; offset = first.offset + (p - r.start) }; home = r; mapping = None; bitmap = Block first.block; mark = first.offset + (p - r.start) }
 
@@ -222,6 +223,10 @@ direct-step regions a i j = direct_mark (a + (i + j)) (step a i + j) (step a (i 
 -- what a walk from an address without translation gives
 abbrev pub direct_items : List Region → ℕ → ℕ → List (Result VolatileSlice GuestMemoryError)
 direct_items regions a n = items_of (reach_of (record { path = path (meets regions Direct a) 0 n; fault = first_fault (meets regions Direct a) 0 n }))
+
+-- an access without translation is allowed, so this is what it gives
+pub direct_items-access : (regions : List Region) (a n : ℕ) (access : Permissions) → items_of (reach_of (access_of regions Direct a n access)) ≡ direct_items regions a n
+direct_items-access regions a n access = refl
 
 items : List Reached → Option Fault → List (Result VolatileSlice GuestMemoryError)
 items xs fault = items_of (reach_of (record { path = xs; fault = fault }))

@@ -1,7 +1,9 @@
 //! What paths and their windows have in common, for every list of regions and every route.
 
-ghost use Rattle.std.specs.Prelude.{◌≡◌, ℕ, ◌+◌, ◌-◌, ◌<◌, ◌≤◌, List, [], ◌∷◌, ◌++◌, length, flat_map, All, MatchOption};
+ghost use Rattle.std.specs.Prelude.{◌≡◌, ℕ, ◌+◌, ◌-◌, ◌<◌, ◌≤◌, List, [], ◌∷◌, ◌++◌, map, length, flat_map, All, MatchOption};
+ghost use Rattle.vm_memory_base.specs.Address.{numbers};
 ghost use Rattle.vm_memory_base.specs.Table.{Says};
+ghost use Rattle.vm_memory_base.specs.declared.bitmap.BitmapId.{BitmapId};
 ghost use Rattle.vm_memory_base.specs.declared.bitmap.BitmapId.TheVariants.{Block};
 ghost use Rattle.vm_memory_base.specs.declared.iotlb.Permissions.{Permissions};
 ghost use Rattle.vm_memory_guest.specs.Access.{meets, path, windows, access_of};
@@ -11,9 +13,10 @@ ghost use Rattle.vm_memory_guest.specs.Memory.{Route, Direct, Through};
 ghost use Rattle.vm_memory_guest.specs.Region.{Region, IsRegion, IsLayout, home, region_names};
 ghost use Rattle.vm_memory_guest.specs.Window.{cells, window_names};
 
-/// The windows of a path put together are the path.
+/// The windows of a path put together are the path, and so are the marks of their bytes.
 pub fn windows_are_the_path()
-    ensures { (regions : List Region) (route : Route) (a n : ℕ) → All IsRegion regions → cells (windows (path (meets regions route a) 0 n)) ≡ path_cells (path (meets regions route a) 0 n) }
+    ensures bytes { (regions : List Region) (route : Route) (a n : ℕ) → All IsRegion regions → cells (windows (path (meets regions route a) 0 n)) ≡ path_cells (path (meets regions route a) 0 n) }
+    ensures marks { (regions : List Region) (route : Route) (a n : ℕ) → All IsRegion regions → flat_map {A = BitmapId × ℕ} (λ w. map (λ offset. (w.bitmap.id, offset)) (numbers w.bitmap.base w.size)) (windows (path (meets regions route a) 0 n)) ≡ map (λ x. (x.bitmap, x.mark)) (path (meets regions route a) 0 n) }
 {}
 
 /// The windows of a path inside one region are one window.
