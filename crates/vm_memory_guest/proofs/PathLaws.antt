@@ -11,7 +11,7 @@ use Rattle.vm_memory_base.specs.Table.{Mapping, Says}
 use Rattle.vm_memory_base.specs.declared.bitmap.BitmapId.{BitmapId}
 use Rattle.vm_memory_guest.specs.Access.{Fault, Reached, Meets, Reaches, Stops, bitmap_of, mark_of, meets_at, meets, onto, or_fault, path, first_fault, same_mappings, is_cut, Stretch, stretches, window_of, windows, Access, allowed, refusal, access_of}
 use Rattle.vm_memory_guest.specs.Answer.{path_cells}
-use Rattle.vm_memory_guest.specs.Error.{error_of, error_item}
+use Rattle.vm_memory_guest.specs.Error.{error_of, error_item, direct_items}
 use Rattle.vm_memory_guest.specs.declared.region.GuestMemoryError.{GuestMemoryError}
 use Rattle.vm_memory_base.specs.declared.iotlb.Permissions.{Permissions}
 use Rattle.vm_memory_guest.specs.Host as host
@@ -20,7 +20,7 @@ use Rattle.vm_memory_guest.specs.Memory.{Route, Direct, Through, mapping_of, tra
 use Rattle.vm_memory_guest.specs.Region.{Region, IsRegion, IsLayout, home, lies_in, lies_from, place_end, place_names, region_names}
 use Rattle.vm_memory_guest.specs.Window.{bitmap_name, window_names, span, cells, cells_of}
 use Rattle.vm_memory_guest.specs.declared.volatile_memory.slice.VolatileSlice.{VolatileSlice}
-use Rattle.vm_memory_guest.proofs.PathWalk.{path-none, lengthened-first, stretches-cut, stretches-joined, is_within-bounds, home-cases, home-within, home-contains, home-same, window_in, windows-in_region, direct_items}
+use Rattle.vm_memory_guest.proofs.PathWalk.{path-none, lengthened-first, stretches-cut, stretches-joined, is_within-bounds, home-cases, home-within, home-contains, home-same, window_in, windows-in_region}
 
 -- a path has at most the bytes that were asked for
 pub length-path : (m : ℕ → Meets) (i n : ℕ) → length (path m i n) ≤ n

@@ -7,7 +7,7 @@ use Rattle.vm_memory_base.specs.Table.{Mapping}
 use Rattle.vm_memory_base.specs.declared.bitmap.BitmapId.TheVariants.{Block}
 use Rattle.vm_memory_base.specs.declared.iotlb.Permissions.{Permissions}
 use Rattle.vm_memory_guest.specs.Access.{Fault, NoRegion, NoHostBytes, Reached, Meets, Reaches, Stops, meets_at, meets, onto, or_fault, path, first_fault, same_mappings, is_cut, Stretch, lengthened, stretches, window_of, windows, access_of}
-use Rattle.vm_memory_guest.specs.Error.{error_of, error_item, reach_of, items_of}
+use Rattle.vm_memory_guest.specs.Error.{error_of, error_item, reach_of, items_of, direct_items}
 use Rattle.vm_memory_guest.specs.Host.{Cell}
 use Rattle.vm_memory_guest.specs.Memory.{Direct}
 use Rattle.vm_memory_guest.specs.Region.{Region, IsRegion, IsLayout, Lies, Byte, Bare, Hole, home, cell, lies_in, lies_from, same_region}
@@ -219,10 +219,6 @@ direct_mark x y p Hole = refl
 -- without translation an access goes on as one from the address that it came to
 pub direct-step : (regions : List Region) (a i j : ℕ) → meets regions Direct a (i + j) ≡ meets regions Direct (step a i) j
 direct-step regions a i j = direct_mark (a + (i + j)) (step a i + j) (step a (i + j)) (cell regions (step a (i + j))) ∙ ap (λ (p : ℕ). meets_at Direct (step a i + j) None p (cell regions p)) (step-step a i j)
-
--- what a walk from an address without translation gives
-abbrev pub direct_items : List Region → ℕ → ℕ → List (Result VolatileSlice GuestMemoryError)
-direct_items regions a n = items_of (reach_of (record { path = path (meets regions Direct a) 0 n; fault = first_fault (meets regions Direct a) 0 n }))
 
 -- an access without translation is allowed, so this is what it gives
 pub direct_items-access : (regions : List Region) (a n : ℕ) (access : Permissions) → items_of (reach_of (access_of regions Direct a n access)) ≡ direct_items regions a n

@@ -8,14 +8,18 @@ use Rattle.vm_memory_guest.specs.Region.{Region, IsRegion, IsLayout, home, slice
 use Rattle.vm_memory_guest.specs.Slice.{Window}
 use Rattle.vm_memory_guest.specs.Error.{direct_items}
 use Rattle.vm_memory_guest.specs.declared.region.GuestMemoryError.{GuestMemoryError}
-use Rattle.vm_memory_guest.specs.declared.region.GuestMemoryError.TheVariants.{HostAddressNotAvailable}
-use Rattle.vm_memory_guest.proofs.PathWalk.{walk-bare, walk-in_region, home-within, is_within-bounds, window_in, len_in}
+use Rattle.vm_memory_guest.specs.declared.region.GuestMemoryError.TheVariants.{InvalidGuestAddress}
+use Rattle.vm_memory_guest.proofs.PathWalk.{walk-none, walk-hole, walk-bare, walk-in_region, home-within, is_within-bounds, window_in, len_in}
 
 -- an iterator that gave the first item of its list has fewer left
 pub first_goes : {S A : Type 0} (rest : S → List A) (s t : S) (x : A) → rest s ≡ x ∷ rest t → MakesProgress (λ _. Unit {0}) (item_count rest) s (Some x) t
 first_goes rest s t x gives =
     let fewer : length (rest t) < length (rest s) = rw gives (omega arith) in
     record { on = λ _. (tt, tt, fewer); keeps = tt; rests = λ _. tt }
+
+-- the error of an address that no region holds comes alone
+pub walk-ends : (regions : List Region) (a n : ℕ) → a < 2 ^ 64 → home regions a ≡ None → 0 < n → direct_items regions a n ≡ Err (InvalidGuestAddress (record { 0 = a })) ∷ direct_items regions a 0
+walk-ends regions a n below hole more = rw (walk-none regions a) (walk-hole regions a n below hole more)
 
 module _ (regions : List Region) (a n : ℕ) (r : Region) (layout : IsLayout regions) (found : home regions a ≡ Some r) (is_region : IsRegion r) (more : 0 < n) (below : a < 2 ^ 64) where
   -- the window that a region gives of what of the access lies in it comes first, and the walk goes on behind it
@@ -32,8 +36,8 @@ module _ (regions : List Region) (a n : ℕ) (r : Region) (layout : IsLayout reg
       ∙ ap (λ v. Ok v ∷ direct_items regions (step a len) (n - len)) window))
 
   -- the error of a region without host bytes comes alone
-  pub walk-refuses : (start len : ℕ) (e : GuestMemoryError) → start ≡ a - r.start → len ≡ min (r.len - start) n → (o : Option Cell) → r.place ≡ o → slice_from o r.len start len ≡ Err e → direct_items regions a n ≡ Err e ∷ []
-  walk-refuses start len e s l None bare gives = walk-bare regions a n r below found bare more ∙ ap (λ x. x ∷ []) gives
+  pub walk-refuses : (start len : ℕ) (e : GuestMemoryError) → start ≡ a - r.start → len ≡ min (r.len - start) n → (o : Option Cell) → r.place ≡ o → slice_from o r.len start len ≡ Err e → direct_items regions a n ≡ Err e ∷ direct_items regions a 0
+  walk-refuses start len e s l None bare gives = rw (walk-none regions a) (walk-bare regions a n r below found bare more ∙ ap (λ (x : Result Window GuestMemoryError). x ∷ []) gives)
   walk-refuses start len e s l (Some first) some gives =
       let within = is_within-bounds r.start r.len a (home-within regions a r found) in
       let fits : start + len ≤ r.len = omega (arith, within.0, within.1) in

@@ -1,12 +1,14 @@
 -- The errors that name faults, and the items of a walk.
-use Rattle.std.specs.Prelude.{ℕ, List, [], ◌∷◌, ◌++◌, map, Option, Some, None, option_map, Result, Ok, Err}
+use Rattle.std.specs.Prelude.{ℕ, List, [], ◌∷◌, ◌++◌, map, Option, Some, None, option_map, Result, Ok, Err, ◌≡◌, true, false}
 use Rattle.vm_memory_base.specs.declared.io.VolatileMemoryError.{VolatileMemoryError}
 use Rattle.vm_memory_base.specs.declared.io.VolatileMemoryError.TheVariants.{OutOfBounds, Overflow}
 use Rattle.vm_memory_base.specs.declared.io.VolatileMemoryError.TheVariants as window
+use Rattle.vm_memory_base.specs.Table.{Table}
+use Rattle.vm_memory_base.specs.declared.iotlb.Permissions.{Permissions}
 use Rattle.vm_memory_base.specs.declared.iotlb.IommuError.TheVariants.{CannotResolve}
-use Rattle.vm_memory_guest.specs.Access.{Fault, NoRegion, NoHostBytes, Refused, Partial, Access, windows, path, first_fault, meets}
+use Rattle.vm_memory_guest.specs.Access.{Fault, NoRegion, NoHostBytes, Refused, Partial, Access, windows, path, first_fault, meets, access_of, allowed, refusal}
 use Rattle.vm_memory_guest.specs.Answer.{Reach}
-use Rattle.vm_memory_guest.specs.Memory.{Direct}
+use Rattle.vm_memory_guest.specs.Memory.{Memory, Direct, route}
 use Rattle.vm_memory_guest.specs.Region.{Region}
 use Rattle.vm_memory_guest.specs.declared.region.GuestMemoryError.{GuestMemoryError}
 use Rattle.vm_memory_guest.specs.declared.region.GuestMemoryError.TheVariants.{InvalidBackendAddress, InvalidGuestAddress, HostAddressNotAvailable, IommuError, PartialBuffer}
@@ -39,3 +41,11 @@ of_window (window.PartialBuffer expected completed) = PartialBuffer expected com
 -- the items of a walk without translation
 abbrev pub direct_items : List Region → ℕ → ℕ → List (Result VolatileSlice GuestMemoryError)
 direct_items regions a n = items_of (reach_of (record { path = path (meets regions Direct a) 0 n; fault = first_fault (meets regions Direct a) 0 n }))
+
+-- an access is allowed, and these are its items
+abbrev pub GivesAccess : Memory → List Table → ℕ → ℕ → Permissions → List (Result VolatileSlice GuestMemoryError) → Type 0
+GivesAccess memory tables a n access items = (allowed (route memory tables) a n access ≡ true) × (items ≡ items_of (reach_of (access_of memory.regions (route memory tables) a n access)))
+
+-- an access is not allowed, and this is why
+abbrev pub RefusesAccess : Memory → List Table → ℕ → ℕ → Permissions → GuestMemoryError → Type 0
+RefusesAccess memory tables a n access e = (allowed (route memory tables) a n access ≡ false) × (e ≡ error_of (refusal (route memory tables) a n))

@@ -2,8 +2,8 @@ use Rattle.std.proofs.Common.{◌≡◌, ℕ, ◌+◌, ◌-◌, ◌%◌, ◌<◌
 use Rattle.vm_memory_base.specs.Address.{step}
 use Rattle.vm_memory_guest.specs.Error.{direct_items}
 use Rattle.vm_memory_guest.specs.Region.{home}
-use Rattle.vm_memory_guest.proofs.PathWalk.{walk-none, walk-hole, home-within, is_within-bounds}
-use Rattle.vm_memory_guest.proofs.WalkLemmas.{first_goes, walk-gives, walk-refuses}
+use Rattle.vm_memory_guest.proofs.PathWalk.{walk-none, home-within, is_within-bounds}
+use Rattle.vm_memory_guest.proofs.WalkLemmas.{first_goes, walk-ends, walk-gives, walk-refuses}
 use Rattle.vm_memory_guest.proofs.guest_memory.GuestMemoryBackendSliceIteratorIterator.next.Goals as goal
 
 pub returns-then-self-eq0-clause-steps : goal.returns-then-self-eq0-clause-steps
@@ -19,7 +19,7 @@ returns-in_default-clause-steps g c =
     let a = c.args.self.now.addr.0 in
     let below : a < 2 ^ 64 = omega arith in
     let more : 0 < c.args.self.now.count = omega arith in
-    walk-hole regions a c.args.self.now.count below (sym (c.in_default.ensures tt)) more ∙ ap (λ xs. Err _ ∷ xs) (sym (walk-none regions a))
+    walk-ends regions a c.args.self.now.count below (sym c.in_default.ensures.found) more
 
 pub returns-in_default-clause-goes : goal.returns-in_default-clause-goes
 returns-in_default-clause-goes g c = first_goes _ _ _ _ (returns-in_default-clause-steps g c)
@@ -29,7 +29,7 @@ overflow_sub-start g c =
     let regions = g.M.GuestMemoryBackend.regions c.args.self.now.mem.now in
     let a = c.args.self.now.addr.0 in
     let r = g.M.R.GuestMemoryRegion.region c.in-Some.region.now in
-    let within = is_within-bounds r.start r.len a (home-within regions a r (sym c.in-Some.ensures)) in
+    let within = is_within-bounds r.start r.len a (home-within regions a r (sym c.in-Some.ensures.found)) in
     omega (arith, within.0, c.start_addr.ensures)
 
 pub overflow_sub-len : goal.overflow_sub-len
@@ -37,7 +37,7 @@ overflow_sub-len g c =
     let regions = g.M.GuestMemoryBackend.regions c.args.self.now.mem.now in
     let a = c.args.self.now.addr.0 in
     let r = g.M.R.GuestMemoryRegion.region c.in-Some.region.now in
-    let within = is_within-bounds r.start r.len a (home-within regions a r (sym c.in-Some.ensures)) in
+    let within = is_within-bounds r.start r.len a (home-within regions a r (sym c.in-Some.ensures.found)) in
     omega (arith, within.0, within.1, c.start_addr.ensures, c.len.ensures)
 
 pub returns-in-Ok-clause-steps : goal.returns-in-Ok-clause-steps
@@ -50,9 +50,9 @@ returns-in-Ok-clause-steps g c =
     let below : a < 2 ^ 64 = omega arith in
     let start : a - c.start_addr.result.0 ≡ a - r.start = ap (λ x. a - x) c.start_addr.ensures in
     let len : c.min-len.result ≡ min (r.len - (a - c.start_addr.result.0)) it.count = c.min-len.ensures ∙ ap (λ n. min (n - (a - c.start_addr.result.0)) it.count) c.len.ensures in
-    walk-gives regions a it.count r (g.met.M.GuestMemoryBackend.is_layout it.mem.now) (sym c.in-Some.ensures) (g.met.M.R.GuestMemoryRegion.fits c.in-Some.region.now) more below
+    walk-gives regions a it.count r c.find_region.ensures.layout (sym c.in-Some.ensures.found) (g.met.M.R.GuestMemoryRegion.fits c.in-Some.region.now) more below
       (a - c.start_addr.result.0) c.min-len.result c.in-Ok.window start len r.place refl (sym c.in-Ok.ensures)
-    ∙ ap (λ b. Ok c.in-Ok.window ∷ direct_items regions b (it.count - c.min-len.result)) (sym c.overflowing_add.ensures.wrapped)
+    ∙ ap (λ (b : ℕ). Ok c.in-Ok.window ∷ direct_items regions b (it.count - c.min-len.result)) (sym c.overflowing_add.ensures.wrapped)
 
 pub returns-in-Ok-clause-goes : goal.returns-in-Ok-clause-goes
 returns-in-Ok-clause-goes g c = first_goes _ _ _ _ (returns-in-Ok-clause-steps g c)
@@ -67,9 +67,8 @@ returns-in-Err-clause-steps g c =
     let below : a < 2 ^ 64 = omega arith in
     let start : a - c.start_addr.result.0 ≡ a - r.start = ap (λ x. a - x) c.start_addr.ensures in
     let len : c.min-len.result ≡ min (r.len - (a - c.start_addr.result.0)) it.count = c.min-len.ensures ∙ ap (λ n. min (n - (a - c.start_addr.result.0)) it.count) c.len.ensures in
-    walk-refuses regions a it.count r (g.met.M.GuestMemoryBackend.is_layout it.mem.now) (sym c.in-Some.ensures) (g.met.M.R.GuestMemoryRegion.fits c.in-Some.region.now) more below
+    walk-refuses regions a it.count r c.find_region.ensures.layout (sym c.in-Some.ensures.found) (g.met.M.R.GuestMemoryRegion.fits c.in-Some.region.now) more below
       (a - c.start_addr.result.0) c.min-len.result c.in-Err.error start len r.place refl (sym c.in-Err.ensures)
-    ∙ ap (λ xs. Err c.in-Err.error ∷ xs) (sym (walk-none regions a))
 
 pub returns-in-Err-clause-goes : goal.returns-in-Err-clause-goes
 returns-in-Err-clause-goes g c = first_goes _ _ _ _ (returns-in-Err-clause-steps g c)
