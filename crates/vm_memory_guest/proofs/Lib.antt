@@ -1,2 +1,3 @@
+pub mod DirtLaws
 pub mod MarkLaws
 pub mod WrittenLaws

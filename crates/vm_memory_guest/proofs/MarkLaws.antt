@@ -20,6 +20,13 @@ match_bool-either false P Q R f g h = g h
 written-span : (ws : List VolatileSlice) (bytes : List ℕ) (blocks : List (List ℕ)) → written (cells ws) bytes blocks ≡ written (cells ws) (take (span ws) bytes) blocks
 written-span ws bytes blocks = written-take (cells ws) bytes blocks ∙ ap (λ (n : ℕ). written (cells ws) (take n bytes) blocks) (length-cells ws)
 
+shape_from : {B : Type 0} (old new : Host B) → map length new.blocks ≡ map length old.blocks → length new.spaces ≡ length old.spaces → new.tables ≡ old.tables → shape_of new ≡ shape_of old
+shape_from old new p q r = let t = ap (λ (ts : List Table). length ts) r in cc
+
+-- bytes that are written keep the shape
+pub shape_of-written : {B : Type 0} (cs : List Cell) (bytes : List ℕ) (host : Host B) → shape_of (record host { blocks = written cs bytes host.blocks }) ≡ shape_of host
+shape_of-written cs bytes host = shape_from host (record host { blocks = written cs bytes host.blocks }) (lengths-written cs bytes host.blocks) refl refl
+
 module _ {B : Type 0} (marks : B → ℕ → ℕ → B → Type 0) where
   -- marks of windows joined end to end are the marks of the first and then of the others
   pub MarksAll-append : (ws vs : List VolatileSlice) (old mid new : Host B) → MarksAll marks ws old mid → MarksAll marks vs mid new → MarksAll marks (ws ++ vs) old new
@@ -111,16 +118,9 @@ module _ {B : Type 0} (marks : B → ℕ → ℕ → B → Type 0) where
   pub length_spaces-MarksAll : (ws : List VolatileSlice) (old new : Host B) → MarksAll marks ws old new → length new.spaces ≡ length old.spaces
   length_spaces-MarksAll ws old new h = (Kept-MarksAll ws old new h).spaces
 
-  shape_from : (old new : Host B) → map length new.blocks ≡ map length old.blocks → length new.spaces ≡ length old.spaces → new.tables ≡ old.tables → shape_of new ≡ shape_of old
-  shape_from old new p q r = let t = ap (λ (ts : List Table). length ts) r in cc
-
   -- marks keep the shape
   pub shape_of-MarksAll : (ws : List VolatileSlice) (old new : Host B) → MarksAll marks ws old new → shape_of new ≡ shape_of old
   shape_of-MarksAll ws old new h = let k = Kept-MarksAll ws old new h in shape_from old new (ap (λ (bs : List (List ℕ)). map length bs) k.blocks) k.spaces k.tables
-
-  -- bytes that are written keep the shape
-  pub shape_of-written : (cs : List Cell) (bytes : List ℕ) (host : Host B) → shape_of (record host { blocks = written cs bytes host.blocks }) ≡ shape_of host
-  shape_of-written cs bytes host = shape_from host (record host { blocks = written cs bytes host.blocks }) (lengths-written cs bytes host.blocks) refl refl
 
   -- a write keeps the shape
   pub shape_of-Writes : (ws : List VolatileSlice) (bytes : List ℕ) (old new : Host B) → Writes marks ws bytes old new → shape_of new ≡ shape_of old
