@@ -25,6 +25,7 @@ change_one-cons : {X : Type 0} (f : X → X) (x : X) (xs : List X) (i : ℕ) (o 
 change_one-cons f x xs i None = refl
 change_one-cons f x xs i (Some y) = refl
 
+-- a change past the first element is one of the others
 pub changed-cons : {X : Type 0} (f : X → X) (x : X) (xs : List X) (i : ℕ) → changed f (x ∷ xs) (suc i) ≡ x ∷ changed f xs i
 changed-cons f x xs i = change_one-cons f x xs i (slice_get xs i)
 
@@ -52,6 +53,7 @@ changed_same f h [] i = refl
 changed_same {X} f h (x ∷ xs) zero = ap (λ (y : X). y ∷ xs) (h x)
 changed_same {X} f h (x ∷ xs) (suc i) = changed-cons f x xs i ∙ ap (λ (ys : List X). x ∷ ys) (changed_same f h xs i)
 
+-- a list keeps its length when an element is changed
 pub length-changed : {X : Type 0} (f : X → X) (xs : List X) (i : ℕ) → length (changed f xs i) ≡ length xs
 length-changed {X} f xs i = at (slice_get xs i)
   where
@@ -146,6 +148,7 @@ abbrev pub each_marked : List (BitmapId × ℕ) → Host PageSet → Host PageSe
 each_marked [] host = host
 each_marked (m ∷ ms) host = each_marked ms (marks_pages m.0 m.1 1 host)
 
+-- marks of bytes one after the other
 pub each_marked-append : (ms ns : List (BitmapId × ℕ)) (host : Host PageSet) → each_marked (ms ++ ns) host ≡ each_marked ns (each_marked ms host)
 each_marked-append [] ns host = refl
 each_marked-append (m ∷ ms) ns host = each_marked-append ms ns (marks_pages m.0 m.1 1 host)
@@ -237,6 +240,10 @@ module _ {B : Type 0} (marks : B → ℕ → ℕ → B → Type 0) (pages : B �
   pub with_pages-MarksAll : (ws : List VolatileSlice) (old new : Host B) → MarksAll marks ws old new → with_pages pages new ≡ windows_dirtied ws (with_pages pages old)
   with_pages-MarksAll [] old new h = ap (λ (host : Host B). with_pages pages host) h
   with_pages-MarksAll (w ∷ ws) old new h = with_pages-MarksAll ws h.0 new h.2 ∙ ap (windows_dirtied ws) (with_pages-MarksWindow w old h.0 h.1)
+
+  -- marks of the windows of a path leave the dirt of its bytes
+  pub dirtied-MarksAll : (xs : List Reached) (old new : Host B) → MarksFollow xs → MarksAll marks (windows xs) old new → with_pages pages new ≡ dirtied xs (with_pages pages old)
+  dirtied-MarksAll xs old new follow h = with_pages-MarksAll (windows xs) old new h ∙ windows_dirtied-windows xs (with_pages pages old) follow
 
   -- a write to windows of exact bitmaps leaves its bytes in their cells, and the dirt of the windows
   pub with_pages-Writes : (ws : List VolatileSlice) (bytes : List ℕ) (old new : Host B) → Writes marks ws bytes old new → with_pages pages new ≡ windows_dirtied ws (record (with_pages pages old) { blocks = written (cells ws) bytes old.blocks })
