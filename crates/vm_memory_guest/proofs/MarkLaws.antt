@@ -1,12 +1,13 @@
 -- Marks of bitmaps by windows, and writes.
-use Rattle.std.proofs.Common.{◌≡◌, ℕ, Bool, true, false, ltb, List, [], ◌∷◌, ◌++◌, map, length, take, MatchBool, refl, sym, ap, subst, ◌∙◌, length-set}
+use Rattle.std.proofs.Common.{◌≡◌, ℕ, ◌+◌, ◌<◌, ◌≤◌, Bool, true, false, ltb, List, [], ◌∷◌, ◌++◌, map, length, get_or, take, drop, MatchBool, refl, sym, ap, subst, ◌∙◌, length-set, length-take-le, take-append-drop}
+use Rattle.std.proofs.lemmas.List.{take_more}
 use Rattle.vm_memory_base.specs.declared.bitmap.BitmapId.{BitmapId}
 use Rattle.vm_memory_base.specs.declared.bitmap.BitmapId.TheVariants.{Block, Space}
 use Rattle.vm_memory_base.specs.Table.{Table}
 use Rattle.vm_memory_guest.specs.Host.{Host, Cell, shape_of, written}
-use Rattle.vm_memory_guest.specs.Window.{span, cells, MarksOne, Marks, MarksWindow, MarksAll, Writes}
+use Rattle.vm_memory_guest.specs.Window.{span, cells_of, cells, MarksOne, Marks, MarksWindow, MarksAll, Writes}
 use Rattle.vm_memory_guest.specs.declared.volatile_memory.slice.VolatileSlice.{VolatileSlice}
-use Rattle.vm_memory_guest.proofs.WrittenLaws.{written-append, written-take, lengths-written, cells-append, length-cells}
+use Rattle.vm_memory_guest.proofs.WrittenLaws.{written-append, written-take, lengths-written, cells-append, length-cells, cells-one}
 
 -- a case for each answer of a test, each followed by what it says
 match_bool-weaker : (b : Bool) (P Q R S : Type 0) → (P → R) → (Q → S) → MatchBool b P Q → MatchBool b R S
@@ -158,3 +159,15 @@ module _ {B : Type 0} (marks : B → ℕ → ℕ → B → Type 0) where
   -- and a write of the first bytes is one of all of them
   pub Writes-from_take : (ws : List VolatileSlice) (bytes : List ℕ) (old new : Host B) → Writes marks ws (take (span ws) bytes) old new → Writes marks ws bytes old new
   Writes-from_take ws bytes old new h = subst (λ (blocks : List (List ℕ)). MarksAll marks ws (record old { blocks = blocks }) new) (sym (written-span ws bytes old.blocks)) h
+
+  -- a write to one window
+  pub Writes-one : (w : VolatileSlice) (bytes : List ℕ) (old new : Host B) → MarksWindow marks w (record old { blocks = written (cells_of w) bytes old.blocks }) new → Writes marks (w ∷ []) bytes old new
+  Writes-one w bytes old new h = (new, rw (cells-one w) h, refl)
+
+  -- a write to the first windows, and one of what is left of the bytes to the next
+  pub Writes_more : (ws : List VolatileSlice) (i : ℕ) (d : VolatileSlice) (bytes : List ℕ) (old mid new : Host B) → i < length ws → span (take i ws) ≤ length bytes → Writes marks (take i ws) bytes old mid → Writes marks (get_or ws i d ∷ []) (drop (span (take i ws)) bytes) mid new → Writes marks (take (i + 1) ws) bytes old new
+  Writes_more ws i d bytes old mid new l enough h k =
+      let n = span (take i ws) in
+      let all : take n bytes ++ drop n bytes ≡ bytes = take-append-drop n bytes in
+      let both = Writes-append (take i ws) (get_or ws i d ∷ []) (take n bytes) (drop n bytes) old mid new (length-take-le n bytes enough) (Writes-take (take i ws) bytes old mid h) k in
+      subst (λ (vs : List VolatileSlice). Writes marks vs bytes old new) (sym (take_more ws i d l)) (subst (λ (bs : List ℕ). Writes marks (take i ws ++ get_or ws i d ∷ []) bs old new) all both)
