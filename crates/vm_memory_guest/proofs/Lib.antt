@@ -1,3 +1,4 @@
 pub mod DirtLaws
+pub mod EffectLaws
 pub mod MarkLaws
 pub mod WrittenLaws

@@ -131,6 +131,10 @@ module _ {B : Type 0} (marks : B → ℕ → ℕ → B → Type 0) where
   pub tables-Writes : (ws : List VolatileSlice) (bytes : List ℕ) (old new : Host B) → Writes marks ws bytes old new → new.tables ≡ old.tables
   tables-Writes ws bytes old new h = tables-MarksAll ws (record old { blocks = written (cells ws) bytes old.blocks }) new h
 
+  -- there are as many bitmaps of blocks after a write
+  pub length_bitmaps-Writes : (ws : List VolatileSlice) (bytes : List ℕ) (old new : Host B) → Writes marks ws bytes old new → length new.bitmaps ≡ length old.bitmaps
+  length_bitmaps-Writes ws bytes old new h = length_bitmaps-MarksAll ws (record old { blocks = written (cells ws) bytes old.blocks }) new h
+
   -- a write leaves its bytes in the blocks
   pub blocks-Writes : (ws : List VolatileSlice) (bytes : List ℕ) (old new : Host B) → Writes marks ws bytes old new → new.blocks ≡ written (cells ws) bytes old.blocks
   blocks-Writes ws bytes old new h = blocks-MarksAll ws (record old { blocks = written (cells ws) bytes old.blocks }) new h
