@@ -61,7 +61,7 @@ length-changed {X} f xs i = at (slice_get xs i)
     at None = refl
     at (Some x) = length-set xs i (f x)
 
--- what the change of an element keeps of each
+-- what is seen of each element stays, where the change keeps it
 pub map-changed_kept : {X Y : Type 0} (h : X → Y) (f : X → X) → ((x : X) → h (f x) ≡ h x) → (xs : List X) (i : ℕ) → map h (changed f xs i) ≡ map h xs
 map-changed_kept h f e [] i = refl
 map-changed_kept {X} {Y} h f e (x ∷ xs) zero = ap (λ (y : Y). y ∷ map h xs) (e x)
@@ -73,7 +73,7 @@ get_or-changed f d h [] i = sym h
 get_or-changed f d h (x ∷ xs) zero = refl
 get_or-changed {X} f d h (x ∷ xs) (suc i) = ap (λ (ys : List X). get_or ys (suc i) d) (changed-cons f x xs i) ∙ get_or-changed f d h xs i
 
--- the others
+-- an element beside the one that is changed
 pub get_or-changed_other : {X : Type 0} (f : X → X) (d : X) (xs : List X) (i j : ℕ) → (j ≡ i → ⊥) → get_or (changed f xs i) j d ≡ get_or xs j d
 get_or-changed_other {X} f d xs i j h = at (slice_get xs i)
   where
@@ -346,7 +346,7 @@ is_dirty_at-dirtied_other (x ∷ xs) id offset host h =
     (All-tail (λ (x : Reached). x.bitmap ≡ id → same_page (pages_at id host) x.mark offset ≡ false) x xs h) in
     is_dirty_at-dirtied_other xs id offset next rest ∙ is_dirty_at-marks_other x.bitmap id x.mark offset host here
 
--- after a write too
+-- a write leaves the pages that no byte of its path names
 pub is_dirty_at-after_write_other : (xs : List Reached) (bytes : List ℕ) (id : BitmapId) (offset : ℕ) (host : Host PageSet) → All (λ (x : Reached). x.bitmap ≡ id → same_page (pages_at id host) x.mark offset ≡ false) xs → is_dirty_at (pages_at id (after_write xs bytes host)) offset ≡ is_dirty_at (pages_at id host) offset
 is_dirty_at-after_write_other xs bytes (Block block) offset host h = is_dirty_at-dirtied_other xs (Block block) offset (record host { blocks = written (path_cells xs) bytes host.blocks }) h
 is_dirty_at-after_write_other xs bytes (Space space) offset host h = is_dirty_at-dirtied_other xs (Space space) offset (record host { blocks = written (path_cells xs) bytes host.blocks }) h
@@ -400,7 +400,7 @@ pages_at-with_blocks : (id : BitmapId) (host : Host PageSet) (blocks : List (Lis
 pages_at-with_blocks (Block block) host blocks = refl
 pages_at-with_blocks (Space space) host blocks = refl
 
--- after a write too
+-- a write makes the page of each byte of its path dirty, if there is one
 pub is_dirty_at-after_write : (xs : List Reached) (bytes : List ℕ) (x : Reached) (offset : ℕ) (host : Host PageSet) (p : Pages) → Contains xs x → x.mark < 2 ^ 64 → pages_at x.bitmap host ≡ Some p → x.mark / p.page_size ≡ offset / p.page_size → offset / p.page_size < length p.flags → is_dirty_at (pages_at x.bitmap (after_write xs bytes host)) offset ≡ true
 is_dirty_at-after_write xs bytes x offset host p found fits tracked same within =
     let blocks = written (path_cells xs) bytes host.blocks in

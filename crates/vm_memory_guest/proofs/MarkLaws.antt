@@ -34,7 +34,7 @@ module _ {B : Type 0} (marks : B → ℕ → ℕ → B → Type 0) where
   MarksAll-append [] vs old mid new h k = subst (λ (x : Host B). MarksAll marks vs x new) h k
   MarksAll-append (w ∷ ws) vs old mid new h k = (h.0, h.1, MarksAll-append ws vs h.0 mid new h.2 k)
 
-  -- the host in between
+  -- between the marks of the first windows and those of the others there is a host
   pub MarksAll-split : (ws vs : List VolatileSlice) (old new : Host B) → MarksAll marks (ws ++ vs) old new → (mid : Host B) × MarksAll marks ws old mid × MarksAll marks vs mid new
   MarksAll-split [] vs old new h = (old, refl, h)
   MarksAll-split (w ∷ ws) vs old new h = let r = MarksAll-split ws vs h.0 new h.2 in (r.0, (h.0, h.1, r.1), r.2)
@@ -160,7 +160,7 @@ module _ {B : Type 0} (marks : B → ℕ → ℕ → B → Type 0) where
   pub Writes-take : (ws : List VolatileSlice) (bytes : List ℕ) (old new : Host B) → Writes marks ws bytes old new → Writes marks ws (take (span ws) bytes) old new
   Writes-take ws bytes old new h = subst (λ (blocks : List (List ℕ)). MarksAll marks ws (record old { blocks = blocks }) new) (written-span ws bytes old.blocks) h
 
-  -- and a write of the first bytes is one of all of them
+  -- a write of as many bytes as the windows have is a write of all bytes
   pub Writes-from_take : (ws : List VolatileSlice) (bytes : List ℕ) (old new : Host B) → Writes marks ws (take (span ws) bytes) old new → Writes marks ws bytes old new
   Writes-from_take ws bytes old new h = subst (λ (blocks : List (List ℕ)). MarksAll marks ws (record old { blocks = blocks }) new) (sym (written-span ws bytes old.blocks)) h
 

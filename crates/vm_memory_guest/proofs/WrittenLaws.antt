@@ -251,7 +251,7 @@ span-one w = omega arith
 pub cells-take_more : (ws : List VolatileSlice) (i : ℕ) (d : VolatileSlice) → i < length ws → cells (take (i + 1) ws) ≡ cells (take i ws) ++ cells_of (get_or ws i d)
 cells-take_more ws i d l = ap cells (take_more ws i d l) ∙ cells-append (take i ws) (get_or ws i d ∷ []) ∙ ap (λ (cs : List Cell). cells (take i ws) ++ cs) (cells-one (get_or ws i d))
 
--- and its bytes
+-- one window more of a list has its bytes
 pub span-take_more : (ws : List VolatileSlice) (i : ℕ) (d : VolatileSlice) → i < length ws → span (take (i + 1) ws) ≡ span (take i ws) + (get_or ws i d).size
 span-take_more ws i d l = sum_by_more (λ (w : VolatileSlice). w.size) ws i d l
 
