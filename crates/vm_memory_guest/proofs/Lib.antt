@@ -1,4 +1,6 @@
 pub mod HostLemmas
+pub mod DirtLaws
+pub mod EffectLaws
 pub mod MarkLaws
 pub mod WrittenLaws
 pub mod PathLaws

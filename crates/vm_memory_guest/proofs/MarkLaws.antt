@@ -1,12 +1,13 @@
 -- Marks of bitmaps by windows, and writes.
-use Rattle.std.proofs.Common.{◌≡◌, ℕ, Bool, true, false, ltb, List, [], ◌∷◌, ◌++◌, map, length, take, MatchBool, refl, sym, ap, subst, ◌∙◌, length-set}
+use Rattle.std.proofs.Common.{◌≡◌, ℕ, ◌+◌, ◌<◌, ◌≤◌, Bool, true, false, ltb, List, [], ◌∷◌, ◌++◌, map, length, get_or, take, drop, MatchBool, refl, sym, ap, subst, ◌∙◌, length-set, length-take-le, take-append-drop}
+use Rattle.std.proofs.lemmas.List.{take_more}
 use Rattle.vm_memory_base.specs.declared.bitmap.BitmapId.{BitmapId}
 use Rattle.vm_memory_base.specs.declared.bitmap.BitmapId.TheVariants.{Block, Space}
 use Rattle.vm_memory_base.specs.Table.{Table}
 use Rattle.vm_memory_guest.specs.Host.{Host, Cell, shape_of, written}
-use Rattle.vm_memory_guest.specs.Window.{span, cells, MarksOne, Marks, MarksWindow, MarksAll, Writes}
+use Rattle.vm_memory_guest.specs.Window.{span, cells_of, cells, MarksOne, Marks, MarksWindow, MarksAll, Writes}
 use Rattle.vm_memory_guest.specs.declared.volatile_memory.slice.VolatileSlice.{VolatileSlice}
-use Rattle.vm_memory_guest.proofs.WrittenLaws.{written-append, written-take, lengths-written, cells-append, length-cells}
+use Rattle.vm_memory_guest.proofs.WrittenLaws.{written-append, written-take, lengths-written, cells-append, length-cells, cells-one}
 
 -- a case for each answer of a test, each followed by what it says
 match_bool-weaker : (b : Bool) (P Q R S : Type 0) → (P → R) → (Q → S) → MatchBool b P Q → MatchBool b R S
@@ -20,13 +21,20 @@ match_bool-either false P Q R f g h = g h
 written-span : (ws : List VolatileSlice) (bytes : List ℕ) (blocks : List (List ℕ)) → written (cells ws) bytes blocks ≡ written (cells ws) (take (span ws) bytes) blocks
 written-span ws bytes blocks = written-take (cells ws) bytes blocks ∙ ap (λ (n : ℕ). written (cells ws) (take n bytes) blocks) (length-cells ws)
 
+shape_from : {B : Type 0} (old new : Host B) → map length new.blocks ≡ map length old.blocks → length new.spaces ≡ length old.spaces → new.tables ≡ old.tables → shape_of new ≡ shape_of old
+shape_from old new p q r = let t = ap (λ (ts : List Table). length ts) r in cc
+
+-- bytes that are written keep the shape
+pub shape_of-written : {B : Type 0} (cs : List Cell) (bytes : List ℕ) (host : Host B) → shape_of (record host { blocks = written cs bytes host.blocks }) ≡ shape_of host
+shape_of-written cs bytes host = shape_from host (record host { blocks = written cs bytes host.blocks }) (lengths-written cs bytes host.blocks) refl refl
+
 module _ {B : Type 0} (marks : B → ℕ → ℕ → B → Type 0) where
   -- marks of windows joined end to end are the marks of the first and then of the others
   pub MarksAll-append : (ws vs : List VolatileSlice) (old mid new : Host B) → MarksAll marks ws old mid → MarksAll marks vs mid new → MarksAll marks (ws ++ vs) old new
   MarksAll-append [] vs old mid new h k = subst (λ (x : Host B). MarksAll marks vs x new) h k
   MarksAll-append (w ∷ ws) vs old mid new h k = (h.0, h.1, MarksAll-append ws vs h.0 mid new h.2 k)
 
-  -- the host in between
+  -- between the marks of the first windows and those of the others there is a host
   pub MarksAll-split : (ws vs : List VolatileSlice) (old new : Host B) → MarksAll marks (ws ++ vs) old new → (mid : Host B) × MarksAll marks ws old mid × MarksAll marks vs mid new
   MarksAll-split [] vs old new h = (old, refl, h)
   MarksAll-split (w ∷ ws) vs old new h = let r = MarksAll-split ws vs h.0 new h.2 in (r.0, (h.0, h.1, r.1), r.2)
@@ -111,16 +119,9 @@ module _ {B : Type 0} (marks : B → ℕ → ℕ → B → Type 0) where
   pub length_spaces-MarksAll : (ws : List VolatileSlice) (old new : Host B) → MarksAll marks ws old new → length new.spaces ≡ length old.spaces
   length_spaces-MarksAll ws old new h = (Kept-MarksAll ws old new h).spaces
 
-  shape_from : (old new : Host B) → map length new.blocks ≡ map length old.blocks → length new.spaces ≡ length old.spaces → new.tables ≡ old.tables → shape_of new ≡ shape_of old
-  shape_from old new p q r = let t = ap (λ (ts : List Table). length ts) r in cc
-
   -- marks keep the shape
   pub shape_of-MarksAll : (ws : List VolatileSlice) (old new : Host B) → MarksAll marks ws old new → shape_of new ≡ shape_of old
   shape_of-MarksAll ws old new h = let k = Kept-MarksAll ws old new h in shape_from old new (ap (λ (bs : List (List ℕ)). map length bs) k.blocks) k.spaces k.tables
-
-  -- bytes that are written keep the shape
-  pub shape_of-written : (cs : List Cell) (bytes : List ℕ) (host : Host B) → shape_of (record host { blocks = written cs bytes host.blocks }) ≡ shape_of host
-  shape_of-written cs bytes host = shape_from host (record host { blocks = written cs bytes host.blocks }) (lengths-written cs bytes host.blocks) refl refl
 
   -- a write keeps the shape
   pub shape_of-Writes : (ws : List VolatileSlice) (bytes : List ℕ) (old new : Host B) → Writes marks ws bytes old new → shape_of new ≡ shape_of old
@@ -129,6 +130,10 @@ module _ {B : Type 0} (marks : B → ℕ → ℕ → B → Type 0) where
   -- a write leaves the tables
   pub tables-Writes : (ws : List VolatileSlice) (bytes : List ℕ) (old new : Host B) → Writes marks ws bytes old new → new.tables ≡ old.tables
   tables-Writes ws bytes old new h = tables-MarksAll ws (record old { blocks = written (cells ws) bytes old.blocks }) new h
+
+  -- there are as many bitmaps of blocks after a write
+  pub length_bitmaps-Writes : (ws : List VolatileSlice) (bytes : List ℕ) (old new : Host B) → Writes marks ws bytes old new → length new.bitmaps ≡ length old.bitmaps
+  length_bitmaps-Writes ws bytes old new h = length_bitmaps-MarksAll ws (record old { blocks = written (cells ws) bytes old.blocks }) new h
 
   -- a write leaves its bytes in the blocks
   pub blocks-Writes : (ws : List VolatileSlice) (bytes : List ℕ) (old new : Host B) → Writes marks ws bytes old new → new.blocks ≡ written (cells ws) bytes old.blocks
@@ -155,6 +160,18 @@ module _ {B : Type 0} (marks : B → ℕ → ℕ → B → Type 0) where
   pub Writes-take : (ws : List VolatileSlice) (bytes : List ℕ) (old new : Host B) → Writes marks ws bytes old new → Writes marks ws (take (span ws) bytes) old new
   Writes-take ws bytes old new h = subst (λ (blocks : List (List ℕ)). MarksAll marks ws (record old { blocks = blocks }) new) (written-span ws bytes old.blocks) h
 
-  -- and a write of the first bytes is one of all of them
+  -- a write of as many bytes as the windows have is a write of all bytes
   pub Writes-from_take : (ws : List VolatileSlice) (bytes : List ℕ) (old new : Host B) → Writes marks ws (take (span ws) bytes) old new → Writes marks ws bytes old new
   Writes-from_take ws bytes old new h = subst (λ (blocks : List (List ℕ)). MarksAll marks ws (record old { blocks = blocks }) new) (sym (written-span ws bytes old.blocks)) h
+
+  -- a write to one window
+  pub Writes-one : (w : VolatileSlice) (bytes : List ℕ) (old new : Host B) → MarksWindow marks w (record old { blocks = written (cells_of w) bytes old.blocks }) new → Writes marks (w ∷ []) bytes old new
+  Writes-one w bytes old new h = (new, rw (cells-one w) h, refl)
+
+  -- a write to the first windows, and one of what is left of the bytes to the next
+  pub Writes_more : (ws : List VolatileSlice) (i : ℕ) (d : VolatileSlice) (bytes : List ℕ) (old mid new : Host B) → i < length ws → span (take i ws) ≤ length bytes → Writes marks (take i ws) bytes old mid → Writes marks (get_or ws i d ∷ []) (drop (span (take i ws)) bytes) mid new → Writes marks (take (i + 1) ws) bytes old new
+  Writes_more ws i d bytes old mid new l enough h k =
+      let n = span (take i ws) in
+      let all : take n bytes ++ drop n bytes ≡ bytes = take-append-drop n bytes in
+      let both = Writes-append (take i ws) (get_or ws i d ∷ []) (take n bytes) (drop n bytes) old mid new (length-take-le n bytes enough) (Writes-take (take i ws) bytes old mid h) k in
+      subst (λ (vs : List VolatileSlice). Writes marks vs bytes old new) (sym (take_more ws i d l)) (subst (λ (bs : List ℕ). Writes marks (take i ws ++ get_or ws i d ∷ []) bs old new) all both)

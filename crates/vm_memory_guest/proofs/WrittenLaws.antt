@@ -1,13 +1,13 @@
 -- Bytes that are written to cells, and bytes that are read from them.
-use Rattle.std.proofs.Common.{◌≡◌, ℕ, zero, suc, ◌+◌, ◌<◌, ◌≤◌, ◌≢◌, List, [], ◌∷◌, ◌++◌, map, length, get_or, set, take, drop, refl, sym, ap, ap₂, ◌∙◌, inl, inr, add-zero, zero-add, append_assoc, append-nil, arith, length-set, length-append, length-drop, set-set, get_or-set_same, get_or-set_other, take_at, drop_at, drop-drop}
+use Rattle.std.proofs.Common.{◌≡◌, ℕ, zero, suc, ◌+◌, ◌-◌, ◌<◌, ◌≤◌, ◌≢◌, List, [], ◌∷◌, ◌++◌, map, length, get_or, set, take, drop, refl, sym, ap, ap₂, ◌∙◌, inl, inr, add-zero, zero-add, append_assoc, append-nil, arith, length-set, length-append, length-drop, set-set, get_or-set_same, get_or-set_other, take_at, drop_at, drop-drop}
 use Rattle.std.proofs.lemmas.Bool.{cases_eq}
-use Rattle.std.proofs.lemmas.List.{map-append, length-map, set-get_or, take_more_set, drop-set-lt, drop_more, take-append-drop}
+use Rattle.std.proofs.lemmas.List.{take_more, map-append, length-map, set-get_or, take_more_set, drop-set-lt, drop_more, take-append-drop}
 use Rattle.std.proofs.lemmas.List.Concat.{flat_map-append}
-use Rattle.std.proofs.lemmas.List.Sums.{sum_by-cons, sum_by-append}
+use Rattle.std.proofs.lemmas.List.Sums.{sum_by-cons, sum_by-append, sum_by_more, sum_by-take-le}
 use Rattle.std.proofs.lemmas.List.Elements.{All-head, All-tail, All-weaker}
 use Rattle.std.specs.List.{All, AllPairs, Contains}
 use Rattle.vm_memory_guest.specs.Host.{Cell, cells_from, block_at, byte_at, bytes_at, with_byte, written}
-use Rattle.vm_memory_guest.specs.Window.{span, cells_of, cells}
+use Rattle.vm_memory_guest.specs.Window.{part, span, cells_of, cells}
 use Rattle.vm_memory_guest.specs.Answer.{filled}
 use Rattle.vm_memory_guest.specs.declared.volatile_memory.slice.VolatileSlice.{VolatileSlice}
 
@@ -231,3 +231,44 @@ bytes_at-written (c ∷ cs) (b ∷ bytes) blocks distinct inside h =
     let same : (d : Cell) → d.offset < length (block_at blocks d.block) → d.offset < length (block_at next d.block) = λ d l. rw (length-block_at-written (c ∷ []) (b ∷ []) blocks d.block) l in
     let within = All-weaker (λ (c : Cell). c.offset < length (block_at blocks c.block)) (λ (c : Cell). c.offset < length (block_at next c.block)) same cs (All-tail (λ (c : Cell). c.offset < length (block_at blocks c.block)) c cs inside) in
     ap₂ (λ (x : ℕ) (xs : List ℕ). x ∷ xs) first (bytes_at-written cs bytes next (distinct_rest c cs distinct) within (omega arith))
+
+-- cells past the bytes are as they were
+pub written-take_cells : (cs : List Cell) (bytes : List ℕ) (blocks : List (List ℕ)) → written cs bytes blocks ≡ written (take (length bytes) cs) bytes blocks
+written-take_cells [] [] blocks = refl
+written-take_cells [] (b ∷ bytes) blocks = refl
+written-take_cells (c ∷ cs) [] blocks = refl
+written-take_cells (c ∷ cs) (b ∷ bytes) blocks = written-take_cells cs bytes (with_byte blocks c b)
+
+-- one window has its own cells
+pub cells-one : (w : VolatileSlice) → cells (w ∷ []) ≡ cells_of w
+cells-one w = append-nil (cells_of w)
+
+-- one window has its own bytes
+pub span-one : (w : VolatileSlice) → span (w ∷ []) ≡ w.size
+span-one w = omega arith
+
+-- one window more of a list has its cells
+pub cells-take_more : (ws : List VolatileSlice) (i : ℕ) (d : VolatileSlice) → i < length ws → cells (take (i + 1) ws) ≡ cells (take i ws) ++ cells_of (get_or ws i d)
+cells-take_more ws i d l = ap cells (take_more ws i d l) ∙ cells-append (take i ws) (get_or ws i d ∷ []) ∙ ap (λ (cs : List Cell). cells (take i ws) ++ cs) (cells-one (get_or ws i d))
+
+-- one window more of a list has its bytes
+pub span-take_more : (ws : List VolatileSlice) (i : ℕ) (d : VolatileSlice) → i < length ws → span (take (i + 1) ws) ≡ span (take i ws) + (get_or ws i d).size
+span-take_more ws i d l = sum_by_more (λ (w : VolatileSlice). w.size) ws i d l
+
+-- the first windows have no more bytes than all of them
+pub span-take-le : (ws : List VolatileSlice) (i : ℕ) → span (take i ws) ≤ span ws
+span-take-le ws i = sum_by-take-le (λ (w : VolatileSlice). w.size) ws i
+
+-- a window has its first bytes and its last
+pub cells_of-parts : (w : VolatileSlice) (n : ℕ) → n ≤ w.size → cells_of w ≡ cells_of (part w 0 n) ++ cells_of (part w n (w.size - n))
+cells_of-parts w n l =
+    let e : n + (w.size - n) ≡ w.size = omega arith in
+    ap (λ (k : ℕ). cells_from w.block.0 w.offset k) (sym e) ∙ cells_from-append w.block.0 w.offset n (w.size - n) ∙ rw (add-zero w.offset)
+
+-- bytes moved into a window at once
+pub written-window : (w : VolatileSlice) (bytes : List ℕ) (blocks : List (List ℕ)) → length bytes ≡ w.size → w.block.0 < length blocks → w.offset + w.size ≤ length (block_at blocks w.block.0) → written (cells (w ∷ [])) bytes blocks ≡ set blocks w.block.0 (take w.offset (block_at blocks w.block.0) ++ bytes ++ drop (w.offset + w.size) (block_at blocks w.block.0))
+written-window w bytes blocks h k l = rw (cells-one w, ← h) (written-block w.block.0 w.offset bytes blocks k (rw h l))
+
+-- the bytes in a window are a part of its block
+pub bytes_at-window : (w : VolatileSlice) (blocks : List (List ℕ)) → w.offset + w.size ≤ length (block_at blocks w.block.0) → bytes_at blocks (cells (w ∷ [])) ≡ take w.size (drop w.offset (block_at blocks w.block.0))
+bytes_at-window w blocks l = rw (cells-one w) (bytes_at-block w.block.0 w.offset w.size blocks l)

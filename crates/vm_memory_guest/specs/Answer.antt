@@ -1,5 +1,6 @@
 -- What accesses answer, and what they leave.
-use Rattle.std.specs.Prelude.{◌≡◌, ◌⊎◌, ℕ, ◌&&◌, cond, ◌==◌, nat_lt, List, [], ◌∷◌, ◌++◌, map, drop, length, slice_get, slice_set, Option, Some, None, Result, Ok, Err, ◌-◌, min}
+use Rattle.std.specs.Prelude.{◌≡◌, ◌⊎◌, ℕ, ◌+◌, ◌-◌, ◌/◌, ◌^◌, ◌≤◌, Bool, false, ◌&&◌, cond, ◌==◌, nat_lt, min, List, [], ◌∷◌, ◌++◌, All, map, flat_map, drop, length, slice_get, slice_set, slice_index_or, Option, Some, None, Result, Ok, Err}
+use Rattle.vm_memory_base.specs.Address.{numbers}
 use Rattle.vm_memory_base.specs.declared.io.VolatileMemoryError.{VolatileMemoryError}
 use Rattle.vm_memory_base.specs.declared.io.VolatileMemoryError.TheVariants.{OutOfBounds}
 use Rattle.vm_memory_guest.specs.Window.{part}
@@ -7,6 +8,7 @@ use Rattle.vm_memory_base.specs.Pages.{PageSet, marked}
 use Rattle.vm_memory_base.specs.declared.bitmap.BitmapId.{BitmapId}
 use Rattle.vm_memory_base.specs.declared.bitmap.BitmapId.TheVariants.{Block, Space}
 use Rattle.vm_memory_guest.specs.Host.{Host, Cell, bytes_at, written}
+use Rattle.vm_memory_guest.specs.Access as access
 use Rattle.vm_memory_guest.specs.Access.{Reached}
 use Rattle.vm_memory_guest.specs.declared.volatile_memory.slice.VolatileSlice.{VolatileSlice}
 
@@ -61,6 +63,34 @@ marks_pages (Space space) offset len host = record host { spaces = changed (mark
 abbrev pub dirtied : List Reached → Host PageSet → Host PageSet
 dirtied [] host = host
 dirtied (x ∷ xs) host = dirtied xs (marks_pages x.bitmap x.mark 1 host)
+
+-- the dirt of windows, one after the other
+abbrev pub windows_dirtied : List VolatileSlice → Host PageSet → Host PageSet
+windows_dirtied [] host = host
+windows_dirtied (w ∷ ws) host = windows_dirtied ws (marks_pages w.bitmap.id w.bitmap.base w.size host)
+
+-- the bitmap and the offset that each byte of a path marks
+abbrev pub path_marks : List Reached → List (BitmapId × ℕ)
+path_marks xs = map (λ x. (x.bitmap, x.mark)) xs
+
+-- those that each byte of a window marks
+abbrev pub window_marks : VolatileSlice → List (BitmapId × ℕ)
+window_marks w = map (λ offset. (w.bitmap.id, offset)) (numbers w.bitmap.base w.size)
+
+-- the bytes of the windows of a path mark what the bytes of the path mark, at offsets of 64 bits
+pub record MarksFollow (xs : List Reached) : Type 0 where
+  pub same : path_marks xs ≡ flat_map window_marks (access.windows xs)
+  pub fit : All (λ w. w.bitmap.base + w.size ≤ 2 ^ 64) (access.windows xs)
+
+-- the pages of a named bitmap. Where there is no such bitmap, there are none
+abbrev pub pages_at : BitmapId → Host PageSet → PageSet
+pages_at (Block block) host = slice_index_or host.bitmaps block None
+pages_at (Space space) host = slice_index_or host.spaces space None
+
+-- whether two offsets lie in one page
+abbrev pub same_page : PageSet → ℕ → ℕ → Bool
+same_page None x y = false
+same_page (Some p) x y = x / p.page_size == y / p.page_size
 
 -- the cells of a path
 abbrev pub path_cells : List Reached → List Cell

@@ -1,6 +1,7 @@
 //! Host memory, windows of it, the regions of a guest, and guest memory.
 #![tactic(auto)]
 
+pub mod effect_laws;
 mod guest_memory;
 mod mmap;
 pub mod path_laws;
