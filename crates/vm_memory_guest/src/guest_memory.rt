@@ -153,7 +153,7 @@ pub trait GuestMemory: Named {
         requires { Holds (shape_of host.now) (Self.names self.now) }
         ensures { MatchResult result
             (λ it. GivesAccess (memory self.now) host.now.tables addr.0 count access
-                (direct_items (Self.PhysicalMemory.regions it.walk.mem.now) it.walk.addr.0 it.walk.count))
+            (direct_items (Self.PhysicalMemory.regions it.walk.mem.now) it.walk.addr.0 it.walk.count))
             (λ e. wants self.now e ⊎ RefusesAccess (memory self.now) host.now.tables addr.0 count access e) };
 
     /// Its regions' addresses and offsets fit 64 bits.

@@ -51,7 +51,7 @@ returns-in-Ok-clause-steps g c =
     let start : a - c.start_addr.result.0 ≡ a - r.start = ap (λ x. a - x) c.start_addr.ensures in
     let len : c.min-len.result ≡ min (r.len - (a - c.start_addr.result.0)) it.count = c.min-len.ensures ∙ ap (λ n. min (n - (a - c.start_addr.result.0)) it.count) c.len.ensures in
     walk-gives regions a it.count r c.find_region.ensures.layout (sym c.in-Some.ensures.found) (g.met.M.R.GuestMemoryRegion.fits c.in-Some.region.now) more below
-      (a - c.start_addr.result.0) c.min-len.result c.in-Ok.window start len r.place refl (sym c.in-Ok.ensures)
+    (a - c.start_addr.result.0) c.min-len.result c.in-Ok.window start len r.place refl (sym c.in-Ok.ensures)
     ∙ ap (λ (b : ℕ). Ok c.in-Ok.window ∷ direct_items regions b (it.count - c.min-len.result)) (sym c.overflowing_add.ensures.wrapped)
 
 pub returns-in-Ok-clause-goes : goal.returns-in-Ok-clause-goes
@@ -68,7 +68,7 @@ returns-in-Err-clause-steps g c =
     let start : a - c.start_addr.result.0 ≡ a - r.start = ap (λ x. a - x) c.start_addr.ensures in
     let len : c.min-len.result ≡ min (r.len - (a - c.start_addr.result.0)) it.count = c.min-len.ensures ∙ ap (λ n. min (n - (a - c.start_addr.result.0)) it.count) c.len.ensures in
     walk-refuses regions a it.count r c.find_region.ensures.layout (sym c.in-Some.ensures.found) (g.met.M.R.GuestMemoryRegion.fits c.in-Some.region.now) more below
-      (a - c.start_addr.result.0) c.min-len.result c.in-Err.error start len r.place refl (sym c.in-Err.ensures)
+    (a - c.start_addr.result.0) c.min-len.result c.in-Err.error start len r.place refl (sym c.in-Err.ensures)
 
 pub returns-in-Err-clause-goes : goal.returns-in-Err-clause-goes
 returns-in-Err-clause-goes g c = first_goes _ _ _ _ (returns-in-Err-clause-steps g c)
