@@ -1,0 +1,61 @@
+//! Commands of a machine, and its replies.
+
+use super::list::{ByteList, NumberList};
+use vm_memory_base::GuestAddress;
+
+/// A call that a machine makes. Regions, layouts and memories go by number, from 0 in the order of making.
+#[derive(Debug, Drop)]
+pub enum Command {
+    /// Makes the layout of these regions of the pool.
+    FromRegions(NumberList),
+    /// Makes a memory of a layout, without an IOMMU.
+    Plain(usize),
+    /// Reads `count` bytes of a memory.
+    Read {
+        memory: usize,
+        addr: GuestAddress,
+        count: usize,
+    },
+    /// Writes bytes to a memory.
+    Write {
+        memory: usize,
+        addr: GuestAddress,
+        bytes: ByteList,
+    },
+}
+
+/// Why a call was refused.
+#[derive(Clone, Copy, Debug, PartialEq, Eq)]
+pub enum Fault {
+    /// No region holds the address.
+    InvalidGuestAddress(GuestAddress),
+    /// The region has no host bytes.
+    HostAddressNotAvailable,
+    /// A layout of no region.
+    NoMemoryRegion,
+    /// A region reaches the next.
+    MemoryRegionOverlap,
+    /// A region starts above the next.
+    UnsortedMemoryRegions,
+}
+
+/// What a machine answers to a command. `NoSuch`, `BadRange` and `Memory` changed nothing.
+#[derive(Debug, Drop)]
+pub enum Reply {
+    /// The number of the layout that was made.
+    LayoutMade(usize),
+    /// The number of the memory that was made.
+    MemoryMade(usize),
+    /// How many bytes were moved.
+    Count(usize),
+    /// The bytes that were read.
+    Bytes(ByteList),
+    /// The call was refused.
+    Fault(Fault),
+    /// A number names nothing.
+    NoSuch,
+    /// A range does not fit.
+    BadRange,
+    /// There was no memory.
+    Memory,
+}
