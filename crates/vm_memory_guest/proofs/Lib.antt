@@ -1,3 +1,4 @@
 pub mod HostLemmas
 pub mod MarkLaws
 pub mod WrittenLaws
+pub mod RegionLaws
