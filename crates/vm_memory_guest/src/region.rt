@@ -189,10 +189,10 @@ impl<R: GuestMemoryRegion> Clone for GuestRegionCollection<R> {
 
 // The number of the first region that starts above an address, or how many there are.
 fn first_above<R: GuestMemoryRegion>(regions: &[Arc<R>], addr: GuestAddress) -> usize
-    requires { IsLayout (map (λ (r : Arc R Global). R.region r.value) regions.now) }
+    requires { IsLayout (map R.region (map (λ (r : Arc R Global). r.value) regions.now)) }
     ensures within { result ≤ length regions.now }
-    ensures below { (k : ℕ) (d : Region) → k < result → (get_or (map (λ (r : Arc R Global). R.region r.value) regions.now) k d).start ≤ addr.0 }
-    ensures above { (k : ℕ) (d : Region) → result ≤ k → k < length regions.now → addr.0 < (get_or (map (λ (r : Arc R Global). R.region r.value) regions.now) k d).start }
+    ensures below { (k : ℕ) (d : Region) → k < result → (get_or (map R.region (map (λ (r : Arc R Global). r.value) regions.now)) k d).start ≤ addr.0 }
+    ensures above { (k : ℕ) (d : Region) → result ≤ k → k < length regions.now → addr.0 < (get_or (map R.region (map (λ (r : Arc R Global). r.value) regions.now)) k d).start }
 {
     let mut low = 0;
     let mut high = regions.len();
