@@ -1,6 +1,7 @@
 //! Host memory, windows of it, the regions of a guest, and guest memory.
 #![tactic(auto)]
 
+mod collection;
 pub mod effect_laws;
 mod guest_memory;
 mod mmap;
@@ -8,6 +9,9 @@ pub mod path_laws;
 mod region;
 mod volatile_memory;
 
+pub use guest_memory::{
+    GuestMemory, GuestMemoryBackend, GuestMemoryBackendSliceIterator, IommuMemorySliceIterator,
+};
 pub use mmap::{GuestMemoryMmap, GuestRegionMmap, MmapRegion};
 pub use region::{
     GuestMemoryError, GuestMemoryRegion, GuestMemoryResult, GuestRegionCollection,

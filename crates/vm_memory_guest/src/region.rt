@@ -1,8 +1,9 @@
 //! Regions of guest physical memory, and collections of them.
-ghost use Rattle.std.specs.Prelude.{◌≡◌, ℕ, ◌+◌, ◌-◌, ◌^◌, ◌<◌, ◌≤◌, ◌↔◌, nat_lt, List, map, IsTrue, Option, Some, None, IfSome, IfOk, MatchResult, OnOk, cond, option_map, length, get_or};
+ghost use Rattle.std.specs.Prelude.{◌≡◌, ℕ, ◌+◌, ◌-◌, ◌^◌, ◌<◌, ◌≤◌, ◌↔◌, nat_lt, List, map, IsTrue, Option, Some, None, IfSome, IfOk, MatchResult, OnOk, cond, option_map, length, get_or, flat_map};
 ghost use Rattle.std.specs.declared.alloc.Global.{Global};
 ghost use Rattle.std.specs.declared.sync.Arc.{Arc};
 ghost use Rattle.vm_memory_guest.specs.Collection.{regions_of};
+ghost use Rattle.vm_memory_guest.specs.Host.{Holds};
 ghost use Rattle.vm_memory_guest.specs.Region.{Region, IsRegion, last, home, region_names, IsLayout, neighbours_of, layout_error, slice_of};
 
 use crate::volatile_memory::host::{HostShape, Named};
@@ -161,7 +162,8 @@ impl<R: GuestMemoryRegion> GuestRegionCollection<R> {
 
     /// The region that holds an address, found by binary search.
     pub fn find_region(&self, addr: GuestAddress) -> Option<&R>
-        ensures { option_map (λ r. R.region r.now) result ≡ home (map R.region self.now) addr.0 }
+        ensures found { option_map (λ r. R.region r.now) result ≡ home (map R.region self.now) addr.0 }
+        ensures layout { IsLayout (map R.region self.now) }
     {
         let next = first_above(self.regions.as_slice(), addr);
         if next == 0 {
@@ -173,6 +175,20 @@ impl<R: GuestMemoryRegion> GuestRegionCollection<R> {
         } else {
             None
         }
+    }
+}
+
+impl<R: GuestMemoryRegion> GuestRegionCollection<R> {
+    // Whether a host of this shape holds the bytes of each region.
+    pub(crate) fn each_held(&self, shape: &HostShape) -> bool
+        ensures { IsTrue result ↔ Holds shape.now (flat_map region_names (map R.region self.now)) }
+    {
+        for region in &self.regions {
+            if !region.held_by(shape) {
+                return false;
+            }
+        }
+        true
     }
 }
 

@@ -33,16 +33,16 @@ module _ {X : Type 0} (f : X → Region) (fits : (x : X) → IsRegion (f x)) (rs
 pub first_above-next-requires : goal.first_above-next-requires
 first_above-next-requires g c = rw c.as_slice.ensures.value c.self.invariant
 
-pub returns-then-next-eq0 : goal.returns-then-next-eq0
-returns-then-next-eq0 g c =
+pub returns-then-next-eq0-clause-found : goal.returns-then-next-eq0-clause-found
+returns-then-next-eq0-clause-found g c =
     let f = g.R.GuestMemoryRegion.region in
     let layout : IsLayout (map f (map (λ (r : Arc g.row.R.Denot Global). r.value) c.as_slice.result.now)) = rw c.as_slice.ensures.value c.self.invariant in
     let e = searched_below f g.met.R.GuestMemoryRegion.fits c.as_slice.result.now layout c.args.addr.0 c.first_above-next.result c.first_above-next.ensures.within c.if-next-eq0.true c.first_above-next.ensures.above in
     subst (λ (xs : List g.row.R.Denot). None ≡ home (map f xs) c.args.addr.0) c.self.view_is
     (subst (λ (xs : List (Arc g.row.R.Denot Global)). None ≡ home (map f (map (λ (r : Arc g.row.R.Denot Global). r.value) xs)) c.args.addr.0) c.as_slice.ensures.value e)
 
-pub returns-then-le : goal.returns-then-le
-returns-then-le g c =
+pub returns-then-le-clause-found : goal.returns-then-le-clause-found
+returns-then-le-clause-found g c =
     let f = g.R.GuestMemoryRegion.region in
     let a = c.args.addr.0 in
     let n = c.first_above-next.result in
@@ -57,8 +57,8 @@ returns-then-le g c =
     (subst (λ (xs : List g.row.R.Denot). Some (f r.value) ≡ home (map f xs) a) c.self.view_is
     (subst (λ (xs : List (Arc g.row.R.Denot Global)). Some (f r.value) ≡ home (map f (map (λ (q : Arc g.row.R.Denot Global). q.value) xs)) a) c.as_slice.ensures.value found))
 
-pub returns-else-le : goal.returns-else-le
-returns-else-le g c =
+pub returns-else-le-clause-found : goal.returns-else-le-clause-found
+returns-else-le-clause-found g c =
     let f = g.R.GuestMemoryRegion.region in
     let a = c.args.addr.0 in
     let n = c.first_above-next.result in

@@ -1,0 +1,36 @@
+//! A collection of regions as a backend of guest memory.
+ghost use Rattle.std.specs.Prelude.{◌≡◌, ◌↔◌, IsTrue, map, flat_map};
+ghost use Rattle.vm_memory_guest.specs.Host.{Holds};
+ghost use Rattle.vm_memory_guest.specs.Region.{region_names};
+ghost use Rattle.vm_memory_guest.specs.Collection.{regions_of};
+
+use crate::guest_memory::GuestMemoryBackend;
+use crate::region::{GuestMemoryRegion, GuestRegionCollection};
+use crate::volatile_memory::host::{HostShape, Named};
+use std::sync::Arc;
+use vm_memory_base::GuestAddress;
+
+impl<R: GuestMemoryRegion> Named for GuestRegionCollection<R> {
+    ghost names = { λ rs. flat_map region_names (map R.region rs) };
+
+    fn held_by(&self, shape: &HostShape) -> bool {
+        self.each_held(shape)
+    }
+}
+
+impl<R: GuestMemoryRegion> GuestMemoryBackend for GuestRegionCollection<R> {
+    ghost use Rattle.std.specs.Prelude.{refl};
+    ghost use Rattle.vm_memory_guest.specs.Collection.{each_is_region};
+
+    type R = R;
+
+    ghost regions = { λ rs. map R.region rs };
+
+    ghost each_fits = { each_is_region R.region R.fits };
+
+    ghost names_regions = { λ rs. refl };
+
+    fn find_region(&self, addr: GuestAddress) -> Option<&R> {
+        GuestRegionCollection::find_region(self, addr)
+    }
+}
