@@ -91,7 +91,6 @@ MayWantToRead m count = IsOn m ⊎ (0 < count)
 
 -- From old, the machine may answer a command so and go on to new.
 abbrev pub Step : State → Command → Reply → State → Type 0
-
 -- a layout of regions of the pool is the next, unless they make none
 Step old (FromRegions numbers) (LayoutMade n) new = (rs : List Region) × (named old.regions numbers ≡ Some rs) × (layout_error rs ≡ None) × (n ≡ length old.layouts) × (new ≡ record old { layouts = old.layouts ++ rs ∷ [] })
 Step old (FromRegions numbers) (reply.Fault f) new = (rs : List Region) × (e : GuestRegionCollectionError) × (named old.regions numbers ≡ Some rs) × (layout_error rs ≡ Some e) × TellsLayout f e × (new ≡ old)
@@ -101,7 +100,6 @@ Step old (FromRegions numbers) (MemoryMade n) new = ⊥
 Step old (FromRegions numbers) (Count n) new = ⊥
 Step old (FromRegions numbers) (Bytes bytes) new = ⊥
 Step old (FromRegions numbers) BadRange new = ⊥
-
 -- a plain memory has the regions of its layout
 Step old (Plain layout) (MemoryMade n) new = (rs : List Region) × (slice_get old.layouts layout ≡ Some rs) × (n ≡ length old.memories) × (new ≡ record old { memories = old.memories ++ plain rs ∷ [] })
 Step old (Plain layout) NoSuch new = (slice_get old.layouts layout ≡ None) × (new ≡ old)
@@ -111,7 +109,6 @@ Step old (Plain layout) (Count n) new = ⊥
 Step old (Plain layout) (Bytes bytes) new = ⊥
 Step old (Plain layout) (reply.Fault f) new = ⊥
 Step old (Plain layout) BadRange new = ⊥
-
 -- a read gives the bytes of its path, and changes nothing. One of no bytes needs no memory where the IOMMU is off
 Step old (Read memory addr count) (Bytes bytes) new = (m : MachineMemory) × (slice_get old.memories memory ≡ Some m) × (answer_in old m addr.0 count permissions.Read ≡ Ok (length bytes)) × (bytes ≡ bytes_read (access_in old m addr.0 count permissions.Read).path old.host) × (new ≡ old)
 Step old (Read memory addr count) (reply.Fault f) new = (m : MachineMemory) × (e : access.Fault) × (slice_get old.memories memory ≡ Some m) × (answer_in old m addr.0 count permissions.Read ≡ Err e) × Tells f e × (new ≡ old)
@@ -121,7 +118,6 @@ Step old (Read memory addr count) (LayoutMade n) new = ⊥
 Step old (Read memory addr count) (MemoryMade n) new = ⊥
 Step old (Read memory addr count) (Count n) new = ⊥
 Step old (Read memory addr count) BadRange new = ⊥
-
 -- a write gives the cells of its path the bytes and their dirt. It needs no memory where the IOMMU is off
 Step old (Write memory addr bytes) (Count n) new = (m : MachineMemory) × (slice_get old.memories memory ≡ Some m) × (answer_in old m addr.0 (length bytes) permissions.Write ≡ Ok n) × (new ≡ record old { host = after_write (access_in old m addr.0 (length bytes) permissions.Write).path bytes old.host })
 Step old (Write memory addr bytes) (reply.Fault f) new = (m : MachineMemory) × (e : access.Fault) × (slice_get old.memories memory ≡ Some m) × (answer_in old m addr.0 (length bytes) permissions.Write ≡ Err e) × Tells f e × (new ≡ old)
