@@ -1,3 +1,4 @@
+pub mod AccessLaws
 pub mod HoldsLemmas
 pub mod HostLemmas
 pub mod DirtLaws

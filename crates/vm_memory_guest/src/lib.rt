@@ -2,6 +2,7 @@
 #![tactic(auto)]
 
 mod collection;
+pub mod access_laws;
 pub mod effect_laws;
 mod guest_memory;
 mod mmap;

@@ -1,0 +1,20 @@
+//! What an access of guest memory is, byte by byte: each function here is a theorem, and does nothing.
+ghost use Rattle.std.specs.Prelude.{◌≡◌, ℕ, List, map, length, take, All};
+ghost use Rattle.vm_memory_base.specs.declared.iotlb.Permissions.{Permissions};
+ghost use Rattle.vm_memory_guest.specs.Access.{access_of, windows};
+ghost use Rattle.vm_memory_guest.specs.Answer.{after_write, filled, path_cells, with_pages};
+ghost use Rattle.vm_memory_guest.specs.Host.{Host, bytes_at};
+ghost use Rattle.vm_memory_guest.specs.Memory.{Route};
+ghost use Rattle.vm_memory_guest.specs.Region.{Region, IsRegion};
+ghost use Rattle.vm_memory_guest.specs.Window.{Writes, cells, span};
+
+use vm_memory_base::ExactBitmap;
+
+/// The windows of an access have as many bytes as it reaches, what they give to a buffer are the bytes of its
+/// cells, and a write to them of a host with exact bitmaps is the write of its bytes, one after the other.
+pub fn accesses_are_by_bytes<B: ExactBitmap>()
+    ensures count { (regions : List Region) (route : Route) (a n : ℕ) (access : Permissions) → span (windows (access_of regions route a n access).path) ≡ length (access_of regions route a n access).path }
+    ensures reads { (regions : List Region) (route : Route) (a n : ℕ) (access : Permissions) (blocks : List (List ℕ)) (buffer : List ℕ) → All IsRegion regions → let xs = (access_of regions route a n access).path in take (length xs) (filled blocks (cells (windows xs)) buffer) ≡ bytes_at blocks (path_cells xs) }
+    ensures writes { (regions : List Region) (route : Route) (a n : ℕ) (access : Permissions) (bytes : List ℕ) (old new : Host B) → All IsRegion regions → let xs = (access_of regions route a n access).path in Writes B.marks (windows xs) bytes old new → with_pages B.pages new ≡ after_write xs bytes (with_pages B.pages old) }
+{
+}
