@@ -6,3 +6,4 @@ pub mod WrittenLaws
 pub mod PathLaws
 pub mod PathWalk
 pub mod WalkLemmas
+pub mod AccessLemmas
