@@ -8,8 +8,8 @@ use Rattle.vm_memory_base.specs.Table.{Table}
 use Rattle.vm_memory_base.specs.declared.iotlb.Permissions.{Permissions}
 use Rattle.vm_memory_guest.specs.Access.{Fault, Access, path, first_fault, meets, windows, stretches, allowed, refusal, access_of}
 use Rattle.vm_memory_guest.specs.Answer.{Reach, Outcome, counted, filled}
-use Rattle.vm_memory_guest.specs.Error.{error_of, error_item, items_of, direct_items, reach_of, RefusesAccess}
-use Rattle.vm_memory_guest.specs.Host.{Host, Shape, Cell, Holds, shape_of, bytes_at}
+use Rattle.vm_memory_guest.specs.Error.{error_of, error_item, items_of, direct_items, reach_of, GivesAccess, RefusesAccess}
+use Rattle.vm_memory_guest.specs.Host.{Host, Shape, Cell, Name, Holds, shape_of, bytes_at}
 use Rattle.vm_memory_guest.specs.Memory.{Memory, Behind, route, route_behind, behind_names, memory_names}
 use Rattle.vm_memory_guest.specs.Region.{Region, IsRegion}
 use Rattle.vm_memory_guest.specs.Walk.{reach_in, walked}
@@ -28,7 +28,7 @@ reach_in-items [] (Some e) = refl
 reach_in-items (w ∷ ws) o = ap (λ (r : Reach GuestMemoryError). let more : Reach GuestMemoryError = record { windows = w ∷ r.windows; fault = r.fault } in more) (reach_in-items ws o)
 
 -- a walk that gives the items of a reach reaches it
-pub walked-items : (regions : List Region) (a n : ℕ) (r : Reach GuestMemoryError) → direct_items regions a n ≡ items_of r → walked regions a n ≡ r
+walked-items : (regions : List Region) (a n : ℕ) (r : Reach GuestMemoryError) → direct_items regions a n ≡ items_of r → walked regions a n ≡ r
 unfolding walked
 walked-items regions a n r h = ap reach_in h ∙ reach_in-items r.windows r.fault
 
@@ -192,17 +192,21 @@ none_reached : windows [] ≡ []
 unfolding stretches
 none_reached = refl
 
--- what an access reaches, where it is not allowed
-pub reach_of-refused : (regions : List Region) (memory : Memory) (tables : List Table) (a n : ℕ) (access : Permissions) (e : GuestMemoryError) → RefusesAccess memory tables a n access e → reach_of (access_of regions (route memory tables) a n access) ≡ record { windows = []; fault = Some e }
-reach_of-refused regions memory tables a n access e refused = rw (refused.0, refused.1, none_reached) refl
+-- what an access reaches, and the error for what stops it
+abbrev pub accessed : Memory → List Table → ℕ → ℕ → Permissions → Reach GuestMemoryError
+accessed memory tables a n access = reach_of (access_of memory.regions (route memory tables) a n access)
+
+-- an access that is refused reaches nothing
+accessed-refused : (memory : Memory) (tables : List Table) (a n : ℕ) (access : Permissions) (e : GuestMemoryError) → RefusesAccess memory tables a n access e → accessed memory tables a n access ≡ record { windows = []; fault = Some e }
+accessed-refused memory tables a n access e refused = rw (refused.0, refused.1, none_reached) refl
 
 route_held : (shape : Shape) (behind : Option Behind) (tables : List Table) → Holds shape (behind_names behind) → Holds shape (route_names (route_behind behind tables))
 route_held shape None tables h = tt
 route_held shape (Some b) tables h = (h.1.0, tt)
 
 -- a host that holds a memory holds the windows of its accesses
-pub access-held : (shape : Shape) (memory : Memory) (tables : List Table) (a n : ℕ) (access : Permissions) → All IsRegion memory.regions → Holds shape (memory_names memory) → AllByRecursion (λ w. Holds shape (window_names w)) (reach_of (access_of memory.regions (route memory tables) a n access)).windows
-access-held shape memory tables a n access each held =
+accessed-held : (shape : Shape) (memory : Memory) (tables : List Table) (a n : ℕ) (access : Permissions) → All IsRegion memory.regions → Holds shape (memory_names memory) → AllByRecursion (λ w. Holds shape (window_names w)) (accessed memory tables a n access).windows
+accessed-held shape memory tables a n access each held =
     let way = route memory tables in
     let regions = memory.regions in
     let parts = Holds-append shape _ (behind_names memory.iommu) held in
@@ -211,16 +215,16 @@ access-held shape memory tables a n access each held =
     (λ h. subst (AllByRecursion (λ w. Holds shape (window_names w))) (sym none_reached) tt)
 
 -- an access reaches at most what was asked
-pub access-fits : (memory : Memory) (tables : List Table) (a n : ℕ) (access : Permissions) → span (reach_of (access_of memory.regions (route memory tables) a n access)).windows ≤ n
-access-fits memory tables a n access =
+accessed-fits : (memory : Memory) (tables : List Table) (a n : ℕ) (access : Permissions) → span (accessed memory tables a n access).windows ≤ n
+accessed-fits memory tables a n access =
     let x = access_of memory.regions (route memory tables) a n access in
     let whole = span-windows x.path in
     let most = length-access memory.regions (route memory tables) a n access in
     omega arith
 
 -- where something stops an access, it asked for something
-pub access-asked : (memory : Memory) (tables : List Table) (a n : ℕ) (access : Permissions) → OnSome (reach_of (access_of memory.regions (route memory tables) a n access)).fault (0 < n)
-access-asked memory tables a n access = go (access_of memory.regions (route memory tables) a n access) (access-ends memory.regions (route memory tables) a n access)
+accessed-asked : (memory : Memory) (tables : List Table) (a n : ℕ) (access : Permissions) → OnSome (accessed memory tables a n access).fault (0 < n)
+accessed-asked memory tables a n access = go (access_of memory.regions (route memory tables) a n access) (access-ends memory.regions (route memory tables) a n access)
   where
     stops : (o : Option Fault) (k : ℕ) → MatchOption o (k ≡ n) (λ fault. k < n) → OnSome (option_map error_of o) (0 < n)
     stops None k h = tt
@@ -234,16 +238,37 @@ outcome : {T E : Type 0} (wants : E → Type 0) (r expected : Result T E) (uncha
 outcome wants (Ok value) expected unchanged effect is done = (is, done)
 outcome wants (Err e) expected unchanged effect is done = inr (is, done)
 
--- the outcome of a walk that reached what an access does
-pub outcome-walked : (wants : GuestMemoryError → Type 0) (r : Result ℕ GuestMemoryError) (unchanged : Type 0) (Effect : List VolatileSlice → Type 0) (walk reach : Reach GuestMemoryError) (n : ℕ) → walk ≡ reach → r ≡ counted (span walk.windows) walk.fault n → Effect walk.windows → Outcome wants (counted (span reach.windows) reach.fault n) unchanged (Effect reach.windows) r
-outcome-walked wants r unchanged Effect walk reach n same answer done = outcome wants r (counted (span reach.windows) reach.fault n) unchanged (Effect reach.windows) (subst (λ (x : Reach GuestMemoryError). r ≡ counted (span x.windows) x.fault n) same answer) (subst (λ (x : Reach GuestMemoryError). Effect x.windows) same done)
+-- a walk that gives the items of an access
+module _ (memory : Memory) (tables : List Table) (a n : ℕ) (access : Permissions) (regions : List Region) (b m : ℕ) (gives : GivesAccess memory tables a n access (direct_items regions b m)) where
+  same : walked regions b m ≡ accessed memory tables a n access
+  same = walked-items regions b m (accessed memory tables a n access) gives.1
+
+  -- a host that holds the memory holds its windows
+  pub walk-held : (shape : Shape) (names : List Name) → All IsRegion memory.regions → names ≡ memory_names memory → Holds shape names → AllByRecursion (λ w. Holds shape (window_names w)) (walked regions b m).windows
+  walk-held shape names each is held = rw same (accessed-held shape memory tables a n access each (subst (Holds shape) is held))
+
+  -- they have at most the bytes that were asked for
+  pub walk-fits : span (walked regions b m).windows ≤ n
+  walk-fits = rw same (accessed-fits memory tables a n access)
+
+  -- an error comes only where something was asked for
+  pub walk-asked : OnSome (walked regions b m).fault (0 < n)
+  walk-asked = rw same (accessed-asked memory tables a n access)
+
+  -- what it reached is what the access does
+  pub outcome-walk : (wants : GuestMemoryError → Type 0) (r : Result ℕ GuestMemoryError) (unchanged : Type 0) (Effect : List VolatileSlice → Type 0) → r ≡ counted (span (walked regions b m).windows) (walked regions b m).fault n → Effect (walked regions b m).windows → Outcome wants (counted (span (accessed memory tables a n access).windows) (accessed memory tables a n access).fault n) unchanged (Effect (accessed memory tables a n access).windows) r
+  outcome-walk wants r unchanged Effect answer done =
+      let reach = accessed memory tables a n access in
+      outcome wants r (counted (span reach.windows) reach.fault n) unchanged (Effect reach.windows)
+      (subst (λ (x : Reach GuestMemoryError). r ≡ counted (span x.windows) x.fault n) same answer)
+      (subst (λ (x : Reach GuestMemoryError). Effect x.windows) same done)
 
 -- the outcome of an access without a walk
-pub outcome-refused : (wants : GuestMemoryError → Type 0) (memory : Memory) (tables : List Table) (a n : ℕ) (access : Permissions) (unchanged : Type 0) (Effect : List VolatileSlice → Type 0) (e : GuestMemoryError) → (wants e ⊎ RefusesAccess memory tables a n access e) → unchanged → Effect [] → Outcome {T = ℕ} wants (counted (span (reach_of (access_of memory.regions (route memory tables) a n access)).windows) (reach_of (access_of memory.regions (route memory tables) a n access)).fault n) unchanged (Effect (reach_of (access_of memory.regions (route memory tables) a n access)).windows) (Err e)
-outcome-refused wants memory tables a n access unchanged Effect e why same done = elim why [
-  | inl wanted ↦ inl (wanted, same)
+pub outcome-refused : (memory : Memory) (tables : List Table) (a n : ℕ) (access : Permissions) (wants : GuestMemoryError → Type 0) (unchanged : Type 0) (Effect : List VolatileSlice → Type 0) (e : GuestMemoryError) → (wants e ⊎ RefusesAccess memory tables a n access e) → unchanged → Effect [] → Outcome {T = ℕ} wants (counted (span (accessed memory tables a n access).windows) (accessed memory tables a n access).fault n) unchanged (Effect (accessed memory tables a n access).windows) (Err e)
+outcome-refused memory tables a n access wants unchanged Effect e why kept done = elim why [
+  | inl wanted ↦ inl (wanted, kept)
   | inr refused ↦
-      let reach = reach_of (access_of memory.regions (route memory tables) a n access) in
-      let is = reach_of-refused memory.regions memory tables a n access e refused in
-      inr (answer-none reach [] 0 n e refl is (access-asked memory tables a n access) refl, subst (λ (x : Reach GuestMemoryError). Effect x.windows) (sym is) done)
+      let reach = accessed memory tables a n access in
+      let is = accessed-refused memory tables a n access e refused in
+      inr (answer-none reach [] 0 n e refl is (accessed-asked memory tables a n access) refl, subst (λ (x : Reach GuestMemoryError). Effect x.windows) (sym is) done)
 ]
