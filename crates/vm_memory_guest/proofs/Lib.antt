@@ -9,3 +9,4 @@ pub mod PathLaws
 pub mod PathWalk
 pub mod WalkLemmas
 pub mod RegionLaws
+pub mod AccessLemmas

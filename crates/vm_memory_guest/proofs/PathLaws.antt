@@ -1,11 +1,10 @@
 -- What paths and their windows have in common, whatever the route.
 use Rattle.std.specs.List.{AllByRecursion}
-use Rattle.std.proofs.Common.{◌≡◌, ℕ, zero, suc, ◌+◌, ◌-◌, ◌^◌, ◌%◌, ◌<◌, ◌≤◌, ◌⊎◌, ◌&&◌, min, true, false, List, [], ◌∷◌, ◌++◌, map, length, All, suc-le-suc, Option, Some, None, option_map, Result, Ok, Err, MatchOption, nat_lt, slice_get, sum_by, flat_map, refl, sym, ap, ap₂, subst, subst₂, ◌∙◌, inl, inr, add-zero, add-one, add_assoc, arith}
-use Rattle.std.proofs.lemmas.Bool.{cond_both, cases_lt, cases_Bool, and_parts, and_from, true≢false, false≢true, leb-true, le-leb, lt-ltb, eqb-true, not-false}
-use Rattle.std.proofs.lemmas.List.Folds.{list_all-append}
+use Rattle.std.proofs.Common.{◌≡◌, ℕ, zero, suc, ◌+◌, ◌-◌, ◌^◌, ◌%◌, ◌<◌, ◌≤◌, ◌⊎◌, min, true, false, List, [], ◌∷◌, ◌++◌, map, length, All, suc-le-suc, Option, Some, None, option_map, Result, Ok, Err, MatchOption, slice_index, sum_by, flat_map, refl, sym, ap, ap₂, subst, subst₂, ◌∙◌, inl, inr, add-zero, add-one, add_assoc, arith}
+use Rattle.std.proofs.lemmas.Bool.{cond_both, cases_lt, cases_Bool, and_parts, true≢false, false≢true, eqb-true, not-false}
 use Rattle.std.proofs.lemmas.List.Sums.{sum_by-cons}
 use Rattle.std.proofs.lemmas.List.Elements.{All-contains, All-from_recursion}
-use Rattle.std.proofs.lemmas.Option.{none-some, same_Some, slice_get_within}
+use Rattle.std.proofs.lemmas.Option.{none-some, same_Some}
 use Rattle.vm_memory_base.specs.Address.{step, numbers}
 use Rattle.vm_memory_base.specs.Table.{Mapping, Says}
 use Rattle.vm_memory_base.specs.declared.bitmap.BitmapId.{BitmapId}
@@ -15,7 +14,7 @@ use Rattle.vm_memory_guest.specs.Error.{error_of, error_item, direct_items}
 use Rattle.vm_memory_guest.specs.declared.region.GuestMemoryError.{GuestMemoryError}
 use Rattle.vm_memory_base.specs.declared.iotlb.Permissions.{Permissions}
 use Rattle.vm_memory_guest.specs.Host as host
-use Rattle.vm_memory_guest.specs.Host.{Cell, Shape, Name, Holds, is_held, cells_from, ends_within}
+use Rattle.vm_memory_guest.specs.Host.{Cell, Shape, Name, Holds, IsHeld, cells_from}
 use Rattle.vm_memory_guest.specs.Memory.{Route, Direct, Through, mapping_of, translated, physical}
 use Rattle.vm_memory_guest.specs.Region.{Region, IsRegion, IsLayout, home, lies_in, lies_from, place_end, place_names, region_names}
 use Rattle.vm_memory_guest.specs.Window.{bitmap_name, window_names, span, cells, cells_of}
@@ -358,26 +357,20 @@ windows-one regions a n r first layout found some is_region more inside =
     let no_more : n - n ≡ 0 = omega arith in
     windows-in_region regions a n r first layout found some is_region more ∙ ap (λ (k : ℕ). window_in r first a k ∷ windows (path (meets regions Direct (step a k)) 0 (n - k))) whole ∙ ap (λ (t : ℕ). w ∷ windows (path (meets regions Direct (step a n)) 0 t)) no_more ∙ ap (λ (xs : List Reached). w ∷ windows xs) (path-none (meets regions Direct (step a n)) 0) ∙ ap (λ (ss : List Stretch). w ∷ map window_of ss) none_at_all
 
+-- what is held of names joined end to end is held of both
+pub Holds-append : (shape : Shape) (xs ys : List Name) → Holds shape (xs ++ ys) → Holds shape xs × Holds shape ys
+Holds-append shape [] ys h = (tt, h)
+Holds-append shape (x ∷ xs) ys h = let k = Holds-append shape xs ys h.1 in ((h.0, k.0), k.1)
+
 -- a host that holds what regions name holds what each of them names
 region_held : (shape : Shape) (regions : List Region) (a : ℕ) (r : Region) → Holds shape (flat_map region_names regions) → home regions a ≡ Some r → Holds shape (region_names r)
 region_held shape [] a r h e = absurd (none-some r e)
 region_held shape (x ∷ xs) a r h e =
-    let parts = and_parts _ _ (sym (list_all-append (is_held shape) (region_names x) (flat_map region_names xs)) ∙ h) in
+    let parts = Holds-append shape (region_names x) (flat_map region_names xs) h in
     elim (home-cases x xs a r e) [
       | inl k ↦ subst (λ (q : Region). Holds shape (region_names q)) k.1 parts.0
       | inr k ↦ region_held shape xs a r parts.1 k.1
     ]
-
-ends_within-less : (o : Option ℕ) (low high : ℕ) → low ≤ high → ends_within o high ≡ true → ends_within o low ≡ true
-ends_within-less None low high h e = absurd (false≢true e)
-ends_within-less (Some len) low high h e = le-leb low len (omega (arith, leb-true high len e))
-
-ends_within-block : (lens : List ℕ) (block end : ℕ) → ends_within (slice_get lens block) end ≡ true → nat_lt block (length lens) ≡ true
-ends_within-block lens block end e = go (slice_get lens block) refl e
-  where
-    go : (o : Option ℕ) → slice_get lens block ≡ o → ends_within o end ≡ true → nat_lt block (length lens) ≡ true
-    go None none h = absurd (false≢true h)
-    go (Some len) some h = lt-ltb block (length lens) (slice_get_within lens block len some)
 
 -- what a route names besides the regions
 abbrev pub route_names : Route → List Name
@@ -385,31 +378,34 @@ route_names Direct = []
 route_names (Through f space) = host.Space space ∷ []
 
 -- a host holds a byte that is reached, and the bitmap that a write of it marks
-abbrev IsHeld : Shape → Reached → Type 0
-IsHeld shape x = Holds shape (window_names (window_of (record { first = x; len = 1 })))
+abbrev HoldsByte : Shape → Reached → Type 0
+HoldsByte shape x = Holds shape (window_names (window_of (record { first = x; len = 1 })))
 
-bitmap_held : (shape : Shape) (route : Route) (c : Cell) → Holds shape (route_names route) → nat_lt c.block (length shape.blocks) ≡ true → is_held shape (bitmap_name (bitmap_of route c)) ≡ true
+bitmap_held : (shape : Shape) (route : Route) (c : Cell) → Holds shape (route_names route) → c.block < length shape.blocks → IsHeld shape (bitmap_name (bitmap_of route c))
 bitmap_held shape Direct c h k = k
-bitmap_held shape (Through f space) c h k = (and_parts _ _ h).0
+bitmap_held shape (Through f space) c h k = h.0
 
-arrives_held : (shape : Shape) (regions : List Region) (route : Route) (a i : ℕ) (x : Reached) → Holds shape (flat_map region_names regions) → Holds shape (route_names route) → Arrives regions route a i x → IsHeld shape x
+arrives_held : (shape : Shape) (regions : List Region) (route : Route) (a i : ℕ) (x : Reached) → Holds shape (flat_map region_names regions) → Holds shape (route_names route) → Arrives regions route a i x → HoldsByte shape x
 arrives_held shape regions route a i x held held_too h =
     let place : Holds shape (place_names (Some h.first) x.home.len) = subst (λ (o : Option Cell). Holds shape (place_names o x.home.len)) h.some (region_held shape regions (physical route a i) x.home held h.found) in
-    let ends : ends_within (slice_get shape.blocks h.first.block) (h.first.offset + x.home.len) ≡ true = (and_parts _ _ place).0 in
     let within = arrives_within regions route a i x h in
-    let here : ends_within (slice_get shape.blocks x.cell.block) (x.cell.offset + 1) ≡ true = subst (λ (b : ℕ). ends_within (slice_get shape.blocks b) (x.cell.offset + 1) ≡ true) (sym within.0) (ends_within-less (slice_get shape.blocks h.first.block) (x.cell.offset + 1) (h.first.offset + x.home.len) within.1 ends) in
-    let bitmap : is_held shape (bitmap_name x.bitmap) ≡ true = subst (λ (b : BitmapId). is_held shape (bitmap_name b) ≡ true) (sym h.bitmap) (bitmap_held shape route x.cell held_too (ends_within-block shape.blocks x.cell.block (x.cell.offset + 1) here)) in
-    and_from _ _ here (and_from _ _ bitmap refl)
+    let inside = place.0 in
+    let ends : x.cell.offset + 1 ≤ slice_index shape.blocks h.first.block = omega (arith, within.1, inside.1) in
+    let block : x.cell.block < length shape.blocks = subst (λ (b : ℕ). b < length shape.blocks) (sym within.0) inside.0 in
+    let here : x.cell.offset + 1 ≤ slice_index shape.blocks x.cell.block = subst (λ (b : ℕ). x.cell.offset + 1 ≤ slice_index shape.blocks b) (sym within.0) ends in
+    let bitmap : IsHeld shape (bitmap_name x.bitmap) = subst (λ (b : BitmapId). IsHeld shape (bitmap_name b)) (sym h.bitmap) (bitmap_held shape route x.cell held_too block) in
+    ((block, here), (bitmap, tt))
 
 -- the windows of a memory that a host holds are held
 pub windows-held : (shape : Shape) (regions : List Region) (route : Route) (a n : ℕ) → All IsRegion regions → Holds shape (flat_map region_names regions) → Holds shape (route_names route) → AllByRecursion (λ w. Holds shape (window_names w)) (windows (path (meets regions route a) 0 n))
 windows-held shape regions route a n each held held_too =
     let xs = path (meets regions route a) 0 n in
-    let bytes : AllByRecursion (IsHeld shape) xs = path-all (IsHeld shape) (meets regions route a) 0 n (λ j low high x e. arrives_held shape regions route a j x held held_too (meets-arrives regions route a j x e)) in
-    all_map (λ (w : VolatileSlice). Holds shape (window_names w)) window_of (stretches xs) (stretches-all Follows (IsHeld shape) (λ s. Holds shape (window_names (window_of s))) (λ x h. h) (λ x y len h k q.
+    let bytes : AllByRecursion (HoldsByte shape) xs = path-all (HoldsByte shape) (meets regions route a) 0 n (λ j low high x e. arrives_held shape regions route a j x held held_too (meets-arrives regions route a j x e)) in
+    all_map (λ (w : VolatileSlice). Holds shape (window_names w)) window_of (stretches xs) (stretches-all Follows (HoldsByte shape) (λ s. Holds shape (window_names (window_of s))) (λ x h. h) (λ x y len h k q.
     let moved : Holds shape (host.Place x.cell.block (x.cell.offset + 1) len ∷ bitmap_name x.bitmap ∷ []) = subst₂ (λ (c : Cell) (b : BitmapId). Holds shape (host.Place c.block c.offset len ∷ bitmap_name b ∷ [])) k.cell k.bitmap q in
-    let ends : x.cell.offset + 1 + len ≡ x.cell.offset + (len + 1) = omega arith in
-    subst (λ (t : ℕ). (ends_within (slice_get shape.blocks x.cell.block) t && (is_held shape (bitmap_name x.bitmap) && true)) ≡ true) ends moved) xs bytes (path-follows regions route a n each))
+    let inside = moved.0 in
+    let ends : x.cell.offset + (len + 1) ≤ slice_index shape.blocks x.cell.block = omega (arith, inside.1) in
+    ((inside.0, ends), moved.1)) xs bytes (path-follows regions route a n each))
 
 -- each of them, by its place in the list
 pub windows-all_held : (shape : Shape) (regions : List Region) (route : Route) (a n : ℕ) → All IsRegion regions → Holds shape (flat_map region_names regions) → Holds shape (route_names route) → All (λ w. Holds shape (window_names w)) (windows (path (meets regions route a) 0 n))

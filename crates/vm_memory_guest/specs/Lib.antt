@@ -8,4 +8,5 @@ pub mod Memory
 pub mod Mmap
 pub mod Region
 pub mod Slice
+pub mod Walk
 pub mod Window

@@ -1,12 +1,16 @@
 //! Guest memory: backends, which are collections of regions, the walk through them, and access by guest
 //! address.
-ghost use Rattle.std.specs.Prelude.{◌≡◌, ◌⊎◌, ℕ, ◌+◌, ◌-◌, ◌^◌, ◌<◌, ◌≤◌, true, false, List, length, map, flat_map, All, Option, Some, None, IfOk, MatchResult, option_map, Result, cond, ◌==◌};
+ghost use Rattle.std.specs.Prelude.{◌≡◌, ◌⊎◌, ℕ, ◌+◌, ◌-◌, ◌^◌, ◌<◌, ◌≤◌, true, false, List, length, map, flat_map, All, Option, Some, None, IfOk, MatchResult, option_map, Result, cond, ◌==◌, OnSome};
+ghost use Rattle.std.specs.List.{AllByRecursion};
 ghost use Rattle.std.specs.Iterator.{YieldsFirst, item_count};
 ghost use Rattle.vm_memory_base.specs.Table.{Table};
 ghost use Rattle.vm_memory_guest.specs.Host.{shape_of, Holds};
 ghost use Rattle.vm_memory_guest.specs.Region.{Region, IsRegion, IsLayout, home, region_names};
 ghost use Rattle.vm_memory_guest.specs.Memory.{Memory, Route, Direct, route, memory_names};
 ghost use Rattle.vm_memory_guest.specs.Access.{access_of, allowed, refusal};
+ghost use Rattle.vm_memory_guest.specs.Answer.{counted, filled};
+ghost use Rattle.vm_memory_guest.specs.Walk.{walked};
+ghost use Rattle.vm_memory_guest.specs.Window.{span, cells, window_names, Writes};
 ghost use Rattle.vm_memory_guest.specs.Error.{reach_of, items_of, direct_items, error_of, GivesAccess, RefusesAccess};
 ghost use Rattle.vm_memory_guest.specs.declared.region.GuestMemoryError.{GuestMemoryError};
 ghost use Rattle.vm_memory_guest.specs.declared.region.GuestMemoryError.TheVariants as errors;
@@ -204,18 +208,8 @@ impl<T: GuestMemory> Bytes<GuestAddress> for T {
         buf: &[u8],
         addr: GuestAddress,
     ) -> GuestMemoryResult<usize> {
-        let mut total = 0;
-        for item in self.get_slices(host, addr, buf.len(), Permissions::Write)? {
-            match item {
-                Ok(window) => total += window.write(host, &buf[total..], 0)?,
-                Err(error) => {
-                    if total == 0 {
-                        return Err(error);
-                    }
-                }
-            }
-        }
-        Ok(total)
+        let walk = self.get_slices(host, addr, buf.len(), Permissions::Write)?;
+        write_windows(walk, host, buf)
     }
 
     fn read<B: Bitmap>(
@@ -224,18 +218,8 @@ impl<T: GuestMemory> Bytes<GuestAddress> for T {
         buf: &mut [u8],
         addr: GuestAddress,
     ) -> GuestMemoryResult<usize> {
-        let mut total = 0;
-        for item in self.get_slices(host, addr, buf.len(), Permissions::Read)? {
-            match item {
-                Ok(window) => total += window.read(host, &mut buf[total..], 0)?,
-                Err(error) => {
-                    if total == 0 {
-                        return Err(error);
-                    }
-                }
-            }
-        }
-        Ok(total)
+        let walk = self.get_slices(host, addr, buf.len(), Permissions::Read)?;
+        read_windows(walk, host, buf)
     }
 
     fn write_slice<B: Bitmap>(
@@ -258,6 +242,68 @@ impl<T: GuestMemory> Bytes<GuestAddress> for T {
         let completed = Bytes::read(self, host, buf, addr)?;
         whole(expected, completed)
     }
+}
+
+// Moves the buffer into the windows that a walk gives, one after the other, up to an error.
+fn write_windows<M: GuestMemoryBackend, B: Bitmap>(
+    walk: IommuMemorySliceIterator<'_, M>,
+    host: &mut HostMemory<B>,
+    buf: &[u8],
+) -> GuestMemoryResult<usize>
+    requires held { let r = walked (M.regions walk.walk.mem.now) walk.walk.addr.0 walk.walk.count in AllByRecursion (λ w. Holds (shape_of host.old) (window_names w)) r.windows }
+    requires fits { let r = walked (M.regions walk.walk.mem.now) walk.walk.addr.0 walk.walk.count in span r.windows ≤ length buf.now }
+    requires asked { let r = walked (M.regions walk.walk.mem.now) walk.walk.addr.0 walk.walk.count in OnSome r.fault (0 < length buf.now) }
+    ensures answer { let r = walked (M.regions walk.entry.walk.mem.now) walk.entry.walk.addr.0 walk.entry.walk.count in result ≡ counted (span r.windows) r.fault (length buf.now) }
+    ensures bytes { let r = walked (M.regions walk.entry.walk.mem.now) walk.entry.walk.addr.0 walk.entry.walk.count in Writes B.marks r.windows buf.now host.old host.new }
+{
+    let mut total = 0;
+    for item in walk {
+        match item {
+            Ok(window) => {
+                let end = total + window.len();
+                host.write(&window, &buf[total..end]);
+                total = end;
+            }
+            Err(error) => {
+                if total == 0 {
+                    return Err(error);
+                }
+                return Ok(total);
+            }
+        }
+    }
+    Ok(total)
+}
+
+// Fills the buffer from the windows that a walk gives, one after the other, up to an error.
+fn read_windows<M: GuestMemoryBackend, B: Bitmap>(
+    walk: IommuMemorySliceIterator<'_, M>,
+    host: &HostMemory<B>,
+    buf: &mut [u8],
+) -> GuestMemoryResult<usize>
+    requires held { let r = walked (M.regions walk.walk.mem.now) walk.walk.addr.0 walk.walk.count in AllByRecursion (λ w. Holds (shape_of host.now) (window_names w)) r.windows }
+    requires fits { let r = walked (M.regions walk.walk.mem.now) walk.walk.addr.0 walk.walk.count in span r.windows ≤ length buf.old }
+    requires asked { let r = walked (M.regions walk.walk.mem.now) walk.walk.addr.0 walk.walk.count in OnSome r.fault (0 < length buf.old) }
+    ensures answer { let r = walked (M.regions walk.entry.walk.mem.now) walk.entry.walk.addr.0 walk.entry.walk.count in result ≡ counted (span r.windows) r.fault (length buf.old) }
+    ensures bytes { let r = walked (M.regions walk.entry.walk.mem.now) walk.entry.walk.addr.0 walk.entry.walk.count in buf.new ≡ filled host.now.blocks (cells r.windows) buf.old }
+{
+    let mut total = 0;
+    for item in walk {
+        match item {
+            Ok(window) => {
+                let end = total + window.len();
+                buf[total..end].copy_from_slice(host.bytes(&window));
+                total = end;
+            }
+            Err(error) => {
+                if total == 0 {
+                    return Err(error);
+                }
+                return Ok(total);
+            }
+        }
+    }
+    Ok(total)
 }
 
 // Whether all that was expected was completed.

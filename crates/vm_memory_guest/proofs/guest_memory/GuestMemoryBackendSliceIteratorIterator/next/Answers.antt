@@ -1,7 +1,5 @@
-use Rattle.std.proofs.Common.{◌≡◌, ℕ, ◌+◌, ◌-◌, ◌%◌, ◌<◌, ◌≤◌, ◌^◌, min, [], ◌∷◌, refl, sym, ap, ◌∙◌, arith, Some, None, Ok, Err}
-use Rattle.vm_memory_base.specs.Address.{step}
+use Rattle.std.proofs.Common.{◌≡◌, ℕ, ◌-◌, ◌<◌, ◌^◌, min, [], ◌∷◌, refl, sym, ap, ◌∙◌, arith, Ok}
 use Rattle.vm_memory_guest.specs.Error.{direct_items}
-use Rattle.vm_memory_guest.specs.Region.{home}
 use Rattle.vm_memory_guest.proofs.PathWalk.{walk-none, home-within, is_within-bounds}
 use Rattle.vm_memory_guest.proofs.WalkLemmas.{first_goes, walk-ends, walk-gives, walk-refuses}
 use Rattle.vm_memory_guest.proofs.guest_memory.GuestMemoryBackendSliceIteratorIterator.next.Goals as goal
