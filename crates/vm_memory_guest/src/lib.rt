@@ -3,6 +3,7 @@
 
 mod mmap;
 mod region;
+pub mod region_laws;
 mod volatile_memory;
 
 pub use mmap::{GuestMemoryMmap, GuestRegionMmap, MmapRegion};
