@@ -1,5 +1,5 @@
 -- Layouts of regions: which lists pass the tests, and where an address lies in one.
-use Rattle.std.proofs.Common.{◌≡◌, ℕ, zero, suc, ◌+◌, ◌-◌, ◌<◌, ◌≤◌, ◌↔◌, true, false, List, [], ◌∷◌, map, length, get_or, Option, Some, None, Result, Ok, Err, ⊎_elim, inl, inr, refl, sym, ap, subst, ◌∙◌, arith}
+use Rattle.std.proofs.Common.{◌≡◌, ℕ, zero, suc, ◌+◌, ◌-◌, ◌<◌, ◌≤◌, ◌↔◌, Bool, true, false, List, [], ◌∷◌, map, length, get_or, is_le, nat_cmp, Option, Some, None, Result, Ok, Err, ⊎_elim, inl, inr, refl, sym, ap, subst, ◌∙◌, add-one, arith}
 use Rattle.std.proofs.lemmas.Bool.{cases_lt, cases_order}
 use Rattle.std.proofs.lemmas.Bool.Decides.{nat_tests}
 use Rattle.std.proofs.lemmas.List.{get_or-map, length-map}
@@ -60,15 +60,18 @@ pub layout_error-none : (rs : List Region) → All IsRegion rs → (layout_error
 layout_error-none [] each = (λ h. absurd (cc), λ h. absurd (omega arith))
 layout_error-none (r ∷ rs) each = (λ h. (omega arith, IsLayout-from_none (r ∷ rs) h), λ h. neighbours_error-of_layout (r ∷ rs) each h.1)
 
--- a list that passes the tests is a layout
-pub IsLayout-from_tests : (rs : List Region) → layout_error rs ≡ None → IsLayout rs
-IsLayout-from_tests [] h = tt
-IsLayout-from_tests (r ∷ rs) h = IsLayout-from_none (r ∷ rs) h
-
 -- of a list that is not empty the fault is the first of neighbours
 pub layout_error-some : (rs : List Region) (x : Option GuestRegionCollectionError) → 0 < length rs → neighbours_error rs ≡ x → layout_error rs ≡ x
 layout_error-some [] x l h = absurd (omega arith)
 layout_error-some (r ∷ rs) x l h = h
+
+-- the first pair that does not pass is the fault of a list
+pub layout_error-first : (rs : List Region) (i : ℕ) (e : GuestRegionCollectionError) (d : Region) → i + 1 < length rs → ((k : ℕ) → k < i → neighbours_of (get_or rs k d) (get_or rs (k + 1) d) ≡ Ok tt) → neighbours_of (get_or rs i d) (get_or rs (i + 1) d) ≡ Err e → layout_error rs ≡ Some e
+layout_error-first rs i e d l h f =
+    layout_error-some rs (Some e) (omega arith)
+    (neighbours_error-some rs i e d (omega arith)
+    (λ k m. subst (λ (n : ℕ). neighbours_of (get_or rs k d) (get_or rs n d) ≡ Ok tt) (add-one k) (h k m))
+    (subst (λ (n : ℕ). neighbours_of (get_or rs i d) (get_or rs n d) ≡ Err e) (add-one i) f))
 
 -- a region of a layout ends below the start of each later one
 pub layout-apart : (rs : List Region) → All IsRegion rs → IsLayout rs → (i j : ℕ) (d : Region) → i < j → j < length rs → last (get_or rs i d) < (get_or rs j d).start
@@ -119,7 +122,7 @@ is_within-from start len a h = grind (arith, nat_tests)
 home-at : (rs : List Region) (a i : ℕ) (d : Region) → i < length rs → ((k : ℕ) → k < i → is_within (get_or rs k d).start (get_or rs k d).len a ≡ false) → is_within (get_or rs i d).start (get_or rs i d).len a ≡ true → home rs a ≡ Some (get_or rs i d)
 home-at rs a i d l h k = found_at (λ (xs : List Region). home xs a) (λ (r : Region). is_within r.start r.len a) (λ (r : Region). Some r) None refl (λ x xs. refl) rs i d l h k
 
-home-nowhere : (rs : List Region) (a : ℕ) (d : Region) → ((k : ℕ) → k < length rs → is_within (get_or rs k d).start (get_or rs k d).len a ≡ false) → home rs a ≡ None
+pub home-nowhere : (rs : List Region) (a : ℕ) (d : Region) → ((k : ℕ) → k < length rs → is_within (get_or rs k d).start (get_or rs k d).len a ≡ false) → home rs a ≡ None
 home-nowhere rs a d h = found_nowhere (λ (xs : List Region). home xs a) (λ (r : Region). is_within r.start r.len a) (λ (r : Region). Some r) None refl (λ x xs. refl) rs d h
 
 -- two places of a layout that hold an address are one place
@@ -172,16 +175,30 @@ home-between rs each h a n r some within at above y =
       | inr o ↦ is_within-before (get_or rs k r).start (get_or rs k r).len a (above k r o m)
     ]))
 
--- each of the regions of shared values is one
-pub All-regions : {X : Type 0} (f : X → Region) → ((x : X) → IsRegion (f x)) → (xs : List X) → All IsRegion (map f xs)
-All-regions f fits xs = All-map IsRegion f xs (λ k d l. fits (get_or xs k d))
+-- the regions of shared values
+abbrev pub regions : {X : Type 0} → (X → Region) → List (Arc X Global) → List Region
+regions {X} f rs = map f (map (λ (r : Arc X Global). r.value) rs)
+
+-- each is one
+pub All-regions : {X : Type 0} (f : X → Region) → ((x : X) → IsRegion (f x)) → (rs : List (Arc X Global)) → All IsRegion (regions f rs)
+All-regions {X} f fits rs =
+    let xs = map (λ (r : Arc X Global). r.value) rs in
+    All-map IsRegion f xs (λ k d l. fits (get_or xs k d))
 
 -- the region at a place
-pub region-at : {X : Type 0} (f : X → Region) (rs : List (Arc X Global)) (i : ℕ) (r : Arc X Global) (d : Region) → i < length rs → r ≡ get_or rs i r → get_or (map f (map (λ (q : Arc X Global). q.value) rs)) i d ≡ f r.value
+pub region-at : {X : Type 0} (f : X → Region) (rs : List (Arc X Global)) (i : ℕ) (r : Arc X Global) (d : Region) → i < length rs → r ≡ get_or rs i r → get_or (regions f rs) i d ≡ f r.value
 region-at {X} f rs i r d l e =
-    get_or-map f (map (λ (q : Arc X Global). q.value) rs) i r.value d (subst (λ (n : ℕ). i < n) (sym (length-map rs (λ (q : Arc X Global). q.value))) l)
-    ∙ ap f (get_or-map (λ (q : Arc X Global). q.value) rs i r r.value l ∙ ap (λ (q : Arc X Global). q.value) (sym e))
+    let value = λ (q : Arc X Global). q.value in
+    get_or-map f (map value rs) i r.value d (subst (λ (n : ℕ). i < n) (sym (length-map rs value)) l)
+    ∙ ap f (get_or-map value rs i r r.value l ∙ ap value (sym e))
 
 -- there are as many regions as shared values
-pub length-regions : {X : Type 0} (f : X → Region) (rs : List (Arc X Global)) → length (map f (map (λ (q : Arc X Global). q.value) rs)) ≡ length rs
-length-regions {X} f rs = length-map (map (λ (q : Arc X Global). q.value) rs) f ∙ length-map rs (λ (q : Arc X Global). q.value)
+pub length-regions : {X : Type 0} (f : X → Region) (rs : List (Arc X Global)) → length (regions f rs) ≡ length rs
+length-regions {X} f rs = length-map (map (λ (r : Arc X Global). r.value) rs) f ∙ length-map rs (λ (r : Arc X Global). r.value)
+
+-- what a test of two numbers tells
+pub le-from_true : (a b : ℕ) (t : Bool) → t ≡ is_le (nat_cmp a b) → t ≡ true → a ≤ b
+le-from_true a b t h k = grind (arith, nat_tests)
+
+pub lt-from_false : (a b : ℕ) (t : Bool) → t ≡ is_le (nat_cmp a b) → t ≡ false → b < a
+lt-from_false a b t h k = grind (arith, nat_tests)

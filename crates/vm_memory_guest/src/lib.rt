@@ -8,6 +8,7 @@ mod guest_memory;
 mod mmap;
 pub mod path_laws;
 mod region;
+pub mod region_laws;
 mod volatile_memory;
 
 pub use guest_memory::{

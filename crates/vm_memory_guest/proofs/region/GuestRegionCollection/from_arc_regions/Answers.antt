@@ -1,4 +1,4 @@
-use Rattle.std.proofs.Common.{◌≡◌, ℕ, suc, ◌+◌, ◌-◌, ◌<◌, ◌≤◌, List, Some, None, Result, Ok, Err, map, length, get_or, sym, ap, subst, ◌∙◌, refl, inl, inr, arith}
+use Rattle.std.proofs.Common.{◌≡◌, ℕ, suc, ◌+◌, ◌-◌, ◌<◌, ◌≤◌, List, Some, None, Result, Ok, Err, length, get_or, sym, ap, subst, ◌∙◌, refl, inl, inr, arith}
 use Rattle.std.proofs.lemmas.Bool.{cases_lt}
 use Rattle.std.proofs.lemmas.Bool.Decides.{nat_tests}
 use Rattle.std.proofs.lemmas.Result.{err_from_is_err_and}
@@ -6,42 +6,42 @@ use Rattle.std.specs.declared.alloc.Global.{Global}
 use Rattle.std.specs.declared.sync.Arc.{Arc}
 use Rattle.vm_memory_guest.specs.declared.region.GuestRegionCollectionError.{GuestRegionCollectionError}
 use Rattle.vm_memory_guest.specs.Region.{Region, neighbours_of, layout_error, IsLayout}
-use Rattle.vm_memory_guest.proofs.RegionLaws.{region-at, length-regions, neighbours_error-none, neighbours_error-some, layout_error-some, IsLayout-from_none}
+use Rattle.vm_memory_guest.proofs.RegionLaws.{regions, region-at, length-regions, neighbours_error-none, neighbours_error-some, layout_error-some, IsLayout-from_none}
 use Rattle.vm_memory_guest.proofs.region.GuestRegionCollection.from_arc_regions.Goals as goal
 
 -- neighbours of shared values
-module _ {X : Type 0} (f : X → Region) (rs : List (Arc X Global)) (n : ℕ) (some : 0 < n) (before : (k : ℕ) (d : Region) → suc k < n → neighbours_of (get_or (map f (map (λ (r : Arc X Global). r.value) rs)) k d) (get_or (map f (map (λ (r : Arc X Global). r.value) rs)) (suc k) d) ≡ Ok tt) where
-  all_pass : length rs ≤ n → 0 < length rs → layout_error (map f (map (λ (r : Arc X Global). r.value) rs)) ≡ None
+module _ {X : Type 0} (f : X → Region) (rs : List (Arc X Global)) (n : ℕ) (some : 0 < n) (before : (k : ℕ) (d : Region) → suc k < n → neighbours_of (get_or (regions f rs) k d) (get_or (regions f rs) (suc k) d) ≡ Ok tt) where
+  all_pass : length rs ≤ n → 0 < length rs → layout_error (regions f rs) ≡ None
   all_pass l m =
       let e = length-regions f rs in
-      layout_error-some (map f (map (λ (r : Arc X Global). r.value) rs)) None (omega arith) (neighbours_error-none (map f (map (λ (r : Arc X Global). r.value) rs)) (λ k d h. before k d (omega arith)))
+      layout_error-some (regions f rs) None (omega arith) (neighbours_error-none (regions f rs) (λ k d h. before k d (omega arith)))
 
-  layout_made : length rs ≤ n → IsLayout (map f (map (λ (r : Arc X Global). r.value) rs))
+  layout_made : length rs ≤ n → IsLayout (regions f rs)
   layout_made l =
       let e = length-regions f rs in
-      IsLayout-from_none (map f (map (λ (r : Arc X Global). r.value) rs)) (neighbours_error-none (map f (map (λ (r : Arc X Global). r.value) rs)) (λ k d h. before k d (omega arith)))
+      IsLayout-from_none (regions f rs) (neighbours_error-none (regions f rs) (λ k d h. before k d (omega arith)))
 
   module _ (q r : Arc X Global) (within : n < length rs) (at : q ≡ get_or rs (n - 1) q) (next : r ≡ get_or rs n r) where
-    pair : (k : ℕ) (d : Region) → suc k ≡ n → neighbours_of (get_or (map f (map (λ (r : Arc X Global). r.value) rs)) k d) (get_or (map f (map (λ (r : Arc X Global). r.value) rs)) (suc k) d) ≡ neighbours_of (f q.value) (f r.value)
+    pair : (k : ℕ) (d : Region) → suc k ≡ n → neighbours_of (get_or (regions f rs) k d) (get_or (regions f rs) (suc k) d) ≡ neighbours_of (f q.value) (f r.value)
     pair k d e =
         let same : n - 1 ≡ k = omega arith in
-        let first = subst (λ (i : ℕ). get_or (map f (map (λ (r : Arc X Global). r.value) rs)) i d ≡ f q.value) same (region-at f rs (n - 1) q d (omega arith) at) in
-        let second = subst (λ (i : ℕ). get_or (map f (map (λ (r : Arc X Global). r.value) rs)) i d ≡ f r.value) (sym e) (region-at f rs n r d within next) in
-        ap (λ (x : Region). neighbours_of x (get_or (map f (map (λ (r : Arc X Global). r.value) rs)) (suc k) d)) first ∙ ap (λ (x : Region). neighbours_of (f q.value) x) second
+        let first = subst (λ (i : ℕ). get_or (regions f rs) i d ≡ f q.value) same (region-at f rs (n - 1) q d (omega arith) at) in
+        let second = subst (λ (i : ℕ). get_or (regions f rs) i d ≡ f r.value) (sym e) (region-at f rs n r d within next) in
+        ap (λ (x : Region). neighbours_of x (get_or (regions f rs) (suc k) d)) first ∙ ap (λ (x : Region). neighbours_of (f q.value) x) second
 
     -- what the call answered, at the values that it read
     module _ (t : Result (Unit {0}) GuestRegionCollectionError) (u v : X) (answer : t ≡ neighbours_of (f u) (f v)) (first : u ≡ q.value) (second : v ≡ r.value) where
       read : neighbours_of (f q.value) (f r.value) ≡ t
       read = ap (λ (x : X). neighbours_of (f x) (f r.value)) (sym first) ∙ ap (λ (x : X). neighbours_of (f u) (f x)) (sym second) ∙ sym answer
 
-      one_passes : t ≡ Ok tt → (k : ℕ) (d : Region) → suc k < n + 1 → neighbours_of (get_or (map f (map (λ (r : Arc X Global). r.value) rs)) k d) (get_or (map f (map (λ (r : Arc X Global). r.value) rs)) (suc k) d) ≡ Ok tt
+      one_passes : t ≡ Ok tt → (k : ℕ) (d : Region) → suc k < n + 1 → neighbours_of (get_or (regions f rs) k d) (get_or (regions f rs) (suc k) d) ≡ Ok tt
       one_passes h k d l = elim (cases_lt (suc k) n) [ inl m ↦ before k d m | inr m ↦ pair k d (omega arith) ∙ read ∙ h ]
 
-      one_fails : (e : GuestRegionCollectionError) → t ≡ Err e → layout_error (map f (map (λ (r : Arc X Global). r.value) rs)) ≡ Some e
+      one_fails : (e : GuestRegionCollectionError) → t ≡ Err e → layout_error (regions f rs) ≡ Some e
       one_fails e h =
           let same = length-regions f rs in
-          layout_error-some (map f (map (λ (r : Arc X Global). r.value) rs)) (Some e) (omega arith)
-          (neighbours_error-some (map f (map (λ (r : Arc X Global). r.value) rs)) (n - 1) e (f q.value) (omega arith) (λ k m. before k (f q.value) (omega arith)) (pair (n - 1) (f q.value) (omega arith) ∙ read ∙ h))
+          layout_error-some (regions f rs) (Some e) (omega arith)
+          (neighbours_error-some (regions f rs) (n - 1) e (f q.value) (omega arith) (λ k m. before k (f q.value) (omega arith)) (pair (n - 1) (f q.value) (omega arith) ∙ read ∙ h))
 
 pub returns-in_err-neighbours : goal.returns-in_err-neighbours
 returns-in_err-neighbours g c =
