@@ -1,3 +1,4 @@
 pub mod PowerOfTwo
 pub mod Bytes
 pub mod ByteCodes
+pub mod ArrayCodes

@@ -4,6 +4,7 @@ ghost use Rattle.std.specs.Prelude.{◌≡◌, ℕ, ◌-◌, ◌^◌, ◌<◌, �
 ghost use Rattle.std.specs.Bool.{OnTrue, OnFalse};
 ghost use Rattle.vm_memory_base.specs.Bytes.{IsByteCode};
 
+mod arrays;
 mod integers;
 
 pub use self::integers::FixedInteger;
