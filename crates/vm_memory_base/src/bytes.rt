@@ -5,8 +5,10 @@ ghost use Rattle.std.specs.Bool.{OnTrue, OnFalse};
 ghost use Rattle.vm_memory_base.specs.Bytes.{IsByteCode};
 
 mod arrays;
+mod atomic;
 mod integers;
 
+pub use self::atomic::AtomicAccess;
 pub use self::integers::FixedInteger;
 pub(crate) use self::integers::reversed;
 

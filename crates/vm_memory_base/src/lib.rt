@@ -10,5 +10,5 @@ pub use address::{
     Address, AddressValue, AddressWord, GuestAddress, GuestUsize, MemoryRegionAddress,
 };
 pub use atomic_integer::AtomicInteger;
-pub use bytes::{ByteValued, FixedInteger};
+pub use bytes::{AtomicAccess, ByteValued, FixedInteger};
 pub use endian::{Be16, Be32, Be64, BeSize, BigEndian, Le16, Le32, Le64, LeSize, LittleEndian};
