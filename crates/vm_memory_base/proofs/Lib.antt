@@ -1,1 +1,2 @@
 pub mod AlignUp
+pub mod KnownBytesJoined
