@@ -160,3 +160,6 @@ impl<T: FixedInteger> ByteValued for T {
 
     ghost laws = { T.FixedInteger.laws };
 }
+
+#[cfg(test)]
+mod tests;
