@@ -52,7 +52,8 @@ impl<T: FixedInteger> LittleEndian<T> {
     pub fn to_native(self) -> T
         ensures { result ≡ self.0 }
     {
-        self.0
+        let LittleEndian(native) = self;
+        native
     }
 
     /// Whether the value is that of a native integer.
@@ -60,7 +61,7 @@ impl<T: FixedInteger> LittleEndian<T> {
     pub fn equals_native(self, native: T) -> bool
         ensures { IsTrue result ↔ (self.0 ≡ native) }
     {
-        self.0 == native
+        self.to_native() == native
     }
 }
 
@@ -146,7 +147,8 @@ impl<T: FixedInteger> BigEndian<T> {
     pub fn to_native(self) -> T
         ensures { result ≡ self.0 }
     {
-        self.0
+        let BigEndian(native) = self;
+        native
     }
 
     /// Whether the value is that of a native integer.
@@ -154,7 +156,8 @@ impl<T: FixedInteger> BigEndian<T> {
     pub fn equals_native(self, native: T) -> bool
         ensures { IsTrue result ↔ (self.0 ≡ native) }
     {
-        self.0 == native
+        let BigEndian(own) = self;
+        own == native
     }
 }
 
