@@ -41,12 +41,12 @@ pub trait ByteValued: Copy {
     fn size() -> usize
         ensures { result ≡ min width (2 ^ 64 - 1) };
 
-    /// Byte `i` of the value.
+    /// Byte `i` of the value, which has to be one of its bytes.
     fn byte(&self, i: usize) -> u8
         requires { i < width }
         ensures { result ≡ slice_index (bytes self.now) i };
 
-    /// Replaces byte `i` of the value.
+    /// Replaces byte `i` of the value, which has to be one of its bytes.
     fn set_byte(&mut self, i: usize, b: u8)
         requires { i < width }
         ensures { bytes self.new ≡ slice_set (bytes self.old) i b };
@@ -73,7 +73,9 @@ pub trait ByteValued: Copy {
     // Values and lists of bytes stand for one another, so both round trips lead back.
     ghost laws: { IsByteCode width is_value bytes value_of };
 
-    /// Writes the bytes of the value to a writer. An error is the writer's.
+    /// Writes the bytes of the value to a writer, at most 64 at once.
+    ///
+    /// An error is the writer's, and leaves open how many of the bytes it took.
     final fn write_all_to<W: Write>(&self, writer: &mut W) -> io::Result<()>
         ensures { width < 2 ^ 64 → OnOk result (Appends (W.contents writer.old) (W.contents writer.new) (bytes self.now)) }
     {
@@ -88,8 +90,10 @@ pub trait ByteValued: Copy {
         Ok(())
     }
 
-    /// The value with the next `size()` bytes of a reader. Where the reader ends before these, its
-    /// error is of the kind `UnexpectedEof`.
+    /// The value with the next `size()` bytes of a reader, taken at most 64 at once.
+    ///
+    /// An error is the reader's, and leaves open how many bytes it gave. Where a reader ends too
+    /// early, std's error is of the kind `UnexpectedEof`.
     final fn read_exact_from<R: Read>(reader: &mut R) -> io::Result<Self>
         ensures { width < 2 ^ 64 → IfOk result (λ x. Consumes (R.remaining reader.old) (R.remaining reader.new) (bytes x)) }
     {
