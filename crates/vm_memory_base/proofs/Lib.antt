@@ -2,3 +2,4 @@ pub mod PagesLaws
 pub mod RunsLaws
 pub mod TableLaws
 pub mod AlignUp
+pub mod KnownBytesJoined

@@ -1,6 +1,6 @@
 -- The bytes of a number, the lowest first, and the number that bytes write.
 use Rattle.std.proofs.Common.{◌≡◌, ℕ, zero, suc, ◌+◌, ◌-◌, ◌*◌, ◌/◌, ◌%◌, ◌^◌, ◌<◌, ◌≤◌, List, [], ◌∷◌, ◌++◌, length, take, slice_index, slice_set, sym, ◌∙◌, ap, refl, arith, replicate, length-append, Fits, reverse, subst, inl, inr, Bool}
-use Rattle.std.specs.Int.{Width, w8, w16, w32, w64, w128, byte_at, byte_len, byte_worth, bytes_low_first, sum_through, to_le_bytes, from_le_bytes, cast_signed, cast_unsigned}
+use Rattle.std.specs.Int.{Width, w8, w16, w32, w64, w128, byte_at, byte_len, byte_worth, bytes_low_first, sum_through, to_le_bytes, to_be_bytes, from_le_bytes, cast_signed, cast_unsigned}
 use Rattle.std.specs.Int.RustNames.{FitsSigned}
 use mir.Val.{bits}
 use Rattle.std.specs.Bool.{Decides}
@@ -227,3 +227,11 @@ pub wrapped_equal : {V W : Type 0} {E : V → V → Bool} → (open_ : W → V) 
     → ((a b : V) → Decides (E a b) (a ≡ b)) → (x y : W) → Decides (E (open_ x) (open_ y)) (x ≡ y)
 wrapped_equal open_ close closes equal x y =
     (λ e. sym (closes x) ∙ ap close ((equal (open_ x) (open_ y)).0 e) ∙ closes y, λ e. (equal (open_ x) (open_ y)).1 (ap open_ e))
+
+-- turned, they are the bytes in big endian order
+pub reverse-to_le_bytes : (w : Width) (n : ℕ) → reverse (to_le_bytes w n) ≡ to_be_bytes w n
+reverse-to_le_bytes w8 n = refl
+reverse-to_le_bytes w16 n = refl
+reverse-to_le_bytes w32 n = refl
+reverse-to_le_bytes w64 n = refl
+reverse-to_le_bytes w128 n = refl

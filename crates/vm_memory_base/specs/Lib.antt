@@ -6,3 +6,4 @@ pub mod Table
 pub mod PowerOfTwo
 pub mod Bytes
 pub mod ByteCodes
+pub mod ArrayCodes

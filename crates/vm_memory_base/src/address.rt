@@ -450,7 +450,6 @@ mod tests {
         assert_eq!(rt; A::zero(), 0);
         assert_eq!(rt; A::one(), 1);
         assert_eq!(rt; A::default(), A::new(0));
-        assert!(rt; low < top);
         assert_eq!(rt; A::new(0x5050).mask(0xff00), 0x5000);
         assert_eq!(rt; A::new(0x5050) & 0xff00, A::new(0x5000));
         assert_eq!(rt; A::new(0x5050) | 5, A::new(0x5055));
@@ -467,17 +466,40 @@ mod tests {
     }
 
     #[test]
-    fn guest_addresses(rt: HostRuntime) {
+    fn arithmetic(rt: HostRuntime) {
         each_call::<GuestAddress>(&rt);
         each_call::<MemoryRegionAddress>(&rt);
     }
 
     #[test]
-    fn unchecked_arithmetic(rt: HostRuntime) {
-        let base = GuestAddress(0x1000);
-        assert_eq!(rt; base.unchecked_add(0x50), GuestAddress(0x1050));
-        assert_eq!(rt; base.unchecked_sub(0x50), GuestAddress(0xfb0));
-        assert_eq!(rt; base.unchecked_add(0x50).unchecked_offset_from(base), 0x50);
+    fn edges(rt: HostRuntime) {
+        let top = GuestAddress(u64::MAX);
+        assert_eq!(rt; GuestAddress(u64::MAX - 1).checked_add(1), Some(top));
+        assert_eq!(rt; GuestAddress(u64::MAX - 1).unchecked_add(1), top);
+        assert_eq!(rt; GuestAddress(1).checked_sub(1), Some(GuestAddress(0)));
+        assert_eq!(rt; GuestAddress(1).unchecked_sub(1), GuestAddress(0));
+        assert_eq!(rt;
+            GuestAddress(0x150).unchecked_offset_from(GuestAddress(0x100)),
+            0x50
+        );
+        assert_eq!(rt;
+            MemoryRegionAddress(0x0ff0) & 0xf00f,
+            MemoryRegionAddress(0)
+        );
+        assert_eq!(rt;
+            MemoryRegionAddress(0x0ff0) | 0xf00f,
+            MemoryRegionAddress(0xffff)
+        );
+    }
+
+    #[test]
+    fn comparisons(rt: HostRuntime) {
+        let a = GuestAddress(0x300);
+        let b = GuestAddress(0x301);
+        assert_eq!(rt; a, GuestAddress(a.raw_value()));
+        assert_ne!(rt; a, b);
+        assert!(rt; a < b);
+        assert!(rt; MemoryRegionAddress(0x300) < MemoryRegionAddress(0x301));
     }
 
     #[test]
@@ -485,8 +507,13 @@ mod tests {
         let a = GuestAddress(0x128);
         assert_eq!(rt; a.checked_align_up(8), Some(GuestAddress(0x128)));
         assert_eq!(rt; a.checked_align_up(16), Some(GuestAddress(0x130)));
+        assert_eq!(rt; a.unchecked_align_up(8), GuestAddress(0x128));
         assert_eq!(rt; a.unchecked_align_up(16), GuestAddress(0x130));
         let high = GuestAddress(u64::MAX - 0x3fff);
         assert_eq!(rt; high.checked_align_up(0x10000), None);
+        assert_eq!(rt;
+            MemoryRegionAddress(1).checked_align_up(2),
+            Some(MemoryRegionAddress(2))
+        );
     }
 }

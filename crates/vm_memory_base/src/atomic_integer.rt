@@ -212,3 +212,44 @@ impl AtomicInteger for AtomicUsize {
         self.store(val, order);
     }
 }
+
+#[cfg(test)]
+mod tests {
+    use super::*;
+    use std::fmt::Debug;
+    use std::process::Abort;
+
+    fn stores_and_loads<A: AtomicInteger + Drop>(rt: &impl Abort)
+    where
+        A::V: From<u8> + PartialEq + Debug,
+    {
+        let zero = A::V::from(0);
+        let hundred = A::V::from(100);
+        let a = A::new(zero);
+        assert_eq!(rt; a.load(Ordering::Relaxed), zero);
+        a.store(hundred, Ordering::Relaxed);
+        assert_eq!(rt; a.load(Ordering::SeqCst), hundred);
+    }
+
+    #[test]
+    fn unsigned_words(rt: HostRuntime) {
+        stores_and_loads::<AtomicU8>(&rt);
+        stores_and_loads::<AtomicU16>(&rt);
+        stores_and_loads::<AtomicU32>(&rt);
+        stores_and_loads::<AtomicU64>(&rt);
+        stores_and_loads::<AtomicUsize>(&rt);
+    }
+
+    #[test]
+    fn signed_words(rt: HostRuntime) {
+        let a = <AtomicI8 as AtomicInteger>::new(-1);
+        AtomicInteger::store(&a, i8::MIN, Ordering::Release);
+        assert_eq!(rt; AtomicInteger::load(&a, Ordering::Acquire), i8::MIN);
+        stores_and_loads::<AtomicI16>(&rt);
+        stores_and_loads::<AtomicI32>(&rt);
+        stores_and_loads::<AtomicI64>(&rt);
+        let a = <AtomicIsize as AtomicInteger>::new(-1);
+        AtomicInteger::store(&a, isize::MIN, Ordering::SeqCst);
+        assert_eq!(rt; AtomicInteger::load(&a, Ordering::Relaxed), isize::MIN);
+    }
+}

@@ -1,13 +1,20 @@
 //! Values as bytes.
 
-ghost use Rattle.std.specs.Prelude.{◌≡◌, ℕ, ◌-◌, ◌^◌, ◌<◌, ◌≤◌, ◌↔◌, List, min, length, replicate, slice_index, slice_set, SomeIff, IsTrue};
+ghost use Rattle.std.specs.Prelude.{◌≡◌, ℕ, ◌-◌, ◌^◌, ◌<◌, ◌≤◌, ◌↔◌, List, min, length, replicate, slice_index, slice_set, SomeIff, IsTrue, OnOk, IfOk};
+ghost use Rattle.std.specs.Io.KnownBytes.{Appends, Consumes};
 ghost use Rattle.std.specs.Bool.{OnTrue, OnFalse};
 ghost use Rattle.vm_memory_base.specs.Bytes.{IsByteCode};
 
+mod arrays;
+mod atomic;
 mod integers;
+mod pieces;
 
+pub use self::atomic::AtomicAccess;
 pub use self::integers::FixedInteger;
 pub(crate) use self::integers::reversed;
+use self::pieces::{PIECE, read_piece, write_piece};
+use std::io::{self, Read, Write};
 
 /// Types whose values stand one for one for the lists of a fixed number of bytes.
 ///
@@ -34,12 +41,12 @@ pub trait ByteValued: Copy {
     fn size() -> usize
         ensures { result ≡ min width (2 ^ 64 - 1) };
 
-    /// Byte `i` of the value.
+    /// Byte `i` of the value, which has to be one of its bytes.
     fn byte(&self, i: usize) -> u8
         requires { i < width }
         ensures { result ≡ slice_index (bytes self.now) i };
 
-    /// Replaces byte `i` of the value.
+    /// Replaces byte `i` of the value, which has to be one of its bytes.
     fn set_byte(&mut self, i: usize, b: u8)
         requires { i < width }
         ensures { bytes self.new ≡ slice_set (bytes self.old) i b };
@@ -65,6 +72,42 @@ pub trait ByteValued: Copy {
 
     // Values and lists of bytes stand for one another, so both round trips lead back.
     ghost laws: { IsByteCode width is_value bytes value_of };
+
+    /// Writes the bytes of the value to a writer, at most 64 at once.
+    ///
+    /// An error is the writer's, and leaves open how many of the bytes it took.
+    final fn write_all_to<W: Write>(&self, writer: &mut W) -> io::Result<()>
+        ensures { width < 2 ^ 64 → OnOk result (Appends (W.contents writer.old) (W.contents writer.new) (bytes self.now)) }
+    {
+        self.known();
+        let size = Self::size();
+        let mut done = 0;
+        while done < size {
+            let count = PIECE.min(size - done);
+            write_piece(self, writer, done, count)?;
+            done += count;
+        }
+        Ok(())
+    }
+
+    /// The value with the next `size()` bytes of a reader, taken at most 64 at once.
+    ///
+    /// An error is the reader's, and leaves open how many bytes it gave. Where a reader ends too
+    /// early, std's error is of the kind `UnexpectedEof`.
+    final fn read_exact_from<R: Read>(reader: &mut R) -> io::Result<Self>
+        ensures { width < 2 ^ 64 → IfOk result (λ x. Consumes (R.remaining reader.old) (R.remaining reader.new) (bytes x)) }
+    {
+        let size = Self::size();
+        let mut value = Self::zeroed();
+        let mut done = 0;
+        while done < size {
+            let count = PIECE.min(size - done);
+            read_piece(&mut value, reader, done, count)?;
+            done += count;
+        }
+        value.known();
+        Ok(value)
+    }
 }
 
 impl<T: FixedInteger> ByteValued for T {
@@ -76,23 +119,28 @@ impl<T: FixedInteger> ByteValued for T {
 
     ghost value_of = { T.value_of };
 
+    #[inline]
     fn size() -> usize {
         T::bytes_count()
     }
 
+    #[inline]
     fn byte(&self, i: usize) -> u8 {
         integers::byte_of(self.to_bits(), T::bytes_count(), i)
     }
 
+    #[inline]
     fn set_byte(&mut self, i: usize, b: u8) {
         let bits = integers::with_byte(self.to_bits(), T::bytes_count(), i, b);
         *self = T::from_bits(bits);
     }
 
+    #[inline]
     fn zeroed() -> T {
         T::from_bits(0)
     }
 
+    #[inline]
     fn from_slice(data: &[u8]) -> Option<T> {
         if data.len() != T::bytes_count() {
             return None;
@@ -100,6 +148,7 @@ impl<T: FixedInteger> ByteValued for T {
         Some(T::from_bits(integers::number_in(data)))
     }
 
+    #[inline]
     fn to_slice(&self, out: &mut [u8]) -> bool {
         if out.len() != T::bytes_count() {
             return false;
@@ -108,9 +157,13 @@ impl<T: FixedInteger> ByteValued for T {
         true
     }
 
+    #[inline]
     fn known(&self) {
         self.to_bits();
     }
 
     ghost laws = { T.FixedInteger.laws };
 }
+
+#[cfg(test)]
+mod tests;

@@ -52,7 +52,8 @@ impl<T: FixedInteger> LittleEndian<T> {
     pub fn to_native(self) -> T
         ensures { result ≡ self.0 }
     {
-        self.0
+        let LittleEndian(native) = self;
+        native
     }
 
     /// Whether the value is that of a native integer.
@@ -60,7 +61,7 @@ impl<T: FixedInteger> LittleEndian<T> {
     pub fn equals_native(self, native: T) -> bool
         ensures { IsTrue result ↔ (self.0 ≡ native) }
     {
-        self.0 == native
+        self.to_native() == native
     }
 }
 
@@ -146,7 +147,8 @@ impl<T: FixedInteger> BigEndian<T> {
     pub fn to_native(self) -> T
         ensures { result ≡ self.0 }
     {
-        self.0
+        let BigEndian(native) = self;
+        native
     }
 
     /// Whether the value is that of a native integer.
@@ -154,7 +156,8 @@ impl<T: FixedInteger> BigEndian<T> {
     pub fn equals_native(self, native: T) -> bool
         ensures { IsTrue result ↔ (self.0 ≡ native) }
     {
-        self.0 == native
+        let BigEndian(own) = self;
+        own == native
     }
 }
 
@@ -233,4 +236,55 @@ impl<T: FixedInteger> FixedInteger for BigEndian<T> {
     ghost length_always = { λ x. length-reversed (T.bytes x.0) (T.length_always x.0) };
 
     ghost equal = { wrapped_equal (λ x. x.0) (λ v. record { 0 = v }) (λ x. refl) T.equal };
+}
+
+#[cfg(test)]
+mod tests {
+    use super::*;
+    use crate::ByteValued;
+    use std::process::Abort;
+
+    // A value of an endian type, made from a native one, has these bytes, and leads back.
+    fn holds<T, E>(rt: &impl Abort, native: T, wanted: &[u8])
+    where
+        T: FixedInteger + From<E>,
+        E: ByteValued + From<T> + PartialEq + std::fmt::Debug,
+    {
+        let value = E::from(native);
+        let mut bytes = [0u8; 8];
+        let n = wanted.len();
+        assert!(rt; n <= 8);
+        assert_eq!(rt; E::size(), n);
+        let own = &mut bytes[..n];
+        assert!(rt; value.to_slice(own));
+        let own: &[u8] = own;
+        assert_eq!(rt; own, wanted);
+        assert_eq!(rt; E::from_slice(own), Some(value));
+        assert_eq!(rt; T::from(value), native);
+    }
+
+    #[test]
+    fn bytes_in_order(rt: HostRuntime) {
+        holds::<u16, Le16>(&rt, 0xcdef, &[0xef, 0xcd]);
+        holds::<u32, Le32>(&rt, 0x89ab_cdef, &[0xef, 0xcd, 0xab, 0x89]);
+        let low_first = [0xef, 0xcd, 0xab, 0x89, 0x67, 0x45, 0x23, 0x01];
+        holds::<u64, Le64>(&rt, 0x0123_4567_89ab_cdef, &low_first);
+        holds::<usize, LeSize>(&rt, 0x0123_4567_89ab_cdef, &low_first);
+        holds::<u16, Be16>(&rt, 0x0102, &[1, 2]);
+        holds::<u32, Be32>(&rt, 0x89ab_cdef, &[0x89, 0xab, 0xcd, 0xef]);
+        let high_first = [0x01, 0x23, 0x45, 0x67, 0x89, 0xab, 0xcd, 0xef];
+        holds::<u64, Be64>(&rt, 0x0123_4567_89ab_cdef, &high_first);
+        holds::<usize, BeSize>(&rt, 0x0123_4567_89ab_cdef, &high_first);
+    }
+
+    #[test]
+    fn native_values(rt: HostRuntime) {
+        assert_eq!(rt; Be32::from(7).to_native(), 7);
+        assert!(rt; Be32::from(7).equals_native(7));
+        assert!(rt; !Le32::from(7).equals_native(0x0700_0000));
+        assert_eq!(rt; Le64::from(9).to_native(), 9);
+        assert_eq!(rt; Be64::default().to_native(), 0);
+        assert_eq!(rt; Le16::default(), Le16::from(0));
+        assert_ne!(rt; Be16::from(1), Be16::from(0x0100));
+    }
 }

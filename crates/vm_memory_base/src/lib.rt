@@ -15,7 +15,7 @@ pub use address::{
 };
 pub use atomic_integer::AtomicInteger;
 pub use bitmap::{Bitmap, BitmapId, BitmapRef, ExactBitmap, NewBitmap};
-pub use bytes::{ByteValued, FixedInteger};
+pub use bytes::{AtomicAccess, ByteValued, FixedInteger};
 pub use endian::{Be16, Be32, Be64, BeSize, BigEndian, Le16, Le32, Le64, LeSize, LittleEndian};
 pub use io::{VolatileMemoryError, VolatileMemoryResult};
 pub use iotlb::{IommuError, IovaRange, Permissions, Reason};

@@ -1,0 +1,6 @@
+use Rattle.vm_memory_base.specs.ArrayCodes.{zeros}
+use Rattle.vm_memory_base.proofs.bytes.arrays.ArrayByteValued.zeroed.Goals as goal
+
+pub returns : goal.returns
+returns g c =
+    zeros g.T.FixedInteger.width g.T.FixedInteger.bytes g.met.T.FixedInteger.length_always g.row.N c.zeroed.result c.zeroed.ensures

@@ -1,0 +1,10 @@
+use Rattle.std.proofs.Common.{◌≡◌, take, drop, length}
+use Rattle.vm_memory_base.proofs.bytes.pieces.put_bytes.Given as goal
+
+abbrev pub invariant-loop-i : goal.invariant-loop-i
+invariant-loop-i g l =
+    record {
+      count : length (g.T.ByteValued.bytes l.value) ≡ g.T.ByteValued.width;
+      before : take l.from (g.T.ByteValued.bytes l.value) ≡ take l.from (g.T.ByteValued.bytes l.initial.value);
+      put : take l.i (drop l.from (g.T.ByteValued.bytes l.value)) ≡ take l.i l.data;
+    }

@@ -1,0 +1,75 @@
+//! The bytes of a value in pieces, through `std::io`.
+
+ghost use Rattle.std.specs.Prelude.{◌≡◌, ◌+◌, ◌^◌, ◌<◌, ◌≤◌, length, take, drop, OnOk};
+ghost use Rattle.std.specs.Io.KnownBytes.{Appends, Consumes};
+
+use super::ByteValued;
+use std::io::{Read, Result, Write};
+
+// How many bytes of a value go to a writer or come from a reader at once.
+pub(super) const PIECE: usize = 64;
+
+// Copies the bytes of a value from byte `from` on.
+fn copy_bytes<T: ByteValued>(value: &T, from: usize, out: &mut [u8])
+    requires inside { from + length out.old ≤ T.width }
+    requires fits { from + length out.old < 2 ^ 64 }
+    ensures { out.new ≡ take (length out.old) (drop from (T.bytes value.now)) }
+{
+    value.known();
+    for i in 0..out.len() {
+        out[i] = value.byte(from + i);
+    }
+}
+
+// Replaces the bytes of a value from byte `from` on.
+fn put_bytes<T: ByteValued>(value: &mut T, from: usize, data: &[u8])
+    requires inside { from + length «data».now ≤ T.width }
+    requires fits { from + length «data».now < 2 ^ 64 }
+    ensures before { take from (T.bytes value.new) ≡ take from (T.bytes value.old) }
+    ensures put { take (length «data».now) (drop from (T.bytes value.new)) ≡ «data».now }
+{
+    value.known();
+    for i in 0..data.len() {
+        value.set_byte(from + i, data[i]);
+    }
+}
+
+// Writes `count` bytes of a value from byte `from` on.
+pub(super) fn write_piece<T: ByteValued, W: Write>(
+    value: &T,
+    writer: &mut W,
+    from: usize,
+    count: usize,
+) -> Result<()>
+    requires small { count ≤ PIECE }
+    requires inside { from + count ≤ T.width }
+    requires fits { from + count < 2 ^ 64 }
+    ensures { OnOk result (Appends (W.contents writer.old) (W.contents writer.new)
+        (take count (drop from (T.bytes value.now)))) }
+{
+    let mut piece = [0u8; PIECE];
+    let part = &mut piece[..count];
+    copy_bytes(value, from, part);
+    writer.write_all(part)
+}
+
+// Reads `count` bytes of a value from byte `from` on.
+pub(super) fn read_piece<T: ByteValued, R: Read>(
+    value: &mut T,
+    reader: &mut R,
+    from: usize,
+    count: usize,
+) -> Result<()>
+    requires small { count ≤ PIECE }
+    requires inside { from + count ≤ T.width }
+    requires fits { from + count < 2 ^ 64 }
+    ensures before { OnOk result (take from (T.bytes value.new) ≡ take from (T.bytes value.old)) }
+    ensures read { OnOk result (Consumes (R.remaining reader.old) (R.remaining reader.new)
+        (take count (drop from (T.bytes value.new)))) }
+{
+    let mut piece = [0u8; PIECE];
+    let part = &mut piece[..count];
+    reader.read_exact(part)?;
+    put_bytes(value, from, part);
+    Ok(())
+}

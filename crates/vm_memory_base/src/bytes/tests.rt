@@ -1,0 +1,135 @@
+use crate::{AtomicAccess, AtomicInteger, Be16, ByteValued, Le16};
+use std::fmt::Debug;
+use std::io::{ErrorKind, Write};
+use std::process::Abort;
+use std::sync::atomic::Ordering;
+use std::test::Fail;
+
+// Bytes of which each is another.
+const BYTES: [u8; 48] = [
+    1, 2, 3, 4, 5, 6, 7, 8, 9, 10, 11, 12, 13, 14, 15, 0xf0, 17, 18, 19, 20, 21, 22, 23, 24, 25,
+    26, 27, 28, 29, 30, 31, 32, 33, 34, 35, 36, 37, 38, 39, 40, 41, 42, 43, 44, 45, 46, 47, 48,
+];
+
+// A list of bytes, the value with these, and the list again, at a type of `size` bytes.
+fn round_trip<T: ByteValued + PartialEq + Debug>(rt: &impl Abort, size: usize) {
+    assert_eq!(rt; T::size(), size);
+    assert!(rt; size < 48);
+    let own = &BYTES[..size];
+    assert_eq!(rt; T::from_slice(&BYTES), None);
+    let value = T::from_slice(own);
+    assert!(rt; value.is_some());
+    let Some(mut value) = value else { return };
+    let mut out = [0u8; 48];
+    assert!(rt; !value.to_slice(&mut out));
+    assert_eq!(rt; out, [0u8; 48]);
+    let back = &mut out[..size];
+    assert!(rt; value.to_slice(back));
+    let back: &[u8] = back;
+    assert_eq!(rt; back, own);
+    assert_eq!(rt; T::from_slice(back), Some(value));
+    let mut zero = value;
+    for i in 0..size {
+        assert_eq!(rt; value.byte(i), BYTES[i]);
+        zero.set_byte(i, 0);
+    }
+    assert_eq!(rt; zero, T::zeroed());
+}
+
+#[test]
+fn integers(rt: HostRuntime) {
+    round_trip::<u8>(&rt, 1);
+    round_trip::<u16>(&rt, 2);
+    round_trip::<u32>(&rt, 4);
+    round_trip::<u64>(&rt, 8);
+    round_trip::<u128>(&rt, 16);
+    round_trip::<usize>(&rt, 8);
+    round_trip::<i8>(&rt, 1);
+    round_trip::<i16>(&rt, 2);
+    round_trip::<i32>(&rt, 4);
+    round_trip::<i64>(&rt, 8);
+    round_trip::<i128>(&rt, 16);
+    round_trip::<isize>(&rt, 8);
+}
+
+#[test]
+fn arrays(rt: HostRuntime) {
+    round_trip::<[u8; 0]>(&rt, 0);
+    round_trip::<[u8; 33]>(&rt, 33);
+    round_trip::<[u16; 3]>(&rt, 6);
+    round_trip::<[i64; 5]>(&rt, 40);
+    round_trip::<[Be16; 2]>(&rt, 4);
+}
+
+#[test]
+fn orders(rt: HostRuntime) {
+    assert_eq!(rt; u32::from_slice(&[1, 2, 3, 4]), Some(0x0403_0201));
+    assert_eq!(rt; i16::from_slice(&[0xfe, 0xff]), Some(-2));
+    assert_eq!(rt; Be16::from_slice(&[1, 2]), Some(Be16::from(0x0102)));
+    assert_eq!(rt; Le16::from_slice(&[2, 1]), Some(Le16::from(0x0102)));
+    assert_eq!(rt; <[u16; 2]>::from_slice(&[1, 0, 0, 1]), Some([1, 0x0100]));
+}
+
+#[test]
+fn reads(rt: HostRuntime) -> Result<(), Fail> {
+    let bytes: [u8; 8] = [0, 0, 0, 0, 1, 1, 1, 1];
+    let mut whole: &[u8] = &bytes;
+    assert_eq!(rt; <[u32; 2]>::read_exact_from(&mut whole)?, [0, 0x0101_0101]);
+    assert_eq!(rt; whole.len(), 0);
+    let mut short: &[u8] = &bytes[1..];
+    let answer = <[u32; 2]>::read_exact_from(&mut short);
+    assert_eq!(rt; answer.map_err(|e| e.kind()), Err(ErrorKind::UnexpectedEof));
+    Ok(())
+}
+
+#[test]
+fn writes(rt: HostRuntime) -> Result<(), Fail> {
+    let pair: [u32; 2] = [0, 0x0101_0101];
+    let mut written = Vec::new(rt.alloc());
+    pair.write_all_to(&mut written)?;
+    assert_eq!(rt; written.as_slice(), [0, 0, 0, 0, 1, 1, 1, 1].as_slice());
+    let mut room = [0u8; 7];
+    let mut full: &mut [u8] = &mut room;
+    let answer = pair.write_all_to(&mut full);
+    assert_eq!(rt; answer.map_err(|e| e.kind()), Err(ErrorKind::WriteZero));
+    Ok(())
+}
+
+// More bytes than go to a writer or come from a reader at once.
+#[test]
+fn long_values(rt: HostRuntime) -> Result<(), Fail> {
+    let mut long = [0u16; 70];
+    for k in 0..70usize {
+        long[k] = 0x100 + k as u16;
+    }
+    let mut written = Vec::new(rt.alloc());
+    long.write_all_to(&mut written)?;
+    assert_eq!(rt; written.len(), 140);
+    let mut from: &[u8] = written.as_slice();
+    assert_eq!(rt; <[u16; 70]>::read_exact_from(&mut from)?, long);
+    Ok(())
+}
+
+// A value through the atomic integer that stands for its type.
+fn through_atomic<T: AtomicAccess + PartialEq + Debug>(rt: &impl Abort, value: T)
+where
+    T::A: Drop,
+{
+    let word = T::A::new(T::zeroed().into());
+    word.store(value.into(), Ordering::SeqCst);
+    assert_eq!(rt; T::from(word.load(Ordering::SeqCst)), value);
+}
+
+#[test]
+fn atomic_values(rt: HostRuntime) {
+    through_atomic(&rt, 0xa5u8);
+    through_atomic(&rt, 0xa5a5u16);
+    through_atomic(&rt, u32::MAX);
+    through_atomic(&rt, u64::MAX);
+    through_atomic(&rt, usize::MAX);
+    through_atomic(&rt, i8::MIN);
+    through_atomic(&rt, i16::MIN);
+    through_atomic(&rt, -3i32);
+    through_atomic(&rt, i64::MIN);
+    through_atomic(&rt, isize::MIN);
+}
