@@ -1,8 +1,7 @@
 -- An access of guest memory, and its bytes one after the other.
-use Rattle.std.proofs.Common.{◌≡◌, ℕ, ◌+◌, ◌^◌, ◌<◌, ◌≤◌, Bool, true, false, cond, List, [], ◌∷◌, length, take, Some, inl, inr, refl, sym, ap, ◌∙◌, subst, arith}
+use Rattle.std.proofs.Common.{◌≡◌, ℕ, ◌+◌, ◌^◌, ◌<◌, ◌≤◌, Bool, true, false, cond, List, [], length, take, Some, inl, inr, refl, sym, ap, ◌∙◌, subst, arith}
 use Rattle.std.proofs.lemmas.List.Elements.{All-from_recursion, All-nil}
 use Rattle.std.specs.List.{All, AllByRecursion}
-use Rattle.vm_memory_base.specs.Table.{Says, is_allowed}
 use Rattle.vm_memory_base.specs.declared.iotlb.Permissions.{Permissions}
 use Rattle.vm_memory_base.proofs.TableLaws.{is_allowed-each}
 use Rattle.vm_memory_guest.specs.Host.{bytes_at}
@@ -10,7 +9,7 @@ use Rattle.vm_memory_guest.specs.Region.{Region, IsRegion}
 use Rattle.vm_memory_guest.specs.Memory.{Route, Direct, Through}
 use Rattle.vm_memory_guest.specs.Access.{Reached, Access, meets, path, first_fault, windows, stretches, allowed, refusal, access_of}
 use Rattle.vm_memory_guest.specs.Answer.{MarksFollow, path_cells, filled}
-use Rattle.vm_memory_guest.specs.Window.{cells, span}
+use Rattle.vm_memory_guest.specs.Window.{cells}
 use Rattle.vm_memory_guest.proofs.PathWalk.{path-none}
 use Rattle.vm_memory_guest.proofs.PathLaws.{span-windows, cells-windows, marks-windows, windows-bases_direct, windows-bases_through}
 use Rattle.vm_memory_guest.proofs.WrittenLaws.{take-filled, length-cells}

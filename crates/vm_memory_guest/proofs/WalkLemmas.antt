@@ -1,10 +1,10 @@
 -- The walk through a backend, one call after the other.
-use Rattle.std.proofs.Common.{◌≡◌, ℕ, ◌+◌, ◌-◌, ◌^◌, ◌<◌, ◌≤◌, min, List, [], ◌∷◌, length, Option, Some, None, Result, Ok, Err, cond, true, false, refl, sym, ap, ◌∙◌, subst, arith, option_map}
+use Rattle.std.proofs.Common.{◌≡◌, ℕ, ◌+◌, ◌-◌, ◌^◌, ◌<◌, ◌≤◌, min, List, [], ◌∷◌, length, Option, Some, None, Result, Ok, Err, sym, ap, ◌∙◌, arith}
 use Rattle.std.proofs.lemmas.Bool.Decides.{nat_tests}
 use Rattle.std.specs.Iterator.{MakesProgress, item_count}
 use Rattle.vm_memory_base.specs.Address.{step}
 use Rattle.vm_memory_guest.specs.Host.{Cell}
-use Rattle.vm_memory_guest.specs.Region.{Region, IsRegion, IsLayout, home, slice_of, slice_from, window_at}
+use Rattle.vm_memory_guest.specs.Region.{Region, IsRegion, IsLayout, home, slice_from, window_at}
 use Rattle.vm_memory_guest.specs.Slice.{Window}
 use Rattle.vm_memory_guest.specs.Error.{direct_items}
 use Rattle.vm_memory_guest.specs.declared.region.GuestMemoryError.{GuestMemoryError}

@@ -1,5 +1,5 @@
 -- A block of a host at a guest address, as a region.
-use Rattle.std.specs.Prelude.{ℕ, ◌+◌, Some}
+use Rattle.std.specs.Prelude.{Some}
 use Rattle.std.proofs.Common.{arith}
 use Rattle.vm_memory_guest.specs.Region.{Region, IsRegion}
 use Rattle.vm_memory_guest.specs.declared.mmap.GuestRegionMmap.{GuestRegionMmap}

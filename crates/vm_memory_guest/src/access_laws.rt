@@ -16,5 +16,4 @@ pub fn accesses_are_by_bytes<B: ExactBitmap>()
     ensures count { (regions : List Region) (route : Route) (a n : ℕ) (access : Permissions) → span (windows (access_of regions route a n access).path) ≡ length (access_of regions route a n access).path }
     ensures reads { (regions : List Region) (route : Route) (a n : ℕ) (access : Permissions) (blocks : List (List ℕ)) (buffer : List ℕ) → All IsRegion regions → let xs = (access_of regions route a n access).path in take (length xs) (filled blocks (cells (windows xs)) buffer) ≡ bytes_at blocks (path_cells xs) }
     ensures writes { (regions : List Region) (route : Route) (a n : ℕ) (access : Permissions) (bytes : List ℕ) (old new : Host B) → All IsRegion regions → let xs = (access_of regions route a n access).path in Writes B.marks (windows xs) bytes old new → with_pages B.pages new ≡ after_write xs bytes (with_pages B.pages old) }
-{
-}
+{}

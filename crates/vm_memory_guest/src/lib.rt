@@ -1,8 +1,8 @@
 //! Host memory, windows of it, the regions of a guest, and guest memory.
 #![tactic(auto)]
 
-mod collection;
 pub mod access_laws;
+mod collection;
 pub mod effect_laws;
 mod guest_memory;
 mod mmap;

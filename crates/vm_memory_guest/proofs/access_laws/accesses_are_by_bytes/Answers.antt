@@ -9,6 +9,6 @@ returns g c = record {
   count = λ regions route a n access. span-windows (access_of regions route a n access).path;
   reads = λ regions route a n access blocks buffer each. take-filled_path (access_of regions route a n access).path blocks buffer (cells-access regions each a n route access);
   writes = λ regions route a n access bytes old new each.
-    after_write-Writes g.B.Bitmap.marks g.B.ExactBitmap.pages g.met.B.ExactBitmap.marks_pages (access_of regions route a n access).path bytes old new
+      after_write-Writes g.B.Bitmap.marks g.B.ExactBitmap.pages g.met.B.ExactBitmap.marks_pages (access_of regions route a n access).path bytes old new
       (follows-access regions each a n route access) (cells-access regions each a n route access);
 }

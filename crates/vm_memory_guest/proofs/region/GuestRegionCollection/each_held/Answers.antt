@@ -1,4 +1,4 @@
-use Rattle.std.proofs.Common.{◌≡◌, ℕ, ◌+◌, ◌<◌, List, map, flat_map, length, get_or, sym, ap, ◌∙◌, arith, true, false, subst, IsTrue, Bool, refl}
+use Rattle.std.proofs.Common.{◌≡◌, ◌+◌, ◌<◌, List, map, flat_map, length, get_or, sym, ap, ◌∙◌, arith, subst, IsTrue, Bool, refl}
 use Rattle.std.proofs.lemmas.Bool.{false≢true}
 use Rattle.vm_memory_guest.specs.Host.{Holds}
 use Rattle.vm_memory_guest.specs.Region.{Region, region_names}

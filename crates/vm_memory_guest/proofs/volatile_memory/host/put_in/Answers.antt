@@ -1,4 +1,4 @@
-use Rattle.std.proofs.Common.{◌≡◌, ℕ, ◌+◌, ◌<◌, take, drop, length, rules, arith, sym, ◌∙◌, [], ◌++◌, ap, set, map, slice_set, Vec}
+use Rattle.std.proofs.Common.{◌≡◌, ℕ, ◌+◌, ◌<◌, take, drop, length, arith, ◌∙◌, ◌++◌, ap, set, Vec}
 use Rattle.std.proofs.lemmas.List.{map-set, with_items_is}
 use Rattle.std.proofs.lemmas.Grind.{common_steps}
 use Rattle.std.specs.Vec.{with_items}

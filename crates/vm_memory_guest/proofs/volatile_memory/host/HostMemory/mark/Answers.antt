@@ -1,4 +1,4 @@
-use Rattle.std.proofs.Common.{◌≡◌, ℕ, ◌<◌, length, refl, rules, slice_set}
+use Rattle.std.proofs.Common.{◌<◌, length, refl, rules, slice_set}
 use Rattle.std.proofs.lemmas.Option.{slice_get_read}
 use Rattle.vm_memory_guest.proofs.volatile_memory.host.HostMemory.mark.Goals as goal
 

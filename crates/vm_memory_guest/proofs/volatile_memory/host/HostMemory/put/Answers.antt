@@ -1,4 +1,4 @@
-use Rattle.std.proofs.Common.{◌≡◌, sym, ◌∙◌, ap, map, length}
+use Rattle.std.proofs.Common.{◌≡◌, ◌∙◌, ap, map, length}
 use Rattle.vm_memory_guest.specs.Host.{cells_from}
 use Rattle.vm_memory_guest.specs.Inside.{blocks_of}
 use Rattle.vm_memory_guest.proofs.WrittenLaws.{lengths-written}

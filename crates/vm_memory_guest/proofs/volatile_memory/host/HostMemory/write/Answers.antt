@@ -1,6 +1,5 @@
-use Rattle.std.proofs.Common.{◌≡◌, sym, ◌∙◌, subst, map, length}
-use Rattle.vm_memory_guest.specs.Host.{Shape, Host, Holds, cells_from, shape_of}
-use Rattle.vm_memory_guest.specs.Window.{bitmap_name}
+use Rattle.std.proofs.Common.{◌≡◌, length}
+use Rattle.vm_memory_guest.specs.Host.{cells_from, shape_of}
 use Rattle.vm_memory_guest.proofs.HostLemmas.{shape_of-written}
 use Rattle.vm_memory_guest.proofs.volatile_memory.host.HostMemory.write.Goals as goal
 

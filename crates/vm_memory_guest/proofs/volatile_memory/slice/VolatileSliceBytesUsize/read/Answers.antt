@@ -1,4 +1,4 @@
-use Rattle.std.proofs.Common.{◌≡◌, ℕ, length, take, ◌∙◌, sym, ap, ◌≤◌, arith}
+use Rattle.std.proofs.Common.{◌≡◌, length, ◌∙◌, sym, ap, ◌≤◌, arith}
 use Rattle.std.proofs.lemmas.Grind.{common_steps}
 use Rattle.vm_memory_guest.proofs.HostLemmas.{length-bytes}
 use Rattle.vm_memory_guest.proofs.volatile_memory.slice.VolatileSliceBytesUsize.read.Goals as goal

@@ -1,4 +1,4 @@
-use Rattle.std.proofs.Common.{◌≡◌, ℕ, [], ◌∷◌, take, ◌∙◌, sym, ap, subst, Ok}
+use Rattle.std.proofs.Common.{[], ◌∷◌, take, ◌∙◌, sym, ap, subst, Ok}
 use Rattle.vm_memory_guest.specs.Window.{Writes}
 use Rattle.vm_memory_guest.proofs.HostLemmas.{Writes-taken, span-one}
 use Rattle.vm_memory_guest.proofs.volatile_memory.slice.VolatileSliceBytesUsize.write.Goals as goal
