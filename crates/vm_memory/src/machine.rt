@@ -1,13 +1,13 @@
 //! A machine: a host, a pool of regions, the layouts and memories that commands make, and the run of a
 //! list of commands.
-ghost use Rattle.std.specs.Prelude.{◌≡◌, ◌<◌, ◌≤◌, ℕ, List, ◌++◌, ◌∷◌, [], length, map, flat_map, OnOk, OnErr, IfOk, MatchOption, replicate};
-ghost use Rattle.std.specs.declared.alloc.Global.{Global};
-ghost use Rattle.std.specs.declared.sync.Arc.{Arc};
+ghost use Rattle.std.specs.Prelude.{◌≡◌, ◌↔◌, ◌<◌, ◌≤◌, ℕ, List, ◌++◌, ◌∷◌, [], length, map, flat_map, All, IsTrue, IsOk, OnOk, OnErr, IfOk, Some, vec_len};
+ghost use Rattle.vm_memory_guest.specs.Answer.{with_pages};
+ghost use Rattle.vm_memory_guest.specs.Collection.{regions_of};
 ghost use Rattle.vm_memory_guest.specs.Host.{shape_of, Holds};
 ghost use Rattle.vm_memory_guest.specs.Region.{region_names};
-ghost use Rattle.vm_memory_guest.specs.Collection.{regions_of};
-ghost use Rattle.vm_memory.specs.Machine.{Step, Run};
+ghost use Rattle.vm_memory.specs.Machine.{Step, Run, named};
 ghost use Rattle.vm_memory.specs.Parts.{Parts, state_of};
+ghost use Rattle.vm_memory.specs.Plain.{ReadsPlain, WritesPlain, reply_of_error, reply_of_layout};
 
 pub mod command;
 pub mod list;
@@ -18,6 +18,8 @@ use std::alloc::{AllocError, Global};
 use std::marker::Model;
 use std::sync::Arc;
 use vm_memory_base::{ExactBitmap, GuestAddress};
+use vm_memory_guest::access_laws::{accesses_are_by_bytes, accesses_stop_at_the_first_fault};
+use vm_memory_guest::effect_laws::writes_keep_shapes;
 use vm_memory_guest::{
     Bytes, GuestMemoryError, GuestMemoryRegion, GuestRegionCollection, GuestRegionCollectionError,
     HostMemory,
@@ -88,26 +90,15 @@ impl<R: GuestMemoryRegion, B: ExactBitmap> Machine<R, B> {
         let Ok(regions) = shared(self.alloc, &self.regions, numbers) else {
             return Reply::Memory;
         };
-        if self.layouts.reserve(1).is_err() {
+        let layout = match GuestRegionCollection::from_arc_regions(regions) {
+            Ok(layout) => layout,
+            Err(error) => return layout_reply(error),
+        };
+        let number = self.layouts.len();
+        if self.layouts.push(layout).is_err() {
             return Reply::Memory;
         }
-        match GuestRegionCollection::from_arc_regions(regions) {
-            Ok(layout) => {
-                let number = self.layouts.len();
-                match self.layouts.push(layout) {
-                    Ok(()) => Reply::LayoutMade(number),
-                    Err(_) => Reply::Memory,
-                }
-            }
-            Err(GuestRegionCollectionError::NoMemoryRegion) => Reply::Fault(Fault::NoMemoryRegion),
-            Err(GuestRegionCollectionError::MemoryRegionOverlap) => {
-                Reply::Fault(Fault::MemoryRegionOverlap)
-            }
-            Err(GuestRegionCollectionError::UnsortedMemoryRegions) => {
-                Reply::Fault(Fault::UnsortedMemoryRegions)
-            }
-            Err(GuestRegionCollectionError::Memory) => Reply::Memory,
-        }
+        Reply::LayoutMade(number)
     }
 
     fn plain(&mut self, layout: usize) -> Reply
@@ -120,10 +111,10 @@ impl<R: GuestMemoryRegion, B: ExactBitmap> Machine<R, B> {
             return Reply::Memory;
         };
         let number = self.memories.len();
-        match self.memories.push(memory) {
-            Ok(()) => Reply::MemoryMade(number),
-            Err(_) => Reply::Memory,
+        if self.memories.push(memory).is_err() {
+            return Reply::Memory;
         }
+        Reply::MemoryMade(number)
     }
 
     fn read(&mut self, memory: usize, addr: GuestAddress, count: usize) -> Reply
@@ -132,16 +123,10 @@ impl<R: GuestMemoryRegion, B: ExactBitmap> Machine<R, B> {
         if memory >= self.memories.len() {
             return Reply::NoSuch;
         }
-        let Ok(mut buffer) = zeroed(self.alloc, count) else {
+        let Ok(buffer) = zeroed(self.alloc, count) else {
             return Reply::Memory;
         };
-        match self.memories[memory].read(&self.host, buffer.as_mut_slice(), addr) {
-            Ok(read) => {
-                buffer.truncate(read);
-                Reply::Bytes(ByteList::from_vec(buffer))
-            }
-            Err(error) => reply_of(error),
-        }
+        read_into(&self.memories[memory], &self.host, buffer, addr)
     }
 
     fn write(&mut self, memory: usize, addr: GuestAddress, bytes: &[u8]) -> Reply
@@ -150,10 +135,48 @@ impl<R: GuestMemoryRegion, B: ExactBitmap> Machine<R, B> {
         if memory >= self.memories.len() {
             return Reply::NoSuch;
         }
-        match self.memories[memory].write(&mut self.host, bytes, addr) {
-            Ok(count) => Reply::Count(count),
-            Err(error) => reply_of(error),
+        write_from(&self.memories[memory], &mut self.host, bytes, addr)
+    }
+}
+
+// Reads a plain memory into a buffer, and answers its filled beginning.
+fn read_into<R: GuestMemoryRegion, B: ExactBitmap>(
+    memory: &GuestRegionCollection<R>,
+    host: &HostMemory<B>,
+    mut buffer: Vec<u8>,
+    addr: GuestAddress,
+) -> Reply
+    requires { Holds (shape_of host.now) (flat_map region_names (map R.region memory.now)) }
+    ensures { ReadsPlain (map R.region memory.now) (with_pages B.pages host.now) addr.0 (length buffer.items) result }
+{
+    accesses_are_by_bytes::<B>();
+    accesses_stop_at_the_first_fault();
+    match memory.read(host, buffer.as_mut_slice(), addr) {
+        Ok(read) => {
+            buffer.truncate(read);
+            Reply::Bytes(ByteList::from_vec(buffer))
         }
+        Err(error) => fault_reply(error),
+    }
+}
+
+// Writes bytes to a plain memory.
+fn write_from<R: GuestMemoryRegion, B: ExactBitmap>(
+    memory: &GuestRegionCollection<R>,
+    host: &mut HostMemory<B>,
+    bytes: &[u8],
+    addr: GuestAddress,
+) -> Reply
+    requires { Holds (shape_of host.old) (flat_map region_names (map R.region memory.now)) }
+    ensures written { WritesPlain (map R.region memory.now) (with_pages B.pages host.old) addr.0 bytes.now result (with_pages B.pages host.new) }
+    ensures shape { shape_of host.new ≡ shape_of host.old }
+{
+    accesses_are_by_bytes::<B>();
+    accesses_stop_at_the_first_fault();
+    writes_keep_shapes::<B>();
+    match memory.write(host, bytes, addr) {
+        Ok(count) => Reply::Count(count),
+        Err(error) => fault_reply(error),
     }
 }
 
@@ -176,7 +199,9 @@ pub fn run<R: GuestMemoryRegion, B: ExactBitmap>(
 }
 
 // Whether each number is below a bound.
-fn all_below(numbers: &[usize], bound: usize) -> bool {
+fn all_below(numbers: &[usize], bound: usize) -> bool
+    ensures { IsTrue result ↔ All (λ number. number < bound) numbers.now }
+{
     numbers.iter().all(|number| *number < bound)
 }
 
@@ -185,29 +210,53 @@ fn shared<R: Drop>(
     alloc: Global,
     pool: &Vec<Arc<R>>,
     numbers: &[usize],
-) -> Result<Vec<Arc<R>>, AllocError> {
+) -> Result<Vec<Arc<R>>, AllocError>
+    requires { All (λ number. number < vec_len pool.now) numbers.now }
+    ensures { IfOk result (λ regions. named (regions_of pool.now) numbers.now ≡ Some (regions_of regions)) }
+{
     let mut regions = Vec::with_capacity(alloc, numbers.len())?;
     for number in numbers {
-        if let Some(region) = pool.get(*number) {
-            regions.push(region.clone()?)?;
-        }
+        regions.push(pool[*number].clone()?)?;
     }
     Ok(regions)
 }
 
 fn zeroed(alloc: Global, count: usize) -> Result<Vec<u8>, AllocError>
-    ensures { IfOk result (λ bytes. bytes.items ≡ replicate count 0) }
+    ensures bytes { IfOk result (λ bytes. length bytes.items ≡ count) }
+    ensures empty { count ≡ 0 → IsOk result }
 {
+    if count == 0 {
+        return Ok(Vec::new(alloc));
+    }
     vec![in alloc; 0u8; count]
 }
 
+// The reply to regions that make no layout.
+fn layout_reply(error: GuestRegionCollectionError) -> Reply
+    ensures { result ≡ reply_of_layout error }
+{
+    match error {
+        GuestRegionCollectionError::NoMemoryRegion => Reply::Fault(Fault::NoMemoryRegion),
+        GuestRegionCollectionError::MemoryRegionOverlap => Reply::Fault(Fault::MemoryRegionOverlap),
+        GuestRegionCollectionError::UnsortedMemoryRegions => {
+            Reply::Fault(Fault::UnsortedMemoryRegions)
+        }
+        GuestRegionCollectionError::Memory => Reply::Memory,
+    }
+}
+
 // The reply to an access that was refused.
-fn reply_of(error: GuestMemoryError) -> Reply {
+fn fault_reply(error: GuestMemoryError) -> Reply
+    ensures { result ≡ reply_of_error error }
+{
     match error {
         GuestMemoryError::InvalidGuestAddress(addr) => {
             Reply::Fault(Fault::InvalidGuestAddress(addr))
         }
         GuestMemoryError::HostAddressNotAvailable => Reply::Fault(Fault::HostAddressNotAvailable),
-        _ => Reply::Memory,
+        GuestMemoryError::PartialBuffer { .. }
+        | GuestMemoryError::InvalidBackendAddress
+        | GuestMemoryError::IommuError(_)
+        | GuestMemoryError::Memory => Reply::Memory,
     }
 }

@@ -1,17 +1,18 @@
 -- An access of guest memory, and its bytes one after the other.
-use Rattle.std.proofs.Common.{◌≡◌, ℕ, ◌+◌, ◌^◌, ◌<◌, ◌≤◌, Bool, true, false, cond, List, [], length, take, Some, inl, inr, refl, sym, ap, ◌∙◌, subst, arith}
+use Rattle.std.proofs.Common.{◌≡◌, ℕ, ◌+◌, ◌^◌, ◌<◌, ◌≤◌, Bool, true, false, cond, List, [], length, take, Some, inl, inr, refl, sym, ap, ◌∙◌, subst, arith, zero-add}
 use Rattle.std.proofs.lemmas.List.Elements.{All-from_recursion, All-nil}
+use Rattle.std.proofs.lemmas.Option.{MatchOption-at_some}
 use Rattle.std.specs.List.{All, AllByRecursion}
 use Rattle.vm_memory_base.specs.declared.iotlb.Permissions.{Permissions}
 use Rattle.vm_memory_base.proofs.TableLaws.{is_allowed-each}
 use Rattle.vm_memory_guest.specs.Host.{bytes_at}
 use Rattle.vm_memory_guest.specs.Region.{Region, IsRegion}
 use Rattle.vm_memory_guest.specs.Memory.{Route, Direct, Through}
-use Rattle.vm_memory_guest.specs.Access.{Reached, Access, meets, path, first_fault, windows, stretches, allowed, refusal, access_of}
+use Rattle.vm_memory_guest.specs.Access.{Reached, Access, Fault, Meets, Stops, meets, path, first_fault, windows, stretches, allowed, refusal, access_of}
 use Rattle.vm_memory_guest.specs.Answer.{MarksFollow, path_cells, filled}
 use Rattle.vm_memory_guest.specs.Window.{cells}
 use Rattle.vm_memory_guest.proofs.PathWalk.{path-none}
-use Rattle.vm_memory_guest.proofs.PathLaws.{span-windows, cells-windows, marks-windows, windows-bases_direct, windows-bases_through}
+use Rattle.vm_memory_guest.proofs.PathLaws.{path-ends, span-windows, cells-windows, marks-windows, windows-bases_direct, windows-bases_through}
 use Rattle.vm_memory_guest.proofs.WrittenLaws.{take-filled, length-cells}
 
 -- a path of no byte
@@ -60,3 +61,13 @@ pub take-filled_path : (xs : List Reached) (blocks : List (List ℕ)) (buffer : 
 take-filled_path xs blocks buffer same =
     let count : length xs ≡ length (cells (windows xs)) = sym (length-cells (windows xs) ∙ span-windows xs) in
     ap (λ (k : ℕ). take k (filled blocks (cells (windows xs)) buffer)) count ∙ (take-filled blocks (cells (windows xs)) buffer ∙ ap (bytes_at blocks) same)
+
+-- what stops a path is what its next byte meets
+stopped : (m : ℕ → Meets) (n : ℕ) (fault : Fault) → first_fault m 0 n ≡ Some fault → m (length (path m 0 n)) ≡ Stops fault
+stopped m n fault e = subst (λ (k : ℕ). m k ≡ Stops fault) (zero-add (length (path m 0 n))) (MatchOption-at_some (length (path m 0 n) ≡ n) (λ f. (length (path m 0 n) < n) × (m (0 + length (path m 0 n)) ≡ Stops f)) fault e (path-ends m 0 n)).1
+
+pub stopped-access : (regions : List Region) (route : Route) (a n : ℕ) (access : Permissions) (fault : Fault) → allowed route a n access ≡ true → (access_of regions route a n access).fault ≡ Some fault → meets regions route a (length (access_of regions route a n access).path) ≡ Stops fault
+stopped-access regions route a n access fault ok e =
+    let reached = λ (b : Bool). cond {A = Access} b (record { path = path (meets regions route a) 0 n; fault = first_fault (meets regions route a) 0 n }) (record { path = []; fault = Some (refusal route a n) }) in
+    let here : first_fault (meets regions route a) 0 n ≡ Some fault = subst (λ (b : Bool). (reached b).fault ≡ Some fault) ok e in
+    subst (λ (b : Bool). meets regions route a (length (reached b).path) ≡ Stops fault) (sym ok) (stopped (meets regions route a) n fault here)
