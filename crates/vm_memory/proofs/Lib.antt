@@ -1,2 +1,3 @@
 pub mod NamedLemmas
 pub mod PlainLemmas
+pub mod StepLemmas

@@ -1,7 +1,7 @@
 -- Elements of a list by their numbers.
-use Rattle.std.proofs.Common.{◌≡◌, ◌⊎◌, ℕ, zero, suc, ◌+◌, ◌<◌, List, [], ◌∷◌, ◌++◌, map, flat_map, length, Option, Some, None, refl, sym, ap, ◌∙◌, subst, arith, option_map}
+use Rattle.std.proofs.Common.{◌≡◌, ℕ, zero, suc, ◌<◌, List, [], ◌∷◌, ◌++◌, map, flat_map, length, Option, Some, None, refl, sym, ap, subst, arith}
 use Rattle.std.proofs.lemmas.Option.{slice_get-map, slice_get_within, none-some, same_Some}
-use Rattle.std.proofs.lemmas.List.Elements.{All-nil, All-cons}
+use Rattle.std.proofs.lemmas.List.Elements.{All-nil, All-cons, All-head, All-tail}
 use Rattle.std.specs.List.{All, slice_get}
 use Rattle.vm_memory_guest.specs.Host.{Shape, Name, Holds}
 use Rattle.vm_memory_guest.specs.Region.{Region, region_names}
@@ -27,6 +27,21 @@ named-none {X} xs ns never = go (named xs ns) refl
     go : (o : Option (List X)) → named xs ns ≡ o → named xs ns ≡ None
     go None e = e
     go (Some ys) e = absurd (never (named-below xs ns ys e))
+
+-- a number below the length names an element
+pub not_past : {X : Type 0} (xs : List X) (n : ℕ) → n < length xs → slice_get xs n ≡ None → ⊥
+not_past [] n within e = omega arith
+not_past (x ∷ xs) zero within e = none-some x (sym e)
+not_past (x ∷ xs) (suc n) within e = not_past xs n (omega arith) e
+
+-- and so numbers below it name elements
+pub named-some : {X : Type 0} (xs : List X) (ns : List ℕ) → All (λ n. n < length xs) ns → (ys : List X) × (named xs ns ≡ Some ys)
+named-some xs [] all = ([], refl)
+named-some {X} xs (n ∷ ns) all = go (slice_get xs n) refl (named-some xs ns (All-tail (λ m. m < length xs) n ns all))
+  where
+    go : (o : Option X) → slice_get xs n ≡ o → (ys : List X) × (named xs ns ≡ Some ys) → (ys : List X) × (named xs (n ∷ ns) ≡ Some ys)
+    go None e rest = absurd (not_past xs n (All-head (λ m. m < length xs) n ns all) e)
+    go (Some x) e rest = (x ∷ rest.0, rw (e, rest.1) refl)
 
 -- one more number
 pub named-push : {X : Type 0} (xs : List X) (ns : List ℕ) (ys : List X) (n : ℕ) (y : X) → named xs ns ≡ Some ys → slice_get xs n ≡ Some y → named xs (ns ++ n ∷ []) ≡ Some (ys ++ y ∷ [])

@@ -1,21 +1,18 @@
 -- Accesses of a plain memory, as its calls answer them and as the model does.
-use Rattle.std.proofs.Common.{◌≡◌, ℕ, ◌+◌, ◌<◌, List, [], ◌∷◌, map, length, Option, Some, None, Result, Ok, Err, cond, Bool, true, false, refl, sym, ap, ◌∙◌, subst, arith, option_map, ◌&&◌, ◌==◌, nat_lt}
+use Rattle.std.proofs.Common.{◌≡◌, ℕ, ◌+◌, List, [], ◌∷◌, map, length, Option, Some, None, Ok, Err, cond, Bool, true, false, refl, arith, option_map, ◌&&◌, ◌==◌, nat_lt}
 use Rattle.std.specs.List.{All}
 use Rattle.std.proofs.lemmas.Bool.{eqb-true}
 use Rattle.std.proofs.lemmas.List.Elements.{All-nil, All-cons}
-use Rattle.vm_memory_base.specs.declared.iotlb.Permissions.{Permissions}
 use Rattle.vm_memory_guest.specs.Region.{Region, IsRegion, Lies, Byte, Bare, Hole, cell}
-use Rattle.vm_memory_guest.specs.Memory.{Direct, physical, mapping_of}
+use Rattle.vm_memory_guest.specs.Memory.{Direct, physical}
 use Rattle.vm_memory_guest.specs.Access as access
 use Rattle.vm_memory_guest.specs.Access.{Reached, Fault, NoRegion, NoHostBytes, Meets, Stops, meets, meets_at, access_of}
 use Rattle.vm_memory_guest.specs.Error.{error_of}
 use Rattle.vm_memory_base.specs.Pages.{PageSet}
 use Rattle.vm_memory_guest.specs.Host.{Host}
 use Rattle.vm_memory_guest.specs.Answer.{counted, after_write}
-use Rattle.vm_memory_guest.specs.declared.region.GuestMemoryError.{GuestMemoryError}
 use Rattle.vm_memory.specs.Machine.{Tells}
 use Rattle.vm_memory.specs.Plain.{reply_of_error}
-use Rattle.vm_memory.specs.declared.machine.command.Reply.{Reply}
 use Rattle.vm_memory.specs.declared.machine.command.Reply.TheVariants as reply
 use Rattle.vm_memory.specs.declared.machine.command.Fault as told
 use Rattle.vm_memory.specs.declared.machine.command.Fault.TheVariants as faults
