@@ -1,0 +1,7 @@
+use Rattle.std.proofs.Common.{refl}
+use Rattle.vm_memory_guest.specs.Access.{path, first_fault, stretches}
+use Rattle.vm_memory_guest.proofs.examples.write_over_touching_regions.Goals as goal
+
+pub returns : goal.returns
+unfolding path first_fault stretches
+returns c = record { cells = refl; windows = refl; count = refl; exact = refl; after = refl; smaller_pages = refl; read_back = refl }
