@@ -5,4 +5,4 @@ use Rattle.vm_memory_guest.proofs.examples.access_of_what_is_not_mapped.Goals as
 
 pub returns : goal.returns
 unfolding path first_fault each
-returns c = record { reaches_nothing = refl; count = refl; in_part = refl; greatest_address = refl; empty = refl }
+returns c = record { whole = (refl, refl); in_part = refl; greatest_address = refl; empty = refl }

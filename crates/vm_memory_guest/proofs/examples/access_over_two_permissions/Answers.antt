@@ -5,4 +5,4 @@ use Rattle.vm_memory_guest.proofs.examples.access_over_two_permissions.Goals as 
 
 pub returns : goal.returns
 unfolding path first_fault stretches each
-returns c = record { write_reaches_nothing = refl; write_count = refl; write_exact = refl; write_error = refl; write_after = refl; read_windows = refl; read_count = refl; read_bytes = refl }
+returns c = record { write = (refl, refl, refl, refl, refl); read = (refl, refl, refl) }

@@ -4,4 +4,4 @@ use Rattle.vm_memory_guest.proofs.examples.block_at_two_addresses.Goals as goal
 
 pub returns : goal.returns
 unfolding path first_fault stretches
-returns c = record { windows = refl; count = refl; after = refl }
+returns c = (refl, refl, refl)

@@ -4,4 +4,4 @@ use Rattle.vm_memory_guest.proofs.examples.empty_access_in_a_hole.Goals as goal
 
 pub returns : goal.returns
 unfolding path first_fault stretches
-returns c = record { no_window = refl; count = refl; exact = refl }
+returns c = (refl, refl, refl)

@@ -5,4 +5,4 @@ use Rattle.vm_memory_guest.proofs.examples.mapping_over_the_greatest_address.Goa
 
 pub returns : goal.returns
 unfolding path first_fault stretches each
-returns c = record { windows = refl; count = refl }
+returns c = (refl, refl)

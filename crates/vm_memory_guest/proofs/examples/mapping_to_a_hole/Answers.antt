@@ -5,4 +5,4 @@ use Rattle.vm_memory_guest.proofs.examples.mapping_to_a_hole.Goals as goal
 
 pub returns : goal.returns
 unfolding path first_fault each
-returns c = record { count = refl; stopped = refl }
+returns c = (refl, refl)

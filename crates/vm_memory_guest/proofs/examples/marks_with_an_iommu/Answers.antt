@@ -5,4 +5,4 @@ use Rattle.vm_memory_guest.proofs.examples.marks_with_an_iommu.Goals as goal
 
 pub returns : goal.returns
 unfolding path first_fault stretches each
-returns c = record { on_windows = refl; on = refl; off = refl }
+returns c = record { on = (refl, refl); off = refl }

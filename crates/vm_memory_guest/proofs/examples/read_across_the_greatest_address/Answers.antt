@@ -4,4 +4,4 @@ use Rattle.vm_memory_guest.proofs.examples.read_across_the_greatest_address.Goal
 
 pub returns : goal.returns
 unfolding path first_fault stretches
-returns c = record { windows = refl; count = refl; bytes = refl; hole_at_0 = refl }
+returns c = record { on_at_0 = (refl, refl, refl); hole_at_0 = refl }

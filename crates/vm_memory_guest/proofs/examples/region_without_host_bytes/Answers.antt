@@ -4,4 +4,4 @@ use Rattle.vm_memory_guest.proofs.examples.region_without_host_bytes.Goals as go
 
 pub returns : goal.returns
 unfolding path first_fault stretches
-returns c = record { windows = refl; count = refl; stopped = refl; exact = refl; begins_there = refl; named = refl }
+returns c = record { comes_to_it = (refl, refl, refl, refl); begins_there = (refl, refl) }

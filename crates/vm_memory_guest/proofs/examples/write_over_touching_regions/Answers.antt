@@ -4,4 +4,4 @@ use Rattle.vm_memory_guest.proofs.examples.write_over_touching_regions.Goals as 
 
 pub returns : goal.returns
 unfolding path first_fault stretches
-returns c = record { cells = refl; windows = refl; count = refl; exact = refl; after = refl; smaller_pages = refl; read_back = refl }
+returns c = record { write = (refl, refl, refl, refl, refl, refl); read = refl }
