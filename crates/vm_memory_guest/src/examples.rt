@@ -1,4 +1,4 @@
-//! What the definitions say in small cases.
+//! What the definitions say in small cases: each function here is a theorem, and does nothing.
 ghost use Rattle.std.specs.Prelude.{◌≡◌, ◌-◌, ◌^◌, true, false, [], ◌∷◌, length, Some, None, option_map, Ok, Err};
 ghost use Rattle.vm_memory_base.specs.Pages.{PageSet, marked};
 ghost use Rattle.vm_memory_base.specs.Table.{Set, says_nothing, new_table_after};
@@ -188,7 +188,20 @@ pub fn write_into_a_hole()
         (windows reached.path ≡ record { block = record { 0 = 0 }; offset = 2; size = 2; bitmap = record { id = Block 0; base = 2 } } ∷ [])
         × (counted (length reached.path) reached.fault 4 ≡ Ok 2)
         × (exactly Partial (length reached.path) reached.fault 4 ≡ Err (Partial 4 2))
-        × (reached.fault ≡ Some (NoRegion 4)) }
+        × (reached.fault ≡ Some (NoRegion 4))
+        × (after_write reached.path (1 ∷ 2 ∷ 3 ∷ 4 ∷ [])
+        (record {
+          blocks = (0 ∷ 0 ∷ 0 ∷ 0 ∷ []) ∷ (0 ∷ 0 ∷ 0 ∷ 0 ∷ []) ∷ [];
+          bitmaps = Some (record { page_size = 2; flags = false ∷ false ∷ [] }) ∷ Some (record { page_size = 2; flags = false ∷ false ∷ [] }) ∷ [];
+          spaces = [];
+          tables = [];
+        })
+        ≡ record {
+          blocks = (0 ∷ 0 ∷ 1 ∷ 2 ∷ []) ∷ (0 ∷ 0 ∷ 0 ∷ 0 ∷ []) ∷ [];
+          bitmaps = Some (record { page_size = 2; flags = false ∷ true ∷ [] }) ∷ Some (record { page_size = 2; flags = false ∷ false ∷ [] }) ∷ [];
+          spaces = [];
+          tables = [];
+        }) }
     ensures begins_there { let reached = access_of (record { start = 0; len = 4; place = Some (record { block = 0; offset = 0 }) } ∷ record { start = 8; len = 4; place = Some (record { block = 1; offset = 0 }) } ∷ []) Direct 4 1 Write in
         (counted (length reached.path) reached.fault 1 ≡ Err (NoRegion 4))
         × (exactly Partial (length reached.path) reached.fault 1 ≡ Err (NoRegion 4)) }
