@@ -4,6 +4,7 @@
 pub mod access_laws;
 mod collection;
 pub mod effect_laws;
+pub mod examples;
 mod guest_memory;
 mod mmap;
 pub mod path_laws;
