@@ -1,3 +1,4 @@
 pub mod NamedLemmas
 pub mod PlainLemmas
+mod PoolLemmas
 pub mod StepLemmas

@@ -1,0 +1,166 @@
+//! Scripts: lines that set up a host and command a machine, and a reply line for each.
+//!
+//! A line is a word and its arguments, with one space between any two, and ends with a line feed, which
+//! the last line may lack. An empty line and a line that begins with `#` do nothing. `block SIZE PAGE`
+//! and `region B A` come first and fill the pools; the first command makes the machine. The commands are
+//! `layout R`, `plain L`, `read M A N` and `write M A BYTES`.
+
+mod line;
+mod pools;
+mod reply;
+
+use crate::machine::command::{Command, Reply};
+use crate::machine::{Machine, run};
+use line::{Line, LineError};
+use pools::Pools;
+use std::alloc::Global;
+use std::io::{BufWriter, ErrorKind, Read, Write};
+use thiserror::Error;
+use vm_memory_guest::GuestRegionMmap;
+
+/// Why a script did not run to its end.
+#[derive(Debug, Drop, Error)]
+pub enum DriveFault {
+    /// The line of this number, from 1, has none of the forms, or sets up after a command.
+    #[error("line {0}: bad line")]
+    BadLine(usize),
+    /// The input failed.
+    #[error("read failed")]
+    Read,
+    /// The output failed.
+    #[error("write failed")]
+    Write,
+    /// There was no memory for the script or its machine's answers.
+    #[error("out of memory")]
+    Memory,
+}
+
+impl DriveFault {
+    /// The status that a program ends with: 1 for a bad line, 2 for input and output, 3 for memory.
+    pub fn status(&self) -> u8 {
+        match self {
+            DriveFault::BadLine(_) => 1,
+            DriveFault::Read | DriveFault::Write => 2,
+            DriveFault::Memory => 3,
+        }
+    }
+}
+
+/// Reads all of the input, and then runs it line by line and writes a reply for each line that has one.
+///
+/// It stops at the first bad line, after the replies to the lines before it. A setup line or a command
+/// that finds no memory replies so, and the script goes on.
+pub fn drive(
+    alloc: Global,
+    input: &mut impl Read,
+    output: &mut impl Write,
+) -> Result<(), DriveFault> {
+    let text = read_all(alloc, input)?;
+    let mut replies = BufWriter::new(alloc, output).map_err(|_| DriveFault::Memory)?;
+    let outcome = answer_lines(alloc, text.as_slice(), &mut replies);
+    let written = match outcome {
+        Err(DriveFault::Write) => Ok(()),
+        _ => replies.flush(),
+    };
+    // What a failed write left is not tried again.
+    let (_, _) = replies.into_parts();
+    if written.is_err() {
+        return Err(DriveFault::Write);
+    }
+    outcome
+}
+
+fn read_all(alloc: Global, input: &mut impl Read) -> Result<Vec<u8>, DriveFault> {
+    let mut text = Vec::new(alloc);
+    match input.read_to_end(&mut text) {
+        Ok(_) => Ok(text),
+        Err(error) if error.kind() == ErrorKind::OutOfMemory => Err(DriveFault::Memory),
+        Err(_) => Err(DriveFault::Read),
+    }
+}
+
+fn answer_lines(alloc: Global, text: &[u8], output: &mut impl Write) -> Result<(), DriveFault> {
+    let mut session = Session::new(alloc)?;
+    for (index, line) in text.split(|byte| *byte == b'\n').enumerate() {
+        let number = index.saturating_add(1);
+        let line = match line::parse(alloc, line) {
+            Ok(line) => line,
+            Err(LineError::Bad) => return Err(DriveFault::BadLine(number)),
+            Err(LineError::Memory) => return Err(DriveFault::Memory),
+        };
+        session = session.answer(line, number, output)?;
+    }
+    Ok(())
+}
+
+// How far a script has come, and room for one reply.
+#[derive(Drop)]
+struct Session {
+    stage: Stage,
+    replies: Vec<Reply>,
+}
+
+#[derive(Drop)]
+enum Stage {
+    Setup(Pools),
+    Running(Machine<GuestRegionMmap, ()>),
+}
+
+impl Session {
+    fn new(alloc: Global) -> Result<Session, DriveFault> {
+        let replies = Vec::with_capacity(alloc, 1).map_err(|_| DriveFault::Memory)?;
+        Ok(Session {
+            stage: Stage::Setup(Pools::new(alloc)),
+            replies,
+        })
+    }
+
+    // Runs a line of this number and writes its reply.
+    fn answer(
+        self,
+        line: Line,
+        number: usize,
+        output: &mut impl Write,
+    ) -> Result<Session, DriveFault> {
+        let Session { stage, mut replies } = self;
+        let stage = match (line, stage) {
+            (Line::Nothing, stage) => stage,
+            (Line::Setup(setup), Stage::Setup(mut pools)) => {
+                let reply = pools.make(setup);
+                writeln!(output, "{reply}").map_err(|_| DriveFault::Write)?;
+                Stage::Setup(pools)
+            }
+            (Line::Setup(_), Stage::Running(_)) => return Err(DriveFault::BadLine(number)),
+            (Line::Command(command), stage) => {
+                let mut machine = stage.into_machine();
+                run_one(&mut machine, command, &mut replies, output)?;
+                Stage::Running(machine)
+            }
+        };
+        Ok(Session { stage, replies })
+    }
+}
+
+impl Stage {
+    fn into_machine(self) -> Machine<GuestRegionMmap, ()> {
+        match self {
+            Stage::Setup(pools) => pools.into_machine(),
+            Stage::Running(machine) => machine,
+        }
+    }
+}
+
+// Runs one command and writes its reply.
+fn run_one(
+    machine: &mut Machine<GuestRegionMmap, ()>,
+    command: Command,
+    replies: &mut Vec<Reply>,
+    output: &mut impl Write,
+) -> Result<(), DriveFault> {
+    replies.clear();
+    run(machine, &[command], replies).map_err(|_| DriveFault::Memory)?;
+    for reply in &*replies {
+        writeln!(output, "{reply}").map_err(|_| DriveFault::Write)?;
+    }
+    Ok(())
+}

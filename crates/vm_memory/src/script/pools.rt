@@ -1,0 +1,94 @@
+//! What setup lines make: the blocks of a host, and the regions of a machine.
+ghost use Rattle.std.specs.Prelude.{◌≡◌, ◌++◌, ◌∷◌, [], OnOk, OnErr};
+ghost use Rattle.vm_memory_guest.specs.Collection.{regions_of};
+
+use super::line::Setup;
+use super::reply::SetupReply;
+use crate::machine::Machine;
+use std::alloc::{AllocError, Global};
+use std::marker::Model;
+use std::sync::Arc;
+use vm_memory_base::GuestAddress;
+use vm_memory_guest::{BlockId, GuestRegionMmap, HostMemory, MmapRegion, MmapRegionError};
+
+/// A host, and regions of its blocks, which it holds.
+#[derive(Drop)]
+pub(super) struct Pools {
+    alloc: Global,
+    host: HostMemory<()>,
+    regions: Vec<Arc<GuestRegionMmap>>,
+}
+
+impl Model for Pools {
+    ghost use Rattle.std.specs.Prelude.{List, map, flat_map};
+    ghost use Rattle.vm_memory_guest.specs.Host.{Holds, shape_of};
+    ghost use Rattle.vm_memory_guest.specs.Region.{region_names};
+    ghost use Rattle.vm_memory_guest.specs.Mmap.{mmap_region};
+    ghost use Rattle.vm_memory_guest.specs.Collection.{regions_of};
+    ghost use Rattle.vm_memory_guest.specs.declared.mmap.GuestRegionMmap.{GuestRegionMmap};
+
+    ghost Value = { List GuestRegionMmap };
+
+    ghost view = { λ p. regions_of p.regions };
+
+    ghost invariant = { λ p. Holds (shape_of p.host) (flat_map region_names (map mmap_region (regions_of p.regions))) };
+}
+
+impl Pools {
+    /// Pools of nothing.
+    pub(super) fn new(alloc: Global) -> Pools {
+        Pools {
+            alloc,
+            host: HostMemory::new(alloc),
+            regions: Vec::new(alloc),
+        }
+    }
+
+    /// Makes what a setup line asks for, or changes nothing and says why.
+    pub(super) fn make(&mut self, setup: Setup) -> SetupReply {
+        match setup {
+            Setup::Block { size } => self.make_block(size),
+            Setup::Region { block, addr } => self.make_region(block, addr),
+        }
+    }
+
+    /// A machine of the host and the regions.
+    pub(super) fn into_machine(self) -> Machine<GuestRegionMmap, ()> {
+        Machine::new(self.alloc, self.host, self.regions)
+    }
+
+    fn make_block(&mut self, size: usize) -> SetupReply {
+        match self.host.new_block(size) {
+            Ok(block) => SetupReply::BlockMade(block.0),
+            Err(MmapRegionError::InvalidSize) => SetupReply::InvalidSize,
+            Err(MmapRegionError::Memory) => SetupReply::Memory,
+        }
+    }
+
+    fn make_region(&mut self, block: BlockId, addr: GuestAddress) -> SetupReply {
+        if self.host.shape().block_len(block).is_none() {
+            return SetupReply::NoSuch;
+        }
+        let mapping = MmapRegion::of_block(&self.host, block);
+        let Some(region) = GuestRegionMmap::new(mapping, addr) else {
+            return SetupReply::InvalidRegion;
+        };
+        let number = self.regions.len();
+        match add(self.alloc, &mut self.regions, region) {
+            Ok(()) => SetupReply::RegionMade(number),
+            Err(_) => SetupReply::Memory,
+        }
+    }
+}
+
+fn add(
+    alloc: Global,
+    regions: &mut Vec<Arc<GuestRegionMmap>>,
+    region: GuestRegionMmap,
+) -> Result<(), AllocError>
+    ensures ok { OnOk result (regions_of regions.new ≡ regions_of regions.old ++ region ∷ []) }
+    ensures err { OnErr result (regions_of regions.new ≡ regions_of regions.old) }
+{
+    regions.push(Arc::new(alloc, region)?)?;
+    Ok(())
+}

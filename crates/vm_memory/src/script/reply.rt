@@ -1,0 +1,77 @@
+//! Reply lines.
+
+use crate::machine::command::{Fault, Reply};
+use std::fmt;
+
+/// What a setup line answers. All but the numbers changed nothing.
+#[derive(Drop)]
+pub(super) enum SetupReply {
+    /// The number of the block that was made.
+    BlockMade(usize),
+    /// The number of the region that was made.
+    RegionMade(usize),
+    /// A block has 1 to 2^63 - 1 bytes.
+    InvalidSize,
+    /// The region's address plus its size passes 2^64 - 1.
+    InvalidRegion,
+    /// A number names nothing.
+    NoSuch,
+    /// There was no memory.
+    Memory,
+}
+
+impl fmt::Display for SetupReply {
+    fn fmt<W: fmt::Write>(&self, f: &mut fmt::Formatter<W>) -> fmt::Result {
+        match self {
+            SetupReply::BlockMade(number) => write!(f, "block {number}"),
+            SetupReply::RegionMade(number) => write!(f, "region {number}"),
+            SetupReply::InvalidSize => write!(f, "error M1"),
+            SetupReply::InvalidRegion => write!(f, "error F3"),
+            SetupReply::NoSuch => write!(f, "error NoSuch"),
+            SetupReply::Memory => write!(f, "error Memory"),
+        }
+    }
+}
+
+impl fmt::Display for Reply {
+    fn fmt<W: fmt::Write>(&self, f: &mut fmt::Formatter<W>) -> fmt::Result {
+        match self {
+            Reply::LayoutMade(number) => write!(f, "layout {number}"),
+            Reply::MemoryMade(number) => write!(f, "memory {number}"),
+            Reply::Count(count) => write!(f, "count {count}"),
+            Reply::Bytes(bytes) => write!(f, "bytes {}", Hex(bytes.as_slice())),
+            Reply::Fault(fault) => write!(f, "error {fault}"),
+            Reply::NoSuch => write!(f, "error NoSuch"),
+            Reply::BadRange => write!(f, "error BadRange"),
+            Reply::Memory => write!(f, "error Memory"),
+        }
+    }
+}
+
+impl fmt::Display for Fault {
+    fn fmt<W: fmt::Write>(&self, f: &mut fmt::Formatter<W>) -> fmt::Result {
+        match self {
+            Fault::InvalidGuestAddress(addr) => write!(f, "G1 {:#x}", addr.0),
+            Fault::HostAddressNotAvailable => write!(f, "G5"),
+            Fault::NoMemoryRegion => write!(f, "C1"),
+            Fault::MemoryRegionOverlap => write!(f, "C2"),
+            Fault::UnsortedMemoryRegions => write!(f, "C3"),
+        }
+    }
+}
+
+// Two hexadecimal digits a byte, or a dash where there is none.
+#[derive(Drop)]
+struct Hex<'a>(&'a [u8]);
+
+impl fmt::Display for Hex<'_> {
+    fn fmt<W: fmt::Write>(&self, f: &mut fmt::Formatter<W>) -> fmt::Result {
+        if self.0.is_empty() {
+            return write!(f, "-");
+        }
+        for byte in self.0 {
+            write!(f, "{byte:02x}")?;
+        }
+        Ok(())
+    }
+}

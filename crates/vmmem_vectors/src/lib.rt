@@ -1,0 +1,18 @@
+//! Tests that cross crates, with their expected values as data, and the region types that they need.
+#![tactic(auto)]
+
+#[cfg(test)]
+mod layouts;
+#[cfg(test)]
+mod machines;
+#[cfg(test)]
+mod memories;
+pub mod regions;
+#[cfg(test)]
+mod scripts;
+#[cfg(test)]
+mod support;
+#[cfg(test)]
+mod texts;
+#[cfg(test)]
+mod windows;
