@@ -1,3 +1,4 @@
 pub mod Machine
 pub mod Parts
 pub mod Plain
+pub mod Script

@@ -5,6 +5,9 @@
 //! and `region B A` come first and fill the pools; the first command makes the machine. The commands are
 //! `layout R`, `plain L`, `read M A N` and `write M A BYTES`.
 
+ghost use Rattle.std.specs.Prelude.{◌≡◌};
+ghost use Rattle.vm_memory.specs.Script.{status_of};
+
 mod line;
 mod pools;
 mod reply;
@@ -37,7 +40,9 @@ pub enum DriveFault {
 
 impl DriveFault {
     /// The status that a program ends with: 1 for a bad line, 2 for input and output, 3 for memory.
-    pub fn status(&self) -> u8 {
+    pub fn status(&self) -> u8
+        ensures { result ≡ status_of self.now }
+    {
         match self {
             DriveFault::BadLine(_) => 1,
             DriveFault::Read | DriveFault::Write => 2,

@@ -36,7 +36,8 @@ impl ByteList {
     pub fn into_vec(self) -> Vec<u8>
         ensures { result.items ≡ self }
     {
-        self.bytes
+        let ByteList { bytes } = self;
+        bytes
     }
 }
 
@@ -73,6 +74,7 @@ impl NumberList {
     pub fn into_vec(self) -> Vec<usize>
         ensures { result.items ≡ self }
     {
-        self.numbers
+        let NumberList { numbers } = self;
+        numbers
     }
 }
