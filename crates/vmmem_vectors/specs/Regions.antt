@@ -1,5 +1,5 @@
 -- What the regions of the tests are.
-use Rattle.std.specs.Prelude.{ℕ, ◌+◌, ◌^◌, ◌<◌, ◌≤◌, None}
+use Rattle.std.specs.Prelude.{None}
 use Rattle.std.proofs.Common.{arith}
 use Rattle.vm_memory_guest.specs.Region.{Region, IsRegion}
 use Rattle.vm_memory_guest.specs.Mmap.{mmap_region, mmap_fits}

@@ -1,10 +1,16 @@
 //! Windows: parts of them, and access to their bytes.
 
 use crate::support::{region_at, window_of};
+use std::alloc::Global;
 use std::process::Abort;
 use std::test::Fail;
 use vm_memory_base::VolatileMemoryResult;
 use vm_memory_guest::{Bytes, HostMemory, VolatileSlice};
+
+fn len_text(alloc: Global, part: VolatileMemoryResult<VolatileSlice>) -> Result<String, Fail> {
+    let len = part.map(|part| part.len());
+    Ok(format!(in alloc; "{len:?}")?)
+}
 
 #[test]
 fn a_part_lies_in_its_window(rt: HostRuntime) -> Result<(), Fail> {
@@ -12,26 +18,31 @@ fn a_part_lies_in_its_window(rt: HostRuntime) -> Result<(), Fail> {
     let mut host = HostMemory::new(alloc);
     let region = region_at(&mut host, 0, 0x1000)?;
     let window = window_of(&region, 0x10, 8)?;
-    for (parted, told) in [
-        (window.offset(9), "Err(OutOfBounds { addr: 25 })"),
-        (window.offset(8), "Ok(0)"),
-        (window.offset(3), "Ok(5)"),
+    for (count, told) in [
+        (3, "Ok(5)"),
+        (8, "Ok(0)"),
+        (9, "Err(OutOfBounds { addr: 25 })"),
         (
-            window.offset(usize::MAX),
+            usize::MAX,
             "Err(Overflow { base: 16, offset: 18446744073709551615 })",
         ),
-        (window.subslice(4, 4), "Ok(4)"),
-        (window.subslice(8, 0), "Ok(0)"),
-        (window.subslice(4, 5), "Err(OutOfBounds { addr: 9 })"),
-        (window.subslice(9, 0), "Err(OutOfBounds { addr: 9 })"),
+    ] {
+        let text = len_text(alloc, window.offset(count))?;
+        assert_eq!(rt; text.as_str(), told, "from {count} on");
+    }
+    for (offset, count, told) in [
+        (4, 4, "Ok(4)"),
+        (8, 0, "Ok(0)"),
+        (4, 5, "Err(OutOfBounds { addr: 9 })"),
+        (9, 0, "Err(OutOfBounds { addr: 9 })"),
         (
-            window.subslice(usize::MAX, 2),
+            usize::MAX,
+            2,
             "Err(Overflow { base: 18446744073709551615, offset: 2 })",
         ),
     ] {
-        let len = parted.map(|part| part.len());
-        let text = format!(in alloc; "{len:?}")?;
-        assert_eq!(rt; text.as_str(), told);
+        let text = len_text(alloc, window.subslice(offset, count))?;
+        assert_eq!(rt; text.as_str(), told, "{count} from {offset} on");
     }
     Ok(())
 }
