@@ -58,7 +58,7 @@ cell regions a = lies_in (home regions a) a
 abbrev pub same_region : Region → Region → Bool
 same_region q r = q.start == r.start && q.len == r.len
 
--- what a region names: its bytes and its block's bitmap
+-- what a region names: the place of its bytes
 abbrev pub place_names : Option Cell → ℕ → List Name
 place_names None len = []
 place_names (Some first) len = host.Place first.block first.offset len ∷ []

@@ -1,10 +1,23 @@
 //! What the definitions say in small cases.
 ghost use Rattle.std.specs.Prelude.{◌≡◌, ◌-◌, ◌^◌, true, false, [], ◌∷◌, Some};
+ghost use Rattle.vm_memory_base.specs.Address.{next, step, difference, is_within, numbers};
 ghost use Rattle.vm_memory_base.specs.Pages.{dirty_pages, is_dirty_at, marked, in_view, IsPageSet};
 ghost use Rattle.vm_memory_base.specs.Runs.{runs};
 ghost use Rattle.vm_memory_base.specs.Table.{same_mapping, Set, Invalidate, says_nothing, new_table_after, is_allowed, reason, pieces, misses, failures};
 ghost use Rattle.vm_memory_base.specs.declared.iotlb.Permissions.TheVariants.{No, Read, Write, ReadWrite};
 ghost use Rattle.vm_memory_base.specs.declared.iotlb.Reason.TheVariants.{MissingMapping, AccessNotAllowed};
+
+/// The address after the greatest is 0, and differences are taken modulo 2 ^ 64.
+pub fn addresses_go_round()
+    ensures next_one { next 7 ≡ 8 }
+    ensures after_the_greatest { next (2 ^ 64 - 1) ≡ 0 }
+    ensures three_on { step (2 ^ 64 - 2) 3 ≡ 1 }
+    ensures back { difference 16 8 ≡ 2 ^ 64 - 8 }
+    ensures there_and_back { step 16 (difference 16 8) ≡ 8 }
+    ensures within { is_within 4 3 6 ≡ true }
+    ensures past { is_within 4 3 7 ≡ false }
+    ensures listed { numbers 4 3 ≡ 4 ∷ 5 ∷ 6 ∷ [] }
+{}
 
 /// Two neighbouring ranges with one difference and one set of permissions are one run.
 pub fn neighbours_join()
