@@ -21,5 +21,4 @@ pub fn accesses_are_by_bytes<B: ExactBitmap>()
 /// What keeps an allowed access from going on is what its first byte that it does not reach meets.
 pub fn accesses_stop_at_the_first_fault()
     ensures { (regions : List Region) (route : Route) (a n : ℕ) (access : Permissions) (fault : Fault) → allowed route a n access ≡ true → (access_of regions route a n access).fault ≡ Some fault → meets regions route a (length (access_of regions route a n access).path) ≡ Stops fault }
-{
-}
+{}

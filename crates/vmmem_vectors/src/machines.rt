@@ -9,20 +9,18 @@ use vm_memory::machine::command::{Command, Reply};
 use vm_memory::machine::list::{ByteList, NumberList};
 use vm_memory::machine::{Machine, run};
 use vm_memory_base::GuestAddress;
-use vm_memory_guest::{GuestRegionCollection, GuestRegionMmap, HostMemory};
+use vm_memory_guest::{GuestRegionMmap, HostMemory};
 
 // A machine of two regions of four bytes, at 0 and 0x10.
 fn machine_of_two(rt: &impl Abort, alloc: Global) -> Result<Machine<GuestRegionMmap, ()>, Fail> {
     let mut host = HostMemory::new(alloc);
+    let low = region_at(&mut host, 0, 4)?;
+    let high = region_at(&mut host, 0x10, 4)?;
+    assert!(rt; host.holds(&low));
+    assert!(rt; host.holds(&high));
     let mut regions = Vec::new(alloc);
-    let mut shared = Vec::new(alloc);
-    for start in [0, 0x10] {
-        let region = Arc::new(alloc, region_at(&mut host, start, 4)?)?;
-        shared.push(region.clone()?)?;
-        regions.push(region)?;
-    }
-    let layout = GuestRegionCollection::from_arc_regions(shared)?;
-    assert!(rt; host.holds(&layout));
+    regions.push(Arc::new(alloc, low)?)?;
+    regions.push(Arc::new(alloc, high)?)?;
     Ok(Machine::new(alloc, host, regions))
 }
 
