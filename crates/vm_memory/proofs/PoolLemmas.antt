@@ -5,7 +5,7 @@ use Rattle.std.proofs.lemmas.Bool.{false≢true}
 use Rattle.std.proofs.lemmas.Grind.{flat_map-append}
 use Rattle.std.proofs.lemmas.Option.{slice_get_within}
 use Rattle.vm_memory_guest.specs.Host.{Host, Shape, Name, Block, Place, Space, Tlb, IsHeld, Holds, shape_of, block_at}
-use Rattle.vm_memory_guest.specs.Region.{Region, region_names}
+use Rattle.vm_memory_guest.specs.Region.{region_names}
 use Rattle.vm_memory_guest.specs.Mmap.{mmap_region}
 use Rattle.vm_memory_guest.specs.declared.mmap.GuestRegionMmap.{GuestRegionMmap}
 
