@@ -1,8 +1,7 @@
 -- Blocks as vectors, and as the lists of their bytes.
 use Rattle.std.proofs.Common.{◌≡◌, ℕ, zero, suc, List, [], ◌∷◌, map, length, get_or, refl, ap, take, ◌∙◌, add-zero}
 use Rattle.vm_memory_guest.specs.Host.{Host, Shape, Cell, shape_of, block_at, bytes_at, written}
-use Rattle.vm_memory_guest.specs.Slice.{Window}
-use Rattle.vm_memory_guest.specs.Window.{cells, cells_of, span, Writes}
+use Rattle.vm_memory_guest.specs.Window.{Window, cells, cells_of, span, Writes}
 use Rattle.vm_memory_guest.proofs.WrittenLaws.{lengths-written, written-take, length-cells, length-bytes_at, length-cells_from, span-cons}
 
 -- the length of a block, as its host's shape has it

@@ -3,7 +3,7 @@ use Rattle.std.specs.Prelude.{ℕ, ◌+◌, ◌-◌, ◌^◌, ◌<◌, ◌≤◌
 use Rattle.vm_memory_base.specs.Address.{is_within}
 use Rattle.vm_memory_base.specs.declared.bitmap.BitmapId.TheVariants as bitmap
 use Rattle.vm_memory_guest.specs.Host as host
-use Rattle.vm_memory_guest.specs.Slice.{Window}
+use Rattle.vm_memory_guest.specs.Window.{Window}
 use Rattle.vm_memory_guest.specs.declared.region.GuestMemoryError.{GuestMemoryError}
 use Rattle.vm_memory_guest.specs.declared.region.GuestMemoryError.TheVariants.{HostAddressNotAvailable, InvalidBackendAddress}
 use Rattle.vm_memory_guest.specs.declared.region.GuestRegionCollectionError.{GuestRegionCollectionError}
@@ -32,9 +32,13 @@ pub record IsRegion (r : Region) : Type 0 where
 abbrev pub last : Region → ℕ
 last r = r.start + r.len - 1
 
+-- of values that mean regions the one whose region holds an address
+abbrev pub home_in : {R : Type 0} → (R → Region) → List R → ℕ → Option R
+home_in region rs a = find (λ r. is_within (region r).start (region r).len a) rs
+
 -- the region that holds an address
 abbrev pub home : List Region → ℕ → Option Region
-home regions a = find (λ r. is_within r.start r.len a) regions
+home regions a = home_in (λ r. r) regions a
 
 -- what lies at an address: a byte of a host in its region, no byte in a region without host bytes, or no region
 pub data Lies : Type 0 where

@@ -1,10 +1,10 @@
 //! Regions of guest physical memory, and collections of them.
-ghost use Rattle.std.specs.Prelude.{◌≡◌, ℕ, ◌+◌, ◌-◌, ◌^◌, ◌<◌, ◌≤◌, ◌↔◌, nat_lt, List, map, IsTrue, Option, Some, None, IfSome, IfOk, MatchResult, OnOk, cond, option_map, length, get_or, flat_map};
+ghost use Rattle.std.specs.Prelude.{◌≡◌, ℕ, ◌+◌, ◌-◌, ◌^◌, ◌<◌, ◌≤◌, ◌↔◌, nat_lt, List, map, IsTrue, Option, Some, None, IfSome, IfOk, MatchResult, OnOk, cond, option_copied, length, get_or, flat_map};
 ghost use Rattle.std.specs.declared.alloc.Global.{Global};
 ghost use Rattle.std.specs.declared.sync.Arc.{Arc};
 ghost use Rattle.vm_memory_guest.specs.Collection.{regions_of};
 ghost use Rattle.vm_memory_guest.specs.Host.{Holds};
-ghost use Rattle.vm_memory_guest.specs.Region.{Region, IsRegion, last, home, region_names, IsLayout, neighbours_of, layout_error, slice_of};
+ghost use Rattle.vm_memory_guest.specs.Region.{Region, IsRegion, last, home_in, region_names, IsLayout, neighbours_of, layout_error, slice_of};
 
 use crate::volatile_memory::host::{HostShape, Named};
 use crate::volatile_memory::slice::VolatileSlice;
@@ -51,9 +51,10 @@ impl From<VolatileMemoryError> for GuestMemoryError {
 
     fn from(e: VolatileMemoryError) -> GuestMemoryError {
         match e {
-            VolatileMemoryError::OutOfBounds { .. } | VolatileMemoryError::Overflow { .. } => {
-                GuestMemoryError::InvalidBackendAddress
-            }
+            VolatileMemoryError::OutOfBounds { .. }
+            | VolatileMemoryError::Overflow { .. }
+            | VolatileMemoryError::TooBig { .. }
+            | VolatileMemoryError::Misaligned { .. } => GuestMemoryError::InvalidBackendAddress,
             VolatileMemoryError::PartialBuffer {
                 expected,
                 completed,
@@ -61,6 +62,7 @@ impl From<VolatileMemoryError> for GuestMemoryError {
                 expected,
                 completed,
             },
+            VolatileMemoryError::Memory => GuestMemoryError::Memory,
         }
     }
 }
@@ -160,9 +162,18 @@ impl<R: GuestMemoryRegion> GuestRegionCollection<R> {
         Ok(GuestRegionCollection { regions })
     }
 
+    /// How many regions there are.
+    #[inline]
+    pub fn num_regions(&self) -> usize
+        ensures count { result ≡ length self.now }
+        ensures layout { IsLayout (map R.region self.now) }
+    {
+        self.regions.len()
+    }
+
     /// The region that holds an address, found by binary search.
     pub fn find_region(&self, addr: GuestAddress) -> Option<&R>
-        ensures found { option_map (λ r. R.region r.now) result ≡ home (map R.region self.now) addr.0 }
+        ensures found { option_copied result ≡ home_in R.region self.now addr.0 }
         ensures layout { IsLayout (map R.region self.now) }
     {
         let next = first_above(self.regions.as_slice(), addr);

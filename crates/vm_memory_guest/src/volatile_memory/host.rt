@@ -193,6 +193,7 @@ impl<B> HostMemory<B> {
         ensures invalid { IsErrOf result MmapRegionError.InvalidSize ↔ ((size ≡ 0) ⊎ (2 ^ 63 ≤ size)) }
         ensures sized { OnOk result ((0 < size) × (size < 2 ^ 63)) }
         ensures err { OnErr result (self.new ≡ self.old) }
+        ensures kept { (names : List Name) → Holds (shape_of self.old) names → Holds (shape_of self.new) names }
     {
         if size == 0 || size > MAX_BLOCK {
             return Err(MmapRegionError::InvalidSize);
@@ -228,6 +229,7 @@ impl<B> HostMemory<B> {
         ensures number { IfOk result (λ space. space.0 ≡ length self.old.spaces) }
         ensures ok { OnOk result (self.new ≡ record self.old { spaces = self.old.spaces ++ bitmap ∷ [] }) }
         ensures err { OnErr result (self.new ≡ self.old) }
+        ensures kept { (names : List Name) → Holds (shape_of self.old) names → Holds (shape_of self.new) names }
     {
         let space = SpaceId(self.spaces.len());
         self.spaces.push(bitmap)?;
@@ -280,7 +282,8 @@ impl<B> HostMemory<B> {
         B: Bitmap,
         requires held { Holds (shape_of self.old) (window_names window.now) }
         requires size { length bytes.now ≡ window.now.size }
-        ensures { Writes B.marks (window.now ∷ []) bytes.now self.old self.new }
+        ensures bytes { Writes B.marks (window.now ∷ []) bytes.now self.old self.new }
+        ensures shape { shape_of self.new ≡ shape_of self.old }
     {
         self.put(window.block.0, window.offset, bytes);
         if window.size > 0 {
@@ -297,6 +300,7 @@ impl<B: NewBitmap + Drop> HostMemory<B> {
         ensures invalid { IsErrOf result MmapRegionError.InvalidSize ↔ ((size ≡ 0) ⊎ (2 ^ 63 ≤ size)) }
         ensures sized { OnOk result ((0 < size) × (size < 2 ^ 63)) }
         ensures err { OnErr result (self.new ≡ self.old) }
+        ensures kept { (names : List Name) → Holds (shape_of self.old) names → Holds (shape_of self.new) names }
     {
         if size == 0 || size > MAX_BLOCK {
             return Err(MmapRegionError::InvalidSize);
