@@ -1,7 +1,7 @@
 -- The errors that name faults, and the items of a walk.
 use Rattle.std.specs.Prelude.{ℕ, List, [], ◌∷◌, ◌++◌, map, Option, Some, None, option_map, Result, Ok, Err, ◌≡◌, true, false}
 use Rattle.vm_memory_base.specs.declared.io.VolatileMemoryError.{VolatileMemoryError}
-use Rattle.vm_memory_base.specs.declared.io.VolatileMemoryError.TheVariants.{OutOfBounds, Overflow}
+use Rattle.vm_memory_base.specs.declared.io.VolatileMemoryError.TheVariants.{OutOfBounds, Overflow, TooBig, Misaligned}
 use Rattle.vm_memory_base.specs.declared.io.VolatileMemoryError.TheVariants as window
 use Rattle.vm_memory_base.specs.Table.{Table}
 use Rattle.vm_memory_base.specs.declared.iotlb.Permissions.{Permissions}
@@ -12,6 +12,7 @@ use Rattle.vm_memory_guest.specs.Memory.{Memory, Direct, route}
 use Rattle.vm_memory_guest.specs.Region.{Region}
 use Rattle.vm_memory_guest.specs.declared.region.GuestMemoryError.{GuestMemoryError}
 use Rattle.vm_memory_guest.specs.declared.region.GuestMemoryError.TheVariants.{InvalidBackendAddress, InvalidGuestAddress, HostAddressNotAvailable, IommuError, PartialBuffer}
+use Rattle.vm_memory_guest.specs.declared.region.GuestMemoryError.TheVariants as errors
 use Rattle.vm_memory_guest.specs.declared.volatile_memory.slice.VolatileSlice.{VolatileSlice}
 
 abbrev pub error_of : Fault → GuestMemoryError
@@ -32,11 +33,14 @@ error_item (Some e) = Err e ∷ []
 abbrev pub items_of : Reach GuestMemoryError → List (Result VolatileSlice GuestMemoryError)
 items_of reach = map (λ w. Ok w) reach.windows ++ error_item reach.fault
 
--- an access that does not fit its window does not fit the region
+-- an access that does not fit its window does not fit the region, and want of memory stays that
 abbrev pub of_window : VolatileMemoryError → GuestMemoryError
 of_window (OutOfBounds addr) = InvalidBackendAddress
 of_window (Overflow base offset) = InvalidBackendAddress
+of_window (TooBig nelements size) = InvalidBackendAddress
+of_window (Misaligned addr alignment) = InvalidBackendAddress
 of_window (window.PartialBuffer expected completed) = PartialBuffer expected completed
+of_window window.Memory = errors.Memory
 
 -- the items of a walk without translation
 abbrev pub direct_items : List Region → ℕ → ℕ → List (Result VolatileSlice GuestMemoryError)
