@@ -1,5 +1,5 @@
 -- What a bitmap tracks: pages of one size, each of them clean or dirty.
-use Rattle.std.specs.Prelude.{ℕ, ◌+◌, ◌-◌, ◌*◌, ◌/◌, ◌%◌, ◌^◌, ◌<◌, min, Bool, false, ◌&&◌, ◌||◌, cond, nat_lt, nat_le, List, [], ◌∷◌, length, slice_index_or, Option, Some, None, option_map}
+use Rattle.std.specs.Prelude.{ℕ, ◌+◌, ◌-◌, ◌*◌, ◌/◌, ◌%◌, ◌^◌, ◌<◌, ◌≤◌, ◌≡◌, min, Bool, false, ◌&&◌, ◌||◌, cond, nat_lt, nat_le, List, [], ◌∷◌, length, slice_index_or, Option, Some, None, option_map}
 
 -- pages of one size, and of each whether it is dirty
 pub record Pages : Type 0 where
@@ -69,3 +69,8 @@ cleaned (Some p) = Some (record { page_size = p.page_size; flags = all_clean p.f
 abbrev pub IsPageSet : PageSet → Type 0
 IsPageSet None = Unit {0}
 IsPageSet (Some p) = (0 < p.page_size) × ((length p.flags - 1) * p.page_size < 2 ^ 64)
+
+-- no page is dirty, and the pages, where there are any, cover so many bytes
+abbrev pub IsCleanFor : ℕ → PageSet → Type 0
+IsCleanFor len None = Unit {0}
+IsCleanFor len (Some p) = (dirty_pages (Some p) ≡ []) × (len ≤ length p.flags * p.page_size)
