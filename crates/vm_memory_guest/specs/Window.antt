@@ -1,5 +1,5 @@
 -- Windows: so many bytes of a block from an offset on, and the view of a bitmap that their writes mark.
-use Rattle.std.specs.Prelude.{◌≡◌, ℕ, ◌+◌, nat_lt, List, [], ◌∷◌, sum_by, flat_map, slice_get, slice_set, Some, MatchBool, ◌^◌, ◌-◌, cond, nat_le, Result, Ok, Err}
+use Rattle.std.specs.Prelude.{◌≡◌, ℕ, ◌+◌, nat_lt, List, [], ◌∷◌, sum_by, flat_map, slice_get, slice_set, Option, Some, MatchBool, ◌^◌, ◌-◌, cond, nat_le, Result, Ok, Err}
 use Rattle.vm_memory_base.specs.Pages.{in_view}
 use Rattle.vm_memory_base.specs.declared.io.VolatileMemoryError.{VolatileMemoryError}
 use Rattle.vm_memory_base.specs.declared.io.VolatileMemoryError.TheVariants.{OutOfBounds, Overflow}
@@ -21,6 +21,11 @@ pub record Window : Type 0 where
 abbrev pub bitmap_name : BitmapId → Name
 bitmap_name (Block block) = host.Block block
 bitmap_name (Space space) = host.Space space
+
+-- the bitmap of this name, if a host has it
+abbrev pub bitmap_of : {B : Type 0} → Host B → BitmapId → Option B
+bitmap_of host (Block block) = slice_get host.bitmaps block
+bitmap_of host (Space space) = slice_get host.spaces space
 
 -- what a window names: its bytes and its bitmap
 abbrev pub window_names : Window → List Name

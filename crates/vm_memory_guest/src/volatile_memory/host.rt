@@ -231,6 +231,16 @@ impl<B> HostMemory<B> {
         ensures err { OnErr result (self.new ≡ self.old) }
         ensures kept { (names : List Name) → Holds (shape_of self.old) names → Holds (shape_of self.new) names }
     {
+        self.add_space(bitmap)
+    }
+
+    fn add_space(&mut self, bitmap: B) -> Result<SpaceId, AllocError>
+    where
+        B: Drop,
+        ensures number { IfOk result (λ space. space.0 ≡ length self.old.spaces) }
+        ensures ok { OnOk result (self.new ≡ record self.old { spaces = self.old.spaces ++ bitmap ∷ [] }) }
+        ensures err { OnErr result (self.new ≡ self.old) }
+    {
         let space = SpaceId(self.spaces.len());
         self.spaces.push(bitmap)?;
         self.shape.spaces += 1;
@@ -239,7 +249,7 @@ impl<B> HostMemory<B> {
 }
 
 impl<B> HostMemory<B> {
-    ghost use Rattle.vm_memory_guest.specs.Window.{window_names, bitmap_name, cells_of, Marks, MarksWindow, Writes};
+    ghost use Rattle.vm_memory_guest.specs.Window.{window_names, bitmap_name, bitmap_of, cells_of, Marks, MarksWindow, Writes};
 
     /// The bytes of a window.
     pub fn bytes(&self, window: &VolatileSlice) -> &[u8]
@@ -247,6 +257,17 @@ impl<B> HostMemory<B> {
         ensures { result.now ≡ bytes_at self.now.blocks (cells_of window.now) }
     {
         part_of(&self.blocks, window.block.0, window.offset, window.size)
+    }
+
+    /// The bitmap of a block, or of a space.
+    pub fn bitmap(&self, bitmap: BitmapId) -> &B
+        requires { Holds (shape_of self.now) (bitmap_name bitmap ∷ []) }
+        ensures { bitmap_of self.now bitmap ≡ Some result.now }
+    {
+        match bitmap {
+            BitmapId::Block(block) => &self.bitmaps[block],
+            BitmapId::Space(space) => &self.spaces[space],
+        }
     }
 
     // Moves bytes to a place of a block.
