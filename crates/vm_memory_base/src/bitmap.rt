@@ -45,10 +45,12 @@ pub trait ExactBitmap: Bitmap {
     ghost fits: { (b : Self) → IsPageSet (pages b) };
 
     /// A mark makes the pages of its bytes dirty, and no other.
-    ghost marks_pages: { (old new : Self) (offset len : ℕ) → Self.marks old offset len new → pages new ≡ page_set.marked offset len (pages old) };
+    ghost marks_pages: { (old new : Self) (offset len : ℕ) → Self.marks old offset len new
+        → pages new ≡ page_set.marked offset len (pages old) };
 
     /// A byte is told to be written where its page is dirty.
-    ghost tells_pages: { (b : Self) (offset : ℕ) (told : Bool) → Self.tells b offset told → told ≡ page_set.is_dirty_at (pages b) offset };
+    ghost tells_pages: { (b : Self) (offset : ℕ) (told : Bool) → Self.tells b offset told
+        → told ≡ page_set.is_dirty_at (pages b) offset };
 
     /// What is made for a length tracks all of its bytes, if it tracks any, and none is dirty.
     ghost made_clean: { (len : ℕ) (b : Self) → Self.made len b → IsCleanFor len (pages b) };
