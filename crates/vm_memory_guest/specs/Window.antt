@@ -27,6 +27,11 @@ abbrev pub bitmap_of : {B : Type 0} → Host B → BitmapId → Option B
 bitmap_of host (Block block) = slice_get host.bitmaps block
 bitmap_of host (Space space) = slice_get host.spaces space
 
+-- the host with another bitmap of this name
+abbrev pub with_bitmap : {B : Type 0} → Host B → BitmapId → B → Host B
+with_bitmap host (Block block) bitmap = record host { bitmaps = slice_set host.bitmaps block bitmap }
+with_bitmap host (Space space) bitmap = record host { spaces = slice_set host.spaces space bitmap }
+
 -- what a window names: its bytes and its bitmap
 abbrev pub window_names : Window → List Name
 window_names w = host.Place w.block.0 w.offset w.size ∷ bitmap_name w.bitmap.id ∷ []
