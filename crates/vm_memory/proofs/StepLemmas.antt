@@ -8,7 +8,7 @@ use Rattle.vm_memory_base.specs.Pages.{PageSet}
 use Rattle.vm_memory_base.specs.declared.address.GuestAddress.{GuestAddress}
 use Rattle.vm_memory_guest.specs.Answer.{with_pages}
 use Rattle.vm_memory_guest.specs.Host.{Host, shape_of, Holds}
-use Rattle.vm_memory_guest.specs.Region.{Region, region_names, layout_error}
+use Rattle.vm_memory_guest.specs.Region.{Region, region_names, layout_error, fault_of}
 use Rattle.vm_memory_guest.specs.declared.region.GuestRegionCollectionError.{GuestRegionCollectionError}
 use Rattle.vm_memory_guest.specs.declared.region.GuestRegionCollectionError.TheVariants as layouts
 use Rattle.vm_memory.specs.Machine.{State, MachineMemory, Step, Run, named, plain}
@@ -67,7 +67,7 @@ module _ {R B : Type 0} (region : R → Region) (pages : B → PageSet) where
   no_regions m ns never = named-none (map region m.regions) ns (λ all. never (subst (λ (k : ℕ). All (λ n. n < k) ns) (length-map_same region m.regions) all))
 
   -- regions that make no layout
-  pub layout_refused : (m : Parts R B) (ns : List ℕ) (rs : List R) (e : GuestRegionCollectionError) → named m.regions ns ≡ Some rs → layout_error (map region rs) ≡ Some e → Step (state_of region pages m) (command.FromRegions ns) (reply_of_layout e) (state_of region pages m)
+  pub layout_refused : (m : Parts R B) (ns : List ℕ) (rs : List R) (e : GuestRegionCollectionError) → named m.regions ns ≡ Some rs → layout_error (map region rs) ≡ fault_of e → Step (state_of region pages m) (command.FromRegions ns) (reply_of_layout e) (state_of region pages m)
   layout_refused m ns rs layouts.NoMemoryRegion is e = (map region rs, layouts.NoMemoryRegion, named-map region m.regions ns rs is, e, tt, refl)
   layout_refused m ns rs layouts.MemoryRegionOverlap is e = (map region rs, layouts.MemoryRegionOverlap, named-map region m.regions ns rs is, e, tt, refl)
   layout_refused m ns rs layouts.UnsortedMemoryRegions is e = (map region rs, layouts.UnsortedMemoryRegions, named-map region m.regions ns rs is, e, tt, refl)
