@@ -1,5 +1,5 @@
 -- Marks of windows, for exact bitmaps: they are the dirt of the bytes of the windows.
-use Rattle.std.proofs.Common.{◌≡◌, ℕ, zero, suc, ◌+◌, ◌^◌, ◌<◌, ◌≤◌, Bool, true, ltb, List, [], ◌∷◌, ◌++◌, map, flat_map, set, slice_get, Option, Some, None, All, MatchBool, refl, sym, ap, subst, ◌∙◌, arith}
+use Rattle.std.proofs.Common.{◌≡◌, ℕ, zero, suc, ◌+◌, ◌^◌, ◌≤◌, Bool, true, ltb, List, [], ◌∷◌, ◌++◌, map, flat_map, set, slice_get, Option, Some, None, All, MatchBool, refl, sym, ap, subst, ◌∙◌, arith}
 use Rattle.std.proofs.lemmas.Bool.{lt-ltb}
 use Rattle.std.proofs.lemmas.List.Elements.{All-head, All-tail}
 use Rattle.vm_memory_base.specs.Address.{numbers}

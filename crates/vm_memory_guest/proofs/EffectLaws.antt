@@ -1,5 +1,5 @@
 -- What a write to a path keeps of a host, what is read back, and which pages are dirty then.
-use Rattle.std.proofs.Common.{◌≡◌, ◌≢◌, ℕ, zero, suc, ◌+◌, ◌/◌, ◌^◌, ◌<◌, ◌≤◌, ◌⊎◌, true, false, List, [], ◌∷◌, map, length, take, get_or, slice_get, Option, Some, None, All, AllPairs, Contains, refl, sym, ap, subst, ◌∙◌, inl, inr, arith, eq-eqb, length-take-le, get_or-set_other}
+use Rattle.std.proofs.Common.{◌≡◌, ◌≢◌, ℕ, zero, suc, ◌/◌, ◌^◌, ◌<◌, ◌≤◌, ◌⊎◌, true, false, List, [], ◌∷◌, map, length, take, get_or, slice_get, Option, Some, None, All, AllPairs, Contains, refl, sym, ap, subst, ◌∙◌, inl, inr, arith, eq-eqb, length-take-le, get_or-set_other}
 use Rattle.std.proofs.lemmas.Bool.{cases_eq, true≢false}
 use Rattle.std.proofs.lemmas.List.{length-map}
 use Rattle.std.proofs.lemmas.List.Elements.{All-head, All-tail, All-weaker}
