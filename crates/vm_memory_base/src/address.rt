@@ -37,7 +37,8 @@ pub trait AddressWord: Copy + Ord + Debug {
 
     /// The sum, or `None` where it does not fit 64 bits.
     fn checked_add(self, other: Self) -> Option<Self>
-        ensures { SomeIff (option_map value result) (value self + value other < 2 ^ 64) (value self + value other) };
+        ensures { SomeIff (option_map value result) (value self + value other < 2 ^ 64)
+            (value self + value other) };
 
     /// The difference, or `None` where `other` is the greater.
     fn checked_sub(self, other: Self) -> Option<Self>
@@ -197,7 +198,8 @@ pub trait Address: AddressValue
     /// How far the address lies above `base`, in bytes, or `None` where it lies below.
     #[inline]
     fn checked_offset_from(&self, base: Self) -> Option<Self::V>
-        ensures { SomeIff (option_map Self.V.value result) (number base ≤ number self.now) (number self.now - number base) }
+        ensures { SomeIff (option_map Self.V.value result) (number base ≤ number self.now)
+            (number self.now - number base) }
     {
         self.raw_value().checked_sub(base.raw_value())
     }
@@ -216,7 +218,8 @@ pub trait Address: AddressValue
     #[inline]
     fn checked_align_up(&self, power_of_two: Self::V) -> Option<Self>
         requires { HasOneBit (Self.V.value power_of_two) }
-        ensures { SomeIff (option_map number result) (number self.now + (Self.V.value power_of_two - 1) < 2 ^ 64)
+        ensures { SomeIff (option_map number result)
+            (number self.now + (Self.V.value power_of_two - 1) < 2 ^ 64)
             (next_multiple_of (number self.now) (Self.V.value power_of_two)) }
     {
         let aligned = self.raw_value().checked_align_up(power_of_two)?;
@@ -304,11 +307,13 @@ pub trait Address: AddressValue
     // `&` and `|` with a raw value are those of the numbers.
     ghost can_and: { (a : Self) (m : Self.V) → Self.can_bitand a m };
 
-    ghost and_of: { (a : Self) (m : Self.V) (r : Self) → Self.bitand_gives a m r → number r ≡ bit_and (number a) (Self.V.value m) };
+    ghost and_of: { (a : Self) (m : Self.V) (r : Self) → Self.bitand_gives a m r
+        → number r ≡ bit_and (number a) (Self.V.value m) };
 
     ghost can_or: { (a : Self) (m : Self.V) → Self.can_bitor a m };
 
-    ghost or_of: { (a : Self) (m : Self.V) (r : Self) → Self.bitor_gives a m r → number r ≡ bit_or (number a) (Self.V.value m) };
+    ghost or_of: { (a : Self) (m : Self.V) (r : Self) → Self.bitor_gives a m r
+        → number r ≡ bit_or (number a) (Self.V.value m) };
 
     // The default is address 0.
     ghost default_of: { (a : Self) → Self.is_default a → number a ≡ 0 };

@@ -134,7 +134,8 @@ impl<T: FixedInteger> FixedInteger for LittleEndian<T> {
         LittleEndian(T::from_bits(bits))
     }
 
-    ghost laws = { wrapped_code (λ x. x.0) (λ v. record { 0 = v }) (λ x. refl) (λ v. refl) T.FixedInteger.laws };
+    ghost laws = { wrapped_code (λ x. x.0) (λ v. record { 0 = v }) (λ x. refl) (λ v. refl)
+        T.FixedInteger.laws };
 
     ghost length_always = { λ x. T.length_always x.0 };
 
@@ -231,7 +232,8 @@ impl<T: FixedInteger> FixedInteger for BigEndian<T> {
         BigEndian(T::from_bits(reversed(bits, T::bytes_count())))
     }
 
-    ghost laws = { reversed_code (λ x. x.0) (λ v. record { 0 = v }) (λ x. refl) (λ v. refl) T.FixedInteger.laws };
+    ghost laws = { reversed_code (λ x. x.0) (λ v. record { 0 = v }) (λ x. refl) (λ v. refl)
+        T.FixedInteger.laws };
 
     ghost length_always = { λ x. length-reversed (T.bytes x.0) (T.length_always x.0) };
 

@@ -13,10 +13,10 @@ use Rattle.vm_memory_base.specs.declared.bitmap.BitmapId.{BitmapId}
 use Rattle.vm_memory_base.specs.declared.bitmap.BitmapId.TheVariants.{Block, Space}
 use Rattle.vm_memory_base.proofs.PagesLaws.{length-flags_after, flags_after_agree, marked-empty, shape-marked, marked-marked, is_dirty_at-marked}
 use Rattle.vm_memory_guest.specs.Host.{Host, Cell, shape_of, written}
-use Rattle.vm_memory_guest.specs.Window.{cells, MarksOne, Marks, MarksWindow, MarksAll, Writes}
+use Rattle.vm_memory_guest.specs.Window.{cells, MarksOne, Marks, MarksWindow, MarksAll, Writes, Window}
 use Rattle.vm_memory_guest.specs.Access.{Reached, windows}
-use Rattle.vm_memory_guest.specs.Answer.{counted, change_one, changed, marks_pages, dirtied, windows_dirtied, path_marks, window_marks, MarksFollow, pages_at, same_page, path_cells, after_write, with_pages}
-use Rattle.vm_memory_guest.specs.declared.volatile_memory.slice.VolatileSlice.{VolatileSlice}
+use Rattle.vm_memory_guest.specs.Answer.{counted}
+use Rattle.vm_memory_guest.specs.Dirt.{change_one, changed, marks_pages, dirtied, path_marks, window_marks, MarksFollow, pages_at, same_page, path_cells, after_write, with_pages}
 use Rattle.vm_memory_guest.proofs.MarkLaws.{shape_of-written}
 
 -- ---- one element of a list changed
@@ -185,18 +185,23 @@ pub dirtied-each : (xs : List Reached) (host : Host PageSet) → dirtied xs host
 dirtied-each [] host = refl
 dirtied-each (x ∷ xs) host = dirtied-each xs (marks_pages x.bitmap x.mark 1 host)
 
+-- the dirt of windows, one after the other
+abbrev windows_dirtied : List Window → Host PageSet → Host PageSet
+windows_dirtied [] host = host
+windows_dirtied (w ∷ ws) host = windows_dirtied ws (marks_pages w.bitmap.id w.bitmap.base w.size host)
+
 -- the dirt of windows is the marks of their bytes
-pub windows_dirtied-each : (ws : List VolatileSlice) (host : Host PageSet) → All (λ (w : VolatileSlice). w.bitmap.base + w.size ≤ 2 ^ 64) ws → windows_dirtied ws host ≡ each_marked (flat_map window_marks ws) host
+pub windows_dirtied-each : (ws : List Window) (host : Host PageSet) → All (λ (w : Window). w.bitmap.base + w.size ≤ 2 ^ 64) ws → windows_dirtied ws host ≡ each_marked (flat_map window_marks ws) host
 windows_dirtied-each [] host fit = refl
 windows_dirtied-each (w ∷ ws) host fit =
-    let here = All-head (λ (w : VolatileSlice). w.bitmap.base + w.size ≤ 2 ^ 64) w ws fit in
-    let rest = All-tail (λ (w : VolatileSlice). w.bitmap.base + w.size ≤ 2 ^ 64) w ws fit in
+    let here = All-head (λ (w : Window). w.bitmap.base + w.size ≤ 2 ^ 64) w ws fit in
+    let rest = All-tail (λ (w : Window). w.bitmap.base + w.size ≤ 2 ^ 64) w ws fit in
     windows_dirtied-each ws (marks_pages w.bitmap.id w.bitmap.base w.size host) rest
     ∙ ap (each_marked (flat_map window_marks ws)) (marks_pages-by_bytes w.bitmap.id w.bitmap.base w.size host here)
     ∙ sym (each_marked-append (window_marks w) (flat_map window_marks ws) host)
 
 -- the dirt of windows joined end to end is that of the first and then that of the others
-pub windows_dirtied-append : (ws vs : List VolatileSlice) (host : Host PageSet) → windows_dirtied (ws ++ vs) host ≡ windows_dirtied vs (windows_dirtied ws host)
+pub windows_dirtied-append : (ws vs : List Window) (host : Host PageSet) → windows_dirtied (ws ++ vs) host ≡ windows_dirtied vs (windows_dirtied ws host)
 windows_dirtied-append [] vs host = refl
 windows_dirtied-append (w ∷ ws) vs host = windows_dirtied-append ws vs (marks_pages w.bitmap.id w.bitmap.base w.size host)
 
@@ -206,7 +211,7 @@ dirtied-append [] ys host = refl
 dirtied-append (x ∷ xs) ys host = dirtied-append xs ys (marks_pages x.bitmap x.mark 1 host)
 
 -- windows whose bytes mark what the bytes of a path mark leave its dirt
-pub windows_dirtied-dirtied : (ws : List VolatileSlice) (xs : List Reached) (host : Host PageSet) → path_marks xs ≡ flat_map window_marks ws → All (λ (w : VolatileSlice). w.bitmap.base + w.size ≤ 2 ^ 64) ws → windows_dirtied ws host ≡ dirtied xs host
+pub windows_dirtied-dirtied : (ws : List Window) (xs : List Reached) (host : Host PageSet) → path_marks xs ≡ flat_map window_marks ws → All (λ (w : Window). w.bitmap.base + w.size ≤ 2 ^ 64) ws → windows_dirtied ws host ≡ dirtied xs host
 windows_dirtied-dirtied ws xs host same fit = windows_dirtied-each ws host fit ∙ ap (λ (ms : List (BitmapId × ℕ)). each_marked ms host) (sym same) ∙ sym (dirtied-each xs host)
 
 -- the dirt of the windows of a path is that of its bytes
@@ -227,7 +232,7 @@ module _ {B : Type 0} (marks : B → ℕ → ℕ → B → Type 0) (pages : B �
       ∙ ap (λ (bs : List PageSet). record (with_pages pages old) { spaces = bs }) (changed-MarksOne space offset len old.spaces h.0 h.1)
 
   -- a window of exact bitmaps marks their pages
-  pub with_pages-MarksWindow : (w : VolatileSlice) (old new : Host B) → MarksWindow marks w old new → with_pages pages new ≡ marks_pages w.bitmap.id w.bitmap.base w.size (with_pages pages old)
+  pub with_pages-MarksWindow : (w : Window) (old new : Host B) → MarksWindow marks w old new → with_pages pages new ≡ marks_pages w.bitmap.id w.bitmap.base w.size (with_pages pages old)
   with_pages-MarksWindow w old new h = at w.size h
     where
       at : (size : ℕ) → MatchBool (ltb 0 size) (Marks marks w.bitmap.id w.bitmap.base size old new) (new ≡ old) → with_pages pages new ≡ marks_pages w.bitmap.id w.bitmap.base size (with_pages pages old)
@@ -237,7 +242,7 @@ module _ {B : Type 0} (marks : B → ℕ → ℕ → B → Type 0) (pages : B �
           with_pages-Marks w.bitmap.id w.bitmap.base (suc size) old new (subst (λ (b : Bool). MatchBool b (Marks marks w.bitmap.id w.bitmap.base (suc size) old new) (new ≡ old)) some k)
 
   -- marks of windows of exact bitmaps leave the dirt of the windows
-  pub with_pages-MarksAll : (ws : List VolatileSlice) (old new : Host B) → MarksAll marks ws old new → with_pages pages new ≡ windows_dirtied ws (with_pages pages old)
+  pub with_pages-MarksAll : (ws : List Window) (old new : Host B) → MarksAll marks ws old new → with_pages pages new ≡ windows_dirtied ws (with_pages pages old)
   with_pages-MarksAll [] old new h = ap (λ (host : Host B). with_pages pages host) h
   with_pages-MarksAll (w ∷ ws) old new h = with_pages-MarksAll ws h.0 new h.2 ∙ ap (windows_dirtied ws) (with_pages-MarksWindow w old h.0 h.1)
 
@@ -246,7 +251,7 @@ module _ {B : Type 0} (marks : B → ℕ → ℕ → B → Type 0) (pages : B �
   dirtied-MarksAll xs old new follow h = with_pages-MarksAll (windows xs) old new h ∙ windows_dirtied-windows xs (with_pages pages old) follow
 
   -- a write to windows of exact bitmaps leaves its bytes in their cells, and the dirt of the windows
-  pub with_pages-Writes : (ws : List VolatileSlice) (bytes : List ℕ) (old new : Host B) → Writes marks ws bytes old new → with_pages pages new ≡ windows_dirtied ws (record (with_pages pages old) { blocks = written (cells ws) bytes old.blocks })
+  pub with_pages-Writes : (ws : List Window) (bytes : List ℕ) (old new : Host B) → Writes marks ws bytes old new → with_pages pages new ≡ windows_dirtied ws (record (with_pages pages old) { blocks = written (cells ws) bytes old.blocks })
   with_pages-Writes ws bytes old new h = with_pages-MarksAll ws (record old { blocks = written (cells ws) bytes old.blocks }) new h
 
   -- a write to the windows of a path leaves what a write to the path leaves

@@ -4,10 +4,9 @@ use Rattle.std.proofs.lemmas.List.Elements.{All-nil, All-cons, All-head, All-tai
 use Rattle.vm_memory_base.specs.Address.{numbers}
 use Rattle.vm_memory_base.specs.declared.bitmap.BitmapId.{BitmapId}
 use Rattle.vm_memory_guest.specs.Host.{cells_from}
-use Rattle.vm_memory_guest.specs.Window.{cells_of, cells}
+use Rattle.vm_memory_guest.specs.Window.{cells_of, cells, Window}
 use Rattle.vm_memory_guest.specs.Access.{Reached, Stretch, is_cut, lengthened, stretches, window_of, windows}
-use Rattle.vm_memory_guest.specs.Answer.{window_marks, MarksFollow, path_cells}
-use Rattle.vm_memory_guest.specs.declared.volatile_memory.slice.VolatileSlice.{VolatileSlice}
+use Rattle.vm_memory_guest.specs.Dirt.{window_marks, MarksFollow, path_cells}
 
 -- each byte of a path and the next are so related, where there is no cut between them
 abbrev pub Follow : (Reached → Reached → Type 0) → List Reached → Type 0
@@ -98,7 +97,7 @@ cells-windows xs h = flat_map-map cells_of window_of (stretches xs) ∙ flat_map
 pub MarksFollow-windows : (xs : List Reached) → Follow NextMark xs → All (λ (x : Reached). x.mark < 2 ^ 64) xs → MarksFollow xs
 MarksFollow-windows xs h fit = record {
   same = sym (flat_map-map window_marks window_of (stretches xs) ∙ flat_map-stretches NextMark (λ (s : Stretch). window_marks (window_of s)) (λ (x : Reached). (x.bitmap, x.mark)) (λ (x : Reached). refl) marks_more xs h);
-  fit = All-map (λ (w : VolatileSlice). w.bitmap.base + w.size ≤ 2 ^ 64) window_of (stretches xs)
+  fit = All-map (λ (w : Window). w.bitmap.base + w.size ≤ 2 ^ 64) window_of (stretches xs)
       (All-stretches (λ (x : Reached). x.mark < 2 ^ 64) NextMark (λ (s : Stretch). s.first.mark + s.len ≤ 2 ^ 64) (λ (x : Reached) (l : x.mark < 2 ^ 64). le_one x.mark l) (λ (x : Reached) (s : Stretch) (l : x.mark < 2 ^ 64) (r : NextMark x s.first) (k : s.first.mark + s.len ≤ 2 ^ 64). le_more x.mark s.first.mark s.len r.mark k) xs h fit);
 }
   where

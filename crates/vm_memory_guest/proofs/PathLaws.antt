@@ -9,17 +9,17 @@ use Rattle.vm_memory_base.specs.Address.{step, numbers}
 use Rattle.vm_memory_base.specs.Table.{Mapping, Says}
 use Rattle.vm_memory_base.specs.declared.bitmap.BitmapId.{BitmapId}
 use Rattle.vm_memory_guest.specs.Access.{Fault, Reached, Meets, Reaches, Stops, bitmap_of, mark_of, meets_at, meets, onto, or_fault, path, first_fault, same_mappings, is_cut, Stretch, stretches, window_of, windows, Access, allowed, refusal, access_of}
-use Rattle.vm_memory_guest.specs.Answer.{path_cells}
-use Rattle.vm_memory_guest.specs.Error.{error_of, error_item, direct_items}
+use Rattle.vm_memory_guest.specs.Dirt.{path_cells}
+use Rattle.vm_memory_guest.specs.Error.{error_of}
+use Rattle.vm_memory_guest.specs.Walk.{error_item}
 use Rattle.vm_memory_guest.specs.declared.region.GuestMemoryError.{GuestMemoryError}
 use Rattle.vm_memory_base.specs.declared.iotlb.Permissions.{Permissions}
 use Rattle.vm_memory_guest.specs.Host as host
 use Rattle.vm_memory_guest.specs.Host.{Cell, Shape, Name, Holds, IsHeld, cells_from}
 use Rattle.vm_memory_guest.specs.Memory.{Route, Direct, Through, mapping_of, translated, physical}
 use Rattle.vm_memory_guest.specs.Region.{Region, IsRegion, IsLayout, home, lies_in, lies_from, place_end, place_names, region_names}
-use Rattle.vm_memory_guest.specs.Window.{bitmap_name, window_names, span, cells, cells_of}
-use Rattle.vm_memory_guest.specs.declared.volatile_memory.slice.VolatileSlice.{VolatileSlice}
-use Rattle.vm_memory_guest.proofs.PathWalk.{path-none, lengthened-first, stretches-cut, stretches-joined, is_within-bounds, home-cases, home-within, home-contains, home-same, window_in, windows-in_region}
+use Rattle.vm_memory_guest.specs.Window.{bitmap_name, window_names, span, cells, cells_of, Window}
+use Rattle.vm_memory_guest.proofs.PathWalk.{direct_items, path-none, lengthened-first, stretches-cut, stretches-joined, is_within-bounds, home-cases, home-within, home-contains, home-same, window_in, windows-in_region}
 
 -- a path has at most the bytes that were asked for
 pub length-path : (m : ℕ → Meets) (i n : ℕ) → length (path m i n) ≤ n
@@ -165,7 +165,7 @@ pub span-windows : (xs : List Reached) → span (windows xs) ≡ length xs
 span-windows [] = ap (λ (ss : List Stretch). span (map window_of ss)) none_at_all
 span-windows (x ∷ []) = ap (λ (ss : List Stretch). span (map window_of ss)) (one_alone x)
 span-windows (x ∷ y ∷ ys) =
-    let size = λ (w : VolatileSlice). w.size in
+    let size = λ (w : Window). w.size in
     let s = split x y ys in
     let behind : span (map window_of (stretch y s.len ∷ s.rest)) ≡ suc (length ys) = ap (λ (ss : List Stretch). span (map window_of ss)) (sym s.behind) ∙ span-windows (y ∷ ys) in
     let first_behind : span (map window_of (stretch y s.len ∷ s.rest)) ≡ s.len + span (map window_of s.rest) = sum_by-cons size (window_of (stretch y s.len)) (map window_of s.rest) in
@@ -193,7 +193,7 @@ any_byte (x ∷ xs) = (tt, any_byte xs)
 
 -- and none of them is empty
 pub windows-some : (xs : List Reached) → AllByRecursion (λ w. 0 < w.size) (windows xs)
-windows-some xs = all_map (λ (w : VolatileSlice). 0 < w.size) window_of (stretches xs) (stretches-all (λ x y. Unit {0}) (λ x. Unit {0}) (λ s. 0 < s.len) (λ x h. omega arith) (λ x y len h k q. omega arith) xs (any_byte xs) (smooth_in_any xs))
+windows-some xs = all_map (λ (w : Window). 0 < w.size) window_of (stretches xs) (stretches-all (λ x y. Unit {0}) (λ x. Unit {0}) (λ s. 0 < s.len) (λ x h. omega arith) (λ x y len h k q. omega arith) xs (any_byte xs) (smooth_in_any xs))
 
 -- a byte that an access reaches: the region that holds its physical address, and where its bytes lie
 pub record Arrives (regions : List Region) (route : Route) (a i : ℕ) (x : Reached) : Type 0 where
@@ -297,7 +297,7 @@ cells-windows regions route a n each =
     flat_map-map cells_of window_of (stretches xs) ∙ flat_map-stretches Follows (λ x. x.cell) g (λ x. refl) (λ x y len h. ap (cells_from x.cell.block x.cell.offset) (add-one len) ∙ ap (λ (c : Cell). x.cell ∷ cells_from c.block c.offset len) (sym h.cell)) xs (path-follows regions route a n each)
 
 -- the bitmap and the offsets in it that the bytes of a window mark
-abbrev pub marks_of : VolatileSlice → List (BitmapId × ℕ)
+abbrev pub marks_of : Window → List (BitmapId × ℕ)
 marks_of w = map (λ offset. (w.bitmap.id, offset)) (numbers w.bitmap.base w.size)
 
 -- and so are the marks of their bytes
@@ -314,7 +314,7 @@ IsMark x = x.mark + 1 ≤ 2 ^ 64
 bases_within : (regions : List Region) (route : Route) (a n : ℕ) → All IsRegion regions → AllByRecursion IsMark (path (meets regions route a) 0 n) → AllByRecursion (λ w. w.bitmap.base + w.size ≤ 2 ^ 64) (windows (path (meets regions route a) 0 n))
 bases_within regions route a n each marks =
     let xs = path (meets regions route a) 0 n in
-    all_map (λ (w : VolatileSlice). w.bitmap.base + w.size ≤ 2 ^ 64) window_of (stretches xs) (stretches-all Follows IsMark (λ s. s.first.mark + s.len ≤ 2 ^ 64) (λ x h. h) (λ x y len h k q. omega (arith, k.mark)) xs marks (path-follows regions route a n each))
+    all_map (λ (w : Window). w.bitmap.base + w.size ≤ 2 ^ 64) window_of (stretches xs) (stretches-all Follows IsMark (λ s. s.first.mark + s.len ≤ 2 ^ 64) (λ x h. h) (λ x y len h k q. omega (arith, k.mark)) xs marks (path-follows regions route a n each))
 
 -- a byte that is reached lies within its region's bytes
 arrives_within : (regions : List Region) (route : Route) (a i : ℕ) (x : Reached) (h : Arrives regions route a i x) → (x.cell.block ≡ h.first.block) × (x.cell.offset + 1 ≤ h.first.offset + x.home.len)
@@ -335,7 +335,7 @@ pub windows-below : (regions : List Region) (route : Route) (a n : ℕ) → All 
 windows-below regions route a n each =
     let xs = path (meets regions route a) 0 n in
     let below : AllByRecursion (λ x. x.cell.offset + 1 < 2 ^ 64) xs = path-all (λ x. x.cell.offset + 1 < 2 ^ 64) (meets regions route a) 0 n (λ j low high x e. arrives_below regions route a j x each (meets-arrives regions route a j x e)) in
-    all_map (λ (w : VolatileSlice). w.offset + w.size < 2 ^ 64) window_of (stretches xs) (stretches-all Follows (λ x. x.cell.offset + 1 < 2 ^ 64) (λ s. s.first.cell.offset + s.len < 2 ^ 64) (λ x h. h) (λ x y len h k q. omega (arith, q, ap (λ (c : Cell). c.offset) k.cell)) xs below (path-follows regions route a n each))
+    all_map (λ (w : Window). w.offset + w.size < 2 ^ 64) window_of (stretches xs) (stretches-all Follows (λ x. x.cell.offset + 1 < 2 ^ 64) (λ s. s.first.cell.offset + s.len < 2 ^ 64) (λ x h. h) (λ x y len h k q. omega (arith, q, ap (λ (c : Cell). c.offset) k.cell)) xs below (path-follows regions route a n each))
 
 -- and so do the views of the bitmaps that they mark
 pub windows-bases_direct : (regions : List Region) (a n : ℕ) → All IsRegion regions → AllByRecursion (λ w. w.bitmap.base + w.size ≤ 2 ^ 64) (windows (path (meets regions Direct a) 0 n))
@@ -401,7 +401,7 @@ pub windows-held : (shape : Shape) (regions : List Region) (route : Route) (a n 
 windows-held shape regions route a n each held held_too =
     let xs = path (meets regions route a) 0 n in
     let bytes : AllByRecursion (HoldsByte shape) xs = path-all (HoldsByte shape) (meets regions route a) 0 n (λ j low high x e. arrives_held shape regions route a j x held held_too (meets-arrives regions route a j x e)) in
-    all_map (λ (w : VolatileSlice). Holds shape (window_names w)) window_of (stretches xs) (stretches-all Follows (HoldsByte shape) (λ s. Holds shape (window_names (window_of s))) (λ x h. h) (λ x y len h k q.
+    all_map (λ (w : Window). Holds shape (window_names w)) window_of (stretches xs) (stretches-all Follows (HoldsByte shape) (λ s. Holds shape (window_names (window_of s))) (λ x h. h) (λ x y len h k q.
     let moved : Holds shape (host.Place x.cell.block (x.cell.offset + 1) len ∷ bitmap_name x.bitmap ∷ []) = subst₂ (λ (c : Cell) (b : BitmapId). Holds shape (host.Place c.block c.offset len ∷ bitmap_name b ∷ [])) k.cell k.bitmap q in
     let inside = moved.0 in
     let ends : x.cell.offset + (len + 1) ≤ slice_index shape.blocks x.cell.block = omega (arith, inside.1) in
@@ -414,32 +414,6 @@ windows-all_held shape regions route a n each held held_too = All-from_recursion
 -- the windows of a path have at most the bytes that were asked for
 pub span-windows-le : (m : ℕ → Meets) (i n : ℕ) → span (windows (path m i n)) ≤ n
 span-windows-le m i n = omega (arith, span-windows (path m i n), length-path m i n)
-
-abbrev pub item_size : Result VolatileSlice GuestMemoryError → ℕ
-item_size (Ok w) = w.size
-item_size (Err e) = 0
-
-abbrev pub IsSomeItem : Result VolatileSlice GuestMemoryError → Type 0
-IsSomeItem (Ok w) = 0 < w.size
-IsSomeItem (Err e) = Unit {0}
-
-items_span : (ws : List VolatileSlice) (o : Option GuestMemoryError) → sum_by item_size (map (λ w. Ok w) ws ++ error_item o) ≡ span ws
-items_span [] None = refl
-items_span [] (Some e) = refl
-items_span (w ∷ ws) o = sum_by-cons item_size (Ok w) (map (λ w. Ok w) ws ++ error_item o) ∙ ap (λ (t : ℕ). w.size + t) (items_span ws o) ∙ sym (sum_by-cons (λ (w : VolatileSlice). w.size) w ws)
-
-items_some : (ws : List VolatileSlice) (o : Option GuestMemoryError) → AllByRecursion (λ w. 0 < w.size) ws → AllByRecursion IsSomeItem (map (λ w. Ok w) ws ++ error_item o)
-items_some [] None h = tt
-items_some [] (Some e) h = (tt, tt)
-items_some (w ∷ ws) o h = (h.0, items_some ws o h.1)
-
--- a walk gives windows of at most the bytes that were asked for
-pub walk-span : (regions : List Region) (a n : ℕ) → sum_by item_size (direct_items regions a n) ≤ n
-walk-span regions a n = omega (arith, items_span (windows (path (meets regions Direct a) 0 n)) (option_map error_of (first_fault (meets regions Direct a) 0 n)), span-windows-le (meets regions Direct a) 0 n)
-
--- and none of them is empty
-pub walk-windows-some : (regions : List Region) (a n : ℕ) → AllByRecursion IsSomeItem (direct_items regions a n)
-walk-windows-some regions a n = items_some (windows (path (meets regions Direct a) 0 n)) (option_map error_of (first_fault (meets regions Direct a) 0 n)) (windows-some (path (meets regions Direct a) 0 n))
 
 -- an access that is refused asks for something
 refused_some : (route : Route) (a n : ℕ) (access : Permissions) → allowed route a n access ≡ false → 0 < n

@@ -7,9 +7,8 @@ use Rattle.std.proofs.lemmas.List.Sums.{sum_by-cons, sum_by-append, sum_by_more,
 use Rattle.std.proofs.lemmas.List.Elements.{All-head, All-tail, All-weaker}
 use Rattle.std.specs.List.{All, AllPairs, Contains}
 use Rattle.vm_memory_guest.specs.Host.{Cell, cells_from, block_at, byte_at, bytes_at, with_byte, written}
-use Rattle.vm_memory_guest.specs.Window.{part, span, cells_of, cells}
+use Rattle.vm_memory_guest.specs.Window.{part, span, cells_of, cells, Window}
 use Rattle.vm_memory_guest.specs.Answer.{filled}
-use Rattle.vm_memory_guest.specs.declared.volatile_memory.slice.VolatileSlice.{VolatileSlice}
 
 -- two writes one after the other are one write
 pub written-append : (xs ys : List Cell) (bs cs : List ℕ) (blocks : List (List ℕ)) → length xs ≡ length bs → written (xs ++ ys) (bs ++ cs) blocks ≡ written ys cs (written xs bs blocks)
@@ -78,19 +77,19 @@ pub bytes_at-append : (blocks : List (List ℕ)) (xs ys : List Cell) → bytes_a
 bytes_at-append blocks xs ys = map-append (byte_at blocks) xs ys
 
 -- a window more has its size in bytes more
-pub span-cons : (w : VolatileSlice) (ws : List VolatileSlice) → span (w ∷ ws) ≡ w.size + span ws
-span-cons w ws = sum_by-cons (λ (v : VolatileSlice). v.size) w ws
+pub span-cons : (w : Window) (ws : List Window) → span (w ∷ ws) ≡ w.size + span ws
+span-cons w ws = sum_by-cons (λ (v : Window). v.size) w ws
 
 -- windows joined end to end have the bytes of both
-pub span-append : (ws vs : List VolatileSlice) → span (ws ++ vs) ≡ span ws + span vs
-span-append ws vs = sum_by-append (λ (v : VolatileSlice). v.size) ws vs
+pub span-append : (ws vs : List Window) → span (ws ++ vs) ≡ span ws + span vs
+span-append ws vs = sum_by-append (λ (v : Window). v.size) ws vs
 
 -- windows joined end to end have the cells of both
-pub cells-append : (ws vs : List VolatileSlice) → cells (ws ++ vs) ≡ cells ws ++ cells vs
+pub cells-append : (ws vs : List Window) → cells (ws ++ vs) ≡ cells ws ++ cells vs
 cells-append ws vs = flat_map-append cells_of ws vs
 
 -- windows have as many cells as bytes
-pub length-cells : (ws : List VolatileSlice) → length (cells ws) ≡ span ws
+pub length-cells : (ws : List Window) → length (cells ws) ≡ span ws
 length-cells [] = refl
 length-cells (w ∷ ws) =
     let a = length-append (cells_of w) (cells ws) in
@@ -240,35 +239,35 @@ written-take_cells (c ∷ cs) [] blocks = refl
 written-take_cells (c ∷ cs) (b ∷ bytes) blocks = written-take_cells cs bytes (with_byte blocks c b)
 
 -- one window has its own cells
-pub cells-one : (w : VolatileSlice) → cells (w ∷ []) ≡ cells_of w
+pub cells-one : (w : Window) → cells (w ∷ []) ≡ cells_of w
 cells-one w = append-nil (cells_of w)
 
 -- one window has its own bytes
-pub span-one : (w : VolatileSlice) → span (w ∷ []) ≡ w.size
+pub span-one : (w : Window) → span (w ∷ []) ≡ w.size
 span-one w = omega arith
 
 -- one window more of a list has its cells
-pub cells-take_more : (ws : List VolatileSlice) (i : ℕ) (d : VolatileSlice) → i < length ws → cells (take (i + 1) ws) ≡ cells (take i ws) ++ cells_of (get_or ws i d)
+pub cells-take_more : (ws : List Window) (i : ℕ) (d : Window) → i < length ws → cells (take (i + 1) ws) ≡ cells (take i ws) ++ cells_of (get_or ws i d)
 cells-take_more ws i d l = ap cells (take_more ws i d l) ∙ cells-append (take i ws) (get_or ws i d ∷ []) ∙ ap (λ (cs : List Cell). cells (take i ws) ++ cs) (cells-one (get_or ws i d))
 
 -- one window more of a list has its bytes
-pub span-take_more : (ws : List VolatileSlice) (i : ℕ) (d : VolatileSlice) → i < length ws → span (take (i + 1) ws) ≡ span (take i ws) + (get_or ws i d).size
-span-take_more ws i d l = sum_by_more (λ (w : VolatileSlice). w.size) ws i d l
+pub span-take_more : (ws : List Window) (i : ℕ) (d : Window) → i < length ws → span (take (i + 1) ws) ≡ span (take i ws) + (get_or ws i d).size
+span-take_more ws i d l = sum_by_more (λ (w : Window). w.size) ws i d l
 
 -- the first windows have no more bytes than all of them
-pub span-take-le : (ws : List VolatileSlice) (i : ℕ) → span (take i ws) ≤ span ws
-span-take-le ws i = sum_by-take-le (λ (w : VolatileSlice). w.size) ws i
+pub span-take-le : (ws : List Window) (i : ℕ) → span (take i ws) ≤ span ws
+span-take-le ws i = sum_by-take-le (λ (w : Window). w.size) ws i
 
 -- a window has its first bytes and its last
-pub cells_of-parts : (w : VolatileSlice) (n : ℕ) → n ≤ w.size → cells_of w ≡ cells_of (part w 0 n) ++ cells_of (part w n (w.size - n))
+pub cells_of-parts : (w : Window) (n : ℕ) → n ≤ w.size → cells_of w ≡ cells_of (part w 0 n) ++ cells_of (part w n (w.size - n))
 cells_of-parts w n l =
     let e : n + (w.size - n) ≡ w.size = omega arith in
     ap (λ (k : ℕ). cells_from w.block.0 w.offset k) (sym e) ∙ cells_from-append w.block.0 w.offset n (w.size - n) ∙ rw (add-zero w.offset)
 
 -- bytes moved into a window at once
-pub written-window : (w : VolatileSlice) (bytes : List ℕ) (blocks : List (List ℕ)) → length bytes ≡ w.size → w.block.0 < length blocks → w.offset + w.size ≤ length (block_at blocks w.block.0) → written (cells (w ∷ [])) bytes blocks ≡ set blocks w.block.0 (take w.offset (block_at blocks w.block.0) ++ bytes ++ drop (w.offset + w.size) (block_at blocks w.block.0))
+pub written-window : (w : Window) (bytes : List ℕ) (blocks : List (List ℕ)) → length bytes ≡ w.size → w.block.0 < length blocks → w.offset + w.size ≤ length (block_at blocks w.block.0) → written (cells (w ∷ [])) bytes blocks ≡ set blocks w.block.0 (take w.offset (block_at blocks w.block.0) ++ bytes ++ drop (w.offset + w.size) (block_at blocks w.block.0))
 written-window w bytes blocks h k l = rw (cells-one w, ← h) (written-block w.block.0 w.offset bytes blocks k (rw h l))
 
 -- the bytes in a window are a part of its block
-pub bytes_at-window : (w : VolatileSlice) (blocks : List (List ℕ)) → w.offset + w.size ≤ length (block_at blocks w.block.0) → bytes_at blocks (cells (w ∷ [])) ≡ take w.size (drop w.offset (block_at blocks w.block.0))
+pub bytes_at-window : (w : Window) (blocks : List (List ℕ)) → w.offset + w.size ≤ length (block_at blocks w.block.0) → bytes_at blocks (cells (w ∷ [])) ≡ take w.size (drop w.offset (block_at blocks w.block.0))
 bytes_at-window w blocks l = rw (cells-one w) (bytes_at-block w.block.0 w.offset w.size blocks l)

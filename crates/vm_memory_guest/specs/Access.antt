@@ -9,7 +9,7 @@ use Rattle.vm_memory_guest.specs.Host.{Cell}
 use Rattle.vm_memory_guest.specs.Region.{Region, Lies, cell, same_region}
 use Rattle.vm_memory_guest.specs.Region.{Byte, Bare, Hole}
 use Rattle.vm_memory_guest.specs.Memory.{Route, Direct, Through, mapping_of, physical}
-use Rattle.vm_memory_guest.specs.declared.volatile_memory.slice.VolatileSlice.{VolatileSlice}
+use Rattle.vm_memory_guest.specs.Window.{Window}
 
 -- why an access goes no further: no region holds the address, its region has no host bytes, the translation of a range was refused, or only so many of the expected bytes were reached
 pub data Fault : Type 0 where
@@ -89,11 +89,11 @@ unfoldable pub stretches : List Reached → List Stretch
 stretches [] = []
 stretches (x ∷ xs) = lengthened x (stretches xs)
 
-abbrev pub window_of : Stretch → VolatileSlice
+abbrev pub window_of : Stretch → Window
 window_of s = record { block = record { 0 = s.first.cell.block }; offset = s.first.cell.offset; size = s.len; bitmap = record { id = s.first.bitmap; base = s.first.mark } }
 
 -- the windows of a path
-abbrev pub windows : List Reached → List VolatileSlice
+abbrev pub windows : List Reached → List Window
 windows xs = map window_of (stretches xs)
 
 -- what an access reaches, and what keeps it from reaching all of its bytes

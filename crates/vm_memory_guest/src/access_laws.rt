@@ -2,7 +2,8 @@
 ghost use Rattle.std.specs.Prelude.{◌≡◌, ℕ, List, length, take, true, Some, All};
 ghost use Rattle.vm_memory_base.specs.declared.iotlb.Permissions.{Permissions};
 ghost use Rattle.vm_memory_guest.specs.Access.{Fault, Stops, access_of, allowed, meets, windows};
-ghost use Rattle.vm_memory_guest.specs.Answer.{after_write, filled, path_cells, with_pages};
+ghost use Rattle.vm_memory_guest.specs.Answer.{filled};
+ghost use Rattle.vm_memory_guest.specs.Dirt.{after_write, path_cells, with_pages};
 ghost use Rattle.vm_memory_guest.specs.Host.{Host, bytes_at};
 ghost use Rattle.vm_memory_guest.specs.Memory.{Route};
 ghost use Rattle.vm_memory_guest.specs.Region.{Region, IsRegion};

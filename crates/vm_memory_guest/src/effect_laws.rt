@@ -4,11 +4,11 @@ ghost use Rattle.vm_memory_base.specs.Pages as page_set;
 ghost use Rattle.vm_memory_base.specs.Pages.{Pages, PageSet, is_dirty_at};
 ghost use Rattle.vm_memory_base.specs.declared.bitmap.BitmapId.{BitmapId};
 ghost use Rattle.vm_memory_guest.specs.Access.{Reached, windows};
-ghost use Rattle.vm_memory_guest.specs.Answer.{MarksFollow, after_write, counted, dirtied, pages_at, path_cells, same_page, with_pages};
+ghost use Rattle.vm_memory_guest.specs.Answer.{counted};
+ghost use Rattle.vm_memory_guest.specs.Dirt.{MarksFollow, after_write, dirtied, pages_at, path_cells, same_page, with_pages};
 ghost use Rattle.vm_memory_guest.specs.Host.{Cell, Host, block_at, byte_at, bytes_at, shape_of, written};
 ghost use Rattle.vm_memory_guest.specs.Window as window;
-ghost use Rattle.vm_memory_guest.specs.Window.{MarksAll, Writes, span};
-ghost use Rattle.vm_memory_guest.specs.declared.volatile_memory.slice.VolatileSlice.{VolatileSlice};
+ghost use Rattle.vm_memory_guest.specs.Window.{MarksAll, Window, Writes, span};
 
 use vm_memory_base::{Bitmap, ExactBitmap};
 
@@ -30,14 +30,14 @@ pub fn last_write_wins()
 
 /// Writes one after the other are one write.
 pub fn writes_join<B: Bitmap>()
-    ensures { (ws vs : List VolatileSlice) (bytes more : List ℕ) (old mid new : Host B) → length bytes ≡ span ws → Writes B.marks ws bytes old mid → Writes B.marks vs more mid new → Writes B.marks (ws ++ vs) (bytes ++ more) old new }
+    ensures { (ws vs : List Window) (bytes more : List ℕ) (old mid new : Host B) → length bytes ≡ span ws → Writes B.marks ws bytes old mid → Writes B.marks vs more mid new → Writes B.marks (ws ++ vs) (bytes ++ more) old new }
 {}
 
 /// A write keeps the tables, how long each block is, and how many bitmaps there are.
 pub fn writes_keep_shapes<B: Bitmap>()
-    ensures tables { (ws : List VolatileSlice) (bytes : List ℕ) (old new : Host B) → Writes B.marks ws bytes old new → new.tables ≡ old.tables }
-    ensures shape { (ws : List VolatileSlice) (bytes : List ℕ) (old new : Host B) → Writes B.marks ws bytes old new → shape_of new ≡ shape_of old }
-    ensures bitmaps { (ws : List VolatileSlice) (bytes : List ℕ) (old new : Host B) → Writes B.marks ws bytes old new → length new.bitmaps ≡ length old.bitmaps }
+    ensures tables { (ws : List Window) (bytes : List ℕ) (old new : Host B) → Writes B.marks ws bytes old new → new.tables ≡ old.tables }
+    ensures shape { (ws : List Window) (bytes : List ℕ) (old new : Host B) → Writes B.marks ws bytes old new → shape_of new ≡ shape_of old }
+    ensures bitmaps { (ws : List Window) (bytes : List ℕ) (old new : Host B) → Writes B.marks ws bytes old new → length new.bitmaps ≡ length old.bitmaps }
 {}
 
 /// Marks of windows are the dirt of their bytes, for exact bitmaps.

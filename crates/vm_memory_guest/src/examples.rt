@@ -8,8 +8,10 @@ ghost use Rattle.vm_memory_base.specs.declared.iotlb.IommuError.TheVariants.{Can
 ghost use Rattle.vm_memory_base.specs.declared.iotlb.Permissions.TheVariants.{Read, Write, ReadWrite};
 ghost use Rattle.vm_memory_base.specs.declared.iotlb.Reason.TheVariants.{MissingMapping, AccessNotAllowed};
 ghost use Rattle.vm_memory_guest.specs.Access.{access_of, windows, NoRegion, NoHostBytes, Refused, Partial};
-ghost use Rattle.vm_memory_guest.specs.Answer.{after_write, bytes_read, counted, exactly, filled, path_cells, window_reach};
-ghost use Rattle.vm_memory_guest.specs.Error.{direct_items, error_of, reach_of, GivesAccess, RefusesAccess};
+ghost use Rattle.vm_memory_guest.specs.Answer.{told, counted, exactly, filled, window_reach};
+ghost use Rattle.vm_memory_guest.specs.Dirt.{after_write, bytes_read, path_cells};
+ghost use Rattle.vm_memory_guest.specs.Error.{error_of};
+ghost use Rattle.vm_memory_guest.specs.Walk.{items_of, reach_of, walk_of, GivesAccess, RefusesAccess};
 ghost use Rattle.vm_memory_guest.specs.Host as names;
 ghost use Rattle.vm_memory_guest.specs.Host.{shape_of, IsHeld, Holds, Place, Tlb};
 ghost use Rattle.vm_memory_guest.specs.Memory.{Direct, Through, memory_names, route};
@@ -402,23 +404,23 @@ pub fn where_windows_are_cut()
 
 /// A walk gives the windows, and then the error of what stopped it. A walk over no bytes gives nothing.
 pub fn items_of_a_walk()
-    ensures stopped { direct_items (record { start = 0; len = 4; place = Some (record { block = 0; offset = 0 }) } ∷ record { start = 8; len = 4; place = Some (record { block = 1; offset = 0 }) } ∷ []) 2 4
+    ensures stopped { items_of (walk_of (record { start = 0; len = 4; place = Some (record { block = 0; offset = 0 }) } ∷ record { start = 8; len = 4; place = Some (record { block = 1; offset = 0 }) } ∷ []) 2 4)
         ≡ Ok (record { block = record { 0 = 0 }; offset = 2; size = 2; bitmap = record { id = Block 0; base = 2 } }) ∷ Err (InvalidGuestAddress (record { 0 = 4 })) ∷ [] }
-    ensures whole { direct_items (record { start = 0; len = 4; place = Some (record { block = 0; offset = 0 }) } ∷ record { start = 8; len = 4; place = Some (record { block = 1; offset = 0 }) } ∷ []) 2 2
+    ensures whole { items_of (walk_of (record { start = 0; len = 4; place = Some (record { block = 0; offset = 0 }) } ∷ record { start = 8; len = 4; place = Some (record { block = 1; offset = 0 }) } ∷ []) 2 2)
         ≡ Ok (record { block = record { 0 = 0 }; offset = 2; size = 2; bitmap = record { id = Block 0; base = 2 } }) ∷ [] }
-    ensures error_alone { direct_items (record { start = 0; len = 4; place = Some (record { block = 0; offset = 0 }) } ∷ record { start = 8; len = 4; place = Some (record { block = 1; offset = 0 }) } ∷ []) 4 1
+    ensures error_alone { items_of (walk_of (record { start = 0; len = 4; place = Some (record { block = 0; offset = 0 }) } ∷ record { start = 8; len = 4; place = Some (record { block = 1; offset = 0 }) } ∷ []) 4 1)
         ≡ Err (InvalidGuestAddress (record { 0 = 4 })) ∷ [] }
-    ensures empty { direct_items (record { start = 0; len = 4; place = Some (record { block = 0; offset = 0 }) } ∷ record { start = 8; len = 4; place = Some (record { block = 1; offset = 0 }) } ∷ []) 4 0
+    ensures empty { items_of (walk_of (record { start = 0; len = 4; place = Some (record { block = 0; offset = 0 }) } ∷ record { start = 8; len = 4; place = Some (record { block = 1; offset = 0 }) } ∷ []) 4 0)
         ≡ [] }
 {}
 
 /// Accesses in the words of the calls, which answer how many bytes the windows have, or the error of what stopped them before the first.
 pub fn answers_of_calls()
-    ensures reaches_a_hole { let reached = reach_of (access_of (record { start = 0; len = 4; place = Some (record { block = 0; offset = 0 }) } ∷ record { start = 8; len = 4; place = Some (record { block = 1; offset = 0 }) } ∷ []) Direct 2 4 Read) in
+    ensures reaches_a_hole { let reached = told error_of (reach_of (access_of (record { start = 0; len = 4; place = Some (record { block = 0; offset = 0 }) } ∷ record { start = 8; len = 4; place = Some (record { block = 1; offset = 0 }) } ∷ []) Direct 2 4 Read)) in
         (counted (span reached.windows) reached.fault 4 ≡ Ok 2)
         × (exactly PartialBuffer (span reached.windows) reached.fault 4 ≡ Err (PartialBuffer 4 2))
         × (filled ((1 ∷ 2 ∷ 3 ∷ 4 ∷ []) ∷ (5 ∷ 6 ∷ 7 ∷ 8 ∷ []) ∷ []) (cells reached.windows) (9 ∷ 9 ∷ 9 ∷ 9 ∷ []) ≡ 3 ∷ 4 ∷ 9 ∷ 9 ∷ []) }
-    ensures begins_in_a_hole { let reached = reach_of (access_of (record { start = 0; len = 4; place = Some (record { block = 0; offset = 0 }) } ∷ record { start = 8; len = 4; place = Some (record { block = 1; offset = 0 }) } ∷ []) Direct 4 1 Read) in
+    ensures begins_in_a_hole { let reached = told error_of (reach_of (access_of (record { start = 0; len = 4; place = Some (record { block = 0; offset = 0 }) } ∷ record { start = 8; len = 4; place = Some (record { block = 1; offset = 0 }) } ∷ []) Direct 4 1 Read)) in
         (counted (span reached.windows) reached.fault 1 ≡ Err (InvalidGuestAddress (record { 0 = 4 })))
         × (filled ((1 ∷ 2 ∷ 3 ∷ 4 ∷ []) ∷ (5 ∷ 6 ∷ 7 ∷ 8 ∷ []) ∷ []) (cells reached.windows) (9 ∷ []) ≡ 9 ∷ []) }
     ensures refused { RefusesAccess
@@ -426,11 +428,15 @@ pub fn answers_of_calls()
         (record { limit = None; ranges = record { start = 0; len = 4; value = record { difference = 0; permissions = ReadWrite } } ∷ record { start = 4; len = 4; value = record { difference = 0; permissions = Read } } ∷ [] } ∷ []) 3 2 Write (IommuError (CannotResolve (record { base = record { 0 = 3 }; length = 2 }) AccessNotAllowed)) }
     ensures given { GivesAccess
         (record { regions = record { start = 0; len = 8; place = Some (record { block = 0; offset = 0 }) } ∷ []; iommu = Some (record { table = 0; space = 0 }) })
-        (record { limit = None; ranges = record { start = 0; len = 4; value = record { difference = 0; permissions = ReadWrite } } ∷ record { start = 4; len = 4; value = record { difference = 0; permissions = Read } } ∷ [] } ∷ []) 3 2 Read (
-        Ok (record { block = record { 0 = 0 }; offset = 3; size = 1; bitmap = record { id = Space 0; base = 3 } }) ∷
-        Ok (record { block = record { 0 = 0 }; offset = 4; size = 1; bitmap = record { id = Space 0; base = 4 } }) ∷ []) }
+        (record { limit = None; ranges = record { start = 0; len = 4; value = record { difference = 0; permissions = ReadWrite } } ∷ record { start = 4; len = 4; value = record { difference = 0; permissions = Read } } ∷ [] } ∷ []) 3 2 Read (record {
+          windows = record { block = record { 0 = 0 }; offset = 3; size = 1; bitmap = record { id = Space 0; base = 3 } } ∷
+              record { block = record { 0 = 0 }; offset = 4; size = 1; bitmap = record { id = Space 0; base = 4 } } ∷ [];
+          fault = None;
+        }) }
     ensures given_without_translation { GivesAccess
         (record { regions = record { start = 0; len = 8; place = Some (record { block = 0; offset = 0 }) } ∷ []; iommu = None })
-        (record { limit = None; ranges = record { start = 0; len = 4; value = record { difference = 0; permissions = ReadWrite } } ∷ record { start = 4; len = 4; value = record { difference = 0; permissions = Read } } ∷ [] } ∷ []) 3 2 Write (
-        Ok (record { block = record { 0 = 0 }; offset = 3; size = 2; bitmap = record { id = Block 0; base = 3 } }) ∷ []) }
+        (record { limit = None; ranges = record { start = 0; len = 4; value = record { difference = 0; permissions = ReadWrite } } ∷ record { start = 4; len = 4; value = record { difference = 0; permissions = Read } } ∷ [] } ∷ []) 3 2 Write (record {
+          windows = record { block = record { 0 = 0 }; offset = 3; size = 2; bitmap = record { id = Block 0; base = 3 } } ∷ [];
+          fault = None;
+        }) }
 {}

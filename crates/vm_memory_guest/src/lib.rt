@@ -12,9 +12,8 @@ mod region;
 pub mod region_laws;
 mod volatile_memory;
 
-pub use guest_memory::{
-    GuestMemory, GuestMemoryBackend, GuestMemoryBackendSliceIterator, IommuMemorySliceIterator,
-};
+pub use guest_memory::backend::{GuestMemoryBackend, GuestMemoryBackendSliceIterator};
+pub use guest_memory::memory::{GuestMemory, IommuMemorySliceIterator};
 pub use mmap::{GuestMemoryMmap, GuestRegionMmap, MmapRegion};
 pub use region::{
     GuestMemoryError, GuestMemoryRegion, GuestMemoryResult, GuestRegionCollection,

@@ -7,7 +7,7 @@ ghost use Rattle.vm_memory_base.specs.declared.bitmap.BitmapId.{BitmapId};
 ghost use Rattle.vm_memory_base.specs.declared.bitmap.BitmapId.TheVariants.{Block};
 ghost use Rattle.vm_memory_base.specs.declared.iotlb.Permissions.{Permissions};
 ghost use Rattle.vm_memory_guest.specs.Access.{meets, path, windows, access_of};
-ghost use Rattle.vm_memory_guest.specs.Answer.{path_cells};
+ghost use Rattle.vm_memory_guest.specs.Dirt.{path_cells};
 ghost use Rattle.vm_memory_guest.specs.Host.{Cell, Shape, Space, Holds};
 ghost use Rattle.vm_memory_guest.specs.Memory.{Route, Direct, Through};
 ghost use Rattle.vm_memory_guest.specs.Region.{Region, IsRegion, IsLayout, home, region_names};

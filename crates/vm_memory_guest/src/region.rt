@@ -43,7 +43,8 @@ pub enum GuestMemoryError {
 /// The result of an access of guest memory.
 pub type GuestMemoryResult<T> = Result<T, GuestMemoryError>;
 
-/// An access that does not fit its window does not fit the region; a count stays a count.
+/// An access that does not fit its window does not fit the region; a count stays a count, and want of
+/// memory stays that.
 impl From<VolatileMemoryError> for GuestMemoryError {
     ghost use Rattle.std.specs.Prelude.{◌≡◌};
     ghost use Rattle.vm_memory_guest.specs.Error.{of_window};
@@ -52,9 +53,10 @@ impl From<VolatileMemoryError> for GuestMemoryError {
 
     fn from(e: VolatileMemoryError) -> GuestMemoryError {
         match e {
-            VolatileMemoryError::OutOfBounds { .. } | VolatileMemoryError::Overflow { .. } => {
-                GuestMemoryError::InvalidBackendAddress
-            }
+            VolatileMemoryError::OutOfBounds { .. }
+            | VolatileMemoryError::Overflow { .. }
+            | VolatileMemoryError::TooBig { .. }
+            | VolatileMemoryError::Misaligned { .. } => GuestMemoryError::InvalidBackendAddress,
             VolatileMemoryError::PartialBuffer {
                 expected,
                 completed,
@@ -62,6 +64,7 @@ impl From<VolatileMemoryError> for GuestMemoryError {
                 expected,
                 completed,
             },
+            VolatileMemoryError::Memory => GuestMemoryError::Memory,
         }
     }
 }
