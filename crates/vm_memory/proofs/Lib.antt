@@ -1,4 +1,6 @@
+pub mod AccessLemmas
+pub mod HoldsLemmas
+pub mod ListLemmas
 pub mod NamedLemmas
-pub mod PlainLemmas
 mod PoolLemmas
 pub mod StepLemmas

@@ -12,11 +12,11 @@ held : (c : goal.Joined-add) → Holds (shape_of c.self.inside.host) (region_nam
 held c =
     let host = c.self.inside.host in
     let block = c.args.block.0 in
-    let told = c.of_block-mapping.ensures in
+    let mapping = c.of_block-mapping.result in
     let test : is_none c.block_len.result ≡ false = search (c.is_none.ensures, c.if-is_none.false) in
     let inside : block < length (map length host.blocks) = found-within (map length host.blocks) block c.block_len.result (c.block_len.ensures ∙ ap (λ shape. slice_get shape.blocks block) c.shape.ensures) test in
-    subst (λ (b : WholeBlock). Holds (shape_of host) (Place b.block 0 b.size ∷ [])) (sym c.in-Some.ensures.value.1)
-    (rw (told.block, told.size) (holds-whole host block inside))
+    let place : Holds (shape_of host) (Place mapping.block 0 mapping.size ∷ []) = rw c.of_block-mapping.ensures.block (rw c.of_block-mapping.ensures.size (holds-whole host block inside)) in
+    subst (λ (m : WholeBlock). Holds (shape_of host) (Place m.block 0 m.size ∷ [])) (sym c.in-Some.ensures.value.1) place
 
 pub invariant_of-self : goal.invariant_of-self
 invariant_of-self c =
