@@ -3,3 +3,5 @@ pub mod RunsLaws
 pub mod TableLaws
 pub mod AlignUp
 pub mod KnownBytesJoined
+pub mod ByteLemmas
+pub mod ArrayLemmas

@@ -1,6 +1,6 @@
 -- The laws of page sets.
 use Rattle.std.proofs.Common.{◌≡◌, ℕ, zero, suc, ◌+◌, ◌-◌, ◌*◌, ◌/◌, ◌^◌, ◌<◌, ◌≤◌, Bool, true, false, ◌&&◌, ◌||◌, ltb, leb, List, [], ◌∷◌, ◌++◌, length, get_or, Some, None, refl, sym, ap, inl, inr, ◌⊎◌, ◌↔◌, ◌∙◌, add-zero, zero-add, add-one, arith}
-use Rattle.std.proofs.Math.Nat.{div-lt_iff_lt-mul, le-div_iff_mul-le, mul-div_cancel, lt-div-mul-add, div-mul-le_self}
+use Rattle.std.proofs.Math.Nat.{div-lt_iff_lt-mul, le-div_iff_mul-le, mul-div_cancel, lt-div-mul-add, div-mul-le_self, div-zero}
 use Rattle.std.proofs.lemmas.Nat.{le-div, div_below}
 use Rattle.std.proofs.lemmas.Bool.{or_left, or_right, ltb-true, leb-true, le-leb, lt-leb, and_parts, and_from, and_right, cases_lt, lt-ltb, le-ltb, and_left}
 use Rattle.std.proofs.lemmas.Bool.Decides.{nat_tests}
@@ -66,6 +66,10 @@ pub shape-marked : (start len : ℕ) (set : PageSet) → shape (marked start len
 shape-marked start len None = refl
 shape-marked start len (Some p) = ap (λ (n : ℕ). Some (p.page_size, n)) (length-flags_after (takes p.page_size start len) 0 p.flags)
 
+-- after a mark there are as many pages of the same size
+pub pages-marked : (start len : ℕ) (p : Pages) → (q : Pages) × (marked start len (Some p) ≡ Some q) × (q.page_size ≡ p.page_size) × (length q.flags ≡ length p.flags)
+pages-marked start len p = (record { page_size = p.page_size; flags = flags_after (takes p.page_size start len) 0 p.flags }, refl, refl, length-flags_after (takes p.page_size start len) 0 p.flags)
+
 pub IsPageSet-marked : (start len : ℕ) (set : PageSet) → IsPageSet set → IsPageSet (marked start len set)
 IsPageSet-marked start len None h = tt
 IsPageSet-marked start len (Some p) h = (h.0, rw length-flags_after h.1)
@@ -100,14 +104,17 @@ marked_twice start len (Some p) =
 
 -- ---- byte by byte
 
-div_mono : (s a b : ℕ) → 0 < s → a ≤ b → a / s ≤ b / s
-div_mono s a b pos le = le-div (a / s) b s pos (omega (arith, div-mul-le_self a s))
+div_mono : (s a b : ℕ) → a ≤ b → a / s ≤ b / s
+div_mono zero a b le = rw (div-zero a, div-zero b) (omega arith)
+div_mono (suc s) a b le = le-div (a / suc s) b (suc s) (omega arith) (omega (arith, div-mul-le_self a (suc s)))
 
 -- the page of the next byte is the same or the next
-div_next : (s a : ℕ) → 0 < s → (a + 1) / s ≤ a / s + 1
-div_next s a pos =
-    let h : a < a / s * s + s = lt-div-mul-add pos in
-    let l : (a + 1) / s < a / s + 2 = div_below (a + 1) s (a / s + 2) pos (omega arith) in
+div_next : (s a : ℕ) → (a + 1) / s ≤ a / s + 1
+div_next zero a = rw (div-zero (a + 1)) (omega arith)
+div_next (suc s) a =
+    let pos : 0 < suc s = omega arith in
+    let h : a < a / suc s * suc s + suc s = lt-div-mul-add pos in
+    let l : (a + 1) / suc s < a / suc s + 2 = div_below (a + 1) (suc s) (a / suc s + 2) pos (omega arith) in
     omega arith
 
 -- the pages from p to r, in two parts
@@ -115,30 +122,30 @@ split_range : (p q r k : ℕ) → p ≤ q → q ≤ p + 1 → q ≤ r → ((leb 
 split_range p q r k a b c = grind (arith, nat_tests)
 
 -- a mark of n + 1 bytes takes the page of the first, and those that the others take
-takes_more : (size start n k : ℕ) → 0 < size → start + (n + 1) ≤ 2 ^ 64 → (takes size start 1 k || takes size (start + 1) n k) ≡ takes size start (n + 1) k
-takes_more size start zero k pos fits = rw or-false
-takes_more size start (suc n) k pos fits =
+takes_more : (size start n k : ℕ) → start + (n + 1) ≤ 2 ^ 64 → (takes size start 1 k || takes size (start + 1) n k) ≡ takes size start (n + 1) k
+takes_more size start zero k fits = rw or-false
+takes_more size start (suc n) k fits =
     let e : last_byte start 1 ≡ start = omega arith in
     let f : last_byte (start + 1) (suc n) ≡ start + suc n = omega arith in
     let g : last_byte start (suc n + 1) ≡ start + suc n = omega arith in
-    let a : start / size ≤ (start + 1) / size = div_mono size start (start + 1) pos (omega arith) in
-    let b : (start + 1) / size ≤ (start + suc n) / size = div_mono size (start + 1) (start + suc n) pos (omega arith) in
+    let a : start / size ≤ (start + 1) / size = div_mono size start (start + 1) (omega arith) in
+    let b : (start + 1) / size ≤ (start + suc n) / size = div_mono size (start + 1) (start + suc n) (omega arith) in
     let i : ltb 0 (suc n + 1) ≡ true = lt-ltb 0 (suc n + 1) (omega arith) in
     let j : ltb 0 (suc n) ≡ true = lt-ltb 0 (suc n) (omega arith) in
-    rw (e, f, g, i, j) (split_range (start / size) ((start + 1) / size) ((start + suc n) / size) k a (div_next size start pos) b)
+    rw (e, f, g, i, j) (split_range (start / size) ((start + 1) / size) ((start + suc n) / size) k a (div_next size start) b)
 
-marked_more : (start n : ℕ) (set : PageSet) → IsPageSet set → start + (n + 1) ≤ 2 ^ 64 → marked (start + 1) n (marked start 1 set) ≡ marked start (n + 1) set
-marked_more start n None h fits = refl
-marked_more start n (Some p) h fits =
+marked_more : (start n : ℕ) (set : PageSet) → start + (n + 1) ≤ 2 ^ 64 → marked (start + 1) n (marked start 1 set) ≡ marked start (n + 1) set
+marked_more start n None fits = refl
+marked_more start n (Some p) fits =
     marked-marked (start + 1) n start 1 p
-    ∙ ap (with_flags p) (flags_after_agree (λ k. takes p.page_size start 1 k || takes p.page_size (start + 1) n k) (takes p.page_size start (n + 1)) (λ k. takes_more p.page_size start n k h.0 fits) 0 p.flags)
+    ∙ ap (with_flags p) (flags_after_agree (λ k. takes p.page_size start 1 k || takes p.page_size (start + 1) n k) (takes p.page_size start (n + 1)) (λ k. takes_more p.page_size start n k fits) 0 p.flags)
 
--- a mark is a mark of each of its bytes
-pub marked_each-numbers : (start n : ℕ) (set : PageSet) → IsPageSet set → start + n ≤ 2 ^ 64 → marked_each (numbers start n) set ≡ marked start n set
-marked_each-numbers start zero set h fits = sym (marked-empty start set)
-marked_each-numbers start (suc n) set h fits =
-    marked_each-numbers (start + 1) n (marked start 1 set) (IsPageSet-marked start 1 set h) (omega arith)
-    ∙ marked_more start n set h (omega arith)
+-- a mark is a mark of each of its bytes, whatever the page size
+pub marked_each-numbers : (start n : ℕ) (set : PageSet) → start + n ≤ 2 ^ 64 → marked_each (numbers start n) set ≡ marked start n set
+marked_each-numbers start zero set fits = sym (marked-empty start set)
+marked_each-numbers start (suc n) set fits =
+    marked_each-numbers (start + 1) n (marked start 1 set) (omega arith)
+    ∙ marked_more start n set (omega arith)
     ∙ ap (λ (k : ℕ). marked start k set) (add-one n)
 
 pub marked_each-append : (xs ys : List ℕ) (set : PageSet) → marked_each (xs ++ ys) set ≡ marked_each ys (marked_each xs set)
@@ -153,11 +160,11 @@ numbers-append start (suc m) n =
     rw (e, f) (ap (λ (xs : List ℕ). start ∷ xs) (numbers-append (start + 1) m n))
 
 -- marks of neighbouring ranges are one
-pub marked_on : (start m n : ℕ) (set : PageSet) → IsPageSet set → start + (m + n) ≤ 2 ^ 64 → marked (start + m) n (marked start m set) ≡ marked start (m + n) set
-marked_on start m n set h fits =
-    let by_bytes = marked_each-numbers start m set h (omega arith) in
-    let rest = marked_each-numbers (start + m) n (marked start m set) (IsPageSet-marked start m set h) (omega arith) in
-    let all = marked_each-numbers start (m + n) set h fits in
+pub marked_on : (start m n : ℕ) (set : PageSet) → start + (m + n) ≤ 2 ^ 64 → marked (start + m) n (marked start m set) ≡ marked start (m + n) set
+marked_on start m n set fits =
+    let by_bytes = marked_each-numbers start m set (omega arith) in
+    let rest = marked_each-numbers (start + m) n (marked start m set) (omega arith) in
+    let all = marked_each-numbers start (m + n) set fits in
     let joined = marked_each-append (numbers start m) (numbers (start + m) n) set in
     let parts = numbers-append start m n in
     cc
@@ -228,8 +235,8 @@ taken_byte size start len page pos l h =
 byte_taken : (size start len page offset : ℕ) → 0 < size → is_within start len offset ≡ true → offset < 2 ^ 64 → offset / size ≡ page → takes size start len page ≡ true
 byte_taken size start len page offset pos w l e =
     let p = within_from start len offset w in
-    let low = div_mono size start offset pos p.0 in
-    let high = div_mono size offset (last_byte start len) pos (omega arith) in
+    let low = div_mono size start offset p.0 in
+    let high = div_mono size offset (last_byte start len) (omega arith) in
     and_from (ltb 0 len) (leb (start / size) page && leb page (last_byte start len / size)) (lt-ltb 0 len (omega arith)) (and_from (leb (start / size) page) (leb page (last_byte start len / size)) (le-leb (start / size) page (omega arith)) (le-leb page (last_byte start len / size) (omega arith)))
 
 -- a page is taken where one of the bytes that are marked lies in it
@@ -248,6 +255,44 @@ pub stays_dirty : (start len offset : ℕ) (set : PageSet) → is_dirty_at set o
 stays_dirty start len offset None h = h
 stays_dirty start len offset (Some p) h =
     is_dirty_at-marked start len offset p ∙ or_left (is_dirty_at (Some p) offset) (ltb (offset / p.page_size) (length p.flags) && takes p.page_size start len (offset / p.page_size)) h
+
+-- ---- marks of one byte
+
+last_byte-le : (x : ℕ) → last_byte x 1 ≤ x
+last_byte-le x = omega arith
+
+neither : (a b : Bool) → (a || (b && false)) ≡ a
+neither true true = refl
+neither true false = refl
+neither false true = refl
+neither false false = refl
+
+-- a mark of one byte takes no page but its own
+takes_one_other : (size x y : ℕ) → (x / size ≡ y / size → ⊥) → takes size x 1 (y / size) ≡ false
+takes_one_other size x y h = none (x / size) (y / size) (last_byte x 1 / size) (div_mono size (last_byte x 1) x (last_byte-le x)) h
+  where
+    none : (a b c : ℕ) → c ≤ a → (a ≡ b → ⊥) → (leb a b && leb b c) ≡ false
+    none a b c l e = grind (arith, nat_tests)
+
+-- a byte of another page than the marked one's stays as it is
+pub is_dirty_at-marked_other : (x offset : ℕ) (p : Pages) → (x / p.page_size ≡ offset / p.page_size → ⊥) → is_dirty_at (marked x 1 (Some p)) offset ≡ is_dirty_at (Some p) offset
+is_dirty_at-marked_other x offset p h =
+    is_dirty_at-marked x 1 offset p
+    ∙ rw (takes_one_other p.page_size x offset h) (neither (is_dirty_at (Some p) offset) (ltb (offset / p.page_size) (length p.flags)))
+
+-- a byte of the page of the marked one is dirty, where the page is one
+pub is_dirty_at-marked_own : (x offset : ℕ) (p : Pages) → x < 2 ^ 64 → x / p.page_size ≡ offset / p.page_size → offset / p.page_size < length p.flags → is_dirty_at (marked x 1 (Some p)) offset ≡ true
+is_dirty_at-marked_own x offset p l h k =
+    let e : last_byte x 1 ≡ x = omega arith in
+    let t : takes p.page_size x 1 (offset / p.page_size) ≡ true = rw (e, h) (own (offset / p.page_size)) in
+    is_dirty_at-marked x 1 offset p ∙ rw (t, lt-ltb (offset / p.page_size) (length p.flags) k) (either (is_dirty_at (Some p) offset))
+  where
+    own : (a : ℕ) → (leb a a && leb a a) ≡ true
+    own a = grind (arith, nat_tests)
+
+    either : (a : Bool) → (a || true) ≡ true
+    either true = refl
+    either false = refl
 
 -- ---- all clean
 

@@ -1,5 +1,5 @@
 -- What a bitmap tracks: pages of one size, each of them clean or dirty.
-use Rattle.std.specs.Prelude.{ℕ, ◌+◌, ◌-◌, ◌*◌, ◌/◌, ◌%◌, ◌^◌, ◌<◌, min, Bool, false, ◌&&◌, ◌||◌, cond, nat_lt, nat_le, List, [], ◌∷◌, length, slice_index_or, Option, Some, None, option_map}
+use Rattle.std.specs.Prelude.{ℕ, ◌+◌, ◌-◌, ◌*◌, ◌/◌, ◌%◌, ◌^◌, ◌<◌, ◌≤◌, ◌≡◌, min, Bool, false, ◌&&◌, ◌||◌, if◌then◌else◌, nat_lt, nat_le, List, [], ◌∷◌, length, slice_index_or, Option, Some, None, option_map}
 
 -- pages of one size, and of each whether it is dirty
 pub record Pages : Type 0 where
@@ -14,7 +14,8 @@ PageSet = Option Pages
 abbrev pub shape : PageSet → Option (ℕ × ℕ)
 shape set = option_map (λ p. (p.page_size, length p.flags)) set
 
--- whether the byte at an offset lies in a dirty page: past the last page, or where nothing is tracked, it does not
+-- whether the byte at an offset lies in a dirty page: past the last page, or where nothing is tracked, it
+-- does not
 abbrev pub is_dirty_at : PageSet → ℕ → Bool
 is_dirty_at None offset = false
 is_dirty_at (Some p) offset = slice_index_or p.flags (offset / p.page_size) false
@@ -22,7 +23,8 @@ is_dirty_at (Some p) offset = slice_index_or p.flags (offset / p.page_size) fals
 -- the dirty ones of these pages, the first of which has this number
 abbrev pub dirty_from : ℕ → List Bool → List ℕ
 dirty_from page [] = []
-dirty_from page (dirty ∷ flags) = cond dirty (page ∷ dirty_from (page + 1) flags) (dirty_from (page + 1) flags)
+dirty_from page (dirty ∷ flags) =
+    if dirty then (page ∷ dirty_from (page + 1) flags) else dirty_from (page + 1) flags
 
 -- the dirty pages, ascending
 abbrev pub dirty_pages : PageSet → List ℕ
@@ -33,9 +35,11 @@ dirty_pages (Some p) = dirty_from 0 p.flags
 abbrev pub last_byte : ℕ → ℕ → ℕ
 last_byte start len = min (start + len - 1) (2 ^ 64 - 1)
 
--- whether a mark of len bytes from start on takes a page of this size: from the page of its first byte to that of its last. An empty mark takes none
+-- whether a mark of len bytes from start on takes a page of this size: from the page of its first byte to
+-- that of its last. An empty mark takes none
 abbrev pub takes : ℕ → ℕ → ℕ → ℕ → Bool
-takes size start len page = nat_lt 0 len && (nat_le (start / size) page && nat_le page (last_byte start len / size))
+takes size start len page =
+    nat_lt 0 len && (nat_le (start / size) page && nat_le page (last_byte start len / size))
 
 -- the flags, the first of which is that of this page, after a mark that takes the pages with the test
 abbrev pub flags_after : (ℕ → Bool) → ℕ → List Bool → List Bool
@@ -45,7 +49,8 @@ flags_after test page (dirty ∷ flags) = (dirty || test page) ∷ flags_after t
 -- the pages after a mark of len bytes from start on. Pages past the last are no pages
 abbrev pub marked : ℕ → ℕ → PageSet → PageSet
 marked start len None = None
-marked start len (Some p) = Some (record { page_size = p.page_size; flags = flags_after (takes p.page_size start len) 0 p.flags })
+marked start len (Some p) =
+    Some (record { page_size = p.page_size; flags = flags_after (takes p.page_size start len) 0 p.flags })
 
 -- the pages after a mark of one byte at each of these offsets, in order
 abbrev pub marked_each : List ℕ → PageSet → PageSet
@@ -69,3 +74,8 @@ cleaned (Some p) = Some (record { page_size = p.page_size; flags = all_clean p.f
 abbrev pub IsPageSet : PageSet → Type 0
 IsPageSet None = Unit {0}
 IsPageSet (Some p) = (0 < p.page_size) × ((length p.flags - 1) * p.page_size < 2 ^ 64)
+
+-- no page is dirty, and the pages, where there are any, cover so many bytes
+abbrev pub IsCleanFor : ℕ → PageSet → Type 0
+IsCleanFor len None = Unit {0}
+IsCleanFor len (Some p) = (dirty_pages (Some p) ≡ []) × (len ≤ length p.flags * p.page_size)

@@ -1,5 +1,5 @@
 -- Runs of neighbouring addresses at which a function has one value.
-use Rattle.std.specs.Prelude.{◌≡◌, ℕ, zero, suc, ◌+◌, ◌-◌, ◌<◌, ◌≤◌, min, max, Bool, true, false, ◌&&◌, cond, ◌==◌, nat_lt, List, [], ◌∷◌, Option, Some, None}
+use Rattle.std.specs.Prelude.{◌≡◌, ℕ, zero, suc, ◌+◌, ◌-◌, ◌<◌, ◌≤◌, min, max, Bool, true, false, ◌&&◌, if◌then◌else◌, ◌==◌, nat_lt, List, [], ◌∷◌, Option, Some, None}
 use Rattle.vm_memory_base.specs.Address.{is_within}
 
 -- neighbouring addresses, and the value that they all have
@@ -13,12 +13,13 @@ abbrev pub TestsEquality : {K : Type 0} → (K → K → Bool) → Type 0
 TestsEquality {K} same = ((j k : K) → same j k ≡ true → j ≡ k) × ((k : K) → same k k ≡ true)
 
 module _ {K : Type 0} (same : K → K → Bool) where
-  -- the runs with one more address before them, which joins the first where that begins right behind it and has the same value
+  -- the runs with one more address before them, which joins the first where that begins right behind it and
+  -- has the same value
   abbrev pub with_front : ℕ → K → List (Run K) → List (Run K)
   with_front a k [] = record { start = a; len = 1; value = k } ∷ []
-  with_front a k (r ∷ rs) = cond (r.start == a + 1 && same k r.value)
-      (record { start = a; len = r.len + 1; value = k } ∷ rs)
-      (record { start = a; len = 1; value = k } ∷ r ∷ rs)
+  with_front a k (r ∷ rs) =
+      if r.start == a + 1 && same k r.value then (record { start = a; len = r.len + 1; value = k } ∷ rs)
+      else (record { start = a; len = 1; value = k } ∷ r ∷ rs)
 
   abbrev pub with_value : ℕ → Option K → List (Run K) → List (Run K)
   with_value a None rs = rs
@@ -33,16 +34,19 @@ module _ {K : Type 0} (same : K → K → Bool) where
   abbrev pub IsCanonical : List (Run K) → Type 0
   IsCanonical [] = Unit {0}
   IsCanonical (r ∷ []) = 0 < r.len
-  IsCanonical (r ∷ s ∷ rs) = (0 < r.len) × (r.start + r.len ≤ s.start) × (r.start + r.len ≡ s.start → same r.value s.value ≡ false) × IsCanonical (s ∷ rs)
+  IsCanonical (r ∷ s ∷ rs) =
+      (0 < r.len) × (r.start + r.len ≤ s.start) × (r.start + r.len ≡ s.start → same r.value s.value ≡ false)
+      × IsCanonical (s ∷ rs)
 
 -- the value of the run that an address lies in, if it lies in one
 abbrev pub value_at : {K : Type 0} → List (Run K) → ℕ → Option K
 value_at [] x = None
-value_at (r ∷ rs) x = cond (is_within r.start r.len x) (Some r.value) (value_at rs x)
+value_at (r ∷ rs) x = if is_within r.start r.len x then Some r.value else value_at rs x
 
 -- the run from one address up to another, where there is any between them, before other runs
 abbrev pub cut_onto : {K : Type 0} → (from to : ℕ) → K → List (Run K) → List (Run K)
-cut_onto from to k rs = cond (nat_lt from to) (record { start = from; len = to - from; value = k } ∷ rs) rs
+cut_onto from to k rs =
+    if nat_lt from to then (record { start = from; len = to - from; value = k } ∷ rs) else rs
 
 -- what lies of each run in the n addresses from a on
 abbrev pub cut_to : {K : Type 0} → ℕ → ℕ → List (Run K) → List (Run K)

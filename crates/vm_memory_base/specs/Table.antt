@@ -1,5 +1,6 @@
--- What an I/O table says of each address, what the calls that change it make of that, and what a look-up gives.
-use Rattle.std.specs.Prelude.{ℕ, zero, suc, ◌+◌, ◌-◌, ◌%◌, ◌^◌, Bool, true, false, not, ◌&&◌, ◌||◌, cond, ◌==◌, nat_lt, List, [], ◌∷◌, map, Option, Some, None, is_some}
+-- What an I/O table says of each address, what the calls that change it make of that, and what a look-up
+-- gives.
+use Rattle.std.specs.Prelude.{ℕ, zero, suc, ◌+◌, ◌-◌, ◌%◌, ◌^◌, Bool, true, false, not, ◌&&◌, ◌||◌, if◌then◌else◌, ◌==◌, nat_lt, List, [], ◌∷◌, map, Option, Some, None, is_some}
 use Rattle.vm_memory_base.specs.Address.{step, numbers, difference, is_within}
 use Rattle.vm_memory_base.specs.Permissions.{allow, same}
 use Rattle.vm_memory_base.specs.Runs.{Run, runs, value_at}
@@ -31,8 +32,10 @@ pub data TableCall : Type 0 where
 
 -- what is said of x after a call, where old was said before it
 abbrev pub says_after : TableCall → ℕ → Option Mapping → Option Mapping
-says_after (Set iova to len permissions) x old = cond (is_within iova len x) (Some (record { difference = difference iova to; permissions = permissions })) old
-says_after (Invalidate iova len) x old = cond (is_within iova len x) None old
+says_after (Set iova to len permissions) x old =
+    if is_within iova len x then Some (record { difference = difference iova to; permissions = permissions })
+    else old
+says_after (Invalidate iova len) x old = if is_within iova len x then None else old
 says_after InvalidateAll x old = None
 
 -- whether a call says something of x
@@ -41,7 +44,8 @@ covers (Set iova to len permissions) x = is_within iova len x
 covers (Invalidate iova len) x = is_within iova len x
 covers InvalidateAll x = true
 
--- what is said of x after calls, the earliest first, where old was said before them: the last one that covers x decides
+-- what is said of x after calls, the earliest first, where old was said before them: the last one that
+-- covers x decides
 abbrev pub says_after_all : List TableCall → ℕ → Option Mapping → Option Mapping
 says_after_all [] x old = old
 says_after_all (call ∷ calls) x old = says_after_all calls x (says_after call x old)
@@ -91,7 +95,7 @@ forbids access m = not (allow m.permissions access)
 
 -- why an access that is not allowed is refused
 abbrev pub reason : Says → ℕ → ℕ → Reason
-reason f a n = cond (overruns a n || not (each is_some f a n)) MissingMapping AccessNotAllowed
+reason f a n = if overruns a n || not (each is_some f a n) then MissingMapping else AccessNotAllowed
 
 -- so many addresses from base on
 pub record Range : Type 0 where
@@ -124,12 +128,16 @@ if_missing (Some m) = None
 
 abbrev pub if_forbidden : Permissions → Option Mapping → Option Mapping
 if_forbidden access None = None
-if_forbidden access (Some m) = cond (allow m.permissions access) None (Some m)
+if_forbidden access (Some m) = if allow m.permissions access then None else Some m
 
--- what is missed: the runs of the asked addresses that have no mapping, and the whole range where its end is no address
+-- what is missed: the runs of the asked addresses that have no mapping, and the whole range where its end
+-- is no address
 abbrev pub misses : Says → ℕ → ℕ → List Range
-misses f a n = cond (overruns a n) (record { base = a; len = n } ∷ []) (map range_of (runs (λ _ _. true) (λ x. if_missing (f x)) a n))
+misses f a n =
+    if overruns a n then (record { base = a; len = n } ∷ [])
+    else map range_of (runs (λ _ _. true) (λ x. if_missing (f x)) a n)
 
 -- what fails: the runs of the asked addresses whose mapping forbids the access
 abbrev pub failures : Says → ℕ → ℕ → Permissions → List Range
-failures f a n access = cond (overruns a n) [] (map range_of (runs same_mapping (λ x. if_forbidden access (f x)) a n))
+failures f a n access =
+    if overruns a n then [] else map range_of (runs same_mapping (λ x. if_forbidden access (f x)) a n)

@@ -1,6 +1,6 @@
 //! Dirty tracking: which pages of a block or a space were written.
 ghost use Rattle.std.specs.Prelude.{◌≡◌, ◌^◌, ℕ, Bool, ◌<◌, IfOk};
-ghost use Rattle.vm_memory_base.specs.Pages.{PageSet, IsPageSet, in_view};
+ghost use Rattle.vm_memory_base.specs.Pages.{PageSet, IsPageSet, IsCleanFor, in_view};
 ghost use Rattle.vm_memory_base.specs.Pages as page_set;
 
 use std::alloc::{AllocError, Global};
@@ -19,6 +19,10 @@ pub trait Bitmap {
     /// What may be told of the byte at an offset.
     ghost tells: { Self → ℕ → Bool → Type 0 };
 
+    /// What `NewBitmap` may make for a length in bytes: its own relation too. Where a bitmap is not
+    /// made for a length, nothing.
+    ghost made: { ℕ → Self → Type 0 } = { λ _ _. ⊥ };
+
     /// Marks `len` bytes from `offset` on as written.
     fn mark_dirty(&mut self, offset: usize, len: usize)
         ensures { marks self.old offset len self.new };
@@ -33,27 +37,30 @@ pub trait ExactBitmap: Bitmap {
     /// The pages that it tracks.
     ghost pages: { Self → PageSet };
 
-    /// The page size in bytes and the number of pages, or nothing where nothing is tracked. Every page
-    /// begins at an offset of 64 bits.
+    /// The page size in bytes and the number of pages, or nothing where nothing is tracked.
     fn shape(&self) -> Option<(usize, usize)>
-        ensures value { result ≡ page_set.shape (pages self.now) }
-        ensures fits { IsPageSet (pages self.now) };
+        ensures { result ≡ page_set.shape (pages self.now) };
+
+    /// Pages have a size, and every page begins at an offset of 64 bits.
+    ghost fits: { (b : Self) → IsPageSet (pages b) };
 
     /// A mark makes the pages of its bytes dirty, and no other.
-    ghost marks_pages: { (old new : Self) (offset len : ℕ) → Self.marks old offset len new → pages new ≡ page_set.marked offset len (pages old) };
+    ghost marks_pages: { (old new : Self) (offset len : ℕ) → Self.marks old offset len new
+        → pages new ≡ page_set.marked offset len (pages old) };
 
     /// A byte is told to be written where its page is dirty.
-    ghost tells_pages: { (b : Self) (offset : ℕ) (told : Bool) → Self.tells b offset told → told ≡ page_set.is_dirty_at (pages b) offset };
+    ghost tells_pages: { (b : Self) (offset : ℕ) (told : Bool) → Self.tells b offset told
+        → told ≡ page_set.is_dirty_at (pages b) offset };
+
+    /// What is made for a length tracks all of its bytes, if it tracks any, and none is dirty.
+    ghost made_clean: { (len : ℕ) (b : Self) → Self.made len b → IsCleanFor len (pages b) };
 }
 
 /// A bitmap that can be made for a length in bytes.
 pub trait NewBitmap: Bitmap {
-    /// What is made for a length.
-    ghost made: { ℕ → Self → Type 0 };
-
     /// A clean bitmap for `len` bytes.
     fn with_len(alloc: Global, len: usize) -> Result<Self, AllocError>
-        ensures { IfOk result (made len) };
+        ensures { IfOk result (Self.made len) };
 }
 
 /// Tracks nothing.
@@ -63,6 +70,8 @@ impl Bitmap for () {
     ghost marks = { λ old offset len new. new ≡ old };
 
     ghost tells = { λ b offset told. told ≡ false };
+
+    ghost made = { λ len b. Unit {0} };
 
     fn mark_dirty(&mut self, _offset: usize, _len: usize) {}
 
@@ -76,9 +85,13 @@ impl ExactBitmap for () {
 
     ghost pages = { λ _. None };
 
+    ghost fits = { λ _. tt };
+
     ghost marks_pages = { λ old new offset len h. refl };
 
     ghost tells_pages = { λ b offset told h. h };
+
+    ghost made_clean = { λ len b h. tt };
 
     fn shape(&self) -> Option<(usize, usize)> {
         None
@@ -86,8 +99,6 @@ impl ExactBitmap for () {
 }
 
 impl NewBitmap for () {
-    ghost made = { λ len b. Unit {0} };
-
     fn with_len(_alloc: Global, _len: usize) -> Result<(), AllocError> {
         Ok(())
     }

@@ -77,7 +77,8 @@ pub trait ByteValued: Copy {
     ///
     /// An error is the writer's, and leaves open how many of the bytes it took.
     final fn write_all_to<W: Write>(&self, writer: &mut W) -> io::Result<()>
-        ensures { width < 2 ^ 64 → OnOk result (Appends (W.contents writer.old) (W.contents writer.new) (bytes self.now)) }
+        ensures { width < 2 ^ 64
+            → OnOk result (Appends (W.contents writer.old) (W.contents writer.new) (bytes self.now)) }
     {
         self.known();
         let size = Self::size();
@@ -95,7 +96,8 @@ pub trait ByteValued: Copy {
     /// An error is the reader's, and leaves open how many bytes it gave. Where a reader ends too
     /// early, std's error is of the kind `UnexpectedEof`.
     final fn read_exact_from<R: Read>(reader: &mut R) -> io::Result<Self>
-        ensures { width < 2 ^ 64 → IfOk result (λ x. Consumes (R.remaining reader.old) (R.remaining reader.new) (bytes x)) }
+        ensures { width < 2 ^ 64
+            → IfOk result (λ x. Consumes (R.remaining reader.old) (R.remaining reader.new) (bytes x)) }
     {
         let size = Self::size();
         let mut value = Self::zeroed();

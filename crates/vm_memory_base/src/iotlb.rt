@@ -107,7 +107,7 @@ pub struct IovaRange {
 }
 
 /// Why a translation was refused.
-#[derive(Debug, Drop, Error)]
+#[derive(Clone, Copy, Debug, PartialEq, Eq, Error)]
 pub enum IommuError {
     /// The range has an address without a mapping, or one whose mapping does not permit the access.
     #[error("Cannot translate I/O virtual address range 0x{:x}+{}: {reason}", iova_range.base.0, iova_range.length)]

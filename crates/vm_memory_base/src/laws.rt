@@ -1,5 +1,7 @@
-//! What holds of the definitions of permissions, page sets, runs and tables, whatever the code does: each function here is a theorem, and does nothing.
+//! What holds of the definitions of bytes, permissions, page sets, runs and tables, whatever the code
+//! does: each function here is a theorem, and does nothing.
 
+pub mod bytes;
 pub mod examples;
 pub mod pages;
 pub mod permissions;

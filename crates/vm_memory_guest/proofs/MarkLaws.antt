@@ -1,13 +1,11 @@
 -- Marks of bitmaps by windows, and writes.
-use Rattle.std.proofs.Common.{◌≡◌, ℕ, ◌+◌, ◌<◌, ◌≤◌, Bool, true, false, ltb, List, [], ◌∷◌, ◌++◌, map, length, get_or, take, drop, MatchBool, refl, sym, ap, subst, ◌∙◌, length-set, length-take-le, take-append-drop}
-use Rattle.std.proofs.lemmas.List.{take_more}
+use Rattle.std.proofs.Common.{◌≡◌, ℕ, Bool, true, false, ltb, List, [], ◌∷◌, ◌++◌, map, length, take, MatchBool, refl, sym, ap, subst, ◌∙◌, length-set}
 use Rattle.vm_memory_base.specs.declared.bitmap.BitmapId.{BitmapId}
 use Rattle.vm_memory_base.specs.declared.bitmap.BitmapId.TheVariants.{Block, Space}
 use Rattle.vm_memory_base.specs.Table.{Table}
 use Rattle.vm_memory_guest.specs.Host.{Host, Cell, shape_of, written}
-use Rattle.vm_memory_guest.specs.Window.{span, cells_of, cells, MarksOne, Marks, MarksWindow, MarksAll, Writes}
-use Rattle.vm_memory_guest.specs.declared.volatile_memory.slice.VolatileSlice.{VolatileSlice}
-use Rattle.vm_memory_guest.proofs.WrittenLaws.{written-append, written-take, lengths-written, cells-append, length-cells, cells-one}
+use Rattle.vm_memory_guest.specs.Window.{span, cells, MarksOne, Marks, MarksWindow, MarksAll, Writes, Window}
+use Rattle.vm_memory_guest.proofs.WrittenLaws.{written-append, written-take, lengths-written, cells-append, length-cells}
 
 -- a case for each answer of a test, each followed by what it says
 match_bool-weaker : (b : Bool) (P Q R S : Type 0) → (P → R) → (Q → S) → MatchBool b P Q → MatchBool b R S
@@ -18,7 +16,7 @@ match_bool-either : (b : Bool) (P Q R : Type 0) → (P → R) → (Q → R) → 
 match_bool-either true P Q R f g h = f h
 match_bool-either false P Q R f g h = g h
 
-written-span : (ws : List VolatileSlice) (bytes : List ℕ) (blocks : List (List ℕ)) → written (cells ws) bytes blocks ≡ written (cells ws) (take (span ws) bytes) blocks
+written-span : (ws : List Window) (bytes : List ℕ) (blocks : List (List ℕ)) → written (cells ws) bytes blocks ≡ written (cells ws) (take (span ws) bytes) blocks
 written-span ws bytes blocks = written-take (cells ws) bytes blocks ∙ ap (λ (n : ℕ). written (cells ws) (take n bytes) blocks) (length-cells ws)
 
 shape_from : {B : Type 0} (old new : Host B) → map length new.blocks ≡ map length old.blocks → length new.spaces ≡ length old.spaces → new.tables ≡ old.tables → shape_of new ≡ shape_of old
@@ -30,25 +28,16 @@ shape_of-written cs bytes host = shape_from host (record host { blocks = written
 
 module _ {B : Type 0} (marks : B → ℕ → ℕ → B → Type 0) where
   -- marks of windows joined end to end are the marks of the first and then of the others
-  pub MarksAll-append : (ws vs : List VolatileSlice) (old mid new : Host B) → MarksAll marks ws old mid → MarksAll marks vs mid new → MarksAll marks (ws ++ vs) old new
+  pub MarksAll-append : (ws vs : List Window) (old mid new : Host B) → MarksAll marks ws old mid → MarksAll marks vs mid new → MarksAll marks (ws ++ vs) old new
   MarksAll-append [] vs old mid new h k = subst (λ (x : Host B). MarksAll marks vs x new) h k
   MarksAll-append (w ∷ ws) vs old mid new h k = (h.0, h.1, MarksAll-append ws vs h.0 mid new h.2 k)
-
-  -- between the marks of the first windows and those of the others there is a host
-  pub MarksAll-split : (ws vs : List VolatileSlice) (old new : Host B) → MarksAll marks (ws ++ vs) old new → (mid : Host B) × MarksAll marks ws old mid × MarksAll marks vs mid new
-  MarksAll-split [] vs old new h = (old, refl, h)
-  MarksAll-split (w ∷ ws) vs old new h = let r = MarksAll-split ws vs h.0 new h.2 in (r.0, (h.0, h.1, r.1), r.2)
 
   -- a mark does not look at the blocks
   Marks-with_blocks : (id : BitmapId) (offset len : ℕ) (old new : Host B) (blocks : List (List ℕ)) → Marks marks id offset len old new → Marks marks id offset len (record old { blocks = blocks }) (record new { blocks = blocks })
   Marks-with_blocks (Block block) offset len old new blocks h = (h.0, h.1, ap (λ (x : Host B). record x { blocks = blocks }) h.2)
   Marks-with_blocks (Space space) offset len old new blocks h = (h.0, h.1, ap (λ (x : Host B). record x { blocks = blocks }) h.2)
 
-  Marks-with_tables : (id : BitmapId) (offset len : ℕ) (old new : Host B) (tables : List Table) → Marks marks id offset len old new → Marks marks id offset len (record old { tables = tables }) (record new { tables = tables })
-  Marks-with_tables (Block block) offset len old new tables h = (h.0, h.1, ap (λ (x : Host B). record x { tables = tables }) h.2)
-  Marks-with_tables (Space space) offset len old new tables h = (h.0, h.1, ap (λ (x : Host B). record x { tables = tables }) h.2)
-
-  MarksWindow-with_blocks : (w : VolatileSlice) (old new : Host B) (blocks : List (List ℕ)) → MarksWindow marks w old new → MarksWindow marks w (record old { blocks = blocks }) (record new { blocks = blocks })
+  MarksWindow-with_blocks : (w : Window) (old new : Host B) (blocks : List (List ℕ)) → MarksWindow marks w old new → MarksWindow marks w (record old { blocks = blocks }) (record new { blocks = blocks })
   MarksWindow-with_blocks w old new blocks h =
       match_bool-weaker (ltb 0 w.size) (Marks marks w.bitmap.id w.bitmap.base w.size old new) (new ≡ old)
       (Marks marks w.bitmap.id w.bitmap.base w.size (record old { blocks = blocks }) (record new { blocks = blocks }))
@@ -57,24 +46,10 @@ module _ {B : Type 0} (marks : B → ℕ → ℕ → B → Type 0) where
       (λ (e : new ≡ old). ap (λ (x : Host B). record x { blocks = blocks }) e)
       h
 
-  MarksWindow-with_tables : (w : VolatileSlice) (old new : Host B) (tables : List Table) → MarksWindow marks w old new → MarksWindow marks w (record old { tables = tables }) (record new { tables = tables })
-  MarksWindow-with_tables w old new tables h =
-      match_bool-weaker (ltb 0 w.size) (Marks marks w.bitmap.id w.bitmap.base w.size old new) (new ≡ old)
-      (Marks marks w.bitmap.id w.bitmap.base w.size (record old { tables = tables }) (record new { tables = tables }))
-      (record new { tables = tables } ≡ record old { tables = tables })
-      (Marks-with_tables w.bitmap.id w.bitmap.base w.size old new tables)
-      (λ (e : new ≡ old). ap (λ (x : Host B). record x { tables = tables }) e)
-      h
-
   -- marks do not look at the blocks
-  pub MarksAll-with_blocks : (ws : List VolatileSlice) (old new : Host B) (blocks : List (List ℕ)) → MarksAll marks ws old new → MarksAll marks ws (record old { blocks = blocks }) (record new { blocks = blocks })
+  pub MarksAll-with_blocks : (ws : List Window) (old new : Host B) (blocks : List (List ℕ)) → MarksAll marks ws old new → MarksAll marks ws (record old { blocks = blocks }) (record new { blocks = blocks })
   MarksAll-with_blocks [] old new blocks h = ap (λ (x : Host B). record x { blocks = blocks }) h
   MarksAll-with_blocks (w ∷ ws) old new blocks h = (record (h.0) { blocks = blocks }, MarksWindow-with_blocks w old h.0 blocks h.1, MarksAll-with_blocks ws h.0 new blocks h.2)
-
-  -- marks do not look at the tables
-  pub MarksAll-with_tables : (ws : List VolatileSlice) (old new : Host B) (tables : List Table) → MarksAll marks ws old new → MarksAll marks ws (record old { tables = tables }) (record new { tables = tables })
-  MarksAll-with_tables [] old new tables h = ap (λ (x : Host B). record x { tables = tables }) h
-  MarksAll-with_tables (w ∷ ws) old new tables h = (record (h.0) { tables = tables }, MarksWindow-with_tables w old h.0 tables h.1, MarksAll-with_tables ws h.0 new tables h.2)
 
   -- what marks keep of a host
   record Kept (old new : Host B) : Type 0 where
@@ -96,51 +71,50 @@ module _ {B : Type 0} (marks : B → ℕ → ℕ → B → Type 0) where
   Kept-Marks (Block block) offset len old new h = record { blocks = ap (λ (x : Host B). x.blocks) h.2; bitmaps = ap (λ (x : Host B). length x.bitmaps) h.2 ∙ length-MarksOne block offset len old.bitmaps h.0 h.1; spaces = ap (λ (x : Host B). length x.spaces) h.2; tables = ap (λ (x : Host B). x.tables) h.2 }
   Kept-Marks (Space space) offset len old new h = record { blocks = ap (λ (x : Host B). x.blocks) h.2; bitmaps = ap (λ (x : Host B). length x.bitmaps) h.2; spaces = ap (λ (x : Host B). length x.spaces) h.2 ∙ length-MarksOne space offset len old.spaces h.0 h.1; tables = ap (λ (x : Host B). x.tables) h.2 }
 
-  Kept-MarksWindow : (w : VolatileSlice) (old new : Host B) → MarksWindow marks w old new → Kept old new
+  Kept-MarksWindow : (w : Window) (old new : Host B) → MarksWindow marks w old new → Kept old new
   Kept-MarksWindow w old new h = match_bool-either (ltb 0 w.size) (Marks marks w.bitmap.id w.bitmap.base w.size old new) (new ≡ old) (Kept old new) (Kept-Marks w.bitmap.id w.bitmap.base w.size old new) (kept_same old new) h
 
-  Kept-MarksAll : (ws : List VolatileSlice) (old new : Host B) → MarksAll marks ws old new → Kept old new
+  Kept-MarksAll : (ws : List Window) (old new : Host B) → MarksAll marks ws old new → Kept old new
   Kept-MarksAll [] old new h = kept_same old new h
   Kept-MarksAll (w ∷ ws) old new h = kept_more old h.0 new (Kept-MarksWindow w old h.0 h.1) (Kept-MarksAll ws h.0 new h.2)
 
   -- marks leave the blocks
-  pub blocks-MarksAll : (ws : List VolatileSlice) (old new : Host B) → MarksAll marks ws old new → new.blocks ≡ old.blocks
+  pub blocks-MarksAll : (ws : List Window) (old new : Host B) → MarksAll marks ws old new → new.blocks ≡ old.blocks
   blocks-MarksAll ws old new h = (Kept-MarksAll ws old new h).blocks
 
   -- marks leave the tables
-  pub tables-MarksAll : (ws : List VolatileSlice) (old new : Host B) → MarksAll marks ws old new → new.tables ≡ old.tables
+  pub tables-MarksAll : (ws : List Window) (old new : Host B) → MarksAll marks ws old new → new.tables ≡ old.tables
   tables-MarksAll ws old new h = (Kept-MarksAll ws old new h).tables
 
   -- there are as many bitmaps of blocks after marks
-  pub length_bitmaps-MarksAll : (ws : List VolatileSlice) (old new : Host B) → MarksAll marks ws old new → length new.bitmaps ≡ length old.bitmaps
+  pub length_bitmaps-MarksAll : (ws : List Window) (old new : Host B) → MarksAll marks ws old new → length new.bitmaps ≡ length old.bitmaps
   length_bitmaps-MarksAll ws old new h = (Kept-MarksAll ws old new h).bitmaps
 
-  -- there are as many spaces after marks
-  pub length_spaces-MarksAll : (ws : List VolatileSlice) (old new : Host B) → MarksAll marks ws old new → length new.spaces ≡ length old.spaces
-  length_spaces-MarksAll ws old new h = (Kept-MarksAll ws old new h).spaces
-
   -- marks keep the shape
-  pub shape_of-MarksAll : (ws : List VolatileSlice) (old new : Host B) → MarksAll marks ws old new → shape_of new ≡ shape_of old
+  pub shape_of-Marks : (id : BitmapId) (offset len : ℕ) (old new : Host B) → Marks marks id offset len old new → shape_of new ≡ shape_of old
+  shape_of-Marks id offset len old new h = let k = Kept-Marks id offset len old new h in shape_from old new (ap (λ (bs : List (List ℕ)). map length bs) k.blocks) k.spaces k.tables
+
+  pub shape_of-MarksAll : (ws : List Window) (old new : Host B) → MarksAll marks ws old new → shape_of new ≡ shape_of old
   shape_of-MarksAll ws old new h = let k = Kept-MarksAll ws old new h in shape_from old new (ap (λ (bs : List (List ℕ)). map length bs) k.blocks) k.spaces k.tables
 
   -- a write keeps the shape
-  pub shape_of-Writes : (ws : List VolatileSlice) (bytes : List ℕ) (old new : Host B) → Writes marks ws bytes old new → shape_of new ≡ shape_of old
+  pub shape_of-Writes : (ws : List Window) (bytes : List ℕ) (old new : Host B) → Writes marks ws bytes old new → shape_of new ≡ shape_of old
   shape_of-Writes ws bytes old new h = shape_of-MarksAll ws (record old { blocks = written (cells ws) bytes old.blocks }) new h ∙ shape_of-written (cells ws) bytes old
 
   -- a write leaves the tables
-  pub tables-Writes : (ws : List VolatileSlice) (bytes : List ℕ) (old new : Host B) → Writes marks ws bytes old new → new.tables ≡ old.tables
+  pub tables-Writes : (ws : List Window) (bytes : List ℕ) (old new : Host B) → Writes marks ws bytes old new → new.tables ≡ old.tables
   tables-Writes ws bytes old new h = tables-MarksAll ws (record old { blocks = written (cells ws) bytes old.blocks }) new h
 
   -- there are as many bitmaps of blocks after a write
-  pub length_bitmaps-Writes : (ws : List VolatileSlice) (bytes : List ℕ) (old new : Host B) → Writes marks ws bytes old new → length new.bitmaps ≡ length old.bitmaps
+  pub length_bitmaps-Writes : (ws : List Window) (bytes : List ℕ) (old new : Host B) → Writes marks ws bytes old new → length new.bitmaps ≡ length old.bitmaps
   length_bitmaps-Writes ws bytes old new h = length_bitmaps-MarksAll ws (record old { blocks = written (cells ws) bytes old.blocks }) new h
 
   -- a write leaves its bytes in the blocks
-  pub blocks-Writes : (ws : List VolatileSlice) (bytes : List ℕ) (old new : Host B) → Writes marks ws bytes old new → new.blocks ≡ written (cells ws) bytes old.blocks
+  pub blocks-Writes : (ws : List Window) (bytes : List ℕ) (old new : Host B) → Writes marks ws bytes old new → new.blocks ≡ written (cells ws) bytes old.blocks
   blocks-Writes ws bytes old new h = blocks-MarksAll ws (record old { blocks = written (cells ws) bytes old.blocks }) new h
 
   -- two writes one after the other are one write
-  pub Writes-append : (ws vs : List VolatileSlice) (bs cs : List ℕ) (old mid new : Host B) → length bs ≡ span ws → Writes marks ws bs old mid → Writes marks vs cs mid new → Writes marks (ws ++ vs) (bs ++ cs) old new
+  pub Writes-append : (ws vs : List Window) (bs cs : List ℕ) (old mid new : Host B) → length bs ≡ span ws → Writes marks ws bs old mid → Writes marks vs cs mid new → Writes marks (ws ++ vs) (bs ++ cs) old new
   Writes-append ws vs bs cs old mid new e h k =
       let whole = written (cells vs) cs mid.blocks in
       let marked : MarksAll marks ws (record old { blocks = whole }) (record mid { blocks = whole }) = MarksAll-with_blocks ws (record old { blocks = written (cells ws) bs old.blocks }) mid whole h in
@@ -148,30 +122,10 @@ module _ {B : Type 0} (marks : B → ℕ → ℕ → B → Type 0) where
       let same : whole ≡ written (cells (ws ++ vs)) (bs ++ cs) old.blocks = rw (cells-append ws vs, written-append (cells ws) (cells vs) bs cs old.blocks f, blocks-Writes ws bs old mid h) in
       subst (λ (blocks : List (List ℕ)). MarksAll marks (ws ++ vs) (record old { blocks = blocks }) new) same (MarksAll-append ws vs (record old { blocks = whole }) (record mid { blocks = whole }) new marked k)
 
-  -- a write to no windows changes nothing
-  pub Writes-nil : (bytes : List ℕ) (old new : Host B) → Writes marks [] bytes old new → new ≡ old
-  Writes-nil bytes old new h = h
-
-  -- a host that stays is one after a write to no windows
-  pub Writes-nil_same : (bytes : List ℕ) (host : Host B) → Writes marks [] bytes host host
-  Writes-nil_same bytes host = refl
-
   -- bytes past the windows are ignored
-  pub Writes-take : (ws : List VolatileSlice) (bytes : List ℕ) (old new : Host B) → Writes marks ws bytes old new → Writes marks ws (take (span ws) bytes) old new
+  pub Writes-take : (ws : List Window) (bytes : List ℕ) (old new : Host B) → Writes marks ws bytes old new → Writes marks ws (take (span ws) bytes) old new
   Writes-take ws bytes old new h = subst (λ (blocks : List (List ℕ)). MarksAll marks ws (record old { blocks = blocks }) new) (written-span ws bytes old.blocks) h
 
   -- a write of as many bytes as the windows have is a write of all bytes
-  pub Writes-from_take : (ws : List VolatileSlice) (bytes : List ℕ) (old new : Host B) → Writes marks ws (take (span ws) bytes) old new → Writes marks ws bytes old new
+  pub Writes-from_take : (ws : List Window) (bytes : List ℕ) (old new : Host B) → Writes marks ws (take (span ws) bytes) old new → Writes marks ws bytes old new
   Writes-from_take ws bytes old new h = subst (λ (blocks : List (List ℕ)). MarksAll marks ws (record old { blocks = blocks }) new) (sym (written-span ws bytes old.blocks)) h
-
-  -- a write to one window
-  pub Writes-one : (w : VolatileSlice) (bytes : List ℕ) (old new : Host B) → MarksWindow marks w (record old { blocks = written (cells_of w) bytes old.blocks }) new → Writes marks (w ∷ []) bytes old new
-  Writes-one w bytes old new h = (new, rw (cells-one w) h, refl)
-
-  -- a write to the first windows, and one of what is left of the bytes to the next
-  pub Writes_more : (ws : List VolatileSlice) (i : ℕ) (d : VolatileSlice) (bytes : List ℕ) (old mid new : Host B) → i < length ws → span (take i ws) ≤ length bytes → Writes marks (take i ws) bytes old mid → Writes marks (get_or ws i d ∷ []) (drop (span (take i ws)) bytes) mid new → Writes marks (take (i + 1) ws) bytes old new
-  Writes_more ws i d bytes old mid new l enough h k =
-      let n = span (take i ws) in
-      let all : take n bytes ++ drop n bytes ≡ bytes = take-append-drop n bytes in
-      let both = Writes-append (take i ws) (get_or ws i d ∷ []) (take n bytes) (drop n bytes) old mid new (length-take-le n bytes enough) (Writes-take (take i ws) bytes old mid h) k in
-      subst (λ (vs : List VolatileSlice). Writes marks vs bytes old new) (sym (take_more ws i d l)) (subst (λ (bs : List ℕ). Writes marks (take i ws ++ get_or ws i d ∷ []) bs old new) all both)

@@ -1,16 +1,19 @@
 -- Layouts of regions: which lists pass the tests, and where an address lies in one.
-use Rattle.std.proofs.Common.{◌≡◌, ℕ, zero, suc, ◌+◌, ◌-◌, ◌<◌, ◌≤◌, ◌↔◌, Bool, true, false, List, [], ◌∷◌, map, length, get_or, is_le, nat_cmp, Option, Some, None, Result, Ok, Err, ⊎_elim, inl, inr, refl, sym, ap, subst, ◌∙◌, add-one, arith}
-use Rattle.std.proofs.lemmas.Bool.{cases_lt, cases_order}
+use Rattle.std.proofs.Common.{◌≡◌, ℕ, zero, suc, ◌+◌, ◌-◌, ◌<◌, ◌≤◌, ◌↔◌, Bool, true, false, List, [], ◌∷◌, map, length, get_or, is_le, nat_cmp, nat_lt, nat_le, cond, option_map, Option, Some, None, Result, Ok, Err, ⊎_elim, inl, inr, refl, sym, ap, subst, ◌∙◌, add-one, arith}
+use Rattle.std.proofs.lemmas.Bool.{cases_Bool, cases_lt, cases_order}
 use Rattle.std.proofs.lemmas.Bool.Decides.{nat_tests}
 use Rattle.std.proofs.lemmas.List.{get_or-map, length-map}
+use Rattle.std.proofs.lemmas.Simd.{map-map}
 use Rattle.std.proofs.lemmas.List.Elements.{All-head, All-tail, All-map}
 use Rattle.std.proofs.lemmas.List.Recursion.{found_at, found_nowhere}
 use Rattle.std.specs.List.{All}
 use Rattle.std.specs.declared.alloc.Global.{Global}
 use Rattle.std.specs.declared.sync.Arc.{Arc}
 use Rattle.vm_memory_base.specs.Address.{is_within}
+use Rattle.vm_memory_guest.specs.Collection.{IsIndexed}
 use Rattle.vm_memory_guest.specs.declared.region.GuestRegionCollectionError.{GuestRegionCollectionError}
-use Rattle.vm_memory_guest.specs.Region.{Region, IsRegion, last, home, neighbours_of, first_error, neighbours_error, layout_error, IsLayout}
+use Rattle.vm_memory_guest.specs.declared.region.GuestRegionCollectionError.TheVariants.{NoMemoryRegion, MemoryRegionOverlap, UnsortedMemoryRegions, Memory}
+use Rattle.vm_memory_guest.specs.Region.{Region, IsRegion, last, home, home_in, neighbours_of, first_error, neighbours_error, layout_error, fault_of, IsLayout}
 
 -- a region that passes after another starts above its last address
 pub neighbours_of-ok : (q r : Region) → neighbours_of q r ≡ Ok tt → last q < r.start
@@ -18,6 +21,20 @@ neighbours_of-ok q r h = grind (arith, nat_tests)
 
 pub neighbours_of-passes : (q r : Region) → IsRegion q → last q < r.start → neighbours_of q r ≡ Ok tt
 neighbours_of-passes q r h k = let some = h.some in grind (arith, nat_tests)
+
+-- a fault of neighbours is no want of memory
+pub fault_of-neighbours : (q r : Region) (e : GuestRegionCollectionError) → neighbours_of q r ≡ Err e → fault_of e ≡ Some e
+fault_of-neighbours q r NoMemoryRegion h = refl
+fault_of-neighbours q r MemoryRegionOverlap h = refl
+fault_of-neighbours q r UnsortedMemoryRegions h = refl
+fault_of-neighbours q r Memory h =
+    elim (cases_Bool (nat_lt r.start q.start)) [
+      | inl t ↦ let k : neighbours_of q r ≡ Err UnsortedMemoryRegions = rw t in absurd (cc)
+      | inr t ↦ elim (cases_Bool (nat_le r.start (last q))) [
+        | inl u ↦ let k : neighbours_of q r ≡ Err MemoryRegionOverlap = rw (t, u) in absurd (cc)
+        | inr u ↦ let k : neighbours_of q r ≡ Ok tt = rw (t, u) in absurd (cc)
+      ]
+    ]
 
 first_error-none : (x : Result (Unit {0}) GuestRegionCollectionError) (rest : Option GuestRegionCollectionError) → first_error x rest ≡ None → (x ≡ Ok tt) × (rest ≡ None)
 first_error-none (Ok done) rest h = (refl, h)
@@ -118,13 +135,6 @@ is_within-inside start len a h k = grind (arith, nat_tests)
 is_within-from : (start len a : ℕ) → is_within start len a ≡ true → (start ≤ a) × (a < start + len)
 is_within-from start len a h = grind (arith, nat_tests)
 
--- the region at a place is home where no earlier one holds the address
-home-at : (rs : List Region) (a i : ℕ) (d : Region) → i < length rs → ((k : ℕ) → k < i → is_within (get_or rs k d).start (get_or rs k d).len a ≡ false) → is_within (get_or rs i d).start (get_or rs i d).len a ≡ true → home rs a ≡ Some (get_or rs i d)
-home-at rs a i d l h k = found_at (λ (xs : List Region). home xs a) (λ (r : Region). is_within r.start r.len a) (λ (r : Region). Some r) None refl (λ x xs. refl) rs i d l h k
-
-pub home-nowhere : (rs : List Region) (a : ℕ) (d : Region) → ((k : ℕ) → k < length rs → is_within (get_or rs k d).start (get_or rs k d).len a ≡ false) → home rs a ≡ None
-home-nowhere rs a d h = found_nowhere (λ (xs : List Region). home xs a) (λ (r : Region). is_within r.start r.len a) (λ (r : Region). Some r) None refl (λ x xs. refl) rs d h
-
 -- two places of a layout that hold an address are one place
 pub layout-one : (rs : List Region) → All IsRegion rs → IsLayout rs → (i j a : ℕ) (d : Region) → i < length rs → j < length rs → is_within (get_or rs i d).start (get_or rs i d).len a ≡ true → is_within (get_or rs j d).start (get_or rs j d).len a ≡ true → i ≡ j
 layout-one rs each h i j a d l k x y =
@@ -135,45 +145,96 @@ layout-one rs each h i j a d l k x y =
     (λ (m : j < i). let apart : last (get_or rs j d) < (get_or rs i d).start = layout-apart rs each h j i d m l in absurd (omega arith))
     o) (cases_order i j)
 
--- the region of a layout that holds an address is home
-pub home-holds : (rs : List Region) → All IsRegion rs → IsLayout rs → (i a : ℕ) (d : Region) → i < length rs → is_within (get_or rs i d).start (get_or rs i d).len a ≡ true → home rs a ≡ Some (get_or rs i d)
-home-holds rs each h i a d l x =
-    let p = is_within-from (get_or rs i d).start (get_or rs i d).len a x in
-    home-at rs a i d l
-    (λ k m. is_within-past (get_or rs k d).start (get_or rs k d).len a
-    (let apart : last (get_or rs k d) < (get_or rs i d).start = layout-apart rs each h k i d m l in omega arith))
-    x
+-- the region of a value that holds an address, and that of its region
+pub home_in-map : {X : Type 0} (region : X → Region) (xs : List X) (a : ℕ) → option_map region (home_in region xs a) ≡ home (map region xs) a
+home_in-map region [] a = refl
+home_in-map {X} region (x ∷ xs) a =
+    elim (is_within (region x).start (region x).len a) as (λ b. option_map region (cond b (Some x) (home_in region xs a)) ≡ cond b (Some (region x)) (home (map region xs) a)) [
+      | true ↦ refl
+      | false ↦ home_in-map region xs a
+    ]
 
--- no region holds an address below each start
-pub home-below : (rs : List Region) (a n : ℕ) → n ≡ 0 → ((k : ℕ) (d : Region) → n ≤ k → k < length rs → a < (get_or rs k d).start) → None ≡ home rs a
-home-below rs a n e h =
-    let d : Region = record { start = 0; len = 0; place = None } in
-    sym (home-nowhere rs a d (λ k m. is_within-before (get_or rs k d).start (get_or rs k d).len a (h k d (omega arith) m)))
+module _ {X : Type 0} (region : X → Region) where
+  abbrev holds : X → ℕ → Bool
+  holds x a = is_within (region x).start (region x).len a
 
--- the region before the first that starts above an address is home where it reaches the address
-pub home-before : (rs : List Region) → All IsRegion rs → IsLayout rs → (a n : ℕ) (r : Region) → 0 < n → n ≤ length rs → get_or rs (n - 1) r ≡ r → ((k : ℕ) (d : Region) → k < n → (get_or rs k d).start ≤ a) → a ≤ last r → Some r ≡ home rs a
-home-before rs each h a n r some within at below y =
-    let low : (get_or rs (n - 1) r).start ≤ a = below (n - 1) r (omega arith) in
-    let long : 0 < (get_or rs (n - 1) r).len = (each (n - 1) r (omega arith)).some in
-    let high : a ≤ last (get_or rs (n - 1) r) = subst (λ (x : Region). a ≤ last x) (sym at) y in
-    sym (home-holds rs each h (n - 1) a r (omega arith) (is_within-inside (get_or rs (n - 1) r).start (get_or rs (n - 1) r).len a low (omega arith)) ∙ ap (λ (x : Region). Some x) at)
+  pub home_in-nowhere : (xs : List X) (a : ℕ) (d : X) → ((k : ℕ) → k < length xs → holds (get_or xs k d) a ≡ false) → home_in region xs a ≡ None
+  home_in-nowhere xs a d h = found_nowhere (λ (ys : List X). home_in region ys a) (λ (x : X). holds x a) (λ (x : X). Some x) None refl (λ x ys. refl) xs d h
 
--- and no region is where it does not
-pub home-between : (rs : List Region) → All IsRegion rs → IsLayout rs → (a n : ℕ) (r : Region) → 0 < n → n ≤ length rs → get_or rs (n - 1) r ≡ r → ((k : ℕ) (d : Region) → n ≤ k → k < length rs → a < (get_or rs k d).start) → last r < a → None ≡ home rs a
-home-between rs each h a n r some within at above y =
-    let high : last (get_or rs (n - 1) r) < a = subst (λ (x : Region). last x < a) (sym at) y in
-    sym (home-nowhere rs a r (λ k m. elim (cases_lt k n) [
-      | inl o ↦ is_within-past (get_or rs k r).start (get_or rs k r).len a (elim (cases_lt k (n - 1)) [
-        | inl p ↦
-            let apart : last (get_or rs k r) < (get_or rs (n - 1) r).start = layout-apart rs each h k (n - 1) r p (omega arith) in
-            let long : 0 < (get_or rs (n - 1) r).len = (each (n - 1) r (omega arith)).some in
-            omega arith
-        | inr p ↦
-            let e : n - 1 ≡ k = omega arith in
-            subst (λ (i : ℕ). (get_or rs i r).start + (get_or rs i r).len ≤ a) e (omega arith)
-      ])
-      | inr o ↦ is_within-before (get_or rs k r).start (get_or rs k r).len a (above k r o m)
-    ]))
+  home_in-none : (xs : List X) (a : ℕ) → ((k : ℕ) (d : X) → k < length xs → holds (get_or xs k d) a ≡ false) → home_in region xs a ≡ None
+  home_in-none [] a h = refl
+  home_in-none (x ∷ xs) a h = home_in-nowhere (x ∷ xs) a x (λ k l. h k x l)
+
+  -- the value that holds an address, where each ends below the start of the later ones
+  pub home_in-holds : (xs : List X) → ((i j : ℕ) (d : X) → i < j → j < length xs → last (region (get_or xs i d)) < (region (get_or xs j d)).start) → (i a : ℕ) (d : X) → i < length xs → holds (get_or xs i d) a ≡ true → home_in region xs a ≡ Some (get_or xs i d)
+  home_in-holds xs apart i a d l x =
+      let p = is_within-from (region (get_or xs i d)).start (region (get_or xs i d)).len a x in
+      found_at (λ (ys : List X). home_in region ys a) (λ (y : X). holds y a) (λ (y : X). Some y) None refl (λ y ys. refl) xs i d l
+      (λ k m. is_within-past (region (get_or xs k d)).start (region (get_or xs k d)).len a (let e = apart k i d m l in omega arith))
+      x
+
+  -- a search by the starts: of the first n at most the address, and of the others above it
+  module _ (fits : (x : X) → IsRegion (region x)) (xs : List X) (starts : List ℕ) (indexed : IsIndexed (map region xs) starts) where
+    each : All IsRegion (map region xs)
+    each = All-map IsRegion region xs (λ k d l. fits (get_or xs k d))
+
+    apart : (i j : ℕ) (d : X) → i < j → j < length xs → last (region (get_or xs i d)) < (region (get_or xs j d)).start
+    apart i j d l k =
+        let e = length-map xs region in
+        rw (get_or-map region xs i d (region d) (omega arith), get_or-map region xs j d (region d) k) at (layout-apart (map region xs) each indexed.layout i j (region d) l (omega arith))
+
+    start-of : (k : ℕ) (d : Region) → k < length xs → get_or starts k 0 ≡ (get_or (map region xs) k d).start
+    start-of k d l =
+        let e = length-map xs region in
+        ap (λ (ns : List ℕ). get_or ns k 0) indexed.starts ∙ get_or-map (λ (r : Region). r.start) (map region xs) k d 0 (omega arith)
+
+    start-at : (k : ℕ) (d : X) → k < length xs → get_or starts k 0 ≡ (region (get_or xs k d)).start
+    start-at k d l = start-of k (region d) l ∙ ap (λ (r : Region). r.start) (get_or-map region xs k d (region d) l)
+
+    pub length-starts : length starts ≡ length xs
+    length-starts = ap length indexed.starts ∙ length-map (map region xs) (λ (r : Region). r.start) ∙ length-map xs region
+
+    pub starts-ascend : (i j : ℕ) → i ≤ j → j < length starts → get_or starts i 0 ≤ get_or starts j 0
+    starts-ascend i j l k =
+        let same = length-starts in
+        let e = length-map xs region in
+        let d : Region = record { start = 0; len = 0; place = None } in
+        let up = layout-ascends (map region xs) each indexed.layout i j d l (omega arith) in
+        rw (start-of i d (omega arith), start-of j d (omega arith)) up
+
+    module _ (a n : ℕ) (above : (k : ℕ) → n ≤ k → k < length starts → a < get_or starts k 0) where
+      pub home_in-below : n ≡ 0 → None ≡ home_in region xs a
+      home_in-below e =
+          let same = length-starts in
+          sym (home_in-none xs a (λ k d l.
+          let first : a < get_or starts k 0 = above k (omega arith) (omega arith) in
+          is_within-before (region (get_or xs k d)).start (region (get_or xs k d)).len a (rw (start-at k d l) at first)))
+
+      module _ (x : X) (some : 0 < n) (within : n ≤ length starts) (at : x ≡ get_or xs (n - 1) x) (start : ℕ) (is : start ≡ get_or starts (n - 1) 0) (low : start ≤ a) where
+        start_is : (region (get_or xs (n - 1) x)).start ≡ start
+        start_is = let same = length-starts in sym (is ∙ start-at (n - 1) x (omega arith))
+
+        pub home_in-before : a - start < (region x).len → Some x ≡ home_in region xs a
+        home_in-before h =
+            let same = length-starts in
+            let here = start_is in
+            let long : a - start < (region (get_or xs (n - 1) x)).len = subst (λ (y : X). a - start < (region y).len) at h in
+            sym (home_in-holds xs apart (n - 1) a x (omega arith) (is_within-inside (region (get_or xs (n - 1) x)).start (region (get_or xs (n - 1) x)).len a (omega arith) (omega arith)) ∙ ap (λ (y : X). Some y) (sym at))
+
+        pub home_in-past : (region x).len ≤ a - start → None ≡ home_in region xs a
+        home_in-past h =
+            let same = length-starts in
+            let here = start_is in
+            let short : (region (get_or xs (n - 1) x)).len ≤ a - start = subst (λ (y : X). (region y).len ≤ a - start) at h in
+            sym (home_in-nowhere xs a x (λ k l. elim (cases_lt k n) [
+              | inl m ↦ is_within-past (region (get_or xs k x)).start (region (get_or xs k x)).len a (elim (cases_lt k (n - 1)) [
+                | inl p ↦ let before = apart k (n - 1) x p (omega arith) in omega arith
+                | inr p ↦ let e : n - 1 ≡ k = omega arith in subst (λ (i : ℕ). (region (get_or xs i x)).start + (region (get_or xs i x)).len ≤ a) e (omega arith)
+              ])
+              | inr m ↦
+                  let after : a < get_or starts k 0 = above k m (omega arith) in
+                  is_within-before (region (get_or xs k x)).start (region (get_or xs k x)).len a (rw (start-at k x l) at after)
+            ]))
 
 -- the regions of shared values
 abbrev pub regions : {X : Type 0} → (X → Region) → List (Arc X Global) → List Region
@@ -195,6 +256,12 @@ region-at {X} f rs i r d l e =
 -- there are as many regions as shared values
 pub length-regions : {X : Type 0} (f : X → Region) (rs : List (Arc X Global)) → length (regions f rs) ≡ length rs
 length-regions {X} f rs = length-map (map (λ (r : Arc X Global). r.value) rs) f ∙ length-map rs (λ (r : Arc X Global). r.value)
+
+-- their starts
+pub starts-regions : {X : Type 0} (f : X → Region) (rs : List (Arc X Global)) → map (λ (r : Arc X Global). (f r.value).start) rs ≡ map (λ (r : Region). r.start) (regions f rs)
+starts-regions {X} f rs =
+    let xs = map (λ (r : Arc X Global). r.value) rs in
+    sym (map-map (λ (r : Region). r.start) f xs ∙ map-map (λ (x : X). (f x).start) (λ (r : Arc X Global). r.value) rs)
 
 -- what a test of two numbers tells
 pub le-from_true : (a b : ℕ) (t : Bool) → t ≡ is_le (nat_cmp a b) → t ≡ true → a ≤ b

@@ -1,21 +1,28 @@
 -- The walk through a backend, one call after the other.
-use Rattle.std.proofs.Common.{◌≡◌, ℕ, ◌+◌, ◌-◌, ◌^◌, ◌<◌, ◌≤◌, min, List, [], ◌∷◌, length, Option, Some, None, Result, Ok, Err, sym, ap, ◌∙◌, arith}
+use Rattle.std.proofs.Common.{◌≡◌, ℕ, ◌+◌, ◌-◌, ◌^◌, ◌<◌, ◌≤◌, min, List, [], ◌∷◌, length, Option, Some, None, Bool, true, false, cond, map, option_map, Result, Ok, Err, refl, sym, ap, ◌∙◌, arith}
 use Rattle.std.proofs.lemmas.Bool.Decides.{nat_tests}
 use Rattle.std.specs.Iterator.{MakesProgress, item_count}
-use Rattle.vm_memory_base.specs.Address.{step}
+use Rattle.vm_memory_base.specs.Address.{step, is_within}
 use Rattle.vm_memory_guest.specs.Host.{Cell}
-use Rattle.vm_memory_guest.specs.Region.{Region, IsRegion, IsLayout, home, slice_from, window_at}
-use Rattle.vm_memory_guest.specs.Slice.{Window}
-use Rattle.vm_memory_guest.specs.Error.{direct_items}
+use Rattle.vm_memory_guest.specs.Region.{Region, IsRegion, IsLayout, home, home_in, slice_from, window_at}
+use Rattle.vm_memory_guest.specs.Window.{Window}
 use Rattle.vm_memory_guest.specs.declared.region.GuestMemoryError.{GuestMemoryError}
 use Rattle.vm_memory_guest.specs.declared.region.GuestMemoryError.TheVariants.{InvalidGuestAddress}
-use Rattle.vm_memory_guest.proofs.PathWalk.{walk-none, walk-hole, walk-bare, walk-in_region, home-within, is_within-bounds, window_in, len_in}
+use Rattle.vm_memory_guest.proofs.RegionLaws.{home_in-map}
+use Rattle.vm_memory_guest.proofs.PathWalk.{direct_items, walk-none, walk-hole, walk-bare, walk-in_region, home-within, is_within-bounds, window_in, len_in}
 
 -- an iterator that gave the first item of its list has fewer left
 pub first_goes : {S A : Type 0} (rest : S → List A) (s t : S) (x : A) → rest s ≡ x ∷ rest t → MakesProgress (λ _. Unit {0}) (item_count rest) s (Some x) t
 first_goes rest s t x gives =
     let fewer : length (rest t) < length (rest s) = rw gives (omega arith) in
     record { on = λ _. (tt, tt, fewer); keeps = tt; rests = λ _. tt }
+
+-- where an address is found, and where it is not
+pub home-found : {R : Type 0} (region : R → Region) (rs : List R) (a : ℕ) (r : R) → Some r ≡ home_in region rs a → home (map region rs) a ≡ Some (region r)
+home-found region rs a r found = sym (home_in-map region rs a) ∙ ap (option_map region) (sym found)
+
+pub home-missed : {R : Type 0} (region : R → Region) (rs : List R) (a : ℕ) → None ≡ home_in region rs a → home (map region rs) a ≡ None
+home-missed region rs a found = sym (home_in-map region rs a) ∙ ap (option_map region) (sym found)
 
 -- the error of an address that no region holds comes alone
 pub walk-ends : (regions : List Region) (a n : ℕ) → a < 2 ^ 64 → home regions a ≡ None → 0 < n → direct_items regions a n ≡ Err (InvalidGuestAddress (record { 0 = a })) ∷ direct_items regions a 0

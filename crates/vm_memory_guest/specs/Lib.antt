@@ -1,12 +1,13 @@
 pub mod Access
 pub mod Answer
 pub mod Collection
+pub mod Dirt
 pub mod Error
+pub mod Examples
 pub mod Host
 pub mod Inside
 pub mod Memory
 pub mod Mmap
 pub mod Region
-pub mod Slice
 pub mod Walk
 pub mod Window

@@ -3,11 +3,11 @@ use Rattle.std.specs.Prelude.{ℕ, ◌+◌, ◌-◌, ◌^◌, ◌<◌, ◌≤◌
 use Rattle.vm_memory_base.specs.Address.{is_within}
 use Rattle.vm_memory_base.specs.declared.bitmap.BitmapId.TheVariants as bitmap
 use Rattle.vm_memory_guest.specs.Host as host
-use Rattle.vm_memory_guest.specs.Slice.{Window}
+use Rattle.vm_memory_guest.specs.Window.{Window}
 use Rattle.vm_memory_guest.specs.declared.region.GuestMemoryError.{GuestMemoryError}
 use Rattle.vm_memory_guest.specs.declared.region.GuestMemoryError.TheVariants.{HostAddressNotAvailable, InvalidBackendAddress}
 use Rattle.vm_memory_guest.specs.declared.region.GuestRegionCollectionError.{GuestRegionCollectionError}
-use Rattle.vm_memory_guest.specs.declared.region.GuestRegionCollectionError.TheVariants.{NoMemoryRegion, MemoryRegionOverlap, UnsortedMemoryRegions}
+use Rattle.vm_memory_guest.specs.declared.region.GuestRegionCollectionError.TheVariants.{NoMemoryRegion, MemoryRegionOverlap, UnsortedMemoryRegions, Memory}
 use Rattle.vm_memory_guest.specs.Host.{Name, Cell}
 
 -- len addresses from start on, and the cell of the first, where the region has host bytes: the others follow it
@@ -32,9 +32,13 @@ pub record IsRegion (r : Region) : Type 0 where
 abbrev pub last : Region → ℕ
 last r = r.start + r.len - 1
 
+-- the region that holds an address, among values that mean regions
+abbrev pub home_in : {R : Type 0} → (R → Region) → List R → ℕ → Option R
+home_in region rs a = find (λ r. is_within (region r).start (region r).len a) rs
+
 -- the region that holds an address
 abbrev pub home : List Region → ℕ → Option Region
-home regions a = find (λ r. is_within r.start r.len a) regions
+home regions a = home_in (λ r. r) regions a
 
 -- what lies at an address: a byte of a host in its region, no byte in a region without host bytes, or no region
 pub data Lies : Type 0 where
@@ -96,6 +100,11 @@ neighbours_error (q ∷ r ∷ rs) = first_error (neighbours_of q r) (neighbours_
 abbrev pub layout_error : List Region → Option GuestRegionCollectionError
 layout_error [] = Some NoMemoryRegion
 layout_error (r ∷ rs) = neighbours_error (r ∷ rs)
+
+-- the fault of regions that an error tells: want of memory is none
+abbrev pub fault_of : GuestRegionCollectionError → Option GuestRegionCollectionError
+fault_of Memory = None
+fault_of e = Some e
 
 -- regions in ascending order, none of which reaches the next
 abbrev pub IsLayout : List Region → Type 0

@@ -1,20 +1,49 @@
--- What a walk reaches, read from its items. No public clause cites this module.
-use Rattle.std.specs.Prelude.{ℕ, List, [], ◌∷◌, Some, None, Result, Ok, Err}
+-- Walks: the windows of an access, one after the other, and then the error of what stops it.
+use Rattle.std.specs.Prelude.{◌≡◌, ℕ, true, false, List, [], ◌∷◌, ◌++◌, map, Option, Some, None, IsSome, Result, Ok, Err}
+use Rattle.vm_memory_base.specs.Table.{Table}
+use Rattle.vm_memory_base.specs.declared.iotlb.Permissions.{Permissions}
+use Rattle.vm_memory_guest.specs.Access.{Fault, Access, windows, path, first_fault, meets, access_of, allowed, refusal}
 use Rattle.vm_memory_guest.specs.Answer.{Reach}
-use Rattle.vm_memory_guest.specs.Error.{direct_items}
+use Rattle.vm_memory_guest.specs.Error.{error_of}
+use Rattle.vm_memory_guest.specs.Memory.{Memory, Direct, route}
 use Rattle.vm_memory_guest.specs.Region.{Region}
+use Rattle.vm_memory_guest.specs.Window.{Window}
 use Rattle.vm_memory_guest.specs.declared.region.GuestMemoryError.{GuestMemoryError}
-use Rattle.vm_memory_guest.specs.declared.volatile_memory.slice.VolatileSlice.{VolatileSlice}
+use Rattle.vm_memory_guest.specs.declared.region.GuestMemoryError.TheVariants as errors
 
--- the windows before the first error, and that error
-abbrev pub first_of_items : Result VolatileSlice GuestMemoryError → Reach GuestMemoryError → Reach GuestMemoryError
-first_of_items (Ok w) rest = record { windows = w ∷ rest.windows; fault = rest.fault }
-first_of_items (Err e) rest = record { windows = []; fault = Some e }
+-- the windows of an access, and what stops it
+abbrev pub reach_of : Access → Reach Fault
+reach_of access = record { windows = windows access.path; fault = access.fault }
 
-abbrev pub reach_in : List (Result VolatileSlice GuestMemoryError) → Reach GuestMemoryError
-reach_in [] = record { windows = []; fault = None }
-reach_in (item ∷ items) = first_of_items item (reach_in items)
+-- what a walk gives that has these windows left: them in order, and then the error, if something stops it
+abbrev pub error_item : Option Fault → List (Result Window GuestMemoryError)
+error_item None = []
+error_item (Some fault) = Err (error_of fault) ∷ []
 
--- what a walk without translation reaches
-unfoldable pub walked : List Region → ℕ → ℕ → Reach GuestMemoryError
-walked regions a n = reach_in (direct_items regions a n)
+abbrev pub items_of : Reach Fault → List (Result Window GuestMemoryError)
+items_of walk = map (λ w. Ok w) walk.windows ++ error_item walk.fault
+
+-- the walk over n bytes from a on, without translation
+abbrev pub walk_of : List Region → ℕ → ℕ → Reach Fault
+walk_of regions a n = reach_of (record {
+  path = path (meets regions Direct a) 0 n;
+  fault = first_fault (meets regions Direct a) 0 n;
+})
+
+-- what an access of a memory reaches
+abbrev pub reached : Memory → List Table → ℕ → ℕ → Permissions → Reach Fault
+reached memory tables a n access = reach_of (access_of memory.regions (route memory tables) a n access)
+
+-- an access is allowed, and this is its walk
+abbrev pub GivesAccess : Memory → List Table → ℕ → ℕ → Permissions → Reach Fault → Type 0
+GivesAccess memory tables a n access walk =
+    (allowed (route memory tables) a n access ≡ true) × (walk ≡ reached memory tables a n access)
+
+-- an access is not allowed, and this is why
+abbrev pub RefusesAccess : Memory → List Table → ℕ → ℕ → Permissions → GuestMemoryError → Type 0
+RefusesAccess memory tables a n access e =
+    (allowed (route memory tables) a n access ≡ false) × (e ≡ error_of (refusal (route memory tables) a n))
+
+-- there was no memory for the translation: an IOMMU is on
+abbrev pub WantsMemory : Memory → GuestMemoryError → Type 0
+WantsMemory memory e = (e ≡ errors.Memory) × IsSome memory.iommu

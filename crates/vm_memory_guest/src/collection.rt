@@ -4,7 +4,7 @@ ghost use Rattle.vm_memory_guest.specs.Host.{Holds};
 ghost use Rattle.vm_memory_guest.specs.Region.{region_names};
 ghost use Rattle.vm_memory_guest.specs.Collection.{regions_of};
 
-use crate::guest_memory::GuestMemoryBackend;
+use crate::guest_memory::backend::GuestMemoryBackend;
 use crate::region::{GuestMemoryRegion, GuestRegionCollection};
 use crate::volatile_memory::host::{HostShape, Named};
 use std::sync::Arc;
@@ -20,16 +20,19 @@ impl<R: GuestMemoryRegion> Named for GuestRegionCollection<R> {
 
 impl<R: GuestMemoryRegion> GuestMemoryBackend for GuestRegionCollection<R> {
     ghost use Rattle.std.specs.Prelude.{refl};
-    ghost use Rattle.vm_memory_guest.specs.Collection.{each_is_region};
 
     type R = R;
 
-    ghost regions = { λ rs. map R.region rs };
-
-    ghost each_fits = { each_is_region R.region R.fits };
+    ghost regions = { λ rs. rs };
 
     ghost names_regions = { λ rs. refl };
 
+    #[inline]
+    fn num_regions(&self) -> usize {
+        GuestRegionCollection::num_regions(self)
+    }
+
+    #[inline]
     fn find_region(&self, addr: GuestAddress) -> Option<&R> {
         GuestRegionCollection::find_region(self, addr)
     }

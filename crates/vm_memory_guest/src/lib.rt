@@ -6,15 +6,15 @@ mod collection;
 pub mod effect_laws;
 pub mod examples;
 mod guest_memory;
+pub mod host_laws;
 mod mmap;
 pub mod path_laws;
 mod region;
 pub mod region_laws;
 mod volatile_memory;
 
-pub use guest_memory::{
-    GuestMemory, GuestMemoryBackend, GuestMemoryBackendSliceIterator, IommuMemorySliceIterator,
-};
+pub use guest_memory::backend::{GuestMemoryBackend, GuestMemoryBackendSliceIterator};
+pub use guest_memory::memory::{GuestMemory, IommuMemorySliceIterator};
 pub use mmap::{GuestMemoryMmap, GuestRegionMmap, MmapRegion};
 pub use region::{
     GuestMemoryError, GuestMemoryRegion, GuestMemoryResult, GuestRegionCollection,

@@ -2,8 +2,8 @@
 
 ghost use Rattle.std.specs.Prelude.{◌≡◌, ℕ, ◌+◌, ◌-◌, ◌*◌, ◌^◌, ◌<◌, ◌≤◌, ◌++◌, length, take, drop};
 ghost use Rattle.std.specs.List.{flat_map};
-ghost use Rattle.vm_memory_base.specs.Bytes.{values_of};
-ghost use Rattle.vm_memory_base.specs.ArrayCodes.{IsArrayOf, array_code};
+ghost use Rattle.vm_memory_base.specs.Bytes.{IsArrayOf, values_of};
+ghost use Rattle.vm_memory_base.specs.ArrayCodes.{array_code};
 
 use super::integers::{number_in, write_number};
 use super::{ByteValued, FixedInteger};

@@ -11,49 +11,78 @@ pub fn empty_mark()
 /// A mark keeps the page size and the number of pages.
 pub fn mark_keeps_shape()
     ensures shape { (start len : ℕ) (set : PageSet) → shape (marked start len set) ≡ shape set }
+    ensures pages { (start len : ℕ) (p : Pages) → (q : Pages) × (marked start len (Some p) ≡ Some q)
+        × (q.page_size ≡ p.page_size) × (length q.flags ≡ length p.flags) }
     ensures valid { (start len : ℕ) (set : PageSet) → IsPageSet set → IsPageSet (marked start len set) }
     ensures shape_of_many { (offsets : List ℕ) (set : PageSet) → shape (marked_each offsets set) ≡ shape set }
-    ensures valid_of_many { (offsets : List ℕ) (set : PageSet) → IsPageSet set → IsPageSet (marked_each offsets set) }
+    ensures valid_of_many { (offsets : List ℕ) (set : PageSet) → IsPageSet set
+        → IsPageSet (marked_each offsets set) }
 {}
 
 /// A mark takes a page where one of its bytes lies in it, among the offsets of 64 bits.
 pub fn mark_takes_the_pages_of_its_bytes()
-    ensures { (size start len page : ℕ) → 0 < size → start < 2 ^ 64 → (takes size start len page ≡ true) ↔ ((offset : ℕ) × (is_within start len offset ≡ true) × (offset < 2 ^ 64) × (offset / size ≡ page)) }
+    ensures { (size start len page : ℕ) → 0 < size → start < 2 ^ 64
+        → (takes size start len page ≡ true) ↔ ((offset : ℕ) × (is_within start len offset ≡ true)
+        × (offset < 2 ^ 64) × (offset / size ≡ page)) }
 {}
 
-/// After a mark the dirty pages are those that were dirty and those that the mark takes, among the pages that there are.
+/// After a mark the dirty pages are those that were dirty and those that the mark takes, among the
+/// pages that there are.
 pub fn mark_dirties()
-    ensures pages { (test : ℕ → Bool) (page : ℕ) (flags : List Bool) (i : ℕ) → slice_index_or (flags_after test page flags) i false ≡ (slice_index_or flags i false || (nat_lt i (length flags) && test (page + i))) }
-    ensures bytes { (start len offset : ℕ) (p : Pages) → is_dirty_at (marked start len (Some p)) offset ≡ (is_dirty_at (Some p) offset || (nat_lt (offset / p.page_size) (length p.flags) && takes p.page_size start len (offset / p.page_size))) }
+    ensures pages { (test : ℕ → Bool) (page : ℕ) (flags : List Bool) (i : ℕ)
+        → slice_index_or (flags_after test page flags) i false
+        ≡ (slice_index_or flags i false || (nat_lt i (length flags) && test (page + i))) }
+    ensures bytes { (start len offset : ℕ) (p : Pages)
+        → is_dirty_at (marked start len (Some p)) offset
+        ≡ (is_dirty_at (Some p) offset || (nat_lt (offset / p.page_size) (length p.flags)
+        && takes p.page_size start len (offset / p.page_size))) }
 {}
 
 /// A byte that is marked is dirty, where its page is one of the set's, and no mark cleans a byte.
 pub fn marked_bytes_are_dirty()
-    ensures marked { (start len offset : ℕ) (p : Pages) → 0 < p.page_size → is_within start len offset ≡ true → offset < 2 ^ 64 → offset / p.page_size < length p.flags → is_dirty_at (marked start len (Some p)) offset ≡ true }
-    ensures before { (start len offset : ℕ) (set : PageSet) → is_dirty_at set offset ≡ true → is_dirty_at (marked start len set) offset ≡ true }
+    ensures marked { (start len offset : ℕ) (p : Pages) → 0 < p.page_size
+        → is_within start len offset ≡ true → offset < 2 ^ 64 → offset / p.page_size < length p.flags
+        → is_dirty_at (marked start len (Some p)) offset ≡ true }
+    ensures before { (start len offset : ℕ) (set : PageSet) → is_dirty_at set offset ≡ true
+        → is_dirty_at (marked start len set) offset ≡ true }
+{}
+
+/// A mark of one byte makes its page dirty, where that is one of the set's, and changes no other.
+pub fn mark_of_a_byte()
+    ensures own { (x offset : ℕ) (p : Pages) → x < 2 ^ 64 → x / p.page_size ≡ offset / p.page_size
+        → offset / p.page_size < length p.flags → is_dirty_at (marked x 1 (Some p)) offset ≡ true }
+    ensures other { (x offset : ℕ) (p : Pages) → (x / p.page_size ≡ offset / p.page_size → ⊥)
+        → is_dirty_at (marked x 1 (Some p)) offset ≡ is_dirty_at (Some p) offset }
 {}
 
 /// A mark goes no further than the greatest offset, and changes nothing past the last page.
 pub fn mark_ends()
-    ensures offsets { (start len : ℕ) (set : PageSet) → start < 2 ^ 64 → 2 ^ 64 ≤ start + len → marked start len set ≡ marked start (2 ^ 64 - start) set }
-    ensures pages { (start len : ℕ) (p : Pages) → length p.flags ≤ start / p.page_size → marked start len (Some p) ≡ Some p }
+    ensures offsets { (start len : ℕ) (set : PageSet) → start < 2 ^ 64 → 2 ^ 64 ≤ start + len
+        → marked start len set ≡ marked start (2 ^ 64 - start) set }
+    ensures pages { (start len : ℕ) (p : Pages) → length p.flags ≤ start / p.page_size
+        → marked start len (Some p) ≡ Some p }
 {}
 
 /// A mark is a mark of each of its bytes, one after another.
 pub fn mark_is_by_bytes()
-    ensures { (start len : ℕ) (set : PageSet) → IsPageSet set → start + len ≤ 2 ^ 64 → marked_each (numbers start len) set ≡ marked start len set }
+    ensures { (start len : ℕ) (set : PageSet) → start + len ≤ 2 ^ 64
+        → marked_each (numbers start len) set ≡ marked start len set }
 {}
 
 /// Marks of neighbouring ranges are one mark.
 pub fn neighbouring_marks()
-    ensures { (start m n : ℕ) (set : PageSet) → IsPageSet set → start + (m + n) ≤ 2 ^ 64 → marked (start + m) n (marked start m set) ≡ marked start (m + n) set }
+    ensures { (start m n : ℕ) (set : PageSet) → start + (m + n) ≤ 2 ^ 64
+        → marked (start + m) n (marked start m set) ≡ marked start (m + n) set }
 {}
 
 /// Marks may be made in any order and more than once.
 pub fn mark_order()
-    ensures any_order { (a m b n : ℕ) (set : PageSet) → marked a m (marked b n set) ≡ marked b n (marked a m set) }
-    ensures each_in_any_order { (xs ys : List ℕ) (set : PageSet) → marked_each (xs ++ ys) set ≡ marked_each (ys ++ xs) set }
-    ensures twice { (start len : ℕ) (set : PageSet) → marked start len (marked start len set) ≡ marked start len set }
+    ensures any_order { (a m b n : ℕ) (set : PageSet)
+        → marked a m (marked b n set) ≡ marked b n (marked a m set) }
+    ensures each_in_any_order { (xs ys : List ℕ) (set : PageSet)
+        → marked_each (xs ++ ys) set ≡ marked_each (ys ++ xs) set }
+    ensures twice { (start len : ℕ) (set : PageSet)
+        → marked start len (marked start len set) ≡ marked start len set }
 {}
 
 /// Where nothing is tracked nothing is dirty, before and after each mark.
@@ -73,6 +102,7 @@ pub fn cleaned_is_clean()
 
 /// The dirty pages are listed, no other pages are, and they ascend.
 pub fn dirty_pages_are_listed()
-    ensures exactly { (p : Pages) (page : ℕ) → Contains (dirty_pages (Some p)) page ↔ (slice_index_or p.flags page false ≡ true) }
+    ensures exactly { (p : Pages) (page : ℕ) → Contains (dirty_pages (Some p)) page
+        ↔ (slice_index_or p.flags page false ≡ true) }
     ensures ascending { (set : PageSet) → AllPairs (λ page other. page < other) (dirty_pages set) }
 {}

@@ -7,7 +7,9 @@ ghost use Rattle.vm_memory_base.specs.Runs.{TestsEquality};
 
 /// An access is allowed where each of its bits is permitted.
 pub fn allowed_by_bits()
-    ensures bits { (a access : Permissions) → (allow a access ≡ true) ↔ ((has_read access ≡ true → has_read a ≡ true) × (has_write access ≡ true → has_write a ≡ true)) }
+    ensures bits { (a access : Permissions) → (allow a access ≡ true)
+        ↔ ((has_read access ≡ true → has_read a ≡ true)
+        × (has_write access ≡ true → has_write a ≡ true)) }
     ensures nothing_asked { (a : Permissions) → allow a No ≡ true }
     ensures all_permitted { (access : Permissions) → allow ReadWrite access ≡ true }
     ensures read_asked { (a : Permissions) → allow a Read ≡ has_read a }

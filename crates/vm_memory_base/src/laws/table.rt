@@ -6,37 +6,58 @@ ghost use Rattle.vm_memory_base.specs.Table.{Mapping, same_mapping, target, Says
 ghost use Rattle.vm_memory_base.specs.declared.iotlb.Permissions.{Permissions};
 ghost use Rattle.vm_memory_base.specs.declared.iotlb.Reason.TheVariants.{MissingMapping, AccessNotAllowed};
 
-/// A call changes what is said of the addresses that it covers, and of no other. A call of length 0 covers none.
+/// A call changes what is said of the addresses that it covers, and of no other. A call of length 0
+/// covers none.
 pub fn call_changes_what_it_covers()
-    ensures elsewhere { (call : TableCall) (x : ℕ) (old : Option Mapping) → covers call x ≡ false → says_after call x old ≡ old }
-    ensures set { (iova to len x : ℕ) (permissions : Permissions) (old : Option Mapping) → covers (Set iova to len permissions) x ≡ true → says_after (Set iova to len permissions) x old ≡ Some (record { difference = difference iova to; permissions = permissions }) }
-    ensures invalidated { (iova len x : ℕ) (old : Option Mapping) → covers (Invalidate iova len) x ≡ true → says_after (Invalidate iova len) x old ≡ None }
+    ensures elsewhere { (call : TableCall) (x : ℕ) (old : Option Mapping) → covers call x ≡ false
+        → says_after call x old ≡ old }
+    ensures set { (iova to len x : ℕ) (permissions : Permissions) (old : Option Mapping)
+        → covers (Set iova to len permissions) x ≡ true
+        → says_after (Set iova to len permissions) x old
+        ≡ Some (record { difference = difference iova to; permissions = permissions }) }
+    ensures invalidated { (iova len x : ℕ) (old : Option Mapping)
+        → covers (Invalidate iova len) x ≡ true → says_after (Invalidate iova len) x old ≡ None }
     ensures all_invalidated { (x : ℕ) (old : Option Mapping) → says_after InvalidateAll x old ≡ None }
-    ensures set_nothing { (iova to x : ℕ) (permissions : Permissions) (old : Option Mapping) → says_after (Set iova to 0 permissions) x old ≡ old }
-    ensures invalidated_nothing { (iova x : ℕ) (old : Option Mapping) → says_after (Invalidate iova 0) x old ≡ old }
+    ensures set_nothing { (iova to x : ℕ) (permissions : Permissions) (old : Option Mapping)
+        → says_after (Set iova to 0 permissions) x old ≡ old }
+    ensures invalidated_nothing { (iova x : ℕ) (old : Option Mapping)
+        → says_after (Invalidate iova 0) x old ≡ old }
 {}
 
-/// The last call that covers an address decides what is said of it, and where none does nothing is changed.
+/// The last call that covers an address decides what is said of it, and where none does nothing is
+/// changed.
 pub fn last_call_decides()
-    ensures one_more { (calls : List TableCall) (call : TableCall) (x : ℕ) (old : Option Mapping) → says_after_all (calls ++ call ∷ []) x old ≡ says_after call x (says_after_all calls x old) }
-    ensures last { (earlier later : List TableCall) (call : TableCall) (x : ℕ) (old : Option Mapping) → covers call x ≡ true → All (λ other. covers other x ≡ false) later → says_after_all (earlier ++ call ∷ later) x old ≡ says_after call x None }
-    ensures none { (calls : List TableCall) (x : ℕ) (old : Option Mapping) → All (λ call. covers call x ≡ false) calls → says_after_all calls x old ≡ old }
+    ensures one_more { (calls : List TableCall) (call : TableCall) (x : ℕ) (old : Option Mapping)
+        → says_after_all (calls ++ call ∷ []) x old ≡ says_after call x (says_after_all calls x old) }
+    ensures last { (earlier later : List TableCall) (call : TableCall) (x : ℕ) (old : Option Mapping)
+        → covers call x ≡ true → All (λ other. covers other x ≡ false) later
+        → says_after_all (earlier ++ call ∷ later) x old ≡ says_after call x None }
+    ensures none { (calls : List TableCall) (x : ℕ) (old : Option Mapping)
+        → All (λ call. covers call x ≡ false) calls → says_after_all calls x old ≡ old }
 {}
 
 /// A range that is set leads, address by address, to the range from its target on, modulo 2 ^ 64.
 pub fn targets_follow_addresses()
-    ensures set { (iova to x : ℕ) (permissions : Permissions) → iova < 2 ^ 64 → iova ≤ x → target x (record { difference = difference iova to; permissions = permissions }) ≡ step to (x - iova) }
+    ensures set { (iova to x : ℕ) (permissions : Permissions) → iova < 2 ^ 64 → iova ≤ x
+        → target x (record { difference = difference iova to; permissions = permissions })
+        ≡ step to (x - iova) }
     ensures steps { (x i : ℕ) (m : Mapping) → target (x + i) m ≡ step (target x m) i }
 {}
 
-/// A range that is set behind another, with targets that follow its targets and the same permissions, is one range with it.
+/// A range that is set behind another, with targets that follow its targets and the same permissions,
+/// is one range with it.
 pub fn neighbouring_sets()
-    ensures { (iova to m n x : ℕ) (permissions : Permissions) (old : Option Mapping) → iova + m ≤ 2 ^ 64 → says_after_all (Set iova to m permissions ∷ Set (iova + m) (step to m) n permissions ∷ []) x old ≡ says_after (Set iova to (m + n) permissions) x old }
+    ensures { (iova to m n x : ℕ) (permissions : Permissions) (old : Option Mapping) → iova + m ≤ 2 ^ 64
+        → says_after_all (Set iova to m permissions ∷ Set (iova + m) (step to m) n permissions ∷ []) x old
+        ≡ says_after (Set iova to (m + n) permissions) x old }
 {}
 
 /// One range that is set in a new table is one run.
 pub fn set_in_a_new_table()
-    ensures { (iova to len : ℕ) (permissions : Permissions) → 0 < len → iova + len ≤ 2 ^ 64 → canonical_list (new_table_after (Set iova to len permissions ∷ [])) ≡ record { start = iova; len = len; value = record { difference = difference iova to; permissions = permissions } } ∷ [] }
+    ensures { (iova to len : ℕ) (permissions : Permissions) → 0 < len → iova + len ≤ 2 ^ 64
+        → let mapping : Mapping = record { difference = difference iova to; permissions = permissions } in
+        canonical_list (new_table_after (Set iova to len permissions ∷ []))
+        ≡ record { start = iova; len = len; value = mapping } ∷ [] }
 {}
 
 /// `same_mapping` tells whether two mappings are equal.
@@ -48,31 +69,45 @@ pub fn same_mappings()
 pub fn canonical_list_decides_the_table()
     ensures canonical { (f : Says) → IsCanonical same_mapping (canonical_list f) }
     ensures values { (f : Says) (x : ℕ) → x < 2 ^ 64 → value_at (canonical_list f) x ≡ f x }
-    ensures same_list { (f g : Says) → ((x : ℕ) → x < 2 ^ 64 → f x ≡ g x) → canonical_list f ≡ canonical_list g }
-    ensures same_values { (f g : Says) → canonical_list f ≡ canonical_list g → (x : ℕ) → x < 2 ^ 64 → f x ≡ g x }
-    ensures one_list { (rs ss : List (Run Mapping)) → IsCanonical same_mapping rs → IsCanonical same_mapping ss → ((x : ℕ) → value_at rs x ≡ value_at ss x) → rs ≡ ss }
+    ensures same_list { (f g : Says) → ((x : ℕ) → x < 2 ^ 64 → f x ≡ g x)
+        → canonical_list f ≡ canonical_list g }
+    ensures same_values { (f g : Says) → canonical_list f ≡ canonical_list g → (x : ℕ) → x < 2 ^ 64
+        → f x ≡ g x }
+    ensures one_list { (rs ss : List (Run Mapping)) → IsCanonical same_mapping rs
+        → IsCanonical same_mapping ss → ((x : ℕ) → value_at rs x ≡ value_at ss x) → rs ≡ ss }
 {}
 
-/// A kept list that is canonical, and says nothing past the last address, is the canonical list of what it says.
+/// A kept list that is canonical, and says nothing past the last address, is the canonical list of
+/// what it says.
 pub fn kept_list_is_the_canonical_list()
-    ensures by_values { (rs : List (Run Mapping)) → IsCanonical same_mapping rs → ((x : ℕ) → 2 ^ 64 ≤ x → value_at rs x ≡ None) → canonical_list (value_at rs) ≡ rs }
-    ensures by_ends { (rs : List (Run Mapping)) → IsCanonical same_mapping rs → All (λ r. r.start + r.len ≤ 2 ^ 64) rs → canonical_list (value_at rs) ≡ rs }
-    ensures of_a_table { (table : Table) → IsCanonical same_mapping table.ranges → All (λ r. r.start + r.len ≤ 2 ^ 64) table.ranges → canonical_list (says table) ≡ table.ranges }
+    ensures by_values { (rs : List (Run Mapping)) → IsCanonical same_mapping rs
+        → ((x : ℕ) → 2 ^ 64 ≤ x → value_at rs x ≡ None) → canonical_list (value_at rs) ≡ rs }
+    ensures by_ends { (rs : List (Run Mapping)) → IsCanonical same_mapping rs
+        → All (λ r. r.start + r.len ≤ 2 ^ 64) rs → canonical_list (value_at rs) ≡ rs }
+    ensures of_a_table { (table : Table) → IsCanonical same_mapping table.ranges
+        → All (λ r. r.start + r.len ≤ 2 ^ 64) table.ranges
+        → canonical_list (says table) ≡ table.ranges }
 {}
 
 /// A test passes at each address exactly where it passes at the n addresses one by one.
 pub fn each_address()
-    ensures { (test : Option Mapping → Bool) (f : Says) (a n : ℕ) → (each test f a n ≡ true) ↔ ((x : ℕ) → a ≤ x → x < a + n → test (f x) ≡ true) }
+    ensures { (test : Option Mapping → Bool) (f : Says) (a n : ℕ)
+        → (each test f a n ≡ true) ↔ ((x : ℕ) → a ≤ x → x < a + n → test (f x) ≡ true) }
 {}
 
-/// An access is allowed to no address, and to addresses of which each grants it and the end is an address too.
+/// An access is allowed to no address, and to addresses of which each grants it and the end is an
+/// address too.
 pub fn allowed_where_each_address_grants()
-    ensures { (f : Says) (a n : ℕ) (access : Permissions) → (is_allowed f a n access ≡ true) ↔ ((n ≡ 0) ⊎ ((a + n < 2 ^ 64) × ((x : ℕ) → a ≤ x → x < a + n → grants access (f x) ≡ true))) }
+    ensures { (f : Says) (a n : ℕ) (access : Permissions)
+        → (is_allowed f a n access ≡ true)
+        ↔ ((n ≡ 0) ⊎ ((a + n < 2 ^ 64) × ((x : ℕ) → a ≤ x → x < a + n → grants access (f x) ≡ true))) }
 {}
 
-/// An access is allowed exactly where its look-up has no miss and no failure. An empty range that begins past the last address is allowed though it is missed.
+/// An access is allowed exactly where its look-up has no miss and no failure. An empty range that
+/// begins past the last address is allowed though it is missed.
 pub fn allowed_without_miss_or_failure()
-    ensures { (f : Says) (a n : ℕ) (access : Permissions) → (n ≡ 0 → a < 2 ^ 64) → (is_allowed f a n access ≡ true) ↔ ((misses f a n ≡ []) × (failures f a n access ≡ [])) }
+    ensures { (f : Says) (a n : ℕ) (access : Permissions) → (n ≡ 0 → a < 2 ^ 64)
+        → (is_allowed f a n access ≡ true) ↔ ((misses f a n ≡ []) × (failures f a n access ≡ [])) }
 {}
 
 /// An access is refused for a missing mapping where anything is missed, and else for its permissions.
@@ -83,25 +118,38 @@ pub fn reason_of_a_refusal()
 
 /// The pieces of a look-up are the canonical list, cut to the addresses asked for.
 pub fn pieces_are_cut()
-    ensures runs { (f : Says) (a n : ℕ) → a + n ≤ 2 ^ 64 → runs same_mapping f a n ≡ cut_to a n (canonical_list f) }
-    ensures of_a_table { (f : Says) (a n : ℕ) → a + n ≤ 2 ^ 64 → pieces f a n ≡ map piece_of (cut_to a n (canonical_list f)) }
-    ensures of_a_kept_list { (rs : List (Run Mapping)) (a n : ℕ) → IsCanonical same_mapping rs → pieces (value_at rs) a n ≡ map piece_of (cut_to a n rs) }
+    ensures runs { (f : Says) (a n : ℕ) → a + n ≤ 2 ^ 64
+        → runs same_mapping f a n ≡ cut_to a n (canonical_list f) }
+    ensures of_a_table { (f : Says) (a n : ℕ) → a + n ≤ 2 ^ 64
+        → pieces f a n ≡ map piece_of (cut_to a n (canonical_list f)) }
+    ensures of_a_kept_list { (rs : List (Run Mapping)) (a n : ℕ) → IsCanonical same_mapping rs
+        → pieces (value_at rs) a n ≡ map piece_of (cut_to a n rs) }
 {}
 
 /// The failures are the runs of the addresses asked for whose mapping forbids the access.
 pub fn failures_are_runs()
-    ensures { (f : Says) (a n : ℕ) (access : Permissions) → overruns a n ≡ false → failures f a n access ≡ map range_of (filter (λ r. forbids access r.value) (runs same_mapping f a n)) }
+    ensures { (f : Says) (a n : ℕ) (access : Permissions) → overruns a n ≡ false
+        → failures f a n access
+        ≡ map range_of (filter (λ r. forbids access r.value) (runs same_mapping f a n)) }
 {}
 
 /// The pieces and the misses of a look-up have, together, as many addresses as are asked for.
 pub fn pieces_and_misses_add_up()
-    ensures together { (f : Says) (a n : ℕ) → overruns a n ≡ false → sum_by (λ r. r.len) (pieces f a n) + sum_by (λ r. r.len) (misses f a n) ≡ n }
-    ensures mapped { (f : Says) (a n : ℕ) → each is_some f a n ≡ true → sum_by (λ r. r.len) (pieces f a n) ≡ n }
+    ensures together { (f : Says) (a n : ℕ) → overruns a n ≡ false
+        → sum_by (λ r. r.len) (pieces f a n) + sum_by (λ r. r.len) (misses f a n) ≡ n }
+    ensures mapped { (f : Says) (a n : ℕ) → each is_some f a n ≡ true
+        → sum_by (λ r. r.len) (pieces f a n) ≡ n }
 {}
 
-/// The pieces are, address by address, the targets of what is asked for, the misses the addresses with no mapping, and the failures those whose mapping forbids the access.
+/// The pieces are, address by address, the targets of what is asked for, the misses the addresses
+/// with no mapping, and the failures those whose mapping forbids the access.
 pub fn look_up_by_addresses()
-    ensures targets { (f : Says) (a n : ℕ) → flat_map addresses (pieces f a n) ≡ flat_map (λ x. target_if_any x (f x)) (numbers a n) }
-    ensures missed { (f : Says) (a n : ℕ) → overruns a n ≡ false → flat_map (λ r. numbers r.base r.len) (misses f a n) ≡ filter (λ x. not (is_some (f x))) (numbers a n) }
-    ensures failed { (f : Says) (a n : ℕ) (access : Permissions) → overruns a n ≡ false → flat_map (λ r. numbers r.base r.len) (failures f a n access) ≡ filter (λ x. is_some (if_forbidden access (f x))) (numbers a n) }
+    ensures targets { (f : Says) (a n : ℕ) → flat_map addresses (pieces f a n)
+        ≡ flat_map (λ x. target_if_any x (f x)) (numbers a n) }
+    ensures missed { (f : Says) (a n : ℕ) → overruns a n ≡ false
+        → flat_map (λ r. numbers r.base r.len) (misses f a n)
+        ≡ filter (λ x. not (is_some (f x))) (numbers a n) }
+    ensures failed { (f : Says) (a n : ℕ) (access : Permissions) → overruns a n ≡ false
+        → flat_map (λ r. numbers r.base r.len) (failures f a n access)
+        ≡ filter (λ x. is_some (if_forbidden access (f x))) (numbers a n) }
 {}

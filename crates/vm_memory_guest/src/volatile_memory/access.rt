@@ -1,5 +1,5 @@
 //! What access to bytes means, whatever is accessed.
-ghost use Rattle.std.specs.Prelude.{◌≡◌, ℕ, List, length};
+ghost use Rattle.std.specs.Prelude.{◌≡◌, ◌≤◌, ℕ, List, length, IfOk};
 ghost use Rattle.vm_memory_base.specs.Table.{Table};
 ghost use Rattle.vm_memory_base.specs.declared.iotlb.Permissions.{Permissions};
 ghost use Rattle.vm_memory_base.specs.declared.iotlb.Permissions.TheVariants.{Read, Write};
@@ -30,8 +30,11 @@ pub trait Bytes<A>: Named {
     /// The error of an access in part, of the expected and the completed bytes.
     ghost partial: { ℕ → ℕ → Self.E };
 
-    /// Which answers mean that there was no memory. Then nothing changed.
-    ghost wants: { Self → Self.E → Type 0 };
+    /// The error that says that there was no memory. Then nothing changed.
+    ghost no_memory: { Self.E };
+
+    /// When a call may want memory.
+    ghost may_want: { Self → Type 0 };
 
     /// Writes the beginning of the buffer that fits, and answers how many bytes that is.
     fn write<B: Bitmap>(
@@ -41,9 +44,11 @@ pub trait Bytes<A>: Named {
         addr: A,
     ) -> Result<usize, Self::E>
         requires { Holds (shape_of host.old) (Self.names self.now) }
-        ensures { let r = reach self.now host.old.tables addr (length buf.now) Write in
-            Outcome (wants self.now) (counted (span r.windows) r.fault (length buf.now)) (host.new ≡ host.old)
-            (Writes B.marks r.windows buf.now host.old host.new) result };
+        ensures answer { let r = reach self.now host.old.tables addr (length buf.now) Write in
+            Outcome no_memory (may_want self.now) (counted (span r.windows) r.fault (length buf.now)) (host.new ≡ host.old)
+            (Writes B.marks r.windows buf.now host.old host.new) result }
+        ensures at_most { IfOk result (λ count. count ≤ length buf.now) }
+        ensures shape { shape_of host.new ≡ shape_of host.old };
 
     /// Reads into the beginning of the buffer, and answers how many bytes that is.
     fn read<B: Bitmap>(
@@ -53,9 +58,10 @@ pub trait Bytes<A>: Named {
         addr: A,
     ) -> Result<usize, Self::E>
         requires { Holds (shape_of host.now) (Self.names self.now) }
-        ensures { let r = reach self.now host.now.tables addr (length buf.old) Read in
-            Outcome (wants self.now) (counted (span r.windows) r.fault (length buf.old)) (buf.new ≡ buf.old)
-            (buf.new ≡ filled host.now.blocks (cells r.windows) buf.old) result };
+        ensures answer { let r = reach self.now host.now.tables addr (length buf.old) Read in
+            Outcome no_memory (may_want self.now) (counted (span r.windows) r.fault (length buf.old)) (buf.new ≡ buf.old)
+            (buf.new ≡ filled host.now.blocks (cells r.windows) buf.old) result }
+        ensures at_most { IfOk result (λ count. count ≤ length buf.old) };
 
     /// Writes the whole buffer. Where that is not possible, its beginning that fits is written, and the error
     /// says how long that is.
@@ -66,9 +72,10 @@ pub trait Bytes<A>: Named {
         addr: A,
     ) -> Result<(), Self::E>
         requires { Holds (shape_of host.old) (Self.names self.now) }
-        ensures { let r = reach self.now host.old.tables addr (length buf.now) Write in
-            Outcome (wants self.now) (exactly partial (span r.windows) r.fault (length buf.now)) (host.new ≡ host.old)
-            (Writes B.marks r.windows buf.now host.old host.new) result };
+        ensures answer { let r = reach self.now host.old.tables addr (length buf.now) Write in
+            Outcome no_memory (may_want self.now) (exactly partial (span r.windows) r.fault (length buf.now)) (host.new ≡ host.old)
+            (Writes B.marks r.windows buf.now host.old host.new) result }
+        ensures shape { shape_of host.new ≡ shape_of host.old };
 
     /// Fills the whole buffer. Where that is not possible, its beginning is filled, and the error says how
     /// long that is.
@@ -79,7 +86,7 @@ pub trait Bytes<A>: Named {
         addr: A,
     ) -> Result<(), Self::E>
         requires { Holds (shape_of host.now) (Self.names self.now) }
-        ensures { let r = reach self.now host.now.tables addr (length buf.old) Read in
-            Outcome (wants self.now) (exactly partial (span r.windows) r.fault (length buf.old)) (buf.new ≡ buf.old)
+        ensures answer { let r = reach self.now host.now.tables addr (length buf.old) Read in
+            Outcome no_memory (may_want self.now) (exactly partial (span r.windows) r.fault (length buf.old)) (buf.new ≡ buf.old)
             (buf.new ≡ filled host.now.blocks (cells r.windows) buf.old) result };
 }

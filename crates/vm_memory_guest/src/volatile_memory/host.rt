@@ -193,6 +193,7 @@ impl<B> HostMemory<B> {
         ensures invalid { IsErrOf result MmapRegionError.InvalidSize ↔ ((size ≡ 0) ⊎ (2 ^ 63 ≤ size)) }
         ensures sized { OnOk result ((0 < size) × (size < 2 ^ 63)) }
         ensures err { OnErr result (self.new ≡ self.old) }
+        ensures kept { (names : List Name) → Holds (shape_of self.old) names → Holds (shape_of self.new) names }
     {
         if size == 0 || size > MAX_BLOCK {
             return Err(MmapRegionError::InvalidSize);
@@ -228,6 +229,17 @@ impl<B> HostMemory<B> {
         ensures number { IfOk result (λ space. space.0 ≡ length self.old.spaces) }
         ensures ok { OnOk result (self.new ≡ record self.old { spaces = self.old.spaces ++ bitmap ∷ [] }) }
         ensures err { OnErr result (self.new ≡ self.old) }
+        ensures kept { (names : List Name) → Holds (shape_of self.old) names → Holds (shape_of self.new) names }
+    {
+        self.add_space(bitmap)
+    }
+
+    fn add_space(&mut self, bitmap: B) -> Result<SpaceId, AllocError>
+    where
+        B: Drop,
+        ensures number { IfOk result (λ space. space.0 ≡ length self.old.spaces) }
+        ensures ok { OnOk result (self.new ≡ record self.old { spaces = self.old.spaces ++ bitmap ∷ [] }) }
+        ensures err { OnErr result (self.new ≡ self.old) }
     {
         let space = SpaceId(self.spaces.len());
         self.spaces.push(bitmap)?;
@@ -237,7 +249,9 @@ impl<B> HostMemory<B> {
 }
 
 impl<B> HostMemory<B> {
-    ghost use Rattle.vm_memory_guest.specs.Window.{window_names, bitmap_name, cells_of, Marks, MarksWindow, Writes};
+    ghost use Rattle.std.specs.Borrow.{Lends, sem};
+    ghost use Rattle.vm_memory_guest.specs.contracts.volatile_memory.host.HostMemory.{the_row};
+    ghost use Rattle.vm_memory_guest.specs.Window.{window_names, with_bitmap, bitmap_name, bitmap_of, cells_of, Marks, MarksWindow, Writes};
 
     /// The bytes of a window.
     pub fn bytes(&self, window: &VolatileSlice) -> &[u8]
@@ -245,6 +259,29 @@ impl<B> HostMemory<B> {
         ensures { result.now ≡ bytes_at self.now.blocks (cells_of window.now) }
     {
         part_of(&self.blocks, window.block.0, window.offset, window.size)
+    }
+
+    /// The bitmap of a block, or of a space.
+    pub fn bitmap(&self, bitmap: BitmapId) -> &B
+        requires { Holds (shape_of self.now) (bitmap_name bitmap ∷ []) }
+        ensures { bitmap_of self.now bitmap ≡ Some result.now }
+    {
+        match bitmap {
+            BitmapId::Block(block) => &self.bitmaps[block],
+            BitmapId::Space(space) => &self.spaces[space],
+        }
+    }
+
+    /// The bitmap of a block or of a space, to change.
+    pub fn bitmap_mut(&mut self, bitmap: BitmapId) -> &mut B
+        requires { Holds (shape_of self.old) (bitmap_name bitmap ∷ []) }
+        ensures* lends { sem 𝓛 (Lends (the_row B.row) B.row self.entry result (with_bitmap self.old bitmap)) }
+        ensures value { bitmap_of self.old bitmap ≡ Some result.now }
+    {
+        match bitmap {
+            BitmapId::Block(block) => &mut self.bitmaps[block],
+            BitmapId::Space(space) => &mut self.spaces[space],
+        }
     }
 
     // Moves bytes to a place of a block.
@@ -280,7 +317,8 @@ impl<B> HostMemory<B> {
         B: Bitmap,
         requires held { Holds (shape_of self.old) (window_names window.now) }
         requires size { length bytes.now ≡ window.now.size }
-        ensures { Writes B.marks (window.now ∷ []) bytes.now self.old self.new }
+        ensures bytes { Writes B.marks (window.now ∷ []) bytes.now self.old self.new }
+        ensures shape { shape_of self.new ≡ shape_of self.old }
     {
         self.put(window.block.0, window.offset, bytes);
         if window.size > 0 {
@@ -297,6 +335,7 @@ impl<B: NewBitmap + Drop> HostMemory<B> {
         ensures invalid { IsErrOf result MmapRegionError.InvalidSize ↔ ((size ≡ 0) ⊎ (2 ^ 63 ≤ size)) }
         ensures sized { OnOk result ((0 < size) × (size < 2 ^ 63)) }
         ensures err { OnErr result (self.new ≡ self.old) }
+        ensures kept { (names : List Name) → Holds (shape_of self.old) names → Holds (shape_of self.new) names }
     {
         if size == 0 || size > MAX_BLOCK {
             return Err(MmapRegionError::InvalidSize);

@@ -2,7 +2,7 @@
 ghost use Rattle.std.specs.Prelude.{◌≡◌, ℕ, ◌+◌, ◌-◌, ◌^◌, ◌<◌, ◌≤◌, ◌↔◌, ◌∷◌, [], ◌==◌, cond, nat_lt, IsTrue, IfOk, MatchResult};
 ghost use Rattle.vm_memory_guest.specs.Window.{window_names, part, offset_of, subslice_of};
 ghost use Rattle.vm_memory_guest.specs.Answer.{window_reach};
-ghost use Rattle.vm_memory_base.specs.declared.io.VolatileMemoryError.TheVariants.{PartialBuffer};
+ghost use Rattle.vm_memory_base.specs.declared.io.VolatileMemoryError.TheVariants.{PartialBuffer, Memory};
 
 use super::access::Bytes;
 use super::host::{BlockId, HostMemory, HostShape, Named};
@@ -22,7 +22,7 @@ pub struct VolatileSlice {
 
 impl Model for VolatileSlice {
     ghost use Rattle.std.specs.Prelude.{◌+◌, ◌<◌, ◌^◌};
-    ghost use Rattle.vm_memory_guest.specs.Slice.{Window};
+    ghost use Rattle.vm_memory_guest.specs.Window.{Window};
 
     ghost Value = { Window };
 
@@ -35,6 +35,7 @@ impl Model for VolatileSlice {
 
 impl VolatileSlice {
     // `size` bytes of a block from an offset on.
+    #[inline]
     pub(crate) fn new(
         block: BlockId,
         offset: usize,
@@ -78,6 +79,7 @@ impl VolatileSlice {
 
     /// `count` bytes from `offset` on. `Overflow` where their sum is no 64-bit number, `OutOfBounds` at the
     /// sum where it passes the length.
+    #[inline]
     pub fn subslice(&self, offset: usize, count: usize) -> VolatileMemoryResult<Self>
         ensures { result ≡ subslice_of self.now offset count }
     {
@@ -95,6 +97,7 @@ impl VolatileSlice {
 
     /// The bytes from `count` on. `Overflow` where the place in the block plus `count` is no 64-bit number,
     /// `OutOfBounds` at that sum where `count` passes the length.
+    #[inline]
     pub fn offset(&self, count: usize) -> VolatileMemoryResult<Self>
         ensures { result ≡ offset_of self.now count }
     {
@@ -110,6 +113,7 @@ impl VolatileSlice {
         Ok(self.part(count, self.size - count))
     }
 
+    #[inline]
     fn part(&self, offset: usize, size: usize) -> Self
         requires { offset + size ≤ self.now.size }
         ensures { result ≡ part self.now offset size }
@@ -133,6 +137,7 @@ impl Named for VolatileSlice {
 
 impl VolatileSlice {
     // The part of a window that an access of so many bytes at an offset reaches.
+    #[inline]
     fn reached(&self, offset: usize, count: usize) -> VolatileMemoryResult<VolatileSlice>
         requires { 0 < count }
         ensures reach { MatchResult result (λ w. window_reach self.now offset count ≡ record { windows = w ∷ []; fault = None }) (λ e. window_reach self.now offset count ≡ record { windows = []; fault = Some e }) }
@@ -152,8 +157,11 @@ impl Bytes<usize> for VolatileSlice {
 
     ghost partial = { PartialBuffer };
 
-    ghost wants = { λ w e. ⊥ };
+    ghost no_memory = { Memory };
 
+    ghost may_want = { λ w. ⊥ };
+
+    #[inline]
     fn write<B: Bitmap>(
         &self,
         host: &mut HostMemory<B>,
@@ -169,6 +177,7 @@ impl Bytes<usize> for VolatileSlice {
         Ok(count)
     }
 
+    #[inline]
     fn read<B: Bitmap>(
         &self,
         host: &HostMemory<B>,
@@ -184,6 +193,7 @@ impl Bytes<usize> for VolatileSlice {
         Ok(count)
     }
 
+    #[inline]
     fn write_slice<B: Bitmap>(
         &self,
         host: &mut HostMemory<B>,
@@ -194,6 +204,7 @@ impl Bytes<usize> for VolatileSlice {
         whole(buf.len(), completed)
     }
 
+    #[inline]
     fn read_slice<B: Bitmap>(
         &self,
         host: &HostMemory<B>,

@@ -1,7 +1,7 @@
 use Rattle.std.proofs.Common.{arith, ap, ◌∙◌, replicate}
 use Rattle.std.proofs.Math.Nat.{one-le-pow}
 use Rattle.std.proofs.lemmas.List.{length-replicate}
-use Rattle.vm_memory_base.specs.ByteCodes.{low-zero, zeros_are_bytes}
+use Rattle.vm_memory_base.proofs.ByteLemmas.{low-zero, zeros_are_bytes}
 use Rattle.vm_memory_base.proofs.bytes.AnyByteValued.zeroed.Goals as goal
 
 pub from_bits-requires : goal.from_bits-requires

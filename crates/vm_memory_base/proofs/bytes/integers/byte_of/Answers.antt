@@ -1,5 +1,5 @@
 use Rattle.std.proofs.Common.{ap, slice_index}
-use Rattle.vm_memory_base.specs.ByteCodes.{taken}
+use Rattle.vm_memory_base.proofs.ByteLemmas.{taken}
 use Rattle.vm_memory_base.proofs.bytes.integers.byte_of.Goals as goal
 
 pub returns : goal.returns

@@ -1,7 +1,7 @@
 use Rattle.std.proofs.Common.{◌≡◌}
 use Rattle.std.specs.Int.{w128, from_le_bytes}
 use Rattle.std.proofs.Math.Facts.{Fits-lt-pow}
-use Rattle.vm_memory_base.specs.ByteCodes.{number_of_padded}
+use Rattle.vm_memory_base.proofs.ByteLemmas.{number_of_padded}
 use Rattle.vm_memory_base.proofs.bytes.integers.number_in.Goals as goal
 
 pub returns-clause-bytes : goal.returns-clause-bytes

@@ -1,4 +1,4 @@
-use Rattle.vm_memory_base.specs.ByteCodes.{replaced}
+use Rattle.vm_memory_base.proofs.ByteLemmas.{replaced}
 use Rattle.vm_memory_base.proofs.bytes.integers.with_byte.Goals as goal
 
 pub returns-clause-bytes : goal.returns-clause-bytes

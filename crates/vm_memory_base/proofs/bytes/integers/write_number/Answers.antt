@@ -1,5 +1,5 @@
 use Rattle.std.proofs.Common.{length, ◌∙◌}
-use Rattle.vm_memory_base.specs.ByteCodes.{taken}
+use Rattle.vm_memory_base.proofs.ByteLemmas.{taken}
 use Rattle.vm_memory_base.proofs.bytes.integers.write_number.Goals as goal
 
 pub returns : goal.returns

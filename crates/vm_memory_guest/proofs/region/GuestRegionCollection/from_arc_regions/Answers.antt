@@ -5,8 +5,8 @@ use Rattle.std.proofs.lemmas.Result.{err_from_is_err_and}
 use Rattle.std.specs.declared.alloc.Global.{Global}
 use Rattle.std.specs.declared.sync.Arc.{Arc}
 use Rattle.vm_memory_guest.specs.declared.region.GuestRegionCollectionError.{GuestRegionCollectionError}
-use Rattle.vm_memory_guest.specs.Region.{Region, neighbours_of, layout_error, IsLayout}
-use Rattle.vm_memory_guest.proofs.RegionLaws.{regions, region-at, length-regions, neighbours_error-none, neighbours_error-some, layout_error-some, IsLayout-from_none}
+use Rattle.vm_memory_guest.specs.Region.{Region, neighbours_of, layout_error, fault_of, IsLayout}
+use Rattle.vm_memory_guest.proofs.RegionLaws.{fault_of-neighbours, regions, region-at, length-regions, starts-regions, neighbours_error-none, neighbours_error-some, layout_error-some, IsLayout-from_none}
 use Rattle.vm_memory_guest.proofs.region.GuestRegionCollection.from_arc_regions.Goals as goal
 
 -- neighbours of shared values
@@ -37,11 +37,12 @@ module _ {X : Type 0} (f : X → Region) (rs : List (Arc X Global)) (n : ℕ) (s
       one_passes : t ≡ Ok tt → (k : ℕ) (d : Region) → suc k < n + 1 → neighbours_of (get_or (regions f rs) k d) (get_or (regions f rs) (suc k) d) ≡ Ok tt
       one_passes h k d l = elim (cases_lt (suc k) n) [ inl m ↦ before k d m | inr m ↦ pair k d (omega arith) ∙ read ∙ h ]
 
-      one_fails : (e : GuestRegionCollectionError) → t ≡ Err e → layout_error (regions f rs) ≡ Some e
+      one_fails : (e : GuestRegionCollectionError) → t ≡ Err e → layout_error (regions f rs) ≡ fault_of e
       one_fails e h =
           let same = length-regions f rs in
           layout_error-some (regions f rs) (Some e) (omega arith)
           (neighbours_error-some (regions f rs) (n - 1) e (f q.value) (omega arith) (λ k m. before k (f q.value) (omega arith)) (pair (n - 1) (f q.value) (omega arith) ∙ read ∙ h))
+          ∙ sym (fault_of-neighbours (f q.value) (f r.value) e (read ∙ h))
 
 pub returns-in_err-neighbours : goal.returns-in_err-neighbours
 returns-in_err-neighbours g c =
@@ -52,8 +53,14 @@ returns-in_err-neighbours g c =
 pub loop-next-preserved : goal.loop-next-preserved
 loop-next-preserved g c = one_passes g.R.GuestMemoryRegion.region c.args.regions.items c.loop-next.next (omega arith) c.loop-next.invariant c.index.result.now c.index-in-loop-next.result.now (omega arith) c.index.ensures c.index-in-loop-next.ensures c.neighbours.result c.deref.result.now c.deref-in-loop-next.result.now c.neighbours.ensures c.deref.ensures c.deref-in-loop-next.ensures c.in_ok-neighbours.was
 
+pub returns-in_default : goal.returns-in_default
+returns-in_default g c = all_pass g.R.GuestMemoryRegion.region c.args.regions.items c.loop-next.next (omega arith) c.loop-next.invariant (omega arith) (grind (arith, nat_tests))
+
 pub invariant_of-result : goal.invariant_of-result
-invariant_of-result g c = layout_made g.R.GuestMemoryRegion.region c.args.regions.items c.loop-next.next (omega arith) c.loop-next.invariant (omega arith)
+invariant_of-result g c = record {
+  layout = layout_made g.R.GuestMemoryRegion.region c.args.regions.items c.loop-next.next (omega arith) c.loop-next.invariant (omega arith);
+  starts = c.in-Ok.ensures ∙ starts-regions g.R.GuestMemoryRegion.region c.args.regions.items;
+}
 
 pub returns : goal.returns
 returns g c = (all_pass g.R.GuestMemoryRegion.region c.args.regions.items c.loop-next.next (omega arith) c.loop-next.invariant (omega arith) (grind (arith, nat_tests)), refl)

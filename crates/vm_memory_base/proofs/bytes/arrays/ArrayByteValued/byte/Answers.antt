@@ -1,5 +1,5 @@
 use Rattle.std.proofs.Common.{arith, ◌∙◌}
-use Rattle.vm_memory_base.specs.ArrayCodes.{byte_found}
+use Rattle.vm_memory_base.proofs.ArrayLemmas.{byte_found}
 use Rattle.vm_memory_base.proofs.bytes.arrays.ArrayByteValued.byte.Goals as goal
 
 pub returns : goal.returns

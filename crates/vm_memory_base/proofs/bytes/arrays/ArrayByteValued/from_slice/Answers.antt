@@ -1,5 +1,5 @@
 use Rattle.std.proofs.Common.{arith}
-use Rattle.vm_memory_base.specs.ArrayCodes.{values_at}
+use Rattle.vm_memory_base.proofs.ArrayLemmas.{values_at}
 use Rattle.vm_memory_base.proofs.bytes.arrays.ArrayByteValued.from_slice.Goals as goal
 
 pub returns : goal.returns

@@ -1,5 +1,5 @@
 use Rattle.std.proofs.Common.{arith}
-use Rattle.vm_memory_base.specs.ArrayCodes.{put_found}
+use Rattle.vm_memory_base.proofs.ArrayLemmas.{put_found}
 use Rattle.vm_memory_base.proofs.bytes.arrays.ArrayByteValued.set_byte.Goals as goal
 
 pub returns : goal.returns

@@ -1,4 +1,4 @@
-use Rattle.vm_memory_base.specs.ArrayCodes.{zeros}
+use Rattle.vm_memory_base.proofs.ArrayLemmas.{zeros}
 use Rattle.vm_memory_base.proofs.bytes.arrays.ArrayByteValued.zeroed.Goals as goal
 
 pub returns : goal.returns

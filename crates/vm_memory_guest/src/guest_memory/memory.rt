@@ -1,0 +1,110 @@
+//! Guest memory: a backend, or one behind an IOMMU.
+ghost use Rattle.std.specs.Prelude.{◌≡◌, ◌⊎◌, map, flat_map, All, None, MatchResult};
+ghost use Rattle.std.specs.Iterator.{YieldsFirst, item_count};
+ghost use Rattle.vm_memory_guest.specs.Host.{shape_of, Holds};
+ghost use Rattle.vm_memory_guest.specs.Region.{IsRegion, IsLayout};
+ghost use Rattle.vm_memory_guest.specs.Memory.{Memory, memory_names};
+ghost use Rattle.vm_memory_guest.specs.Walk.{items_of, walk_of, GivesAccess, RefusesAccess, WantsMemory};
+
+use super::backend::{GuestMemoryBackend, GuestMemoryBackendSliceIterator};
+use crate::region::GuestMemoryResult;
+use crate::volatile_memory::host::{HostMemory, Named};
+use crate::volatile_memory::slice::VolatileSlice;
+use std::marker::Model;
+use vm_memory_base::{Bitmap, GuestAddress, Permissions};
+
+/// The windows of an access, whatever translated it, and then the error of what stopped it. After its end
+/// or an error it stays ended.
+#[derive(Drop)]
+pub struct IommuMemorySliceIterator<'a, M: GuestMemoryBackend> {
+    walk: GuestMemoryBackendSliceIterator<'a, M>,
+}
+
+impl<'a, M: GuestMemoryBackend> Model for IommuMemorySliceIterator<'a, M> {
+    ghost use Rattle.vm_memory_guest.specs.Access.{Fault};
+    ghost use Rattle.vm_memory_guest.specs.Answer.{Reach};
+
+    ghost Value = { Reach Fault };
+
+    ghost view = { λ it. it.walk };
+}
+
+impl<'a, M: GuestMemoryBackend> Iterator for IommuMemorySliceIterator<'a, M> {
+    type Item = GuestMemoryResult<VolatileSlice>;
+
+    ghost next_gives = { YieldsFirst items_of };
+
+    ghost remaining = { item_count items_of };
+
+    #[inline]
+    fn next(&mut self) -> Option<GuestMemoryResult<VolatileSlice>> {
+        self.walk.next()
+    }
+}
+
+/// Guest memory: a backend, or one behind an IOMMU. Everything that implements it gives `Bytes` by guest
+/// address.
+///
+/// ```text
+/// for window in memory.get_slices(&host, GuestAddress(0x1000), 8, Permissions::Read)? {
+///     count += window?.len();
+/// }
+/// ```
+pub trait GuestMemory: Named {
+    /// The backend in which translated addresses lie.
+    type PhysicalMemory: GuestMemoryBackend;
+
+    /// Its regions, and the table and space that it lies behind where its IOMMU is on.
+    ghost memory: { Self → Memory };
+
+    /// The windows of `count` bytes from an address on, and then the error of the first that is not there. An
+    /// access that the translation does not allow is refused at once. `Memory` comes only with an IOMMU that
+    /// is on.
+    fn get_slices<B: Bitmap>(
+        &self,
+        host: &HostMemory<B>,
+        addr: GuestAddress,
+        count: usize,
+        access: Permissions,
+    ) -> GuestMemoryResult<IommuMemorySliceIterator<'_, Self::PhysicalMemory>>
+        requires { Holds (shape_of host.now) (Self.names self.now) }
+        ensures answer { MatchResult result
+            (GivesAccess (memory self.now) host.now.tables addr.0 count access)
+            (λ e. WantsMemory (memory self.now) e
+            ⊎ RefusesAccess (memory self.now) host.now.tables addr.0 count access e) }
+        ensures layout { IsLayout (memory self.now).regions };
+
+    /// Its regions' addresses and offsets fit 64 bits.
+    ghost each_fits: { (m : Self) → All IsRegion (memory m).regions };
+
+    /// It names the places of its regions' bytes, and its table and space where its IOMMU is on.
+    ghost names_memory: { (m : Self) → Self.names m ≡ memory_names (memory m) };
+}
+
+impl<M: GuestMemoryBackend> GuestMemory for M {
+    ghost use Rattle.std.proofs.Common.{append-nil, ◌∙◌, sym};
+    ghost use Rattle.vm_memory_guest.specs.Collection.{each_is_region};
+
+    type PhysicalMemory = M;
+
+    ghost memory = { λ m. record { regions = map M.R.region (M.regions m); iommu = None } };
+
+    ghost each_fits = { λ m. each_is_region M.R.region M.R.fits (M.regions m) };
+
+    ghost names_memory = { λ m. M.names_regions m ∙ sym (append-nil _) };
+
+    #[inline]
+    fn get_slices<B: Bitmap>(
+        &self,
+        _host: &HostMemory<B>,
+        addr: GuestAddress,
+        count: usize,
+        _access: Permissions,
+    ) -> GuestMemoryResult<IommuMemorySliceIterator<'_, M>> {
+        // That the regions are a layout is what this call tells.
+        let _ = self.num_regions();
+        Ok(IommuMemorySliceIterator {
+            walk: GuestMemoryBackend::get_slices(self, addr, count),
+        })
+    }
+}
