@@ -1,7 +1,7 @@
 -- Elements of a list by their numbers.
-use Rattle.std.proofs.Common.{◌≡◌, ℕ, ◌<◌, List, [], ◌∷◌, ◌++◌, length, IsSome, Option, Some, None, refl, ap, arith, inl, inr, All, slice_get}
-use Rattle.std.proofs.lemmas.Option.{none-some, same_Some, slice_get_cases, slice_get_within}
-use Rattle.std.proofs.lemmas.List.Elements.{All-nil, All-cons, All-head, All-tail}
+use Rattle.std.proofs.Common.{◌≡◌, ℕ, ◌<◌, List, [], ◌∷◌, ◌++◌, length, IsSome, Option, Some, None, refl, ap, arith, inl, inr, sym, All, Contains, slice_get}
+use Rattle.std.proofs.lemmas.Option.{none-some, same_Some, slice_get_cases, slice_get_within, get_or_from_slice_get}
+use Rattle.std.proofs.lemmas.List.Elements.{All-nil, All-cons, All-head, All-tail, All-same}
 use Rattle.vm_memory.specs.State.{named, put_first}
 
 -- the first is there, and so are the others
@@ -36,6 +36,15 @@ below_named {X} xs ns h = go (named xs ns) refl h
     go : (o : Option (List X)) → named xs ns ≡ o → IsSome o → All (λ n. n < length xs) ns
     go None e some = absurd (cc)
     go (Some ys) e some = all ns ys e
+
+-- they are elements
+pub named-among : {X : Type 0} (xs : List X) (ns : List ℕ) (ys : List X) → named xs ns ≡ Some ys → All (Contains xs) ys
+named-among xs [] ys e = All-same (Contains xs) ys [] (sym (same_Some [] ys e)) (All-nil (Contains xs))
+named-among xs (n ∷ ns) ys e =
+    let parts = first_there (slice_get xs n) (named xs ns) ys e in
+    let x = parts.0 in
+    let first : Contains xs x = (n, slice_get_within xs n x parts.2, get_or_from_slice_get xs n x x parts.2) in
+    All-same (Contains xs) ys (x ∷ parts.1) (sym parts.4) (All-cons (Contains xs) x parts.1 first (named-among xs ns parts.1 parts.3))
 
 -- one more number
 pub named-push : {X : Type 0} (xs : List X) (ns : List ℕ) (ys : List X) (n : ℕ) (y : X) → named xs ns ≡ Some ys → slice_get xs n ≡ Some y → named xs (ns ++ n ∷ []) ≡ Some (ys ++ y ∷ [])

@@ -7,7 +7,8 @@ use Rattle.vm_memory_base.specs.declared.iotlb.Permissions.TheVariants as permis
 use Rattle.vm_memory_guest.specs.Host.{Host}
 use Rattle.vm_memory_guest.specs.Memory.{Memory, route}
 use Rattle.vm_memory_guest.specs.Access.{Access, access_of}
-use Rattle.vm_memory_guest.specs.Answer.{counted, after_write, bytes_read}
+use Rattle.vm_memory_guest.specs.Answer.{counted}
+use Rattle.vm_memory_guest.specs.Dirt.{after_write, bytes_read}
 use Rattle.vm_memory_guest.specs.Error.{error_of}
 use Rattle.vm_memory_guest.specs.declared.region.GuestMemoryError.{GuestMemoryError}
 use Rattle.vm_memory_guest.specs.declared.region.GuestMemoryError.TheVariants as errors

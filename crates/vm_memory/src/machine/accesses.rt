@@ -1,8 +1,7 @@
 //! The commands that access memories.
 ghost use Rattle.std.specs.Prelude.{◌≡◌, ◌⊎◌, List, length, IsOk, IfOk, IsSome};
-ghost use Rattle.vm_memory_guest.specs.Answer.{with_pages};
+ghost use Rattle.vm_memory_guest.specs.Dirt.{with_pages};
 ghost use Rattle.vm_memory_guest.specs.Host.{shape_of, Holds};
-ghost use Rattle.vm_memory_guest.specs.declared.region.GuestMemoryError.{GuestMemoryError};
 ghost use Rattle.vm_memory.specs.Machine.{Step};
 ghost use Rattle.vm_memory.specs.Parts.{state_of};
 ghost use Rattle.vm_memory.specs.Reply.{reads, writes, reply_of_error};
@@ -14,7 +13,6 @@ use super::list::ByteList;
 use std::alloc::{AllocError, Global};
 use vm_memory_base::{ExactBitmap, GuestAddress};
 use vm_memory_guest::access_laws::accesses_are_by_bytes;
-use vm_memory_guest::effect_laws::writes_keep_shapes;
 use vm_memory_guest::{Bytes, GuestMemory, GuestMemoryError, GuestMemoryRegion, HostMemory};
 
 impl<R: GuestMemoryRegion, B: ExactBitmap> Machine<R, B> {
@@ -49,9 +47,7 @@ fn read_into<M: GuestMemory, B: ExactBitmap>(
     mut buffer: Vec<u8>,
     addr: GuestAddress,
 ) -> Reply
-    requires held { Holds (shape_of host.now) (M.names memory.now) }
-    requires wants { (e : GuestMemoryError) → M.wants memory.now e
-        → (e ≡ GuestMemoryError.Memory) × IsSome (M.memory memory.now).iommu }
+    requires { Holds (shape_of host.now) (M.names memory.now) }
     ensures { let m = M.memory memory.now in let before = with_pages B.pages host.now in
         (result ≡ reads m before addr.0 (length buffer.items)) ⊎ ((result ≡ Reply.Memory) × IsSome m.iommu) }
 {
@@ -72,9 +68,7 @@ fn write_from<M: GuestMemory, B: ExactBitmap>(
     bytes: &[u8],
     addr: GuestAddress,
 ) -> Reply
-    requires held { Holds (shape_of host.old) (M.names memory.now) }
-    requires wants { (e : GuestMemoryError) → M.wants memory.now e
-        → (e ≡ GuestMemoryError.Memory) × IsSome (M.memory memory.now).iommu }
+    requires { Holds (shape_of host.old) (M.names memory.now) }
     ensures written { let m = M.memory memory.now in let before = with_pages B.pages host.old in
         let after = with_pages B.pages host.new in
         ((result, after) ≡ writes m before addr.0 bytes.now)
@@ -82,7 +76,6 @@ fn write_from<M: GuestMemory, B: ExactBitmap>(
     ensures shape { shape_of host.new ≡ shape_of host.old }
 {
     accesses_are_by_bytes::<B>();
-    writes_keep_shapes::<B>();
     match memory.write(host, bytes, addr) {
         Ok(count) => Reply::Count(count),
         Err(error) => refused(error),

@@ -25,7 +25,7 @@ pub enum Command {
 }
 
 /// Why a call was refused: the error that it answered, by its name.
-#[derive(Debug, Drop)]
+#[derive(Clone, Copy, Debug, PartialEq, Eq)]
 pub enum Fault {
     /// No region holds the address.
     InvalidGuestAddress(GuestAddress),

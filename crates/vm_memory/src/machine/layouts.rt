@@ -12,6 +12,7 @@ use super::command::{Fault, Reply};
 use std::alloc::{AllocError, Global};
 use std::sync::Arc;
 use vm_memory_base::ExactBitmap;
+use vm_memory_guest::host_laws::regions_are_held_one_by_one;
 use vm_memory_guest::{GuestMemoryRegion, GuestRegionCollection, GuestRegionCollectionError};
 
 impl<R: GuestMemoryRegion, B: ExactBitmap> Machine<R, B> {
@@ -19,6 +20,7 @@ impl<R: GuestMemoryRegion, B: ExactBitmap> Machine<R, B> {
         ensures { let before = state_of R.region B.pages self.old in
             Step before (command.FromRegions numbers.now) result (state_of R.region B.pages self.new) }
     {
+        regions_are_held_one_by_one();
         if !are_there(&self.regions, numbers) {
             return Reply::NoSuch;
         }

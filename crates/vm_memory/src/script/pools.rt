@@ -9,6 +9,7 @@ use std::alloc::{AllocError, Global};
 use std::marker::Model;
 use std::sync::Arc;
 use vm_memory_base::GuestAddress;
+use vm_memory_guest::host_laws::{names_are_held_one_by_one, parts_of_a_block_are_held};
 use vm_memory_guest::{BlockId, GuestRegionMmap, HostMemory, MmapRegion, MmapRegionError};
 
 /// The machine that a script commands.
@@ -70,6 +71,8 @@ impl Pools {
     }
 
     fn make_region(&mut self, block: BlockId, addr: GuestAddress) -> SetupReply {
+        names_are_held_one_by_one();
+        parts_of_a_block_are_held::<()>();
         if self.host.shape().block_len(block).is_none() {
             return SetupReply::NoSuch;
         }

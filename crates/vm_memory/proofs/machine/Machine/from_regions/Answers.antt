@@ -3,7 +3,7 @@ use Rattle.std.proofs.lemmas.List.Elements.{All-push}
 use Rattle.vm_memory_guest.specs.Collection.{regions_of}
 use Rattle.vm_memory_guest.specs.Host.{Holds, shape_of}
 use Rattle.vm_memory_guest.specs.Region.{region_names}
-use Rattle.vm_memory.proofs.HoldsLemmas.{held_named}
+use Rattle.vm_memory.proofs.NamedLemmas.{named-among}
 use Rattle.vm_memory.proofs.machine.Machine.from_regions.Goals as goal
 
 pub invariant_of-self-2 : goal.invariant_of-self-2
@@ -13,8 +13,12 @@ invariant_of-self-2 g c =
     let region = g.R.GuestMemoryRegion.region in
     let layout = c.in-Ok-from_arc_regions.layout in
     let pushed : c.push.new.self.items ≡ inside.layouts.items ++ layout ∷ [] = rw c.if-is_err.ensures.negation at c.push.ensures.items in
+    let pool = map region (regions_of inside.regions) in
+    let chosen = map region (regions_of c.in-Ok.regions) in
+    let among = named-among pool c.args.numbers.now chosen c.in-Ok.ensures in
     let names : Holds (shape_of inside.host) (flat_map region_names (map region layout)) =
-    rw c.in-Ok-from_arc_regions.ensures.1 (held_named (shape_of inside.host) (map region (regions_of inside.regions)) c.args.numbers.now (map region (regions_of c.in-Ok.regions)) held.pool c.in-Ok.ensures) in
+    rw c.in-Ok-from_arc_regions.ensures.1
+    (c.regions_are_held_one_by_one.ensures.among (shape_of inside.host) pool chosen held.pool among) in
     record {
       pool = held.pool;
       layouts = rw pushed (All-push (λ rs. Holds (shape_of inside.host) (flat_map region_names (map region rs))) inside.layouts.items layout held.layouts names);

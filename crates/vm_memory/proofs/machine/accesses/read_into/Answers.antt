@@ -1,7 +1,7 @@
 use Rattle.std.proofs.Common.{◌≡◌, length, Ok, Err, ap, ◌∙◌, option_map, arith, inl, inr}
 use Rattle.std.proofs.lemmas.List.{with_items_is}
 use Rattle.vm_memory_base.specs.declared.iotlb.Permissions.TheVariants as permissions
-use Rattle.vm_memory_guest.specs.Answer.{path_cells}
+use Rattle.vm_memory_guest.specs.Dirt.{path_cells}
 use Rattle.vm_memory_guest.specs.Host.{bytes_at}
 use Rattle.vm_memory_guest.specs.Memory.{route}
 use Rattle.vm_memory_guest.specs.Error.{error_of}
@@ -17,7 +17,7 @@ returns-in-Ok g c =
     let n = length buffer.items in
     let by_bytes = c.accesses_are_by_bytes.ensures in
     let reached = reached_by m host.tables c.args.addr.0 n permissions.Read in
-    let given = rw c.as_mut_slice.ensures.value at c.in-Ok.ensures in
+    let given = rw c.as_mut_slice.ensures.value at c.in-Ok.ensures.answer in
     let answer : Ok c.in-Ok.read ≡ answer_of reached n =
     rw (by_bytes.count m.regions (route m host.tables) c.args.addr.0 n permissions.Read) at given.0 in
     let all = counted_is (length reached.path) (option_map error_of reached.fault) n c.in-Ok.read answer in
@@ -33,9 +33,9 @@ returns-in-Err g c =
     let host = c.args.host.now in
     let n = length c.args.buffer.items in
     let count = c.accesses_are_by_bytes.ensures.count m.regions (route m host.tables) c.args.addr.0 n permissions.Read in
-    let given = rw c.as_mut_slice.ensures.value at c.in-Err.ensures in
+    let given = rw c.as_mut_slice.ensures.value at c.in-Err.ensures.answer in
     elim given [
-      | inl wanted ↦ let w = c.requires.wants c.in-Err.error wanted.0 in inr (c.refused.ensures ∙ ap reply_of_error w.0, w.1)
+      | inl wanted ↦ inr (c.refused.ensures ∙ ap reply_of_error wanted.0, wanted.1)
       | inr answer ↦ (
           let told : Err c.in-Err.error ≡ answer_of (reached_by m host.tables c.args.addr.0 n permissions.Read) n = rw count at answer.0 in
           inl (rw (← told) c.refused.ensures))
