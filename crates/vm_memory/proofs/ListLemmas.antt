@@ -6,5 +6,7 @@ use Rattle.std.specs.Slice.{IsItemAt}
 use Rattle.std.specs.Borrow.{Bor}
 
 -- the element that `get` lends
-pub item_at : {X : Type 0} (xs ys : List X) (i : ℕ) (r : Bor X) → ys ≡ xs → IsItemAt ys i (Some r) → slice_get xs i ≡ Some r.now
-item_at xs ys i r same h = slice_get_read xs (length ys) i r.now (ap length same) h.3.0 (h.1 ∙ ap (λ (zs : List _). get_or zs i r.now) same)
+pub item_at : {X : Type 0} (xs ys : List X) (i : ℕ) (r : Bor X) → ys ≡ xs → IsItemAt ys i (Some r)
+    → slice_get xs i ≡ Some r.now
+item_at xs ys i r same h =
+    slice_get_read xs (length ys) i r.now (ap length same) h.3.0 (h.1 ∙ ap (λ (zs : List _). get_or zs i r.now) same)

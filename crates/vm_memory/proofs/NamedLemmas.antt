@@ -5,7 +5,9 @@ use Rattle.std.proofs.lemmas.List.Elements.{All-nil, All-cons, All-head, All-tai
 use Rattle.vm_memory.specs.State.{named, put_first}
 
 -- the first is there, and so are the others
-pub first_there : {X : Type 0} (o : Option X) (rest : Option (List X)) (ys : List X) → put_first o rest ≡ Some ys → (x : X) × (xs : List X) × (o ≡ Some x) × (rest ≡ Some xs) × (x ∷ xs ≡ ys)
+first_there : {X : Type 0} (o : Option X) (rest : Option (List X)) (ys : List X)
+    → put_first o rest ≡ Some ys
+    → (x : X) × (xs : List X) × (o ≡ Some x) × (rest ≡ Some xs) × (x ∷ xs ≡ ys)
 first_there None rest ys e = absurd (none-some ys e)
 first_there (Some x) None ys e = absurd (none-some ys e)
 first_there (Some x) (Some xs) ys e = (x, xs, refl, refl, same_Some (x ∷ xs) ys e)
@@ -15,16 +17,20 @@ some_first x None h = absurd (cc)
 some_first x (Some xs) h = refl
 
 -- numbers below the length name elements
-pub named_below : {X : Type 0} (xs : List X) (ns : List ℕ) → All (λ n. n < length xs) ns → IsSome (named xs ns)
+pub named_below : {X : Type 0} (xs : List X) (ns : List ℕ) → All (λ n. n < length xs) ns
+    → IsSome (named xs ns)
 named_below xs [] below = refl
 named_below xs (n ∷ ns) below =
     elim (slice_get_cases xs n).1 [
-      | inl found ↦ rw found.2 (some_first found.0 (named xs ns) (named_below xs ns (All-tail (λ m. m < length xs) n ns below)))
+      | inl found ↦
+          rw found.2
+          (some_first found.0 (named xs ns) (named_below xs ns (All-tail (λ m. m < length xs) n ns below)))
       | inr past ↦ absurd (omega (arith, past.0, All-head (λ m. m < length xs) n ns below))
     ]
 
 -- and no others do
-pub below_named : {X : Type 0} (xs : List X) (ns : List ℕ) → IsSome (named xs ns) → All (λ n. n < length xs) ns
+pub below_named : {X : Type 0} (xs : List X) (ns : List ℕ) → IsSome (named xs ns)
+    → All (λ n. n < length xs) ns
 below_named {X} xs ns h = go (named xs ns) refl h
   where
     all : (ms : List ℕ) (ys : List X) → named xs ms ≡ Some ys → All (λ n. n < length xs) ms
@@ -38,16 +44,19 @@ below_named {X} xs ns h = go (named xs ns) refl h
     go (Some ys) e some = all ns ys e
 
 -- they are elements
-pub named-among : {X : Type 0} (xs : List X) (ns : List ℕ) (ys : List X) → named xs ns ≡ Some ys → All (Contains xs) ys
+pub named-among : {X : Type 0} (xs : List X) (ns : List ℕ) (ys : List X) → named xs ns ≡ Some ys
+    → All (Contains xs) ys
 named-among xs [] ys e = All-same (Contains xs) ys [] (sym (same_Some [] ys e)) (All-nil (Contains xs))
 named-among xs (n ∷ ns) ys e =
     let parts = first_there (slice_get xs n) (named xs ns) ys e in
     let x = parts.0 in
     let first : Contains xs x = (n, slice_get_within xs n x parts.2, get_or_from_slice_get xs n x x parts.2) in
-    All-same (Contains xs) ys (x ∷ parts.1) (sym parts.4) (All-cons (Contains xs) x parts.1 first (named-among xs ns parts.1 parts.3))
+    All-same (Contains xs) ys (x ∷ parts.1) (sym parts.4)
+    (All-cons (Contains xs) x parts.1 first (named-among xs ns parts.1 parts.3))
 
 -- one more number
-pub named-push : {X : Type 0} (xs : List X) (ns : List ℕ) (ys : List X) (n : ℕ) (y : X) → named xs ns ≡ Some ys → slice_get xs n ≡ Some y → named xs (ns ++ n ∷ []) ≡ Some (ys ++ y ∷ [])
+pub named-push : {X : Type 0} (xs : List X) (ns : List ℕ) (ys : List X) (n : ℕ) (y : X)
+    → named xs ns ≡ Some ys → slice_get xs n ≡ Some y → named xs (ns ++ n ∷ []) ≡ Some (ys ++ y ∷ [])
 named-push xs [] ys n y e f = rw f (ap (λ zs. Some (zs ++ y ∷ [])) (same_Some [] ys e))
 named-push xs (m ∷ ns) ys n y e f =
     let parts = first_there (slice_get xs m) (named xs ns) ys e in

@@ -9,16 +9,17 @@ use Rattle.vm_memory_guest.specs.Error.{error_of}
 use Rattle.vm_memory_guest.specs.Region.{Region, layout_error}
 use Rattle.vm_memory_guest.specs.declared.region.GuestMemoryError.{GuestMemoryError}
 use Rattle.vm_memory_guest.specs.declared.region.GuestRegionCollectionError.{GuestRegionCollectionError}
-use Rattle.vm_memory.specs.State.{State, named, meaning}
-use Rattle.vm_memory.specs.Machine.{Step, Run, if_there, new_layout, outcome}
-use Rattle.vm_memory.specs.Reply.{reply_of, reached_by}
+use Rattle.vm_memory.specs.State.{State, MachineMemory, named, plain, meaning}
+use Rattle.vm_memory.specs.Machine.{Step, Run, if_there, new_layout, new_memory, with_host, outcome}
+use Rattle.vm_memory.specs.Reply.{reply_of, reached_by, writes}
 use Rattle.vm_memory.specs.declared.machine.command.Command.{Command}
 use Rattle.vm_memory.specs.declared.machine.command.Command.TheVariants as command
 use Rattle.vm_memory.specs.declared.machine.command.Reply.{Reply}
 use Rattle.vm_memory.specs.declared.machine.command.Reply.TheVariants as reply
 
 -- a run, and a step more
-pub Run-step : (old : State) (cs : List Command) (rs : List Reply) (mid : State) (c : Command) (r : Reply) (new : State) → Run old cs rs mid → Step mid c r new → Run old (cs ++ c ∷ []) (rs ++ r ∷ []) new
+pub Run-step : (old : State) (cs : List Command) (rs : List Reply) (mid : State) (c : Command) (r : Reply) (new : State)
+    → Run old cs rs mid → Step mid c r new → Run old (cs ++ c ∷ []) (rs ++ r ∷ []) new
 Run-step old [] [] mid c r new ran step = (new, subst (λ (s : State). Step s c r new) ran step, refl)
 Run-step old [] (q ∷ rs) mid c r new ran step = absurd ran
 Run-step old (d ∷ cs) [] mid c r new ran step = absurd ran
@@ -31,17 +32,20 @@ IsStill (reply.MemoryMade n) = ⊥
 IsStill (reply.Count n) = ⊥
 IsStill r = Unit {0}
 
-there : {X : Type 0} (old new : State) (o : Option X) (answer : X → Reply × State) (r : Reply) → ((x : X) → (r, new) ≡ answer x → new ≡ old) → (r, new) ≡ if_there old o answer → new ≡ old
+there : {X : Type 0} (old new : State) (o : Option X) (answer : X → Reply × State) (r : Reply)
+    → ((x : X) → (r, new) ≡ answer x → new ≡ old) → (r, new) ≡ if_there old o answer → new ≡ old
 there old new None answer r each e = ap (λ (p : Reply × State). p.1) e
 there old new (Some x) answer r each e = each x e
 
 -- a write that replies no count reached nothing
-reached_none : (xs : List Reached) (fault : Option GuestMemoryError) (n : ℕ) (r : Reply) → IsStill r → r ≡ reply_of reply.Count (counted (length xs) fault n) → xs ≡ []
+reached_none : (xs : List Reached) (fault : Option GuestMemoryError) (n : ℕ) (r : Reply) → IsStill r
+    → r ≡ reply_of reply.Count (counted (length xs) fault n) → xs ≡ []
 reached_none [] fault n r still e = refl
 reached_none (x ∷ xs) None n r still e = absurd (subst IsStill e still)
 reached_none (x ∷ xs) (Some f) n r still e = go (nat_lt 0 n) (length (x ∷ xs) == 0) refl e
   where
-    go : (b z : Bool) → (length (x ∷ xs) == 0) ≡ z → r ≡ reply_of reply.Count (cond (b && z) (Err f) (Ok (length (x ∷ xs)))) → x ∷ xs ≡ []
+    go : (b z : Bool) → (length (x ∷ xs) == 0) ≡ z
+        → r ≡ reply_of reply.Count (cond (b && z) (Err f) (Ok (length (x ∷ xs)))) → x ∷ xs ≡ []
     go b true h e = absurd (omega (arith, eqb-true (length (x ∷ xs)) 0 h))
     go true false h e = absurd (subst IsStill e still)
     go false false h e = absurd (subst IsStill e still)
@@ -50,15 +54,30 @@ reached_none (x ∷ xs) (Some f) n r still e = go (nat_lt 0 n) (length (x ∷ xs
 pub still-step : (old new : State) (c : Command) (r : Reply) → IsStill r → Step old c r new → new ≡ old
 still-step old new c r still step = elim step [ inl e ↦ go c e | inr want ↦ want.2 ]
   where
+    after : (a : Reply × State) → (r, new) ≡ a → new ≡ a.1
+    after a e = ap (λ (p : Reply × State). p.1) e
+
+    no_change : (a : Reply × State) → (r, new) ≡ a → IsStill a.0
+    no_change a e = subst (λ (p : Reply × State). IsStill p.0) e still
+
     made : (rs : List Region) (o : Option GuestRegionCollectionError) → (r, new) ≡ new_layout old rs o → new ≡ old
-    made rs None e = absurd (subst IsStill (ap (λ (p : Reply × State). p.0) e) still)
-    made rs (Some fault) e = ap (λ (p : Reply × State). p.1) e
+    made rs None e = absurd (no_change (new_layout old rs None) e)
+    made rs (Some fault) e = after (new_layout old rs (Some fault)) e
+
+    wrote : (m : MachineMemory) (a : ℕ) (bytes : List ℕ)
+        → (r, new) ≡ with_host old (writes (meaning m) old.host a bytes) → new ≡ old
+    wrote m a bytes e =
+        let reached = reached_by (meaning m) old.host.tables a (length bytes) permissions.Write in
+        let told = ap (λ (p : Reply × State). p.0) e in
+        let none = reached_none reached.path (option_map error_of reached.fault) (length bytes) r still told in
+        after (with_host old (writes (meaning m) old.host a bytes)) e
+        ∙ ap (λ (xs : List Reached). record old { host = after_write xs bytes old.host }) none
 
     go : (c : Command) → (r, new) ≡ outcome old c → new ≡ old
-    go (command.FromRegions ns) e = there old new (named old.regions ns) _ r (λ rs f. made rs (layout_error rs) f) e
-    go (command.Plain layout) e = there old new (slice_get old.layouts layout) _ r (λ rs f. absurd (subst IsStill (ap (λ (p : Reply × State). p.0) f) still)) e
-    go (command.Read memory addr n) e = there old new (slice_get old.memories memory) _ r (λ m f. ap (λ (p : Reply × State). p.1) f) e
-    go (command.Write memory addr bytes) e = there old new (slice_get old.memories memory) _ r (λ m f. (
-        let reached = reached_by (meaning m) old.host.tables addr.0 (length bytes) permissions.Write in
-        let none = reached_none reached.path (option_map error_of reached.fault) (length bytes) r still (ap (λ (p : Reply × State). p.0) f) in
-        ap (λ (p : Reply × State). p.1) f ∙ ap (λ (xs : List Reached). record old { host = after_write xs bytes old.host }) none)) e
+    go (command.FromRegions ns) e = there old new (named old.regions ns) _ r (λ rs. made rs (layout_error rs)) e
+    go (command.Plain layout) e =
+        there old new (slice_get old.layouts layout) _ r (λ rs f. absurd (no_change (new_memory old (plain rs)) f)) e
+    go (command.Read memory addr n) e =
+        there old new (slice_get old.memories memory) _ r (λ m f. ap (λ (p : Reply × State). p.1) f) e
+    go (command.Write memory addr bytes) e =
+        there old new (slice_get old.memories memory) _ r (λ m. wrote m addr.0 bytes) e

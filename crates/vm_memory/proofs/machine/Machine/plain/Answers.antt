@@ -10,7 +10,12 @@ returns g c =
     let inside = c.self.inside in
     let region = g.R.GuestMemoryRegion.region in
     let rs = c.in-Some.layout.now in
-    let number : c.len-number.result ≡ length inside.memories.items = omega (arith, c.len-number.ensures, inside.memories.ok.0) in
-    let pushed : c.push.new.self.items ≡ inside.memories.items ++ c.in-Ok.memory ∷ [] = rw c.if-is_err.ensures.negation at c.push.ensures.items in
-    let there : slice_get inside.layouts.items c.args.layout ≡ Some rs = item_at inside.layouts.items c.deref.result.now c.args.layout c.in-Some.layout c.deref.ensures.value c.in-Some.ensures.lookup in
-    rw (← c.self.view_is, pushed, c.in-Ok.ensures.cases, slice_get-map (map region) inside.layouts.items c.args.layout, there, number) (inl (simp (map-append, length-map)))
+    let number : c.len-number.result ≡ length inside.memories.items =
+    omega (arith, c.len-number.ensures, inside.memories.ok.0) in
+    let pushed : c.push.new.self.items ≡ inside.memories.items ++ c.in-Ok.memory ∷ [] =
+    rw c.if-is_err.ensures.negation at c.push.ensures.items in
+    let there : slice_get inside.layouts.items c.args.layout ≡ Some rs =
+    item_at inside.layouts.items c.deref.result.now c.args.layout c.in-Some.layout
+    c.deref.ensures.value c.in-Some.ensures.lookup in
+    let layouts = slice_get-map (map region) inside.layouts.items c.args.layout in
+    rw (← c.self.view_is, pushed, c.in-Ok.ensures.cases, layouts, there, number) (inl (simp (map-append, length-map)))

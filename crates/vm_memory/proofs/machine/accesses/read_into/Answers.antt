@@ -15,16 +15,18 @@ returns-in-Ok g c =
     let host = c.args.host.now in
     let buffer = c.args.buffer in
     let n = length buffer.items in
+    let way = route m host.tables in
     let by_bytes = c.accesses_are_by_bytes.ensures in
+    let each = g.met.M.GuestMemory.each_fits c.args.memory.now in
     let reached = reached_by m host.tables c.args.addr.0 n permissions.Read in
     let given = rw c.as_mut_slice.ensures.value at c.in-Ok.ensures.answer in
     let answer : Ok c.in-Ok.read ≡ answer_of reached n =
-    rw (by_bytes.count m.regions (route m host.tables) c.args.addr.0 n permissions.Read) at given.0 in
+    rw (by_bytes.count m.regions way c.args.addr.0 n permissions.Read) at given.0 in
     let all = counted_is (length reached.path) (option_map error_of reached.fault) n c.in-Ok.read answer in
     let len : length c.read.new.buf ≡ buffer.len = omega (arith, buffer.ok.0) in
     let bytes : c.from_vec.result ≡ bytes_at host.blocks (path_cells reached.path) =
     rw (c.from_vec.ensures, c.truncate.ensures.items, with_items_is buffer c.read.new.buf len, given.1, all)
-    (by_bytes.reads m.regions (route m host.tables) c.args.addr.0 n permissions.Read host.blocks buffer.items (g.met.M.GuestMemory.each_fits c.args.memory.now)) in
+    (by_bytes.reads m.regions way c.args.addr.0 n permissions.Read host.blocks buffer.items each) in
     inl (rw (← answer, bytes))
 
 pub returns-in-Err : goal.returns-in-Err
@@ -32,11 +34,12 @@ returns-in-Err g c =
     let m = g.M.GuestMemory.memory c.args.memory.now in
     let host = c.args.host.now in
     let n = length c.args.buffer.items in
-    let count = c.accesses_are_by_bytes.ensures.count m.regions (route m host.tables) c.args.addr.0 n permissions.Read in
+    let a = c.args.addr.0 in
+    let count = c.accesses_are_by_bytes.ensures.count m.regions (route m host.tables) a n permissions.Read in
     let given = rw c.as_mut_slice.ensures.value at c.in-Err.ensures.answer in
     elim given [
       | inl wanted ↦ inr (c.refused.ensures ∙ ap reply_of_error wanted.0, wanted.1)
       | inr answer ↦ (
-          let told : Err c.in-Err.error ≡ answer_of (reached_by m host.tables c.args.addr.0 n permissions.Read) n = rw count at answer.0 in
+          let told : Err c.in-Err.error ≡ answer_of (reached_by m host.tables a n permissions.Read) n = rw count at answer.0 in
           inl (rw (← told) c.refused.ensures))
     ]

@@ -14,12 +14,15 @@ invariant_of-self c =
     let mapping = c.of_block-mapping.result in
     let there : IsHeld (shape_of host) (Block c.args.block.0) = grind (arith, common_steps) in
     let whole = c.parts_of_a_block_are_held.ensures.whole host c.args.block.0 there in
-    let place : IsHeld (shape_of host) (Place mapping.block 0 mapping.size) = rw (c.of_block-mapping.ensures.block, c.of_block-mapping.ensures.size) whole in
+    let place : IsHeld (shape_of host) (Place mapping.block 0 mapping.size) =
+    rw (c.of_block-mapping.ensures.block, c.of_block-mapping.ensures.size) whole in
     let old = map mmap_region (regions_of c.self.inside.regions) in
     let region = mmap_region c.in-Some.region in
     elim c.match-add.branch [
       | in-Ok w ↦
-          let joined = c.names_are_held_one_by_one.ensures.joined (shape_of host) (flat_map region_names old) (region_names region) in
-          rw (w.in-Ok.ensures.ok, map-append) (rw flat_map-append (joined.1 (c.self.invariant, rw c.in-Some.ensures.value.1 (place, tt))))
+          let joined =
+          c.names_are_held_one_by_one.ensures.joined (shape_of host) (flat_map region_names old) (region_names region) in
+          rw (w.in-Ok.ensures.ok, map-append)
+          (rw flat_map-append (joined.1 (c.self.invariant, rw c.in-Some.ensures.value.1 (place, tt))))
       | in-Err w ↦ rw w.in-Err.ensures.err c.self.invariant
     ]
