@@ -16,8 +16,13 @@ pub record PlacedBlock : Type 0 where
   pub mapping : WholeBlock
   pub fits : start + mapping.size < 2 ^ 64
 
+-- its region: the addresses from there on, and the block from its first byte on
 abbrev pub mmap_region : PlacedBlock → Region
-mmap_region r = record { start = r.start; len = r.mapping.size; place = Some (record { block = r.mapping.block; offset = 0 }) }
+mmap_region r = record {
+  start = r.start;
+  len = r.mapping.size;
+  place = Some (record { block = r.mapping.block; offset = 0 });
+}
 
 pub mmap_fits : (r : PlacedBlock) → IsRegion (mmap_region r)
 mmap_fits r =

@@ -1,7 +1,8 @@
 //! Regions over whole blocks of a host.
-ghost use Rattle.std.specs.Prelude.{◌≡◌, ℕ, ◌+◌, ◌-◌, ◌^◌, ◌<◌, ◌≤◌, ◌↔◌, ◌⊎◌, [], ◌∷◌, ◌++◌, length, replicate, Some, None, IfOk, IfSome, IsSome, OnOk, OnErr, IsErrOf, IsTrue};
+ghost use Rattle.std.specs.Prelude.{◌≡◌, ◌+◌, ◌^◌, ◌<◌, ◌≤◌, ◌↔◌, ◌⊎◌, List, [], ◌∷◌, ◌++◌, length};
+ghost use Rattle.std.specs.Prelude.{replicate, IsSome, IfSome, IfOk, OnOk, OnErr, IsErrOf};
 ghost use Rattle.vm_memory_guest.specs.Host as names;
-ghost use Rattle.vm_memory_guest.specs.Host.{shape_of, Holds, block_at};
+ghost use Rattle.vm_memory_guest.specs.Host.{Name, shape_of, Holds, block_at};
 
 use crate::region::{
     GuestMemoryError, GuestMemoryRegion, GuestMemoryResult, GuestRegionCollection,
@@ -30,7 +31,12 @@ impl Model for MmapRegion {
 
     ghost view = { λ r. record { block = r.block.0; size = r.size; some = r.some; bound = r.bound } };
 
-    ghost inverse = { λ b. record { block = record { 0 = b.block }; size = b.size; some = b.some; bound = b.bound } };
+    ghost inverse = { λ b. record {
+      block = record { 0 = b.block };
+      size = b.size;
+      some = b.some;
+      bound = b.bound;
+    } };
 }
 
 impl MmapRegion {
@@ -42,9 +48,16 @@ impl MmapRegion {
     ) -> Result<MmapRegion, MmapRegionError>
         ensures block { IfOk result (λ r. r.block ≡ length host.old.blocks) }
         ensures size { IfOk result (λ r. r.size ≡ size) }
-        ensures ok { OnOk result ((bitmap : B) × B.made size bitmap × (host.new ≡ record host.old { blocks = host.old.blocks ++ replicate size 0 ∷ []; bitmaps = host.old.bitmaps ++ bitmap ∷ [] })) }
+        ensures ok { OnOk result ((bitmap : B) × B.made size bitmap ×
+            (host.new ≡ record host.old {
+              blocks = host.old.blocks ++ replicate size 0 ∷ [];
+              bitmaps = host.old.bitmaps ++ bitmap ∷ [];
+            })) }
         ensures invalid { IsErrOf result MmapRegionError.InvalidSize ↔ ((size ≡ 0) ⊎ (2 ^ 63 ≤ size)) }
         ensures err { OnErr result (host.new ≡ host.old) }
+        ensures held { IfOk result (λ r. Holds (shape_of host.new) (names.Place r.block 0 r.size ∷ [])) }
+        ensures kept { (names : List Name) →
+            Holds (shape_of host.old) names → Holds (shape_of host.new) names }
     {
         let block = host.new_block(size)?;
         Ok(MmapRegion { block, size })
@@ -55,6 +68,7 @@ impl MmapRegion {
         requires { Holds (shape_of host.now) (names.Block block.0 ∷ []) }
         ensures block { result.block ≡ block.0 }
         ensures size { result.size ≡ length (block_at host.now.blocks block.0) }
+        ensures held { Holds (shape_of host.now) (names.Place result.block 0 result.size ∷ []) }
     {
         MmapRegion {
             block,
@@ -86,7 +100,11 @@ impl Model for GuestRegionMmap {
 
     ghost view = { λ r. record { start = r.guest_base.0; mapping = r.mapping; fits = r.fits } };
 
-    ghost inverse = { λ b. record { mapping = b.mapping; guest_base = record { 0 = b.start }; fits = b.fits } };
+    ghost inverse = { λ b. record {
+      mapping = b.mapping;
+      guest_base = record { 0 = b.start };
+      fits = b.fits;
+    } };
 }
 
 impl GuestRegionMmap {

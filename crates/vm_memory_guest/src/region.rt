@@ -1,11 +1,13 @@
 //! Regions of guest physical memory, and collections of them.
-ghost use Rattle.std.specs.Prelude.{◌≡◌, ℕ, ◌+◌, ◌-◌, ◌^◌, ◌<◌, ◌≤◌, ◌↔◌, nat_lt, List, map, IsTrue, Option, Some, None, IfSome, IfOk, MatchResult, OnOk, cond, length, slice_index, flat_map};
+ghost use Rattle.std.specs.Prelude.{◌≡◌, ℕ, ◌-◌, ◌<◌, ◌≤◌, ◌↔◌, map, flat_map, length, slice_index};
+ghost use Rattle.std.specs.Prelude.{IsTrue, None, Some, IfOk, MatchResult};
 ghost use Rattle.std.specs.Option.{option_copied};
 ghost use Rattle.std.specs.declared.alloc.Global.{Global};
 ghost use Rattle.std.specs.declared.sync.Arc.{Arc};
 ghost use Rattle.vm_memory_guest.specs.Collection.{regions_of};
 ghost use Rattle.vm_memory_guest.specs.Host.{Holds};
-ghost use Rattle.vm_memory_guest.specs.Region.{Region, IsRegion, last, home_in, region_names, IsLayout, neighbours_of, layout_error, fault_of, slice_of};
+ghost use Rattle.vm_memory_guest.specs.Region.{Region, IsRegion, last, home_in, region_names, slice_of};
+ghost use Rattle.vm_memory_guest.specs.Region.{IsLayout, neighbours_of, layout_error, fault_of};
 
 use crate::volatile_memory::host::{HostShape, Named};
 use crate::volatile_memory::slice::VolatileSlice;
@@ -93,8 +95,8 @@ pub trait GuestMemoryRegion: Named + Drop {
     fn last_addr(&self) -> GuestAddress
         ensures { result.0 ≡ last (region self.now) };
 
-    /// The window of `count` bytes from `offset` on: `InvalidBackendAddress` where it passes the region's end,
-    /// `HostAddressNotAvailable` where the region has no host bytes.
+    /// The window of `count` bytes from `offset` on: `InvalidBackendAddress` where it passes the region's
+    /// end, `HostAddressNotAvailable` where the region has no host bytes.
     fn get_slice(
         &self,
         offset: MemoryRegionAddress,
@@ -148,8 +150,8 @@ impl<R: GuestMemoryRegion> Model for GuestRegionCollection<R> {
 impl<R: GuestMemoryRegion> GuestRegionCollection<R> {
     ghost use Rattle.vm_memory_guest.specs.Collection.{regions_of};
 
-    /// The layout of these regions, in order. No region at all is `NoMemoryRegion`; of the first two
-    /// neighbours that are not in order, `UnsortedMemoryRegions` where the earlier starts above the later, else
+    /// The layout of these regions, in order. No region at all is `NoMemoryRegion`; the first two neighbours
+    /// that are not in order are `UnsortedMemoryRegions` where the earlier starts above the later, else
     /// `MemoryRegionOverlap`. Want of memory is `Memory`.
     pub fn from_arc_regions(regions: Vec<Arc<R>>) -> Result<Self, GuestRegionCollectionError>
         ensures { MatchResult result
@@ -177,8 +179,8 @@ impl<R: GuestMemoryRegion> GuestRegionCollection<R> {
         self.regions.len()
     }
 
-    /// The region that holds an address, found by binary search: one comparison with a region's start for each
-    /// binary digit of their number.
+    /// The region that holds an address, found by binary search: one comparison with a region's start for
+    /// each binary digit of their number.
     #[inline]
     pub fn find_region(&self, addr: GuestAddress) -> Option<&R>
         ensures found { option_copied result ≡ home_in R.region self.now addr.0 }
@@ -223,14 +225,15 @@ impl<R: GuestMemoryRegion> Clone for GuestRegionCollection<R> {
     }
 }
 
-// The number of the first start above an address, or how many there are, and the start before it. There is
-// one probe for each binary digit of the number of starts.
+// The number of the first start above an address, or how many there are, and the start before it: one probe
+// for each binary digit of their number.
 //
-// Of one conditional move the compiler makes a branch, which would often be predicted wrongly. Of two with the
-// same condition it makes none: so the start is kept beside its number.
+// Of one conditional move the compiler makes a branch, which would often be predicted wrongly. Of two with
+// the same condition it makes none: so the start is kept beside the number.
 #[inline]
 fn first_above(starts: &[u64], addr: u64) -> (usize, u64)
-    requires { (i j : ℕ) → i ≤ j → j < length starts.now → slice_index starts.now i ≤ slice_index starts.now j }
+    requires { (i j : ℕ) → i ≤ j → j < length starts.now →
+        slice_index starts.now i ≤ slice_index starts.now j }
     ensures within { result.0 ≤ length starts.now }
     ensures below { (k : ℕ) → k < result.0 → slice_index starts.now k ≤ addr }
     ensures above { (k : ℕ) → result.0 ≤ k → k < length starts.now → addr < slice_index starts.now k }
@@ -253,7 +256,8 @@ fn first_above(starts: &[u64], addr: u64) -> (usize, u64)
 
 // The starts of regions, in order.
 fn starts_of<R: GuestMemoryRegion>(regions: &Vec<Arc<R>>) -> Result<Vec<u64>, AllocError>
-    ensures { IfOk result (λ starts. starts.items ≡ map (λ (r : Arc R Global). (R.region r.value).start) regions.now.items) }
+    ensures { IfOk result (λ starts.
+        starts.items ≡ map (λ (r : Arc R Global). (R.region r.value).start) regions.now.items) }
 {
     regions
         .iter()
