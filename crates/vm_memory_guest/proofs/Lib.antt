@@ -10,5 +10,6 @@ pub mod PathWalk
 pub mod WalkLemmas
 pub mod TypedLemmas
 pub mod TypedWalk
+pub mod TypedLaws
 pub mod RegionLaws
 pub mod AccessLemmas

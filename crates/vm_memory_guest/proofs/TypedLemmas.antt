@@ -24,15 +24,15 @@ block-put blocks block offset len all old bytes there is same long within =
     let count : offset + len - offset ≡ len = omega arith in
     let new = take offset whole ++ bytes ++ drop (offset + length bytes) whole in
     let back : drop (offset + len - offset) (drop offset old) ≡ drop (offset + length bytes) whole =
-        ap (λ (k : ℕ). drop k (drop offset old)) (count ∙ sym long) ∙ drop-drop (length bytes) offset old ∙ ap (drop (offset + length bytes)) (same ∙ is) in
+    ap (λ (k : ℕ). drop k (drop offset old)) (count ∙ sym long) ∙ drop-drop (length bytes) offset old ∙ ap (drop (offset + length bytes)) (same ∙ is) in
     let moved : take offset old ++ (bytes ++ drop (offset + len - offset) (drop offset old)) ≡ new =
-        rw (back, same, is) (sym (append_assoc (take offset whole) bytes (drop (offset + length bytes) whole))) in
+    rw (back, same, is) (sym (append_assoc (take offset whole) bytes (drop (offset + length bytes) whole))) in
     let front = length-take-le offset whole (omega arith) in
     let rest = length-drop (offset + length bytes) whole in
     let total : length new ≡ length whole =
-        let a = length-append (take offset whole ++ bytes) (drop (offset + length bytes) whole) in
-        let b = length-append (take offset whole) bytes in
-        omega arith in
+    let a = length-append (take offset whole ++ bytes) (drop (offset + length bytes) whole) in
+    let b = length-append (take offset whole) bytes in
+    omega arith in
     let kept : length new ≡ all.len = let k = ap length is in let l = all.ok.0 in omega arith in
     let here : offset + length bytes ≤ length whole = omega arith in
     rw moved (map-set (λ (v : Vec ℕ Global). v.items) blocks.items block (with_items all new)
@@ -56,7 +56,7 @@ pub Writes-put : {B : Type 0} (marks : B → ℕ → ℕ → B → Type 0) (w : 
 Writes-put {B} marks w bytes old put new k all is marked =
     let count : k ≡ length (cells_of w) = all ∙ sym (length-cells_from w.block.0 w.offset w.size) in
     let same : written (cells_of w) (take k bytes) old.blocks ≡ written (cells_of w) bytes old.blocks =
-        ap (λ (n : ℕ). written (cells_of w) (take n bytes) old.blocks) count ∙ sym (written-take (cells_of w) bytes old.blocks) in
+    ap (λ (n : ℕ). written (cells_of w) (take n bytes) old.blocks) count ∙ sym (written-take (cells_of w) bytes old.blocks) in
     Writes-one marks w bytes old new (subst (λ (h : Host B). MarksWindow marks w h new) (is ∙ ap (λ (bs : List (List ℕ)). record old { blocks = bs }) same) marked)
 
 -- each block keeps its length

@@ -59,7 +59,7 @@ pub filled_next : {start left next : Reach Fault} {w : Window} {blocks : List (L
 filled_next {start} {left} {next} {w} {blocks} {old} {mid} {total} so_far gives new bytes len len_is count is put =
     let long : length bytes ≡ total + len - total = omega arith in
     let same : put_mid total (total + len - total) mid bytes ≡ new =
-        rw (← long, drop-drop (length bytes) total mid) (sym (append_assoc (take total mid) bytes (drop (total + length bytes) mid)) ∙ sym put) in
+    rw (← long, drop-drop (length bytes) total mid) (sym (append_assoc (take total mid) bytes (drop (total + length bytes) mid)) ∙ sym put) in
     subst (λ (now : List ℕ). Filled start next blocks old now (total + len)) same (filled-more so_far gives bytes len len_is is)
 
 -- a fault of some bytes that were asked for is one of as many or more
@@ -114,7 +114,7 @@ value-read {V} memory tables a n access walk gives blocks value value_of old byt
     let whole = whole-reached (span walk.windows) (option_map error_of walk.fault) completed n is all in
     let here : bytes ≡ bytes_at blocks (cells walk.windows) = put ∙ filled-whole blocks walk.windows old (whole.all ∙ sym long) in
     let told_is : Ok value ≡ answered (λ (done : Unit {0}). value_of (bytes_at blocks (cells walk.windows))) (exactly errors.PartialBuffer (span walk.windows) (option_map error_of walk.fault) n) =
-        rw whole.is (ap (λ (v : V). Ok v) (sym same ∙ ap value_of here)) in
+    rw whole.is (ap (λ (v : V). Ok v) (sym same ∙ ap value_of here)) in
     subst (λ (r : Reach Fault). Ok value ≡ answered (λ (done : Unit {0}). value_of (bytes_at blocks (cells r.windows))) (exactly errors.PartialBuffer (span r.windows) (option_map error_of r.fault) n)) gives.1 told_is
 
 -- what was completed is what was expected

@@ -334,7 +334,14 @@ impl<B> HostMemory<B> {
         ensures put { self.new ≡ record self.old { blocks = written (cells_of window.now) (take window.now.size (drop from (T.bytes value.now))) self.old.blocks } }
         ensures shape { shape_of self.new ≡ shape_of self.old }
     {
-        put_value_in(&mut self.blocks, window.block.0, window.offset, window.size, value, from);
+        put_value_in(
+            &mut self.blocks,
+            window.block.0,
+            window.offset,
+            window.size,
+            value,
+            from,
+        );
     }
 
     /// Moves the bytes of a value, from byte `from` on, into a window, and marks them, unless there are none.

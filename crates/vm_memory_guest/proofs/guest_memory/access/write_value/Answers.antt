@@ -1,4 +1,4 @@
-use Rattle.std.proofs.Common.{◌≡◌, length, sym, arith}
+use Rattle.std.proofs.Common.{◌≡◌, length, arith}
 use Rattle.vm_memory_guest.specs.Walk.{items_of}
 use Rattle.vm_memory_guest.proofs.AccessLemmas.{gave, ends_in, ends_whole, came-fits, answer-whole, answer-none, answer-some, wrote_first, wrote-held, wrote-ends}
 use Rattle.vm_memory_guest.proofs.TypedWalk.{wrote_next}

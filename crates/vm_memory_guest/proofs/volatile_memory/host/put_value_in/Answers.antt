@@ -15,9 +15,9 @@ returns g c =
     let whole : length old ≡ length (block_at blocks c.args.block) = ap length (c.as_mut_slice.ensures.value ∙ same) in
     let rest : c.args.offset + c.args.len - c.args.offset ≤ length (drop c.args.offset old) = omega (arith, length-drop c.args.offset old) in
     let room : length (take (c.args.offset + c.args.len - c.args.offset) (drop c.args.offset old)) ≡ c.args.len =
-        omega (arith, length-take-le (c.args.offset + c.args.len - c.args.offset) (drop c.args.offset old) rest) in
+    omega (arith, length-take-le (c.args.offset + c.args.len - c.args.offset) (drop c.args.offset old) rest) in
     let put : c.copy_bytes.new.out ≡ take c.args.len (drop c.args.from (g.T.ByteValued.bytes c.args.value.now)) =
-        c.copy_bytes.ensures ∙ ap (λ k. take k (drop c.args.from (g.T.ByteValued.bytes c.args.value.now))) room in
+    c.copy_bytes.ensures ∙ ap (λ k. take k (drop c.args.from (g.T.ByteValued.bytes c.args.value.now))) room in
     let long : length c.copy_bytes.new.out ≡ c.args.len = c.copy_bytes.auto.out ∙ room in
     block-put c.args.blocks.now c.args.block c.args.offset c.args.len all old c.copy_bytes.new.out there same c.as_mut_slice.ensures.value long c.requires.within
     ∙ ap (λ bytes. written (cells_from c.args.block c.args.offset c.args.len) bytes blocks) put

@@ -1,4 +1,4 @@
-use Rattle.std.proofs.Common.{◌≡◌, ◌⊎◌, option_map, refl, subst, arith}
+use Rattle.std.proofs.Common.{◌≡◌, ◌⊎◌, option_map, subst, arith}
 use Rattle.std.proofs.lemmas.Result.{err_from_is_err_and}
 use Rattle.vm_memory_base.specs.declared.iotlb.Permissions.TheVariants.{Read}
 use Rattle.vm_memory_guest.specs.Error.{error_of}

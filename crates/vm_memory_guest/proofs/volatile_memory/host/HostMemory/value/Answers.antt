@@ -1,4 +1,4 @@
-use Rattle.std.proofs.Common.{◌≡◌, ◌+◌, ◌≤◌, ◌++◌, [], drop, replicate, length, ap, sym, ◌∙◌, arith, append-nil}
+use Rattle.std.proofs.Common.{◌≡◌, ◌+◌, [], drop, length, ap, sym, ◌∙◌, arith, append-nil}
 use Rattle.std.proofs.lemmas.List.{length-replicate, drop_all}
 use Rattle.vm_memory_guest.specs.Host.{bytes_at}
 use Rattle.vm_memory_guest.specs.Window.{cells_of}
@@ -18,5 +18,5 @@ returns g c all =
     let zeros = ap length c.zeroed-value.ensures ∙ length-replicate width 0 in
     let none : drop (0 + length bs) (g.T.ByteValued.bytes c.zeroed-value.result) ≡ [] = drop_all (0 + length bs) (g.T.ByteValued.bytes c.zeroed-value.result) (omega arith) in
     let bytes : g.T.ByteValued.bytes c.set_bytes.new.self ≡ bytes_at c.args.self.now.blocks (cells_of c.args.window.now) =
-        c.set_bytes.ensures ∙ rw none (append-nil bs ∙ c.bytes.ensures) in
+    c.set_bytes.ensures ∙ rw none (append-nil bs ∙ c.bytes.ensures) in
     sym (g.met.T.ByteValued.laws.from_bytes c.set_bytes.new.self c.known.ensures) ∙ ap g.T.ByteValued.value_of bytes
