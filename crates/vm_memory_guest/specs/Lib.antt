@@ -9,5 +9,7 @@ pub mod Inside
 pub mod Memory
 pub mod Mmap
 pub mod Region
+pub mod Typed
+pub mod TypedFacts
 pub mod Walk
 pub mod Window

@@ -11,6 +11,8 @@ mod mmap;
 pub mod path_laws;
 mod region;
 pub mod region_laws;
+pub mod typed_examples;
+pub mod typed_laws;
 mod volatile_memory;
 
 pub use guest_memory::backend::{GuestMemoryBackend, GuestMemoryBackendSliceIterator};

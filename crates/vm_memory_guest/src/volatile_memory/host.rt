@@ -8,7 +8,7 @@ use super::slice::VolatileSlice;
 use std::alloc::{AllocError, Global};
 use std::marker::Model;
 use thiserror::Error;
-use vm_memory_base::{Bitmap, BitmapId, BitmapRef, NewBitmap};
+use vm_memory_base::{Bitmap, BitmapId, BitmapRef, ByteValued, NewBitmap};
 
 /// The number of a block of a host, from 0 in the order of making.
 #[derive(Clone, Copy, Debug, PartialEq, Eq)]
@@ -287,7 +287,8 @@ impl<B> HostMemory<B> {
     // Moves bytes to a place of a block.
     fn put(&mut self, block: usize, offset: usize, bytes: &[u8])
         requires { Holds (shape_of self.old) (names.Place block offset (length bytes.now) ∷ []) }
-        ensures { self.new ≡ record self.old { blocks = written (cells_from block offset (length bytes.now)) bytes.now self.old.blocks } }
+        ensures put { self.new ≡ record self.old { blocks = written (cells_from block offset (length bytes.now)) bytes.now self.old.blocks } }
+        ensures shape { shape_of self.new ≡ shape_of self.old }
     {
         put_in(&mut self.blocks, block, offset, bytes);
     }
@@ -311,6 +312,20 @@ impl<B> HostMemory<B> {
         }
     }
 
+    // Marks the bytes of a window, unless there are none.
+    #[inline]
+    fn mark_window(&mut self, window: &VolatileSlice)
+    where
+        B: Bitmap,
+        requires { Holds (shape_of self.old) (bitmap_name window.now.bitmap.id ∷ []) }
+        ensures marks { MarksWindow B.marks window.now self.old self.new }
+        ensures shape { shape_of self.new ≡ shape_of self.old }
+    {
+        if window.size > 0 {
+            self.mark(window.bitmap, window.size);
+        }
+    }
+
     /// Moves bytes into a window of as many, and marks them, unless there are none.
     pub fn write(&mut self, window: &VolatileSlice, bytes: &[u8])
     where
@@ -321,9 +336,59 @@ impl<B> HostMemory<B> {
         ensures shape { shape_of self.new ≡ shape_of self.old }
     {
         self.put(window.block.0, window.offset, bytes);
-        if window.size > 0 {
-            self.mark(window.bitmap, window.size);
-        }
+        self.mark_window(window);
+    }
+
+    // Moves the bytes of a value, from byte `from` on, to a place of a block.
+    #[inline]
+    fn put_value<T: ByteValued>(&mut self, window: &VolatileSlice, value: &T, from: usize)
+        requires held { Holds (shape_of self.old) (names.Place window.now.block.0 window.now.offset window.now.size ∷ []) }
+        requires inside { from + window.now.size ≤ T.width }
+        requires fits { from + window.now.size < 2 ^ 64 }
+        ensures put { self.new ≡ record self.old { blocks = written (cells_of window.now) (take window.now.size (drop from (T.bytes value.now))) self.old.blocks } }
+        ensures shape { shape_of self.new ≡ shape_of self.old }
+    {
+        put_value_in(
+            &mut self.blocks,
+            window.block.0,
+            window.offset,
+            window.size,
+            value,
+            from,
+        );
+    }
+
+    /// Moves the bytes of a value, from byte `from` on, into a window, and marks them, unless there are none.
+    #[inline]
+    pub(crate) fn write_value<T: ByteValued>(
+        &mut self,
+        window: &VolatileSlice,
+        value: &T,
+        from: usize,
+    )
+    where
+        B: Bitmap,
+        requires held { Holds (shape_of self.old) (window_names window.now) }
+        requires inside { from + window.now.size ≤ T.width }
+        requires fits { from + window.now.size < 2 ^ 64 }
+        ensures bytes { Writes B.marks (window.now ∷ []) (drop from (T.bytes value.now)) self.old self.new }
+        ensures shape { shape_of self.new ≡ shape_of self.old }
+    {
+        self.put_value(window, value, from);
+        self.mark_window(window);
+    }
+
+    /// The value whose bytes a window has.
+    #[inline]
+    pub(crate) fn value<T: ByteValued>(&self, window: &VolatileSlice) -> T
+        requires held { Holds (shape_of self.now) (window_names window.now) }
+        requires size { window.now.size ≤ T.width }
+        ensures { window.now.size ≡ T.width → result ≡ T.value_of (bytes_at self.now.blocks (cells_of window.now)) }
+    {
+        let mut value = T::zeroed();
+        value.set_bytes(0, self.bytes(window));
+        value.known();
+        value
     }
 }
 
@@ -371,6 +436,27 @@ fn put_in(blocks: &mut Vec<Vec<u8>>, block: usize, offset: usize, bytes: &[u8])
 {
     let all = &mut blocks[block];
     move_into(all.as_mut_slice(), offset, bytes);
+}
+
+// Moves the bytes of a value, from byte `from` on, into `len` bytes of a block.
+#[inline]
+fn put_value_in<T: ByteValued>(
+    blocks: &mut Vec<Vec<u8>>,
+    block: usize,
+    offset: usize,
+    len: usize,
+    value: &T,
+    from: usize,
+)
+    requires there { block < length blocks.old.items }
+    requires within { offset + len ≤ length (block_at (blocks_of blocks.old) block) }
+    requires inside { from + len ≤ T.width }
+    requires fits { from + len < 2 ^ 64 }
+    ensures { blocks_of blocks.new ≡ written (cells_from block offset len) (take len (drop from (T.bytes value.now))) (blocks_of blocks.old) }
+{
+    let all = &mut blocks[block];
+    let place = &mut all.as_mut_slice()[offset..offset + len];
+    value.copy_bytes(from, place);
 }
 
 fn move_into(block: &mut [u8], offset: usize, bytes: &[u8])

@@ -1,13 +1,18 @@
 //! Windows of host memory.
-ghost use Rattle.std.specs.Prelude.{◌≡◌, ℕ, ◌+◌, ◌-◌, ◌^◌, ◌<◌, ◌≤◌, ◌↔◌, ◌∷◌, [], ◌==◌, cond, nat_lt, IsTrue, IfOk, MatchResult};
+ghost use Rattle.std.specs.Prelude.{◌≡◌, ℕ, ◌+◌, ◌-◌, ◌%◌, ◌^◌, ◌<◌, ◌≤◌, ◌↔◌, ◌∷◌, [], ◌==◌, cond, nat_lt, IsTrue, IfOk, MatchResult};
 ghost use Rattle.vm_memory_guest.specs.Window.{window_names, part, offset_of, subslice_of};
 ghost use Rattle.vm_memory_guest.specs.Answer.{window_reach};
+ghost use Rattle.vm_memory_guest.specs.Typed.{aligned_of};
+ghost use Rattle.vm_memory_guest.specs.TypedFacts.{aligned-sized};
 ghost use Rattle.vm_memory_base.specs.declared.io.VolatileMemoryError.TheVariants.{PartialBuffer, Memory};
 
 use super::access::Bytes;
 use super::host::{BlockId, HostMemory, HostShape, Named};
 use std::marker::Model;
-use vm_memory_base::{Bitmap, BitmapRef, VolatileMemoryError, VolatileMemoryResult};
+use std::sync::atomic::Ordering;
+use vm_memory_base::{
+    AtomicAccess, Bitmap, BitmapRef, ByteValued, VolatileMemoryError, VolatileMemoryResult,
+};
 
 /// A window: so many bytes of a block from an offset on, and the view of a bitmap that writes mark.
 ///
@@ -150,10 +155,39 @@ impl VolatileSlice {
     }
 }
 
+impl VolatileSlice {
+    // Whether the place in the block is a multiple of `size`.
+    #[inline]
+    pub(crate) fn is_aligned(&self, size: usize) -> bool
+        requires { 0 < size }
+        ensures { result ≡ (self.now.offset % size == 0) }
+    {
+        self.offset % size == 0
+    }
+
+    // `size` bytes from an offset on, whose place in the block is a multiple of `size`.
+    #[inline]
+    fn aligned(&self, offset: usize, size: usize) -> VolatileMemoryResult<VolatileSlice>
+        requires { 0 < size }
+        ensures { result ≡ aligned_of self.now offset size }
+    {
+        let window = self.subslice(offset, size)?;
+        if !window.is_aligned(size) {
+            return Err(VolatileMemoryError::Misaligned {
+                addr: window.offset,
+                alignment: size,
+            });
+        }
+        Ok(window)
+    }
+}
+
 impl Bytes<usize> for VolatileSlice {
     type E = VolatileMemoryError;
 
     ghost reach = { λ w tables offset count access. window_reach w offset count };
+
+    ghost place = { λ w tables offset size access. aligned_of w offset size };
 
     ghost partial = { PartialBuffer };
 
@@ -215,6 +249,65 @@ impl Bytes<usize> for VolatileSlice {
         let completed = self.read(host, buf, addr)?;
         whole(expected, completed)
     }
+
+    #[inline]
+    fn write_obj<T: ByteValued, B: Bitmap>(
+        &self,
+        host: &mut HostMemory<B>,
+        val: T,
+        addr: usize,
+    ) -> VolatileMemoryResult<()> {
+        let expected = T::size();
+        if expected == 0 {
+            return Ok(());
+        }
+        let window = self.reached(addr, expected)?;
+        host.write_value(&window, &val, 0);
+        whole(expected, window.len())
+    }
+
+    #[inline]
+    fn read_obj<T: ByteValued, B: Bitmap>(
+        &self,
+        host: &HostMemory<B>,
+        addr: usize,
+    ) -> VolatileMemoryResult<T> {
+        let expected = T::size();
+        if expected == 0 {
+            let value = T::zeroed();
+            value.known();
+            return Ok(value);
+        }
+        let window = self.reached(addr, expected)?;
+        whole(expected, window.len())?;
+        Ok(host.value(&window))
+    }
+
+    #[inline]
+    fn store<T: AtomicAccess, B: Bitmap>(
+        &self,
+        host: &mut HostMemory<B>,
+        val: T,
+        addr: usize,
+        _order: Ordering,
+    ) -> VolatileMemoryResult<()> {
+        let window = self.aligned(addr, T::size())?;
+        host.write_value(&window, &val, 0);
+        Ok(())
+    }
+
+    #[inline]
+    fn load<T: AtomicAccess, B: Bitmap>(
+        &self,
+        host: &HostMemory<B>,
+        addr: usize,
+        _order: Ordering,
+    ) -> VolatileMemoryResult<T> {
+        let window = self.aligned(addr, T::size())?;
+        Ok(host.value(&window))
+    }
+
+    ghost place_has_all = { λ w tables offset size access. aligned-sized w offset size };
 }
 
 // Whether all that was expected was completed.
