@@ -1,5 +1,5 @@
 //! Host memory: every block, bitmap and space, which each access is lent.
-ghost use Rattle.std.specs.Prelude.{◌≡◌, ℕ, ◌+◌, ◌-◌, ◌^◌, ◌<◌, ◌≤◌, ◌↔◌, ◌⊎◌, [], ◌∷◌, ◌++◌, List, length, take, drop, map, replicate, slice_get, slice_set, nat_lt, IsTrue, Some, IfOk, IfSome, OnOk, OnErr, IsErrOf};
+ghost use Rattle.std.specs.Prelude.{◌≡◌, ◌≢◌, ℕ, ◌+◌, ◌-◌, ◌^◌, ◌<◌, ◌≤◌, ◌↔◌, ◌⊎◌, [], ◌∷◌, ◌++◌, List, length, take, drop, map, replicate, slice_get, slice_set, nat_lt, IsTrue, Some, IfOk, IfSome, OnOk, OnErr, IsErrOf};
 ghost use Rattle.vm_memory_guest.specs.Host as names;
 ghost use Rattle.vm_memory_guest.specs.Host.{Host, Shape, shape_of, Name, IsHeld, Holds, block_at, bytes_at, cells_from, written};
 ghost use Rattle.vm_memory_guest.specs.Inside.{blocks_of};
@@ -364,6 +364,34 @@ impl<B> HostMemory<B> {
         self.mark_window(window);
     }
 
+    // Moves the bytes of a window to another of as many, as they were.
+    fn move_bytes(&mut self, from: &VolatileSlice, to: &VolatileSlice)
+        requires from { Holds (shape_of self.old) (names.Place from.now.block.0 from.now.offset from.now.size ∷ []) }
+        requires to { Holds (shape_of self.old) (names.Place to.now.block.0 to.now.offset to.now.size ∷ []) }
+        requires size { from.now.size ≡ to.now.size }
+        ensures put { self.new ≡ record self.old {
+            blocks = written (cells_of to.now) (bytes_at self.old.blocks (cells_of from.now)) self.old.blocks } }
+        ensures shape { shape_of self.new ≡ shape_of self.old }
+    {
+        let blocks = &mut self.blocks;
+        copy_in(blocks, from.block.0, from.offset, to.block.0, to.offset, to.size);
+    }
+
+    /// Moves the bytes of a window to another of as many, as they were, also where the two overlap, and marks
+    /// the other's, unless there are none.
+    pub(crate) fn copy(&mut self, from: &VolatileSlice, to: &VolatileSlice)
+    where
+        B: Bitmap,
+        requires from { Holds (shape_of self.old) (window_names from.now) }
+        requires to { Holds (shape_of self.old) (window_names to.now) }
+        requires size { from.now.size ≡ to.now.size }
+        ensures bytes { Writes B.marks (to.now ∷ []) (bytes_at self.old.blocks (cells_of from.now)) self.old self.new }
+        ensures shape { shape_of self.new ≡ shape_of self.old }
+    {
+        self.move_bytes(from, to);
+        self.mark_window(to);
+    }
+
     /// The value whose bytes a window has.
     #[inline]
     pub(crate) fn value<T: ByteValued>(&self, window: &VolatileSlice) -> T
@@ -450,4 +478,74 @@ fn move_into(block: &mut [u8], offset: usize, bytes: &[u8])
     ensures { block.new ≡ take offset block.old ++ bytes.now ++ drop (offset + length bytes.now) block.old }
 {
     block[offset..offset + bytes.len()].copy_from_slice(bytes);
+}
+
+// Copies bytes of a block over others of it, as they were, also where the two overlap.
+fn copy_inside(block: &mut [u8], from: usize, to: usize, len: usize)
+    requires source { from + len ≤ length block.old }
+    requires target { to + len ≤ length block.old }
+    ensures { block.new ≡ take to block.old ++ take len (drop from block.old) ++ drop (to + len) block.old }
+{
+    if from + len <= to {
+        let (front, back) = block.split_at_mut(to);
+        back[..len].copy_from_slice(&front[from..from + len]);
+    } else if to + len <= from {
+        let (front, back) = block.split_at_mut(from);
+        front[to..to + len].copy_from_slice(&back[..len]);
+    } else {
+        block.copy_within(from..from + len, to);
+    }
+}
+
+// Copies bytes of a block over those of another.
+fn copy_between(
+    blocks: &mut Vec<Vec<u8>>,
+    source: usize,
+    from: usize,
+    target: usize,
+    to: usize,
+    len: usize,
+)
+    requires other { source ≢ target }
+    requires source { source < length blocks.old.items }
+    requires target { target < length blocks.old.items }
+    requires readable { from + len ≤ length (block_at (blocks_of blocks.old) source) }
+    requires writable { to + len ≤ length (block_at (blocks_of blocks.old) target) }
+    ensures { blocks_of blocks.new
+        ≡ written (cells_from target to len) (bytes_at (blocks_of blocks.old) (cells_from source from len)) (blocks_of blocks.old) }
+{
+    let all = blocks.as_mut_slice();
+    if source < target {
+        let (low, high) = all.split_at_mut(target);
+        let bytes = &low[source].as_slice()[from..from + len];
+        move_into(high[0].as_mut_slice(), to, bytes);
+    } else {
+        let (low, high) = all.split_at_mut(source);
+        let bytes = &high[0].as_slice()[from..from + len];
+        move_into(low[target].as_mut_slice(), to, bytes);
+    }
+}
+
+// Copies bytes of a block over others of the same or of another block.
+fn copy_in(
+    blocks: &mut Vec<Vec<u8>>,
+    source: usize,
+    from: usize,
+    target: usize,
+    to: usize,
+    len: usize,
+)
+    requires source { source < length blocks.old.items }
+    requires target { target < length blocks.old.items }
+    requires readable { from + len ≤ length (block_at (blocks_of blocks.old) source) }
+    requires writable { to + len ≤ length (block_at (blocks_of blocks.old) target) }
+    ensures { blocks_of blocks.new
+        ≡ written (cells_from target to len) (bytes_at (blocks_of blocks.old) (cells_from source from len)) (blocks_of blocks.old) }
+{
+    if source != target {
+        copy_between(blocks, source, from, target, to, len);
+        return;
+    }
+    let all = &mut blocks[target];
+    copy_inside(all.as_mut_slice(), from, to, len);
 }
