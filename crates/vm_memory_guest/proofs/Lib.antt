@@ -11,6 +11,7 @@ pub mod WalkLemmas
 pub mod TypedLemmas
 pub mod TypedWalk
 pub mod CopyLemmas
+pub mod ElementLemmas
 pub mod TypedLaws
 pub mod RegionLaws
 pub mod AccessLemmas
