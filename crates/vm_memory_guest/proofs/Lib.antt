@@ -10,6 +10,8 @@ pub mod PathWalk
 pub mod WalkLemmas
 pub mod TypedLemmas
 pub mod TypedWalk
+pub mod CopyLemmas
+pub mod ElementLemmas
 pub mod TypedLaws
 pub mod RegionLaws
 pub mod AccessLemmas

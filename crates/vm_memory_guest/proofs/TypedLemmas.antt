@@ -14,7 +14,7 @@ use Rattle.vm_memory_guest.proofs.MarkLaws.{shape_of-written, Writes-one}
 use Rattle.vm_memory_guest.proofs.WrittenLaws.{written-block, written-take, lengths-written, length-cells_from, length-bytes_at}
 
 -- a block of which a part is replaced by as many bytes
-pub block-put : (blocks : Vec (Vec ℕ Global) Global) (block offset len : ℕ) (all : Vec ℕ Global) (old bytes : List ℕ)
+block-put : (blocks : Vec (Vec ℕ Global) Global) (block offset len : ℕ) (all : Vec ℕ Global) (old bytes : List ℕ)
     → block < length (blocks_of blocks) → all.items ≡ block_at (blocks_of blocks) block → old ≡ all.items → length bytes ≡ len
     → offset + len ≤ length (block_at (blocks_of blocks) block)
     → blocks_of (with_item blocks block (with_items all (take offset old ++ (bytes ++ drop (offset + len - offset) (drop offset old)))))
@@ -38,6 +38,24 @@ block-put blocks block offset len all old bytes there is same long within =
     rw moved (map-set (λ (v : Vec ℕ Global). v.items) blocks.items block (with_items all new)
     ∙ ap (set (blocks_of blocks) block) (with_items_is all new kept)
     ∙ (sym (written-block block offset bytes (blocks_of blocks) there here) ∙ ap (λ (n : ℕ). written (cells_from block offset n) bytes (blocks_of blocks)) long))
+
+-- the part of a block that lies at a place has as many bytes
+pub place-long : (block : List ℕ) (offset len : ℕ) → offset + len ≤ length block → length (take (offset + len - offset) (drop offset block)) ≡ len
+place-long block offset len within =
+    let rest = length-drop offset block in
+    let enough : offset + len - offset ≤ length (drop offset block) = omega arith in
+    let long = length-take-le (offset + len - offset) (drop offset block) enough in
+    omega arith
+
+-- a block whose part at a place was changed
+pub place-put : (blocks : Vec (Vec ℕ Global) Global) (block offset len : ℕ) (all : Vec ℕ Global) (old bytes : List ℕ)
+    → block < length (blocks_of blocks) → all.items ≡ block_at (blocks_of blocks) block → old ≡ all.items
+    → offset + len ≤ length (block_at (blocks_of blocks) block) → length bytes ≡ length (take (offset + len - offset) (drop offset old))
+    → blocks_of (with_item blocks block (with_items all (take offset old ++ (bytes ++ drop (offset + len - offset) (drop offset old)))))
+    ≡ written (cells_from block offset len) bytes (blocks_of blocks)
+place-put blocks block offset len all old bytes there is same within kept =
+    let whole : length old ≡ length (block_at (blocks_of blocks) block) = ap length (same ∙ is) in
+    block-put blocks block offset len all old bytes there is same (kept ∙ place-long old offset len (omega arith)) within
 
 -- a host whose blocks are as long as before is as sound
 pub sound-put : {B : Type 0} (shape : Shape) (old new : List (List ℕ)) (bitmaps spaces : List B) → map length new ≡ map length old

@@ -1,8 +1,11 @@
 //! Host memory: every block, bitmap and space, which each access is lent.
-ghost use Rattle.std.specs.Prelude.{◌≡◌, ℕ, ◌+◌, ◌-◌, ◌^◌, ◌<◌, ◌≤◌, ◌↔◌, ◌⊎◌, [], ◌∷◌, ◌++◌, List, length, take, drop, map, replicate, slice_get, slice_set, nat_lt, IsTrue, Some, IfOk, IfSome, OnOk, OnErr, IsErrOf};
+ghost use Rattle.std.specs.Prelude.{◌≡◌, ◌≢◌, ℕ, ◌+◌, ◌-◌, ◌*◌, ◌^◌, ◌<◌, ◌≤◌, ◌↔◌, ◌⊎◌, [], ◌∷◌, ◌++◌, List, length, take, drop, map, replicate, slice_get, slice_set, nat_lt, IsTrue, Some, IfOk, IfSome, OnOk, OnErr, IsErrOf};
 ghost use Rattle.vm_memory_guest.specs.Host as names;
 ghost use Rattle.vm_memory_guest.specs.Host.{Host, Shape, shape_of, Name, IsHeld, Holds, block_at, bytes_at, cells_from, written};
+ghost use Rattle.std.specs.List.{flat_map};
+ghost use Rattle.vm_memory_base.specs.Bytes.{values_of};
 ghost use Rattle.vm_memory_guest.specs.Inside.{blocks_of};
+ghost use Rattle.vm_memory_guest.specs.Typed.{size_of};
 
 use super::slice::VolatileSlice;
 use std::alloc::{AllocError, Global};
@@ -378,6 +381,73 @@ impl<B> HostMemory<B> {
         self.mark_window(window);
     }
 
+    // Moves the bytes of values, one after the other, to a place of a block.
+    fn put_values<T: ByteValued>(&mut self, window: &VolatileSlice, values: &[T])
+        requires held { Holds (shape_of self.old) (names.Place window.now.block.0 window.now.offset window.now.size ∷ []) }
+        requires size { window.now.size ≡ length values.now * size_of T.width }
+        ensures put { T.width < 2 ^ 64 → self.new ≡ record self.old {
+            blocks = written (cells_of window.now) (flat_map T.bytes values.now) self.old.blocks } }
+        ensures shape { shape_of self.new ≡ shape_of self.old }
+    {
+        let blocks = &mut self.blocks;
+        put_values_in(blocks, window.block.0, window.offset, window.size, values);
+    }
+
+    /// Moves the bytes of values, one after the other, into a window of as many, and marks them, unless there
+    /// are none.
+    pub(crate) fn write_values<T: ByteValued>(&mut self, window: &VolatileSlice, values: &[T])
+    where
+        B: Bitmap,
+        requires held { Holds (shape_of self.old) (window_names window.now) }
+        requires size { window.now.size ≡ length values.now * size_of T.width }
+        ensures bytes { T.width < 2 ^ 64 → Writes B.marks (window.now ∷ []) (flat_map T.bytes values.now) self.old self.new }
+        ensures shape { shape_of self.new ≡ shape_of self.old }
+    {
+        self.put_values(window, values);
+        self.mark_window(window);
+    }
+
+    /// Replaces values by those whose bytes a window has at its front, one after the other.
+    pub(crate) fn read_values<T: ByteValued>(&self, window: &VolatileSlice, values: &mut [T])
+        requires held { Holds (shape_of self.now) (window_names window.now) }
+        requires size { length values.old * size_of T.width ≤ window.now.size }
+        ensures { T.width < 2 ^ 64 → values.new
+            ≡ values_of T.value_of T.width (length values.old) (bytes_at self.now.blocks (cells_of window.now)) }
+    {
+        let bytes = self.bytes(window);
+        for k in 0..values.len() {
+            values[k] = value_in(bytes, k);
+        }
+    }
+
+    // Moves the bytes of a window to another of as many, as they were.
+    fn move_bytes(&mut self, from: &VolatileSlice, to: &VolatileSlice)
+        requires from { Holds (shape_of self.old) (names.Place from.now.block.0 from.now.offset from.now.size ∷ []) }
+        requires to { Holds (shape_of self.old) (names.Place to.now.block.0 to.now.offset to.now.size ∷ []) }
+        requires size { from.now.size ≡ to.now.size }
+        ensures put { self.new ≡ record self.old {
+            blocks = written (cells_of to.now) (bytes_at self.old.blocks (cells_of from.now)) self.old.blocks } }
+        ensures shape { shape_of self.new ≡ shape_of self.old }
+    {
+        let blocks = &mut self.blocks;
+        copy_in(blocks, from.block.0, from.offset, to.block.0, to.offset, to.size);
+    }
+
+    /// Moves the bytes of a window to another of as many, as they were, also where the two overlap, and marks
+    /// the other's, unless there are none.
+    pub(crate) fn copy(&mut self, from: &VolatileSlice, to: &VolatileSlice)
+    where
+        B: Bitmap,
+        requires from { Holds (shape_of self.old) (window_names from.now) }
+        requires to { Holds (shape_of self.old) (window_names to.now) }
+        requires size { from.now.size ≡ to.now.size }
+        ensures bytes { Writes B.marks (to.now ∷ []) (bytes_at self.old.blocks (cells_of from.now)) self.old self.new }
+        ensures shape { shape_of self.new ≡ shape_of self.old }
+    {
+        self.move_bytes(from, to);
+        self.mark_window(to);
+    }
+
     /// The value whose bytes a window has.
     #[inline]
     pub(crate) fn value<T: ByteValued>(&self, window: &VolatileSlice) -> T
@@ -464,4 +534,130 @@ fn move_into(block: &mut [u8], offset: usize, bytes: &[u8])
     ensures { block.new ≡ take offset block.old ++ bytes.now ++ drop (offset + length bytes.now) block.old }
 {
     block[offset..offset + bytes.len()].copy_from_slice(bytes);
+}
+
+// Copies bytes of a block over others of it, as they were, also where the two overlap.
+fn copy_inside(block: &mut [u8], from: usize, to: usize, len: usize)
+    requires source { from + len ≤ length block.old }
+    requires target { to + len ≤ length block.old }
+    ensures { block.new ≡ take to block.old ++ take len (drop from block.old) ++ drop (to + len) block.old }
+{
+    if from + len <= to {
+        let (front, back) = block.split_at_mut(to);
+        back[..len].copy_from_slice(&front[from..from + len]);
+    } else if to + len <= from {
+        let (front, back) = block.split_at_mut(from);
+        front[to..to + len].copy_from_slice(&back[..len]);
+    } else {
+        block.copy_within(from..from + len, to);
+    }
+}
+
+// Copies bytes of a block over those of another.
+fn copy_between(
+    blocks: &mut Vec<Vec<u8>>,
+    source: usize,
+    from: usize,
+    target: usize,
+    to: usize,
+    len: usize,
+)
+    requires other { source ≢ target }
+    requires source { source < length blocks.old.items }
+    requires target { target < length blocks.old.items }
+    requires readable { from + len ≤ length (block_at (blocks_of blocks.old) source) }
+    requires writable { to + len ≤ length (block_at (blocks_of blocks.old) target) }
+    ensures { blocks_of blocks.new
+        ≡ written (cells_from target to len) (bytes_at (blocks_of blocks.old) (cells_from source from len)) (blocks_of blocks.old) }
+{
+    let all = blocks.as_mut_slice();
+    if source < target {
+        let (low, high) = all.split_at_mut(target);
+        let bytes = &low[source].as_slice()[from..from + len];
+        move_into(high[0].as_mut_slice(), to, bytes);
+    } else {
+        let (low, high) = all.split_at_mut(source);
+        let bytes = &high[0].as_slice()[from..from + len];
+        move_into(low[target].as_mut_slice(), to, bytes);
+    }
+}
+
+// Copies bytes of a block over others of the same or of another block.
+fn copy_in(
+    blocks: &mut Vec<Vec<u8>>,
+    source: usize,
+    from: usize,
+    target: usize,
+    to: usize,
+    len: usize,
+)
+    requires source { source < length blocks.old.items }
+    requires target { target < length blocks.old.items }
+    requires readable { from + len ≤ length (block_at (blocks_of blocks.old) source) }
+    requires writable { to + len ≤ length (block_at (blocks_of blocks.old) target) }
+    ensures { blocks_of blocks.new
+        ≡ written (cells_from target to len) (bytes_at (blocks_of blocks.old) (cells_from source from len)) (blocks_of blocks.old) }
+{
+    if source != target {
+        copy_between(blocks, source, from, target, to, len);
+        return;
+    }
+    let all = &mut blocks[target];
+    copy_inside(all.as_mut_slice(), from, to, len);
+}
+
+// Value `k` of those whose bytes stand one after the other in a slice.
+#[inline]
+fn value_in<T: ByteValued>(bytes: &[u8], k: usize) -> T
+    requires { k * size_of T.width + size_of T.width ≤ length bytes.now }
+    ensures { T.width < 2 ^ 64 → result ≡ T.value_of (take T.width (drop (k * T.width) bytes.now)) }
+{
+    let size = T::size();
+    let start = k * size;
+    let mut value = T::zeroed();
+    value.set_bytes(0, &bytes[start..start + size]);
+    value.known();
+    value
+}
+
+// Moves the bytes of value `k` of a list to its place in a slice that has as many bytes as all of them.
+#[inline]
+fn put_value_at<T: ByteValued>(place: &mut [u8], value: &T, k: usize)
+    requires { k * size_of T.width + size_of T.width ≤ length place.old }
+    ensures { T.width < 2 ^ 64 → take ((k + 1) * T.width) place.new ≡ take (k * T.width) place.old ++ T.bytes value.now }
+{
+    let size = T::size();
+    value.known();
+    let start = k * size;
+    value.copy_bytes(0, &mut place[start..start + size]);
+}
+
+// Moves the bytes of values, one after the other, into a slice of as many.
+fn fill_place<T: ByteValued>(place: &mut [u8], values: &[T])
+    requires { length place.old ≡ length values.now * size_of T.width }
+    ensures { T.width < 2 ^ 64 → place.new ≡ flat_map T.bytes values.now }
+{
+    for k in 0..values.len() {
+        put_value_at(place, &values[k], k);
+    }
+}
+
+// Moves the bytes of values, one after the other, into a block.
+fn put_values_in<T: ByteValued>(
+    blocks: &mut Vec<Vec<u8>>,
+    block: usize,
+    offset: usize,
+    len: usize,
+    values: &[T],
+)
+    requires there { block < length blocks.old.items }
+    requires within { offset + len ≤ length (block_at (blocks_of blocks.old) block) }
+    requires size { len ≡ length values.now * size_of T.width }
+    ensures put { T.width < 2 ^ 64 → blocks_of blocks.new
+        ≡ written (cells_from block offset len) (flat_map T.bytes values.now) (blocks_of blocks.old) }
+    ensures lengths { map length (blocks_of blocks.new) ≡ map length (blocks_of blocks.old) }
+{
+    let all = &mut blocks[block];
+    let place = &mut all.as_mut_slice()[offset..offset + len];
+    fill_place(place, values);
 }

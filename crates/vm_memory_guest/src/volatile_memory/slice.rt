@@ -1,8 +1,11 @@
 //! Windows of host memory.
-ghost use Rattle.std.specs.Prelude.{◌≡◌, ℕ, ◌+◌, ◌-◌, ◌%◌, ◌^◌, ◌<◌, ◌≤◌, ◌↔◌, ◌∷◌, [], ◌==◌, cond, nat_lt, IsTrue, IfOk, MatchResult};
-ghost use Rattle.vm_memory_guest.specs.Window.{window_names, part, offset_of, subslice_of};
+ghost use Rattle.std.specs.Prelude.{◌≡◌, ℕ, ◌+◌, ◌-◌, ◌*◌, ◌/◌, ◌%◌, ◌^◌, ◌++◌, min, length, take, drop, ◌<◌, ◌≤◌, ◌↔◌, ◌∷◌, [], ◌==◌, cond, nat_lt, IsTrue, IfOk, MatchResult};
+ghost use Rattle.std.specs.List.{flat_map};
+ghost use Rattle.vm_memory_base.specs.Bytes.{values_of};
+ghost use Rattle.vm_memory_guest.specs.Host.{shape_of, bytes_at, Holds};
+ghost use Rattle.vm_memory_guest.specs.Window.{window_names, cells_of, part, offset_of, subslice_of, Writes};
 ghost use Rattle.vm_memory_guest.specs.Answer.{window_reach};
-ghost use Rattle.vm_memory_guest.specs.Typed.{aligned_of};
+ghost use Rattle.vm_memory_guest.specs.Typed.{aligned_of, answered, front, size_of, Copies};
 ghost use Rattle.vm_memory_guest.specs.TypedFacts.{aligned-sized};
 ghost use Rattle.vm_memory_base.specs.declared.io.VolatileMemoryError.TheVariants.{PartialBuffer, Memory};
 
@@ -118,8 +121,26 @@ impl VolatileSlice {
         Ok(self.part(count, self.size - count))
     }
 
+    /// The first `mid` bytes, and the bytes from there on. Refused as `offset` is.
     #[inline]
-    fn part(&self, offset: usize, size: usize) -> Self
+    pub fn split_at(&self, mid: usize) -> VolatileMemoryResult<(Self, Self)>
+        ensures { result ≡ answered (λ end. (front self.now mid, end)) (offset_of self.now mid) }
+    {
+        let end = self.offset(mid)?;
+        Ok((self.front(mid), end))
+    }
+
+    // The first `size` bytes.
+    #[inline]
+    pub(super) fn front(&self, size: usize) -> Self
+        requires { size ≤ self.now.size }
+        ensures { result ≡ front self.now size }
+    {
+        VolatileSlice { size, ..*self }
+    }
+
+    #[inline]
+    pub(super) fn part(&self, offset: usize, size: usize) -> Self
         requires { offset + size ≤ self.now.size }
         ensures { result ≡ part self.now offset size }
     {
@@ -321,4 +342,48 @@ fn whole(expected: usize, completed: usize) -> VolatileMemoryResult<()>
         });
     }
     Ok(())
+}
+
+impl VolatileSlice {
+    /// Copies its first bytes to the front of another window, as many as both have. They are copied as they
+    /// were, also where the two overlap, and marked in the other.
+    #[inline]
+    pub fn copy_to_volatile_slice<B: Bitmap>(&self, host: &mut HostMemory<B>, slice: VolatileSlice)
+        requires from { Holds (shape_of host.old) (window_names self.now) }
+        requires to { Holds (shape_of host.old) (window_names slice) }
+        ensures bytes { Copies B.marks self.now slice host.old host.new }
+        ensures shape { shape_of host.new ≡ shape_of host.old }
+    {
+        let count = self.size.min(slice.size);
+        host.copy(&self.front(count), &slice.front(count));
+    }
+
+    /// Copies values out of its first bytes, as many as it has whole and the buffer has room for, and answers
+    /// how many.
+    #[inline]
+    pub fn copy_to<T: ByteValued, B: Bitmap>(&self, host: &HostMemory<B>, buf: &mut [T]) -> usize
+        requires held { Holds (shape_of host.now) (window_names self.now) }
+        requires some { 0 < T.width }
+        ensures count { result ≡ min (length buf.old) (self.now.size / size_of T.width) }
+        ensures values { T.width < 2 ^ 64 → buf.new
+            ≡ values_of T.value_of T.width result (bytes_at host.now.blocks (cells_of self.now)) ++ drop result buf.old }
+    {
+        let count = buf.len().min(self.size / T::size());
+        host.read_values(self, &mut buf[..count]);
+        count
+    }
+
+    /// Copies the bytes of values to its front, as many as it has room for whole, and marks these bytes.
+    #[inline]
+    pub fn copy_from<T: ByteValued, B: Bitmap>(&self, host: &mut HostMemory<B>, buf: &[T])
+        requires held { Holds (shape_of host.old) (window_names self.now) }
+        requires some { 0 < T.width }
+        ensures bytes { T.width < 2 ^ 64 → let count = min (length buf.now) (self.now.size / T.width) in
+            Writes B.marks (front self.now (count * T.width) ∷ []) (flat_map T.bytes (take count buf.now)) host.old host.new }
+        ensures shape { shape_of host.new ≡ shape_of host.old }
+    {
+        let size = T::size();
+        let count = buf.len().min(self.size / size);
+        host.write_values(&self.front(count * size), &buf[..count]);
+    }
 }

@@ -1,8 +1,8 @@
-use Rattle.std.proofs.Common.{◌≡◌, ◌+◌, ◌-◌, ◌<◌, ◌≤◌, ◌∙◌, ap, length, take, drop, arith, length-take-le, length-drop}
+use Rattle.std.proofs.Common.{◌≡◌, ◌+◌, ◌-◌, ◌<◌, ◌≤◌, ◌∙◌, ap, length, take, drop, arith}
 use Rattle.std.proofs.lemmas.Grind.{common_steps}
 use Rattle.vm_memory_guest.specs.Host.{block_at, cells_from, written}
 use Rattle.vm_memory_guest.specs.Inside.{blocks_of}
-use Rattle.vm_memory_guest.proofs.TypedLemmas.{block-put}
+use Rattle.vm_memory_guest.proofs.TypedLemmas.{place-long, place-put}
 use Rattle.vm_memory_guest.proofs.volatile_memory.host.put_value_in.Goals as goal
 
 pub returns : goal.returns
@@ -13,11 +13,8 @@ returns g c =
     let there : c.args.block < length blocks = grind (arith, common_steps) in
     let same : all.items ≡ block_at blocks c.args.block = grind (arith, common_steps) in
     let whole : length old ≡ length (block_at blocks c.args.block) = ap length (c.as_mut_slice.ensures.value ∙ same) in
-    let rest : c.args.offset + c.args.len - c.args.offset ≤ length (drop c.args.offset old) = omega (arith, length-drop c.args.offset old) in
-    let room : length (take (c.args.offset + c.args.len - c.args.offset) (drop c.args.offset old)) ≡ c.args.len =
-    omega (arith, length-take-le (c.args.offset + c.args.len - c.args.offset) (drop c.args.offset old) rest) in
+    let room = place-long old c.args.offset c.args.len (omega arith) in
     let put : c.copy_bytes.new.out ≡ take c.args.len (drop c.args.from (g.T.ByteValued.bytes c.args.value.now)) =
-    c.copy_bytes.ensures ∙ ap (λ k. take k (drop c.args.from (g.T.ByteValued.bytes c.args.value.now))) room in
-    let long : length c.copy_bytes.new.out ≡ c.args.len = c.copy_bytes.auto.out ∙ room in
-    block-put c.args.blocks.now c.args.block c.args.offset c.args.len all old c.copy_bytes.new.out there same c.as_mut_slice.ensures.value long c.requires.within
+        c.copy_bytes.ensures ∙ ap (λ k. take k (drop c.args.from (g.T.ByteValued.bytes c.args.value.now))) room in
+    place-put c.args.blocks.now c.args.block c.args.offset c.args.len all old c.copy_bytes.new.out there same c.as_mut_slice.ensures.value c.requires.within c.copy_bytes.auto.out
     ∙ ap (λ bytes. written (cells_from c.args.block c.args.offset c.args.len) bytes blocks) put
