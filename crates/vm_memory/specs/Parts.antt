@@ -3,8 +3,8 @@ use Rattle.std.specs.Prelude.{List, [], map, flat_map, All}
 use Rattle.vm_memory_base.specs.Pages.{PageSet}
 use Rattle.vm_memory_guest.specs.Host.{Host, shape_of, Holds}
 use Rattle.vm_memory_guest.specs.Region.{Region, region_names}
-use Rattle.vm_memory_guest.specs.Answer.{with_pages}
-use Rattle.vm_memory.specs.Machine.{State, plain}
+use Rattle.vm_memory_guest.specs.Dirt.{with_pages}
+use Rattle.vm_memory.specs.State.{State, plain}
 
 -- a host, a pool of regions, and the layouts and memories that were made
 pub record Parts (R B : Type 0) : Type 0 where

@@ -49,7 +49,7 @@ pub gave : (walk next : Reach Fault) (item : Result Window GuestMemoryError) (w 
 unfolding told_in first_told
 gave walk next item w gives is =
     let told_is : told error_of walk ≡ record { windows = w ∷ next.windows; fault = option_map error_of next.fault } =
-        sym (told-items walk) ∙ ap told_in gives ∙ ap (λ (x : Result Window GuestMemoryError). first_told x (told_in (items_of next))) is ∙ ap (first_told (Ok w)) (told-items next) in
+    sym (told-items walk) ∙ ap told_in gives ∙ ap (λ (x : Result Window GuestMemoryError). first_told x (told_in (items_of next))) is ∙ ap (first_told (Ok w)) (told-items next) in
     record { windows = ap (λ (r : Reach GuestMemoryError). r.windows) told_is; fault = ap (λ (r : Reach GuestMemoryError). r.fault) told_is }
 
 -- a walk has no window left, and this error, if any

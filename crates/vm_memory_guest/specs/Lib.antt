@@ -3,6 +3,7 @@ pub mod Answer
 pub mod Collection
 pub mod Dirt
 pub mod Error
+pub mod Examples
 pub mod Host
 pub mod Inside
 pub mod Memory

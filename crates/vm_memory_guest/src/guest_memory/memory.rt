@@ -71,7 +71,7 @@ pub trait GuestMemory: Named {
         ensures answer { MatchResult result
             (GivesAccess (memory self.now) host.now.tables addr.0 count access)
             (λ e. WantsMemory (memory self.now) e
-                ⊎ RefusesAccess (memory self.now) host.now.tables addr.0 count access e) }
+            ⊎ RefusesAccess (memory self.now) host.now.tables addr.0 count access e) }
         ensures layout { IsLayout (memory self.now).regions };
 
     /// Its regions' addresses and offsets fit 64 bits.
