@@ -12,6 +12,7 @@ pub mod TypedLemmas
 pub mod TypedWalk
 pub mod CopyLemmas
 pub mod ElementLemmas
+pub mod CopyLaws
 pub mod TypedLaws
 pub mod RegionLaws
 pub mod AccessLemmas

@@ -1,6 +1,7 @@
 pub mod Access
 pub mod Answer
 pub mod Collection
+pub mod Copy
 pub mod Dirt
 pub mod Error
 pub mod Examples

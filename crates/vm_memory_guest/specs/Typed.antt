@@ -4,8 +4,7 @@ use Rattle.vm_memory_base.specs.declared.io.VolatileMemoryError.{VolatileMemoryE
 use Rattle.vm_memory_base.specs.declared.io.VolatileMemoryError.TheVariants.{Misaligned}
 use Rattle.vm_memory_guest.specs.Access.{Access, Fault, Reached, is_cut, windows}
 use Rattle.vm_memory_guest.specs.Error.{error_of}
-use Rattle.vm_memory_guest.specs.Host.{Host, bytes_at}
-use Rattle.vm_memory_guest.specs.Window.{Window, Writes, cells_of, subslice_of}
+use Rattle.vm_memory_guest.specs.Window.{Window, subslice_of}
 use Rattle.vm_memory_guest.specs.declared.region.GuestMemoryError.{GuestMemoryError}
 use Rattle.vm_memory_guest.specs.declared.region.GuestMemoryError.TheVariants.{InvalidBackendAddress}
 
@@ -60,11 +59,3 @@ typed_path size access = whole_path size access.path (option_map error_of access
 abbrev pub path_given : Result (List Reached) GuestMemoryError → List Reached
 path_given (Ok xs) = xs
 path_given (Err e) = []
-
--- the first bytes of a window
-abbrev pub front : Window → ℕ → Window
-front w size = record w { size = size }
-
--- a copy moves the lesser number of bytes, as they were, from the front of a window to the front of another, and marks them there
-abbrev pub Copies : {B : Type 0} → (B → ℕ → ℕ → B → Type 0) → Window → Window → Host B → Host B → Type 0
-Copies marks from to old new = let n = min from.size to.size in Writes marks (front to n ∷ []) (bytes_at old.blocks (cells_of (front from n))) old new

@@ -1,13 +1,15 @@
-//! What loads and stores of guest memory are, byte by byte: each function here is a theorem, and does nothing.
-ghost use Rattle.std.specs.Prelude.{◌≡◌, ℕ, List, All};
+//! What loads, stores and copies are, byte by byte: each function here is a theorem, and does nothing.
+ghost use Rattle.std.specs.Prelude.{◌≡◌, ℕ, ◌+◌, ◌^◌, ◌≤◌, min, List, All};
 ghost use Rattle.vm_memory_base.specs.declared.iotlb.Permissions.{Permissions};
+ghost use Rattle.vm_memory_base.specs.declared.bitmap.BitmapId.TheVariants.{Block};
 ghost use Rattle.vm_memory_guest.specs.Access.{access_of};
+ghost use Rattle.vm_memory_guest.specs.Copy.{front, after_copy, Copies};
 ghost use Rattle.vm_memory_guest.specs.Dirt.{after_write, path_cells, with_pages};
 ghost use Rattle.vm_memory_guest.specs.Host.{Host, bytes_at};
 ghost use Rattle.vm_memory_guest.specs.Memory.{Route};
 ghost use Rattle.vm_memory_guest.specs.Region.{Region, IsRegion};
 ghost use Rattle.vm_memory_guest.specs.Typed.{answered, given, path_given, place_of, typed_path};
-ghost use Rattle.vm_memory_guest.specs.Window.{Writes, cells_of};
+ghost use Rattle.vm_memory_guest.specs.Window.{Window, Writes, cells_of};
 
 use crate::access_laws::accesses_are_by_bytes;
 use vm_memory_base::ExactBitmap;
@@ -29,3 +31,13 @@ pub fn loads_and_stores_are_by_bytes<B: ExactBitmap>()
 {
     accesses_are_by_bytes::<B>();
 }
+
+/// A copy to a window that marks its own block's bitmap at its own place, in a host with exact bitmaps, is the
+/// copy of its bytes: each takes what the other had before, and its dirt.
+pub fn copies_are_by_bytes<B: ExactBitmap>()
+    ensures { (from to : Window) (old new : Host B)
+        → to.bitmap ≡ record { id = Block to.block.0; base = to.offset } → to.offset + to.size ≤ 2 ^ 64
+        → Copies B.marks from to old new → let n = min from.size to.size in
+        with_pages B.pages new
+        ≡ after_copy (cells_of (front from n)) (cells_of (front to n)) (with_pages B.pages old) }
+{}

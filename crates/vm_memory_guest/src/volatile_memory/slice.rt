@@ -5,7 +5,8 @@ ghost use Rattle.vm_memory_base.specs.Bytes.{values_of};
 ghost use Rattle.vm_memory_guest.specs.Host.{shape_of, bytes_at, Holds};
 ghost use Rattle.vm_memory_guest.specs.Window.{window_names, cells_of, part, offset_of, subslice_of, Writes};
 ghost use Rattle.vm_memory_guest.specs.Answer.{window_reach};
-ghost use Rattle.vm_memory_guest.specs.Typed.{aligned_of, answered, front, size_of, Copies};
+ghost use Rattle.vm_memory_guest.specs.Copy.{front, Copies};
+ghost use Rattle.vm_memory_guest.specs.Typed.{aligned_of, answered, size_of};
 ghost use Rattle.vm_memory_guest.specs.TypedFacts.{aligned-sized};
 ghost use Rattle.vm_memory_base.specs.declared.io.VolatileMemoryError.TheVariants.{PartialBuffer, Memory};
 
