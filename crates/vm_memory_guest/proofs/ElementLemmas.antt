@@ -18,7 +18,7 @@ values-more value_of width zero bytes = ap (λ (n : ℕ). value_of (take width (
 values-more {V} value_of width (suc k) bytes =
     let next : suc k + 1 ≡ suc (k + 1) = omega arith in
     let behind : drop (k * width) (drop width bytes) ≡ drop (suc k * width) bytes =
-        drop-drop (k * width) width bytes ∙ ap (λ (n : ℕ). drop n bytes) (let e = suc-mul k width in omega arith) in
+    drop-drop (k * width) width bytes ∙ ap (λ (n : ℕ). drop n bytes) (let e = suc-mul k width in omega arith) in
     ap (λ (n : ℕ). values_of value_of width n bytes) next
     ∙ ap (λ (vs : List V). value_of (take width bytes) ∷ vs) (values-more value_of width k (drop width bytes) ∙ ap (λ (s : List ℕ). values_of value_of width k (drop width bytes) ++ value_of (take width s) ∷ []) behind)
 
