@@ -51,7 +51,8 @@ pub trait Bytes<A>: Named {
     ) -> Result<usize, Self::E>
         requires { Holds (shape_of host.old) (Self.names self.now) }
         ensures answer { let r = reach self.now host.old.tables addr (length buf.now) Write in
-            Outcome no_memory (may_want self.now) (counted (span r.windows) r.fault (length buf.now)) (host.new ≡ host.old)
+            Outcome no_memory (may_want self.now)
+            (counted (span r.windows) r.fault (length buf.now)) (host.new ≡ host.old)
             (Writes B.marks r.windows buf.now host.old host.new) result }
         ensures at_most { IfOk result (λ count. count ≤ length buf.now) }
         ensures shape { shape_of host.new ≡ shape_of host.old };
@@ -65,7 +66,8 @@ pub trait Bytes<A>: Named {
     ) -> Result<usize, Self::E>
         requires { Holds (shape_of host.now) (Self.names self.now) }
         ensures answer { let r = reach self.now host.now.tables addr (length buf.old) Read in
-            Outcome no_memory (may_want self.now) (counted (span r.windows) r.fault (length buf.old)) (buf.new ≡ buf.old)
+            Outcome no_memory (may_want self.now)
+            (counted (span r.windows) r.fault (length buf.old)) (buf.new ≡ buf.old)
             (buf.new ≡ filled host.now.blocks (cells r.windows) buf.old) result }
         ensures at_most { IfOk result (λ count. count ≤ length buf.old) };
 
@@ -79,7 +81,8 @@ pub trait Bytes<A>: Named {
     ) -> Result<(), Self::E>
         requires { Holds (shape_of host.old) (Self.names self.now) }
         ensures answer { let r = reach self.now host.old.tables addr (length buf.now) Write in
-            Outcome no_memory (may_want self.now) (exactly partial (span r.windows) r.fault (length buf.now)) (host.new ≡ host.old)
+            Outcome no_memory (may_want self.now)
+            (exactly partial (span r.windows) r.fault (length buf.now)) (host.new ≡ host.old)
             (Writes B.marks r.windows buf.now host.old host.new) result }
         ensures shape { shape_of host.new ≡ shape_of host.old };
 
@@ -93,7 +96,8 @@ pub trait Bytes<A>: Named {
     ) -> Result<(), Self::E>
         requires { Holds (shape_of host.now) (Self.names self.now) }
         ensures answer { let r = reach self.now host.now.tables addr (length buf.old) Read in
-            Outcome no_memory (may_want self.now) (exactly partial (span r.windows) r.fault (length buf.old)) (buf.new ≡ buf.old)
+            Outcome no_memory (may_want self.now)
+            (exactly partial (span r.windows) r.fault (length buf.old)) (buf.new ≡ buf.old)
             (buf.new ≡ filled host.now.blocks (cells r.windows) buf.old) result };
 
     /// Writes a value, as `write_slice` writes its bytes.
@@ -105,7 +109,8 @@ pub trait Bytes<A>: Named {
     ) -> Result<(), Self::E>
         requires { Holds (shape_of host.old) (Self.names self.now) }
         ensures answer { T.width < 2 ^ 64 → let r = reach self.now host.old.tables addr T.width Write in
-            Outcome no_memory (may_want self.now) (exactly partial (span r.windows) r.fault T.width) (host.new ≡ host.old)
+            Outcome no_memory (may_want self.now)
+            (exactly partial (span r.windows) r.fault T.width) (host.new ≡ host.old)
             (Writes B.marks r.windows (T.bytes val) host.old host.new) result }
         ensures shape { shape_of host.new ≡ shape_of host.old };
 
@@ -118,7 +123,8 @@ pub trait Bytes<A>: Named {
         requires { Holds (shape_of host.now) (Self.names self.now) }
         ensures { T.width < 2 ^ 64 → let r = reach self.now host.now.tables addr T.width Read in
             Outcome no_memory (may_want self.now)
-            (answered (λ _. T.value_of (bytes_at host.now.blocks (cells r.windows))) (exactly partial (span r.windows) r.fault T.width))
+            (answered (λ _. T.value_of (bytes_at host.now.blocks (cells r.windows)))
+            (exactly partial (span r.windows) r.fault T.width))
             (Unit {0}) (Unit {0}) result };
 
     /// Stores a value as one atomic integer, in one window at a place that is a multiple of the value's size.
@@ -146,7 +152,8 @@ pub trait Bytes<A>: Named {
     ) -> Result<T, Self::E>
         requires { Holds (shape_of host.now) (Self.names self.now) }
         ensures { let w = place self.now host.now.tables addr T.width Read in
-            Outcome no_memory (may_want self.now) (answered (λ v. T.value_of (bytes_at host.now.blocks (cells_of v))) w)
+            Outcome no_memory (may_want self.now)
+            (answered (λ v. T.value_of (bytes_at host.now.blocks (cells_of v))) w)
             (Unit {0}) (Unit {0}) result };
 
     /// A load or a store of so many bytes takes as many.

@@ -1,7 +1,7 @@
 //! Host memory: every block, bitmap and space, which each access is lent.
 ghost use Rattle.std.specs.Prelude.{◌≡◌, ◌≢◌, ℕ, ◌+◌, ◌-◌, ◌*◌, ◌^◌, ◌<◌, ◌≤◌, ◌↔◌, ◌⊎◌, [], ◌∷◌, ◌++◌, List, length, take, drop, map, replicate, slice_get, slice_set, nat_lt, IsTrue, Some, IfOk, IfSome, OnOk, OnErr, IsErrOf};
 ghost use Rattle.vm_memory_guest.specs.Host as names;
-ghost use Rattle.vm_memory_guest.specs.Host.{Host, Shape, shape_of, Name, IsHeld, Holds, block_at, bytes_at, cells_from, written};
+ghost use Rattle.vm_memory_guest.specs.Host.{Host, Shape, with_block, with_space, shape_of, Name, IsHeld, Holds, block_at, bytes_at, cells_from, written};
 ghost use Rattle.std.specs.List.{flat_map};
 ghost use Rattle.vm_memory_base.specs.Bytes.{values_of};
 ghost use Rattle.vm_memory_guest.specs.Inside.{blocks_of};
@@ -143,7 +143,12 @@ impl<B> Model for HostMemory<B> {
 
     ghost use Rattle.vm_memory_guest.specs.Inside.{IsSound, blocks_of};
 
-    ghost view = { λ h. record { blocks = blocks_of h.blocks; bitmaps = h.bitmaps.items; spaces = h.spaces.items; tables = [] } };
+    ghost view = { λ h. record {
+      blocks = blocks_of h.blocks;
+      bitmaps = h.bitmaps.items;
+      spaces = h.spaces.items;
+      tables = [];
+    } };
 
     ghost invariant = { λ h. IsSound h.shape (blocks_of h.blocks) h.bitmaps.items h.spaces.items };
 }
@@ -192,11 +197,12 @@ impl<B> HostMemory<B> {
     where
         B: Drop,
         ensures number { IfOk result (λ block. block.0 ≡ length self.old.blocks) }
-        ensures ok { OnOk result (self.new ≡ record self.old { blocks = self.old.blocks ++ replicate size 0 ∷ []; bitmaps = self.old.bitmaps ++ bitmap ∷ [] }) }
+        ensures ok { OnOk result (self.new ≡ with_block self.old size bitmap) }
         ensures invalid { IsErrOf result MmapRegionError.InvalidSize ↔ ((size ≡ 0) ⊎ (2 ^ 63 ≤ size)) }
         ensures sized { OnOk result ((0 < size) × (size < 2 ^ 63)) }
         ensures err { OnErr result (self.new ≡ self.old) }
-        ensures kept { (names : List Name) → Holds (shape_of self.old) names → Holds (shape_of self.new) names }
+        ensures kept { (names : List Name) → Holds (shape_of self.old) names
+            → Holds (shape_of self.new) names }
     {
         if size == 0 || size > MAX_BLOCK {
             return Err(MmapRegionError::InvalidSize);
@@ -212,7 +218,7 @@ impl<B> HostMemory<B> {
         requires some { 0 < size }
         requires bound { size < 2 ^ 63 }
         ensures number { IfOk result (λ block. block.0 ≡ length self.old.blocks) }
-        ensures ok { OnOk result (self.new ≡ record self.old { blocks = self.old.blocks ++ replicate size 0 ∷ []; bitmaps = self.old.bitmaps ++ bitmap ∷ [] }) }
+        ensures ok { OnOk result (self.new ≡ with_block self.old size bitmap) }
         ensures err { OnErr result (self.new ≡ self.old) }
     {
         let bytes = zeroed(self.alloc, size)?;
@@ -230,9 +236,10 @@ impl<B> HostMemory<B> {
     where
         B: Drop,
         ensures number { IfOk result (λ space. space.0 ≡ length self.old.spaces) }
-        ensures ok { OnOk result (self.new ≡ record self.old { spaces = self.old.spaces ++ bitmap ∷ [] }) }
+        ensures ok { OnOk result (self.new ≡ with_space self.old bitmap) }
         ensures err { OnErr result (self.new ≡ self.old) }
-        ensures kept { (names : List Name) → Holds (shape_of self.old) names → Holds (shape_of self.new) names }
+        ensures kept { (names : List Name) → Holds (shape_of self.old) names
+            → Holds (shape_of self.new) names }
     {
         self.add_space(bitmap)
     }
@@ -241,7 +248,7 @@ impl<B> HostMemory<B> {
     where
         B: Drop,
         ensures number { IfOk result (λ space. space.0 ≡ length self.old.spaces) }
-        ensures ok { OnOk result (self.new ≡ record self.old { spaces = self.old.spaces ++ bitmap ∷ [] }) }
+        ensures ok { OnOk result (self.new ≡ with_space self.old bitmap) }
         ensures err { OnErr result (self.new ≡ self.old) }
     {
         let space = SpaceId(self.spaces.len());
@@ -290,7 +297,8 @@ impl<B> HostMemory<B> {
     // Moves bytes to a place of a block.
     fn put(&mut self, block: usize, offset: usize, bytes: &[u8])
         requires { Holds (shape_of self.old) (names.Place block offset (length bytes.now) ∷ []) }
-        ensures put { self.new ≡ record self.old { blocks = written (cells_from block offset (length bytes.now)) bytes.now self.old.blocks } }
+        ensures put { let cells = cells_from block offset (length bytes.now) in
+            self.new ≡ record self.old { blocks = written cells bytes.now self.old.blocks } }
         ensures shape { shape_of self.new ≡ shape_of self.old }
     {
         put_in(&mut self.blocks, block, offset, bytes);
@@ -345,10 +353,12 @@ impl<B> HostMemory<B> {
     // Moves the bytes of a value, from byte `from` on, to a place of a block.
     #[inline]
     fn put_value<T: ByteValued>(&mut self, window: &VolatileSlice, value: &T, from: usize)
-        requires held { Holds (shape_of self.old) (names.Place window.now.block.0 window.now.offset window.now.size ∷ []) }
+        requires held { let w = window.now in
+            Holds (shape_of self.old) (names.Place w.block.0 w.offset w.size ∷ []) }
         requires inside { from + window.now.size ≤ T.width }
         requires fits { from + window.now.size < 2 ^ 64 }
-        ensures put { self.new ≡ record self.old { blocks = written (cells_of window.now) (take window.now.size (drop from (T.bytes value.now))) self.old.blocks } }
+        ensures put { let bytes = take window.now.size (drop from (T.bytes value.now)) in
+            self.new ≡ record self.old { blocks = written (cells_of window.now) bytes self.old.blocks } }
         ensures shape { shape_of self.new ≡ shape_of self.old }
     {
         put_value_in(
@@ -383,7 +393,8 @@ impl<B> HostMemory<B> {
 
     // Moves the bytes of values, one after the other, to a place of a block.
     fn put_values<T: ByteValued>(&mut self, window: &VolatileSlice, values: &[T])
-        requires held { Holds (shape_of self.old) (names.Place window.now.block.0 window.now.offset window.now.size ∷ []) }
+        requires held { let w = window.now in
+            Holds (shape_of self.old) (names.Place w.block.0 w.offset w.size ∷ []) }
         requires size { window.now.size ≡ length values.now * size_of T.width }
         ensures put { T.width < 2 ^ 64 → self.new ≡ record self.old {
           blocks = written (cells_of window.now) (flat_map T.bytes values.now) self.old.blocks;
@@ -401,7 +412,8 @@ impl<B> HostMemory<B> {
         B: Bitmap,
         requires held { Holds (shape_of self.old) (window_names window.now) }
         requires size { window.now.size ≡ length values.now * size_of T.width }
-        ensures bytes { T.width < 2 ^ 64 → Writes B.marks (window.now ∷ []) (flat_map T.bytes values.now) self.old self.new }
+        ensures bytes { T.width < 2 ^ 64
+            → Writes B.marks (window.now ∷ []) (flat_map T.bytes values.now) self.old self.new }
         ensures shape { shape_of self.new ≡ shape_of self.old }
     {
         self.put_values(window, values);
@@ -423,7 +435,8 @@ impl<B> HostMemory<B> {
 
     // Moves the bytes of a window to another of as many, as they were.
     fn move_bytes(&mut self, from: &VolatileSlice, to: &VolatileSlice)
-        requires from { Holds (shape_of self.old) (names.Place from.now.block.0 from.now.offset from.now.size ∷ []) }
+        requires from { let w = from.now in
+            Holds (shape_of self.old) (names.Place w.block.0 w.offset w.size ∷ []) }
         requires to { Holds (shape_of self.old) (names.Place to.now.block.0 to.now.offset to.now.size ∷ []) }
         requires size { from.now.size ≡ to.now.size }
         ensures put { self.new ≡ record self.old {
@@ -450,7 +463,8 @@ impl<B> HostMemory<B> {
         requires from { Holds (shape_of self.old) (window_names from.now) }
         requires to { Holds (shape_of self.old) (window_names to.now) }
         requires size { from.now.size ≡ to.now.size }
-        ensures bytes { Writes B.marks (to.now ∷ []) (bytes_at self.old.blocks (cells_of from.now)) self.old self.new }
+        ensures bytes { let bytes = bytes_at self.old.blocks (cells_of from.now) in
+            Writes B.marks (to.now ∷ []) bytes self.old self.new }
         ensures shape { shape_of self.new ≡ shape_of self.old }
     {
         self.move_bytes(from, to);
@@ -462,7 +476,8 @@ impl<B> HostMemory<B> {
     pub(crate) fn value<T: ByteValued>(&self, window: &VolatileSlice) -> T
         requires held { Holds (shape_of self.now) (window_names window.now) }
         requires size { window.now.size ≤ T.width }
-        ensures { window.now.size ≡ T.width → result ≡ T.value_of (bytes_at self.now.blocks (cells_of window.now)) }
+        ensures { window.now.size ≡ T.width
+            → result ≡ T.value_of (bytes_at self.now.blocks (cells_of window.now)) }
     {
         let mut value = T::zeroed();
         value.set_bytes(0, self.bytes(window));
@@ -475,11 +490,12 @@ impl<B: NewBitmap + Drop> HostMemory<B> {
     /// Makes a block of `size` zeroed bytes, tracked by a new bitmap for as many, as `new_block_with` does.
     pub fn new_block(&mut self, size: usize) -> Result<BlockId, MmapRegionError>
         ensures number { IfOk result (λ block. block.0 ≡ length self.old.blocks) }
-        ensures ok { OnOk result ((bitmap : B) × B.made size bitmap × (self.new ≡ record self.old { blocks = self.old.blocks ++ replicate size 0 ∷ []; bitmaps = self.old.bitmaps ++ bitmap ∷ [] })) }
+        ensures ok { OnOk result ((bitmap : B) × B.made size bitmap × (self.new ≡ with_block self.old size bitmap)) }
         ensures invalid { IsErrOf result MmapRegionError.InvalidSize ↔ ((size ≡ 0) ⊎ (2 ^ 63 ≤ size)) }
         ensures sized { OnOk result ((0 < size) × (size < 2 ^ 63)) }
         ensures err { OnErr result (self.new ≡ self.old) }
-        ensures kept { (names : List Name) → Holds (shape_of self.old) names → Holds (shape_of self.new) names }
+        ensures kept { (names : List Name) → Holds (shape_of self.old) names
+            → Holds (shape_of self.new) names }
     {
         if size == 0 || size > MAX_BLOCK {
             return Err(MmapRegionError::InvalidSize);
@@ -511,7 +527,8 @@ fn part_of(blocks: &Vec<Vec<u8>>, block: usize, offset: usize, len: usize) -> &[
 fn put_in(blocks: &mut Vec<Vec<u8>>, block: usize, offset: usize, bytes: &[u8])
     requires there { block < length blocks.old.items }
     requires within { offset + length bytes.now ≤ length (block_at (blocks_of blocks.old) block) }
-    ensures { blocks_of blocks.new ≡ written (cells_from block offset (length bytes.now)) bytes.now (blocks_of blocks.old) }
+    ensures { let cells = cells_from block offset (length bytes.now) in
+        blocks_of blocks.new ≡ written cells bytes.now (blocks_of blocks.old) }
 {
     let all = &mut blocks[block];
     move_into(all.as_mut_slice(), offset, bytes);
@@ -531,7 +548,8 @@ fn put_value_in<T: ByteValued>(
     requires within { offset + len ≤ length (block_at (blocks_of blocks.old) block) }
     requires inside { from + len ≤ T.width }
     requires fits { from + len < 2 ^ 64 }
-    ensures { blocks_of blocks.new ≡ written (cells_from block offset len) (take len (drop from (T.bytes value.now))) (blocks_of blocks.old) }
+    ensures { let bytes = take len (drop from (T.bytes value.now)) in
+        blocks_of blocks.new ≡ written (cells_from block offset len) bytes (blocks_of blocks.old) }
 {
     let all = &mut blocks[block];
     let place = &mut all.as_mut_slice()[offset..offset + len];
@@ -633,7 +651,8 @@ fn value_in<T: ByteValued>(bytes: &[u8], k: usize) -> T
 #[inline]
 fn put_value_at<T: ByteValued>(place: &mut [u8], value: &T, k: usize)
     requires { k * size_of T.width + size_of T.width ≤ length place.old }
-    ensures { T.width < 2 ^ 64 → take ((k + 1) * T.width) place.new ≡ take (k * T.width) place.old ++ T.bytes value.now }
+    ensures { T.width < 2 ^ 64
+        → take ((k + 1) * T.width) place.new ≡ take (k * T.width) place.old ++ T.bytes value.now }
 {
     let size = T::size();
     value.known();

@@ -167,7 +167,9 @@ impl VolatileSlice {
     #[inline]
     fn reached(&self, offset: usize, count: usize) -> VolatileMemoryResult<VolatileSlice>
         requires { 0 < count }
-        ensures reach { MatchResult result (λ w. window_reach self.now offset count ≡ record { windows = w ∷ []; fault = None }) (λ e. window_reach self.now offset count ≡ record { windows = []; fault = Some e }) }
+        ensures reach { let reach = window_reach self.now offset count in
+            MatchResult result (λ w. reach ≡ record { windows = w ∷ []; fault = None })
+            (λ e. reach ≡ record { windows = []; fault = Some e }) }
         ensures at_most { IfOk result (λ w. w.size ≤ count) }
     {
         if offset >= self.size {
@@ -334,7 +336,8 @@ impl Bytes<usize> for VolatileSlice {
 
 // Whether all that was expected was completed.
 fn whole(expected: usize, completed: usize) -> VolatileMemoryResult<()>
-    ensures { result ≡ cond (completed == expected) (Ok tt) (Err (VolatileMemoryError.PartialBuffer expected completed)) }
+    ensures { let short = VolatileMemoryError.PartialBuffer expected completed in
+        result ≡ cond (completed == expected) (Ok tt) (Err short) }
 {
     if completed != expected {
         return Err(VolatileMemoryError::PartialBuffer {
@@ -367,7 +370,8 @@ impl VolatileSlice {
         requires some { 0 < T.width }
         ensures count { result ≡ min (length buf.old) (self.now.size / size_of T.width) }
         ensures values { T.width < 2 ^ 64 → buf.new
-            ≡ values_of T.value_of T.width result (bytes_at host.now.blocks (cells_of self.now)) ++ drop result buf.old }
+            ≡ values_of T.value_of T.width result (bytes_at host.now.blocks (cells_of self.now))
+            ++ drop result buf.old }
     {
         let count = buf.len().min(self.size / T::size());
         host.read_values(self, &mut buf[..count]);
