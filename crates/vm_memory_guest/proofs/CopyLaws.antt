@@ -28,7 +28,7 @@ module _ {B : Type 0} (marks : B → ℕ → ℕ → B → Type 0) (pages : B �
       let base : w.bitmap.base + w.size ≤ 2 ^ 64 = let e = ap (λ (r : BitmapRef). r.base) own in omega arith in
       let all = All-cons (λ (v : Window). v.bitmap.base + v.size ≤ 2 ^ 64) w [] base (All-nil (λ (v : Window). v.bitmap.base + v.size ≤ 2 ^ 64)) in
       let here : flat_map window_marks (w ∷ []) ≡ map (λ (x : ℕ). (Block w.block.0, x)) (numbers w.offset w.size) =
-          append-nil (window_marks w) ∙ ap (λ (r : BitmapRef). map (λ (x : ℕ). (r.id, x)) (numbers r.base w.size)) own in
+      append-nil (window_marks w) ∙ ap (λ (r : BitmapRef). map (λ (x : ℕ). (r.id, x)) (numbers r.base w.size)) own in
       with_pages-Writes marks pages exact (w ∷ []) bytes old new writes
       ∙ (windows_dirtied-each (w ∷ []) (host (cells (w ∷ []))) all
       ∙ (ap (λ (ms : List (BitmapId × ℕ)). each_marked ms (host (cells (w ∷ [])))) here

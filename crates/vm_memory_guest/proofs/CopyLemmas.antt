@@ -35,26 +35,26 @@ moved blocks items source from target to len s t d e old bytes new there here s_
     let count : from + len - from ≡ len = omega arith in
     let bytes_are : bytes ≡ bytes_at all (cells_from source from len) = taken ∙ rw (count, source_is) (sym (bytes_at-block source from len all readable)) in
     let long : length bytes ≡ len =
-        let a = ap length taken in
-        let b = length-drop from s.items in
-        let c = ap length source_is in
-        let d = length-take-le (from + len - from) (drop from s.items) (omega arith) in
-        omega arith in
+    let a = ap length taken in
+    let b = length-drop from s.items in
+    let c = ap length source_is in
+    let d = length-take-le (from + len - from) (drop from s.items) (omega arith) in
+    omega arith in
     let whole = block_at all target in
     let same : old ≡ whole = old_is ∙ target_is in
     let within : to + length bytes ≤ length whole = omega arith in
     let new_is : new ≡ take to whole ++ bytes ++ drop (to + length bytes) whole = put ∙ ap (λ (b : List ℕ). take to b ++ bytes ++ drop (to + length bytes) b) same in
     let kept : length new ≡ t.len =
-        let a = ap length new_is in
-        let b = replaced-length whole bytes to within in
-        let c = ap length target_is in
-        let f = t.ok.0 in
-        omega arith in
+    let a = ap length new_is in
+    let b = replaced-length whole bytes to within in
+    let c = ap length target_is in
+    let f = t.ok.0 in
+    omega arith in
     let items_kept : length items ≡ blocks.len =
-        let a = ap length items_is in
-        let b = length-set blocks.items target (with_items t new) in
-        let c = blocks.ok.0 in
-        omega arith in
+    let a = ap length items_is in
+    let b = length-set blocks.items target (with_items t new) in
+    let c = blocks.ok.0 in
+    omega arith in
     let in_range : target < length all = rw (length-map blocks.items (λ (v : Vec ℕ Global). v.items)) here in
     ap (map (λ (v : Vec ℕ Global). v.items)) (with_items_is blocks items items_kept ∙ items_is)
     ∙ (map-set (λ (v : Vec ℕ Global). v.items) blocks.items target (with_items t new)
@@ -77,11 +77,11 @@ moved-inside blocks block from to len all old new there same is readable writabl
     let within : to + length bytes ≤ length whole = omega arith in
     let new_is : new ≡ take to whole ++ bytes ++ drop (to + length bytes) whole = put ∙ rw (bytes_are, long, is, same) refl in
     let kept : length new ≡ all.len =
-        let a = ap length new_is in
-        let b = replaced-length whole bytes to within in
-        let c = ap length same in
-        let d = all.ok.0 in
-        omega arith in
+    let a = ap length new_is in
+    let b = replaced-length whole bytes to within in
+    let c = ap length same in
+    let d = all.ok.0 in
+    omega arith in
     map-set (λ (v : Vec ℕ Global). v.items) blocks.items block (with_items all new)
     ∙ (ap (set bs block) (with_items_is all new kept ∙ new_is)
     ∙ (sym (written-block block to bytes bs there within) ∙ ap (λ (n : ℕ). written (cells_from block to n) bytes bs) long))

@@ -372,7 +372,8 @@ impl<B> HostMemory<B> {
         requires held { Holds (shape_of self.old) (names.Place window.now.block.0 window.now.offset window.now.size ∷ []) }
         requires size { window.now.size ≡ length values.now * size_of T.width }
         ensures put { T.width < 2 ^ 64 → self.new ≡ record self.old {
-            blocks = written (cells_of window.now) (flat_map T.bytes values.now) self.old.blocks } }
+          blocks = written (cells_of window.now) (flat_map T.bytes values.now) self.old.blocks;
+        } }
         ensures shape { shape_of self.new ≡ shape_of self.old }
     {
         let blocks = &mut self.blocks;
@@ -412,11 +413,19 @@ impl<B> HostMemory<B> {
         requires to { Holds (shape_of self.old) (names.Place to.now.block.0 to.now.offset to.now.size ∷ []) }
         requires size { from.now.size ≡ to.now.size }
         ensures put { self.new ≡ record self.old {
-            blocks = written (cells_of to.now) (bytes_at self.old.blocks (cells_of from.now)) self.old.blocks } }
+          blocks = written (cells_of to.now) (bytes_at self.old.blocks (cells_of from.now)) self.old.blocks;
+        } }
         ensures shape { shape_of self.new ≡ shape_of self.old }
     {
         let blocks = &mut self.blocks;
-        copy_in(blocks, from.block.0, from.offset, to.block.0, to.offset, to.size);
+        copy_in(
+            blocks,
+            from.block.0,
+            from.offset,
+            to.block.0,
+            to.offset,
+            to.size,
+        );
     }
 
     /// Moves the bytes of a window to another of as many, as they were, also where the two overlap, and marks

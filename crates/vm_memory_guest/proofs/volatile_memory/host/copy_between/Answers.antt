@@ -15,7 +15,7 @@ returns-then-source-target c =
     let t = get_or high 0 c.index-high-0.result in
     let new = c.move_into.new.block in
     let taken : take (c.args.from + c.args.len - c.args.from) (drop c.args.from c.as_slice.result.now) ≡ take (c.args.from + c.args.len - c.args.from) (drop c.args.from s.items) =
-        ap (λ xs. take (c.args.from + c.args.len - c.args.from) (drop c.args.from xs)) c.as_slice.ensures.value in
+    ap (λ xs. take (c.args.from + c.args.len - c.args.from) (drop c.args.from xs)) c.as_slice.ensures.value in
     moved blocks (low ++ set high 0 (with_items t new)) c.args.source c.args.from c.args.target c.args.to c.args.len s t c.index-low-source.result c.index-high-0.result c.as_mut_slice.result.now (take (c.args.from + c.args.len - c.args.from) (drop c.args.from c.as_slice.result.now)) new
     c.requires.source c.requires.target
     (low-at blocks.items low high split c.args.source c.index-low-source.result inside)
@@ -37,7 +37,7 @@ returns-else-source-target c =
     let new = c.move_into-else-source-target.new.block in
     let read = c.as_slice-else-source-target.result.now in
     let taken : take (c.args.from + c.args.len - c.args.from) (drop c.args.from read) ≡ take (c.args.from + c.args.len - c.args.from) (drop c.args.from s.items) =
-        ap (λ xs. take (c.args.from + c.args.len - c.args.from) (drop c.args.from xs)) c.as_slice-else-source-target.ensures.value in
+    ap (λ xs. take (c.args.from + c.args.len - c.args.from) (drop c.args.from xs)) c.as_slice-else-source-target.ensures.value in
     moved blocks (set low c.args.target (with_items t new) ++ high) c.args.source c.args.from c.args.target c.args.to c.args.len s t c.index-high-0-else-source-target.result c.index-low-target.result c.as_mut_slice-else-source-target.result.now (take (c.args.from + c.args.len - c.args.from) (drop c.args.from read)) new
     c.requires.source c.requires.target
     (high-at blocks.items low high split c.args.source c.index-high-0-else-source-target.result seam)
