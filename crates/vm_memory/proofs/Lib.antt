@@ -1,4 +1,4 @@
+pub mod AccessLemmas
+pub mod ListLemmas
 pub mod NamedLemmas
-pub mod PlainLemmas
-mod PoolLemmas
 pub mod StepLemmas

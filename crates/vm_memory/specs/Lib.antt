@@ -1,4 +1,7 @@
+pub mod Examples
+pub mod Inside
 pub mod Machine
 pub mod Parts
-pub mod Plain
+pub mod Reply
 pub mod Script
+pub mod State

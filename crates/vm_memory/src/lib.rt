@@ -2,6 +2,8 @@
 #![tactic(auto)]
 
 pub mod machine;
+pub mod machine_examples;
+pub mod machine_laws;
 pub mod script;
 
 pub use script::{DriveFault, drive};

@@ -8,18 +8,21 @@
 ghost use Rattle.std.specs.Prelude.{◌≡◌};
 ghost use Rattle.vm_memory.specs.Script.{status_of};
 
+mod commands;
 mod line;
 mod pools;
 mod reply;
+mod setup;
+mod words;
 
 use crate::machine::command::{Command, Reply};
-use crate::machine::{Machine, run};
-use line::{Line, LineError};
-use pools::Pools;
+use crate::machine::run;
+use line::Line;
+use pools::{Pools, ScriptMachine};
 use std::alloc::Global;
 use std::io::{BufWriter, ErrorKind, Read, Write};
 use thiserror::Error;
-use vm_memory_guest::GuestRegionMmap;
+use words::LineError;
 
 /// Why a script did not run to its end.
 #[derive(Debug, Drop, Error)]
@@ -108,7 +111,7 @@ struct Session {
 #[derive(Drop)]
 enum Stage {
     Setup(Pools),
-    Running(Machine<GuestRegionMmap, ()>),
+    Running(ScriptMachine),
 }
 
 impl Session {
@@ -147,7 +150,7 @@ impl Session {
 }
 
 impl Stage {
-    fn into_machine(self) -> Machine<GuestRegionMmap, ()> {
+    fn into_machine(self) -> ScriptMachine {
         match self {
             Stage::Setup(pools) => pools.into_machine(),
             Stage::Running(machine) => machine,
@@ -157,7 +160,7 @@ impl Stage {
 
 // Runs one command and writes its reply.
 fn run_one(
-    machine: &mut Machine<GuestRegionMmap, ()>,
+    machine: &mut ScriptMachine,
     command: Command,
     replies: &mut Vec<Reply>,
     output: &mut impl Write,

@@ -5,4 +5,5 @@ pub mod AlignUp
 pub mod KnownBytesJoined
 pub mod ByteLemmas
 pub mod ArrayLemmas
+pub mod BitmapLemmas
 pub mod PieceLemmas

@@ -445,80 +445,59 @@ impl Address for MemoryRegionAddress {
 #[cfg(test)]
 mod tests {
     use super::*;
-    use std::process::Abort;
 
-    // The arithmetic through the bound, as generic code has it.
-    fn each_call<A: Address<V = u64> + Debug>(rt: &impl Abort) {
-        let low = A::new(0x1000);
-        let top = A::new(u64::MAX);
-        assert_eq!(rt; low.raw_value(), 0x1000);
-        assert_eq!(rt; A::zero(), 0);
-        assert_eq!(rt; A::one(), 1);
-        assert_eq!(rt; A::default(), A::new(0));
-        assert_eq!(rt; A::new(0x5050).mask(0xff00), 0x5000);
-        assert_eq!(rt; A::new(0x5050) & 0xff00, A::new(0x5000));
-        assert_eq!(rt; A::new(0x5050) | 5, A::new(0x5055));
-        assert_eq!(rt; low.checked_add(1), Some(A::new(0x1001)));
-        assert_eq!(rt; top.checked_add(1), None);
-        assert_eq!(rt; low.checked_sub(0x1000), Some(A::new(0)));
-        assert_eq!(rt; low.checked_sub(0x1001), None);
-        assert_eq!(rt; top.checked_offset_from(low), Some(u64::MAX - 0x1000));
-        assert_eq!(rt; low.checked_offset_from(top), None);
-        assert_eq!(rt; top.overflowing_add(1), (A::new(0), true));
-        assert_eq!(rt; low.overflowing_add(1), (A::new(0x1001), false));
-        assert_eq!(rt; A::new(0).overflowing_sub(1), (top, true));
-        assert_eq!(rt; low.overflowing_sub(1), (A::new(0xfff), false));
+    #[test]
+    fn sums_and_differences(rt: HostRuntime) {
+        let cases = [
+            (0x1000, 1, Some(0x1001), Some(0xfff)),
+            (0x1000, 0x1000, Some(0x2000), Some(0)),
+            (0x1000, 0x1001, Some(0x2001), None),
+            (u64::MAX - 1, 1, Some(u64::MAX), Some(u64::MAX - 2)),
+            (u64::MAX, 1, None, Some(u64::MAX - 1)),
+            (0, 1, Some(1), None),
+        ];
+        for (address, offset, sum, difference) in cases {
+            let a = GuestAddress(address);
+            assert!(rt; a.checked_add(offset) == sum.map(GuestAddress));
+            assert!(rt; a.checked_sub(offset) == difference.map(GuestAddress));
+            assert!(rt; a.overflowing_add(offset).1 == sum.is_none());
+            assert!(rt; a.overflowing_sub(offset).1 == difference.is_none());
+            assert!(rt; a.checked_offset_from(GuestAddress(offset)) == difference);
+        }
     }
 
     #[test]
-    fn arithmetic(rt: HostRuntime) {
-        each_call::<GuestAddress>(&rt);
-        each_call::<MemoryRegionAddress>(&rt);
-    }
-
-    #[test]
-    fn edges(rt: HostRuntime) {
-        let top = GuestAddress(u64::MAX);
-        assert_eq!(rt; GuestAddress(u64::MAX - 1).checked_add(1), Some(top));
-        assert_eq!(rt; GuestAddress(u64::MAX - 1).unchecked_add(1), top);
-        assert_eq!(rt; GuestAddress(1).checked_sub(1), Some(GuestAddress(0)));
-        assert_eq!(rt; GuestAddress(1).unchecked_sub(1), GuestAddress(0));
-        assert_eq!(rt;
-            GuestAddress(0x150).unchecked_offset_from(GuestAddress(0x100)),
-            0x50
-        );
-        assert_eq!(rt;
-            MemoryRegionAddress(0x0ff0) & 0xf00f,
-            MemoryRegionAddress(0)
-        );
-        assert_eq!(rt;
-            MemoryRegionAddress(0x0ff0) | 0xf00f,
-            MemoryRegionAddress(0xffff)
-        );
-    }
-
-    #[test]
-    fn comparisons(rt: HostRuntime) {
-        let a = GuestAddress(0x300);
-        let b = GuestAddress(0x301);
-        assert_eq!(rt; a, GuestAddress(a.raw_value()));
-        assert_ne!(rt; a, b);
-        assert!(rt; a < b);
-        assert!(rt; MemoryRegionAddress(0x300) < MemoryRegionAddress(0x301));
+    fn words(rt: HostRuntime) {
+        let cases = [
+            (0x0ff0, 0xf00f, 0, 0xffff),
+            (0x5050, 0xff00, 0x5000, 0xff50),
+        ];
+        for (address, mask, both, either) in cases {
+            let a = MemoryRegionAddress(address);
+            assert!(rt; a.mask(mask) == both);
+            assert!(rt; a & mask == MemoryRegionAddress(both));
+            assert!(rt; a | mask == MemoryRegionAddress(either));
+        }
     }
 
     #[test]
     fn alignment(rt: HostRuntime) {
-        let a = GuestAddress(0x128);
-        assert_eq!(rt; a.checked_align_up(8), Some(GuestAddress(0x128)));
-        assert_eq!(rt; a.checked_align_up(16), Some(GuestAddress(0x130)));
-        assert_eq!(rt; a.unchecked_align_up(8), GuestAddress(0x128));
-        assert_eq!(rt; a.unchecked_align_up(16), GuestAddress(0x130));
-        let high = GuestAddress(u64::MAX - 0x3fff);
-        assert_eq!(rt; high.checked_align_up(0x10000), None);
-        assert_eq!(rt;
-            MemoryRegionAddress(1).checked_align_up(2),
-            Some(MemoryRegionAddress(2))
-        );
+        for (address, aligned) in [(0x128, 0x130), (0x130, 0x130), (0x131, 0x140)] {
+            let a = GuestAddress(address);
+            assert!(rt; a.checked_align_up(16) == Some(GuestAddress(aligned)));
+        }
+        let high = MemoryRegionAddress(u64::MAX - 0x3fff);
+        assert!(rt; high.checked_align_up(0x10000).is_none());
+    }
+
+    #[test]
+    fn unchecked(rt: HostRuntime) {
+        let a = GuestAddress(0x150);
+        assert!(rt; a.unchecked_add(1) == GuestAddress(0x151));
+        assert!(rt; a.unchecked_sub(0x150).raw_value() == GuestAddress::zero());
+        assert!(rt; a.unchecked_offset_from(GuestAddress(0x100)) == 0x50);
+        assert!(rt; a.unchecked_align_up(16) == a);
+        assert!(rt; GuestAddress::new(1).raw_value() == GuestAddress::one());
+        assert!(rt; GuestAddress::default() < a);
     }
 }

@@ -1,9 +1,12 @@
 -- What a host holds, over lists of names.
-use Rattle.std.proofs.Common.{◌≡◌, ℕ, suc, ◌+◌, ◌<◌, ◌≤◌, List, [], ◌∷◌, ◌++◌, map, flat_map, drop, length, get_or, slice_index, refl, sym, subst, ap, ◌∙◌, add-one, length-append, Result, Ok, Err, OnOk, OnErr, arith}
+use Rattle.std.proofs.Common.{◌≡◌, ℕ, suc, ◌+◌, ◌<◌, ◌≤◌, ◌↔◌, List, [], ◌∷◌, ◌++◌, map, flat_map, drop, length, get_or, slice_index, refl, sym, subst, ap, ◌∙◌, add-one, length-append, Result, Ok, Err, OnOk, OnErr, All, Contains, arith}
 use Rattle.std.proofs.lemmas.List.{get_or_append_left, map-append}
+use Rattle.std.proofs.lemmas.List.Elements.{All-nil, All-cons, All-head, All-tail, All-weaker, All-contains, All-from_recursion, recursion_from_All}
 use Rattle.std.proofs.Math.Seq.{drop-cons}
-use Rattle.vm_memory_guest.specs.Host.{Host, Shape, Name, Block, Place, Space, Tlb, IsHeld, Holds, shape_of}
+use Rattle.std.specs.List.{AllByRecursion}
+use Rattle.vm_memory_guest.specs.Host.{Host, Shape, Name, Block, Place, Space, Tlb, IsHeld, Holds, shape_of, block_at}
 use Rattle.vm_memory_guest.specs.Region.{Region, region_names}
+use Rattle.vm_memory_guest.proofs.WrittenLaws.{length-block_at}
 
 -- both lists are held where they are held one after the other
 pub Holds-append : (shape : Shape) (xs ys : List Name) → Holds shape xs → Holds shape ys → Holds shape (xs ++ ys)
@@ -17,6 +20,50 @@ Holds-left shape (x ∷ xs) ys h = (h.0, Holds-left shape xs ys h.1)
 pub Holds-right : (shape : Shape) (xs ys : List Name) → Holds shape (xs ++ ys) → Holds shape ys
 Holds-right shape [] ys h = h
 Holds-right shape (x ∷ xs) ys h = Holds-right shape xs ys h.1
+
+pub Holds-parts : (shape : Shape) (xs ys : List Name) → Holds shape (xs ++ ys) → Holds shape xs × Holds shape ys
+Holds-parts shape xs ys h = (Holds-left shape xs ys h, Holds-right shape xs ys h)
+
+-- names are held where each of them is
+pub Holds-all : (shape : Shape) (names : List Name) → Holds shape names ↔ All (IsHeld shape) names
+Holds-all shape names = (λ h. All-from_recursion (IsHeld shape) names (there names h), λ all. back names (recursion_from_All (IsHeld shape) names all))
+  where
+    there : (names : List Name) → Holds shape names → AllByRecursion (IsHeld shape) names
+    there [] h = tt
+    there (name ∷ names) h = (h.0, there names h.1)
+
+    back : (names : List Name) → AllByRecursion (IsHeld shape) names → Holds shape names
+    back [] h = tt
+    back (name ∷ names) h = (h.0, back names h.1)
+
+abbrev HoldsRegion : Shape → Region → Type 0
+HoldsRegion shape r = Holds shape (region_names r)
+
+-- regions are held where each of them is
+pub Holds-each : (shape : Shape) (rs : List Region) → Holds shape (flat_map region_names rs) ↔ All (λ r. Holds shape (region_names r)) rs
+Holds-each shape rs = (there rs, back rs)
+  where
+    there : (rs : List Region) → Holds shape (flat_map region_names rs) → All (HoldsRegion shape) rs
+    there [] h = All-nil (HoldsRegion shape)
+    there (r ∷ rs) h = All-cons (HoldsRegion shape) r rs (Holds-left shape (region_names r) (flat_map region_names rs) h) (there rs (Holds-right shape (region_names r) (flat_map region_names rs) h))
+
+    back : (rs : List Region) → All (HoldsRegion shape) rs → Holds shape (flat_map region_names rs)
+    back [] all = tt
+    back (r ∷ rs) all = Holds-append shape (region_names r) (flat_map region_names rs) (All-head (HoldsRegion shape) r rs all) (back rs (All-tail (HoldsRegion shape) r rs all))
+
+-- regions that are some of those that are held are held
+pub Holds-among : (shape : Shape) (rs among : List Region) → Holds shape (flat_map region_names rs) → All (Contains rs) among → Holds shape (flat_map region_names among)
+Holds-among shape rs among h all = (Holds-each shape among).1 (All-weaker (Contains rs) (HoldsRegion shape) (λ r found. All-contains (HoldsRegion shape) rs r ((Holds-each shape rs).0 h) found) among all)
+
+-- a block that is there is held whole
+pub IsHeld-whole : {B : Type 0} (host : Host B) (block : ℕ) → IsHeld (shape_of host) (Block block) → IsHeld (shape_of host) (Place block 0 (length (block_at host.blocks block)))
+IsHeld-whole host block h =
+    let size = length-block_at host.blocks block in
+    (h, omega (arith, size))
+
+-- a place in a place that is held is held
+pub IsHeld-part : (shape : Shape) (block offset len start n : ℕ) → IsHeld shape (Place block offset len) → start + n ≤ offset + len → IsHeld shape (Place block start n)
+IsHeld-part shape block offset len start n h inside = (h.0, omega (arith, h.1))
 
 -- a host with more blocks and spaces holds what it held
 record IsMore (old new : Shape) : Type 0 where

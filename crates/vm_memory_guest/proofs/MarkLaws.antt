@@ -1,12 +1,11 @@
 -- Marks of bitmaps by windows, and writes.
-use Rattle.std.proofs.Common.{◌≡◌, ℕ, ◌+◌, ◌<◌, ◌≤◌, Bool, true, false, ltb, List, [], ◌∷◌, ◌++◌, map, length, get_or, take, drop, MatchBool, refl, sym, ap, subst, ◌∙◌, length-set, length-take-le, take-append-drop}
-use Rattle.std.proofs.lemmas.List.{take_more}
+use Rattle.std.proofs.Common.{◌≡◌, ℕ, Bool, true, false, ltb, List, [], ◌∷◌, ◌++◌, map, length, take, MatchBool, refl, sym, ap, subst, ◌∙◌, length-set}
 use Rattle.vm_memory_base.specs.declared.bitmap.BitmapId.{BitmapId}
 use Rattle.vm_memory_base.specs.declared.bitmap.BitmapId.TheVariants.{Block, Space}
 use Rattle.vm_memory_base.specs.Table.{Table}
 use Rattle.vm_memory_guest.specs.Host.{Host, Cell, shape_of, written}
-use Rattle.vm_memory_guest.specs.Window.{span, cells_of, cells, MarksOne, Marks, MarksWindow, MarksAll, Writes, Window}
-use Rattle.vm_memory_guest.proofs.WrittenLaws.{written-append, written-take, lengths-written, cells-append, length-cells, cells-one}
+use Rattle.vm_memory_guest.specs.Window.{span, cells, MarksOne, Marks, MarksWindow, MarksAll, Writes, Window, cells_of}
+use Rattle.vm_memory_guest.proofs.WrittenLaws.{cells-one, written-append, written-take, lengths-written, cells-append, length-cells}
 
 -- a case for each answer of a test, each followed by what it says
 match_bool-weaker : (b : Bool) (P Q R S : Type 0) → (P → R) → (Q → S) → MatchBool b P Q → MatchBool b R S
@@ -33,19 +32,10 @@ module _ {B : Type 0} (marks : B → ℕ → ℕ → B → Type 0) where
   MarksAll-append [] vs old mid new h k = subst (λ (x : Host B). MarksAll marks vs x new) h k
   MarksAll-append (w ∷ ws) vs old mid new h k = (h.0, h.1, MarksAll-append ws vs h.0 mid new h.2 k)
 
-  -- between the marks of the first windows and those of the others there is a host
-  pub MarksAll-split : (ws vs : List Window) (old new : Host B) → MarksAll marks (ws ++ vs) old new → (mid : Host B) × MarksAll marks ws old mid × MarksAll marks vs mid new
-  MarksAll-split [] vs old new h = (old, refl, h)
-  MarksAll-split (w ∷ ws) vs old new h = let r = MarksAll-split ws vs h.0 new h.2 in (r.0, (h.0, h.1, r.1), r.2)
-
   -- a mark does not look at the blocks
   Marks-with_blocks : (id : BitmapId) (offset len : ℕ) (old new : Host B) (blocks : List (List ℕ)) → Marks marks id offset len old new → Marks marks id offset len (record old { blocks = blocks }) (record new { blocks = blocks })
   Marks-with_blocks (Block block) offset len old new blocks h = (h.0, h.1, ap (λ (x : Host B). record x { blocks = blocks }) h.2)
   Marks-with_blocks (Space space) offset len old new blocks h = (h.0, h.1, ap (λ (x : Host B). record x { blocks = blocks }) h.2)
-
-  Marks-with_tables : (id : BitmapId) (offset len : ℕ) (old new : Host B) (tables : List Table) → Marks marks id offset len old new → Marks marks id offset len (record old { tables = tables }) (record new { tables = tables })
-  Marks-with_tables (Block block) offset len old new tables h = (h.0, h.1, ap (λ (x : Host B). record x { tables = tables }) h.2)
-  Marks-with_tables (Space space) offset len old new tables h = (h.0, h.1, ap (λ (x : Host B). record x { tables = tables }) h.2)
 
   MarksWindow-with_blocks : (w : Window) (old new : Host B) (blocks : List (List ℕ)) → MarksWindow marks w old new → MarksWindow marks w (record old { blocks = blocks }) (record new { blocks = blocks })
   MarksWindow-with_blocks w old new blocks h =
@@ -56,24 +46,10 @@ module _ {B : Type 0} (marks : B → ℕ → ℕ → B → Type 0) where
       (λ (e : new ≡ old). ap (λ (x : Host B). record x { blocks = blocks }) e)
       h
 
-  MarksWindow-with_tables : (w : Window) (old new : Host B) (tables : List Table) → MarksWindow marks w old new → MarksWindow marks w (record old { tables = tables }) (record new { tables = tables })
-  MarksWindow-with_tables w old new tables h =
-      match_bool-weaker (ltb 0 w.size) (Marks marks w.bitmap.id w.bitmap.base w.size old new) (new ≡ old)
-      (Marks marks w.bitmap.id w.bitmap.base w.size (record old { tables = tables }) (record new { tables = tables }))
-      (record new { tables = tables } ≡ record old { tables = tables })
-      (Marks-with_tables w.bitmap.id w.bitmap.base w.size old new tables)
-      (λ (e : new ≡ old). ap (λ (x : Host B). record x { tables = tables }) e)
-      h
-
   -- marks do not look at the blocks
   pub MarksAll-with_blocks : (ws : List Window) (old new : Host B) (blocks : List (List ℕ)) → MarksAll marks ws old new → MarksAll marks ws (record old { blocks = blocks }) (record new { blocks = blocks })
   MarksAll-with_blocks [] old new blocks h = ap (λ (x : Host B). record x { blocks = blocks }) h
   MarksAll-with_blocks (w ∷ ws) old new blocks h = (record (h.0) { blocks = blocks }, MarksWindow-with_blocks w old h.0 blocks h.1, MarksAll-with_blocks ws h.0 new blocks h.2)
-
-  -- marks do not look at the tables
-  pub MarksAll-with_tables : (ws : List Window) (old new : Host B) (tables : List Table) → MarksAll marks ws old new → MarksAll marks ws (record old { tables = tables }) (record new { tables = tables })
-  MarksAll-with_tables [] old new tables h = ap (λ (x : Host B). record x { tables = tables }) h
-  MarksAll-with_tables (w ∷ ws) old new tables h = (record (h.0) { tables = tables }, MarksWindow-with_tables w old h.0 tables h.1, MarksAll-with_tables ws h.0 new tables h.2)
 
   -- what marks keep of a host
   record Kept (old new : Host B) : Type 0 where
@@ -114,10 +90,6 @@ module _ {B : Type 0} (marks : B → ℕ → ℕ → B → Type 0) where
   pub length_bitmaps-MarksAll : (ws : List Window) (old new : Host B) → MarksAll marks ws old new → length new.bitmaps ≡ length old.bitmaps
   length_bitmaps-MarksAll ws old new h = (Kept-MarksAll ws old new h).bitmaps
 
-  -- there are as many spaces after marks
-  pub length_spaces-MarksAll : (ws : List Window) (old new : Host B) → MarksAll marks ws old new → length new.spaces ≡ length old.spaces
-  length_spaces-MarksAll ws old new h = (Kept-MarksAll ws old new h).spaces
-
   -- marks keep the shape
   pub shape_of-Marks : (id : BitmapId) (offset len : ℕ) (old new : Host B) → Marks marks id offset len old new → shape_of new ≡ shape_of old
   shape_of-Marks id offset len old new h = let k = Kept-Marks id offset len old new h in shape_from old new (ap (λ (bs : List (List ℕ)). map length bs) k.blocks) k.spaces k.tables
@@ -150,14 +122,6 @@ module _ {B : Type 0} (marks : B → ℕ → ℕ → B → Type 0) where
       let same : whole ≡ written (cells (ws ++ vs)) (bs ++ cs) old.blocks = rw (cells-append ws vs, written-append (cells ws) (cells vs) bs cs old.blocks f, blocks-Writes ws bs old mid h) in
       subst (λ (blocks : List (List ℕ)). MarksAll marks (ws ++ vs) (record old { blocks = blocks }) new) same (MarksAll-append ws vs (record old { blocks = whole }) (record mid { blocks = whole }) new marked k)
 
-  -- a write to no windows changes nothing
-  pub Writes-nil : (bytes : List ℕ) (old new : Host B) → Writes marks [] bytes old new → new ≡ old
-  Writes-nil bytes old new h = h
-
-  -- a host that stays is one after a write to no windows
-  pub Writes-nil_same : (bytes : List ℕ) (host : Host B) → Writes marks [] bytes host host
-  Writes-nil_same bytes host = refl
-
   -- bytes past the windows are ignored
   pub Writes-take : (ws : List Window) (bytes : List ℕ) (old new : Host B) → Writes marks ws bytes old new → Writes marks ws (take (span ws) bytes) old new
   Writes-take ws bytes old new h = subst (λ (blocks : List (List ℕ)). MarksAll marks ws (record old { blocks = blocks }) new) (written-span ws bytes old.blocks) h
@@ -169,11 +133,3 @@ module _ {B : Type 0} (marks : B → ℕ → ℕ → B → Type 0) where
   -- a write to one window
   pub Writes-one : (w : Window) (bytes : List ℕ) (old new : Host B) → MarksWindow marks w (record old { blocks = written (cells_of w) bytes old.blocks }) new → Writes marks (w ∷ []) bytes old new
   Writes-one w bytes old new h = (new, rw (cells-one w) h, refl)
-
-  -- a write to the first windows, and one of what is left of the bytes to the next
-  pub Writes_more : (ws : List Window) (i : ℕ) (d : Window) (bytes : List ℕ) (old mid new : Host B) → i < length ws → span (take i ws) ≤ length bytes → Writes marks (take i ws) bytes old mid → Writes marks (get_or ws i d ∷ []) (drop (span (take i ws)) bytes) mid new → Writes marks (take (i + 1) ws) bytes old new
-  Writes_more ws i d bytes old mid new l enough h k =
-      let n = span (take i ws) in
-      let all : take n bytes ++ drop n bytes ≡ bytes = take-append-drop n bytes in
-      let both = Writes-append (take i ws) (get_or ws i d ∷ []) (take n bytes) (drop n bytes) old mid new (length-take-le n bytes enough) (Writes-take (take i ws) bytes old mid h) k in
-      subst (λ (vs : List Window). Writes marks vs bytes old new) (sym (take_more ws i d l)) (subst (λ (bs : List ℕ). Writes marks (take i ws ++ get_or ws i d ∷ []) bs old new) all both)

@@ -1,25 +1,24 @@
 -- What paths and their windows have in common, whatever the route.
 use Rattle.std.specs.List.{AllByRecursion}
-use Rattle.std.proofs.Common.{◌≡◌, ℕ, zero, suc, ◌+◌, ◌-◌, ◌^◌, ◌%◌, ◌<◌, ◌≤◌, ◌⊎◌, min, true, false, List, [], ◌∷◌, ◌++◌, map, length, All, suc-le-suc, Option, Some, None, option_map, Result, Ok, Err, MatchOption, slice_index, sum_by, flat_map, refl, sym, ap, ap₂, subst, subst₂, ◌∙◌, inl, inr, add-zero, add-one, add_assoc, arith}
+use Rattle.std.proofs.Common.{◌≡◌, ℕ, zero, suc, ◌+◌, ◌-◌, ◌^◌, ◌%◌, ◌<◌, ◌≤◌, ◌⊎◌, min, true, false, List, [], ◌∷◌, ◌++◌, map, length, All, suc-le-suc, Option, Some, None, MatchOption, slice_index, flat_map, refl, sym, ap, ap₂, subst, subst₂, ◌∙◌, inl, inr, add-zero, add-one, add_assoc, arith}
 use Rattle.std.proofs.lemmas.Bool.{cond_both, cases_lt, cases_Bool, and_parts, true≢false, false≢true, eqb-true, not-false}
+use Rattle.std.proofs.lemmas.List.Folds.{flat_map-map}
 use Rattle.std.proofs.lemmas.List.Sums.{sum_by-cons}
 use Rattle.std.proofs.lemmas.List.Elements.{All-contains, All-from_recursion}
-use Rattle.std.proofs.lemmas.Option.{none-some, same_Some}
+use Rattle.std.proofs.lemmas.Option.{same_Some}
 use Rattle.vm_memory_base.specs.Address.{step, numbers}
 use Rattle.vm_memory_base.specs.Table.{Mapping, Says}
 use Rattle.vm_memory_base.specs.declared.bitmap.BitmapId.{BitmapId}
 use Rattle.vm_memory_guest.specs.Access.{Fault, Reached, Meets, Reaches, Stops, bitmap_of, mark_of, meets_at, meets, onto, or_fault, path, first_fault, same_mappings, is_cut, Stretch, stretches, window_of, windows, Access, allowed, refusal, access_of}
-use Rattle.vm_memory_guest.specs.Dirt.{path_cells}
-use Rattle.vm_memory_guest.specs.Error.{error_of}
-use Rattle.vm_memory_guest.specs.Walk.{error_item}
-use Rattle.vm_memory_guest.specs.declared.region.GuestMemoryError.{GuestMemoryError}
+use Rattle.vm_memory_guest.specs.Dirt.{path_cells, path_marks, window_marks}
 use Rattle.vm_memory_base.specs.declared.iotlb.Permissions.{Permissions}
 use Rattle.vm_memory_guest.specs.Host as host
 use Rattle.vm_memory_guest.specs.Host.{Cell, Shape, Name, Holds, IsHeld, cells_from}
 use Rattle.vm_memory_guest.specs.Memory.{Route, Direct, Through, mapping_of, translated, physical}
 use Rattle.vm_memory_guest.specs.Region.{Region, IsRegion, IsLayout, home, lies_in, lies_from, place_end, place_names, region_names}
 use Rattle.vm_memory_guest.specs.Window.{bitmap_name, window_names, span, cells, cells_of, Window}
-use Rattle.vm_memory_guest.proofs.PathWalk.{direct_items, path-none, lengthened-first, stretches-cut, stretches-joined, is_within-bounds, home-cases, home-within, home-contains, home-same, window_in, windows-in_region}
+use Rattle.vm_memory_guest.proofs.HoldsLemmas.{Holds-parts, Holds-each}
+use Rattle.vm_memory_guest.proofs.PathWalk.{stretch, path-none, lengthened-first, stretches-cut, stretches-joined, is_within-bounds, home-within, home-contains, home-same, window_in, windows-in_region}
 
 -- a path has at most the bytes that were asked for
 pub length-path : (m : ℕ → Meets) (i n : ℕ) → length (path m i n) ≤ n
@@ -47,23 +46,6 @@ path-ends m i (suc n) = go (path-ends m (i + 1) n) (m i) refl
     go : MatchOption (first_fault m (i + 1) n) (length (path m (i + 1) n) ≡ n) (λ fault. (length (path m (i + 1) n) < n) × (m (i + 1 + length (path m (i + 1) n)) ≡ Stops fault)) → (o : Meets) → m i ≡ o → MatchOption (or_fault o (first_fault m (i + 1) n)) (length (onto o (path m (i + 1) n)) ≡ suc n) (λ fault. (length (onto o (path m (i + 1) n)) < suc n) × (m (i + length (onto o (path m (i + 1) n))) ≡ Stops fault))
     go ih (Reaches x) e = reached (first_fault m (i + 1) n) (path m (i + 1) n) ih
     go ih (Stops fault) e = (omega arith, ap m (add-zero i) ∙ e)
-
-pub first_fault-whole : (m : ℕ → Meets) (i n : ℕ) → length (path m i n) ≡ n → first_fault m i n ≡ None
-first_fault-whole m i n h = go (first_fault m i n) (path-ends m i n)
-  where
-    go : (o : Option Fault) → MatchOption o (length (path m i n) ≡ n) (λ fault. (length (path m i n) < n) × (m (i + length (path m i n)) ≡ Stops fault)) → o ≡ None
-    go None e = refl
-    go (Some fault) e = absurd (omega (arith, e.0))
-
-pub first_fault-part : (m : ℕ → Meets) (i n : ℕ) → length (path m i n) < n → (fault : Fault) × (first_fault m i n ≡ Some fault)
-first_fault-part m i n h = go (first_fault m i n) (path-ends m i n)
-  where
-    go : (o : Option Fault) → MatchOption o (length (path m i n) ≡ n) (λ fault. (length (path m i n) < n) × (m (i + length (path m i n)) ≡ Stops fault)) → (fault : Fault) × (o ≡ Some fault)
-    go None e = absurd (omega (arith, e))
-    go (Some fault) e = (fault, refl)
-
-abbrev stretch : Reached → ℕ → Stretch
-stretch x len = record { first = x; len = len }
 
 -- a byte before others begins a stretch of its own, or lengthens the one behind it
 record Split (x y : Reached) (ys : List Reached) : Type 0 where
@@ -178,23 +160,6 @@ all_map : {X Y : Type 0} (P : Y → Type 0) (f : X → Y) (xs : List X) → AllB
 all_map P f [] h = tt
 all_map P f (x ∷ xs) h = (h.0, all_map P f xs h.1)
 
-flat_map-map : {X Y A : Type 0} (g : Y → List A) (f : X → Y) (xs : List X) → flat_map g (map f xs) ≡ flat_map (λ x. g (f x)) xs
-flat_map-map g f [] = refl
-flat_map-map g f (x ∷ xs) = ap (◌++◌ (g (f x))) (flat_map-map g f xs)
-
-smooth_in_any : (xs : List Reached) → IsSmooth (λ x y. Unit {0}) xs
-smooth_in_any [] = tt
-smooth_in_any (x ∷ []) = (tt, tt)
-smooth_in_any (x ∷ y ∷ ys) = (λ h. tt, smooth_in_any (y ∷ ys))
-
-any_byte : (xs : List Reached) → AllByRecursion (λ x. Unit {0}) xs
-any_byte [] = tt
-any_byte (x ∷ xs) = (tt, any_byte xs)
-
--- and none of them is empty
-pub windows-some : (xs : List Reached) → AllByRecursion (λ w. 0 < w.size) (windows xs)
-windows-some xs = all_map (λ (w : Window). 0 < w.size) window_of (stretches xs) (stretches-all (λ x y. Unit {0}) (λ x. Unit {0}) (λ s. 0 < s.len) (λ x h. omega arith) (λ x y len h k q. omega arith) xs (any_byte xs) (smooth_in_any xs))
-
 -- a byte that an access reaches: the region that holds its physical address, and where its bytes lie
 pub record Arrives (regions : List Region) (route : Route) (a i : ℕ) (x : Reached) : Type 0 where
   pub first : Cell
@@ -296,16 +261,12 @@ cells-windows regions route a n each =
     let g = λ (s : Stretch). cells_from s.first.cell.block s.first.cell.offset s.len in
     flat_map-map cells_of window_of (stretches xs) ∙ flat_map-stretches Follows (λ x. x.cell) g (λ x. refl) (λ x y len h. ap (cells_from x.cell.block x.cell.offset) (add-one len) ∙ ap (λ (c : Cell). x.cell ∷ cells_from c.block c.offset len) (sym h.cell)) xs (path-follows regions route a n each)
 
--- the bitmap and the offsets in it that the bytes of a window mark
-abbrev pub marks_of : Window → List (BitmapId × ℕ)
-marks_of w = map (λ offset. (w.bitmap.id, offset)) (numbers w.bitmap.base w.size)
-
 -- and so are the marks of their bytes
-pub marks-windows : (regions : List Region) (route : Route) (a n : ℕ) → All IsRegion regions → flat_map marks_of (windows (path (meets regions route a) 0 n)) ≡ map (λ x. (x.bitmap, x.mark)) (path (meets regions route a) 0 n)
+pub marks-windows : (regions : List Region) (route : Route) (a n : ℕ) → All IsRegion regions → flat_map window_marks (windows (path (meets regions route a) 0 n)) ≡ path_marks (path (meets regions route a) 0 n)
 marks-windows regions route a n each =
     let xs = path (meets regions route a) 0 n in
     let marks = λ (bitmap : BitmapId) (base len : ℕ). map (λ (offset : ℕ). (bitmap, offset)) (numbers base len) in
-    flat_map-map marks_of window_of (stretches xs) ∙ flat_map-stretches Follows (λ x. (x.bitmap, x.mark)) (λ s. marks s.first.bitmap s.first.mark s.len) (λ x. refl) (λ x y len h. ap (marks x.bitmap x.mark) (add-one len) ∙ ap₂ (λ (b : BitmapId) (t : ℕ). (x.bitmap, x.mark) ∷ marks b t len) (sym h.bitmap) (sym h.mark)) xs (path-follows regions route a n each)
+    flat_map-map window_marks window_of (stretches xs) ∙ flat_map-stretches Follows (λ x. (x.bitmap, x.mark)) (λ s. marks s.first.bitmap s.first.mark s.len) (λ x. refl) (λ x y len h. ap (marks x.bitmap x.mark) (add-one len) ∙ ap₂ (λ (b : BitmapId) (t : ℕ). (x.bitmap, x.mark) ∷ marks b t len) (sym h.bitmap) (sym h.mark)) xs (path-follows regions route a n each)
 
 -- an offset in a bitmap that a byte marks is one of 64 bits
 abbrev IsMark : Reached → Type 0
@@ -330,14 +291,7 @@ arrives_below regions route a i x each h =
     let within = arrives_within regions route a i x h in
     omega (arith, within.1)
 
--- the windows of a path end below 2 ^ 64
-pub windows-below : (regions : List Region) (route : Route) (a n : ℕ) → All IsRegion regions → AllByRecursion (λ w. w.offset + w.size < 2 ^ 64) (windows (path (meets regions route a) 0 n))
-windows-below regions route a n each =
-    let xs = path (meets regions route a) 0 n in
-    let below : AllByRecursion (λ x. x.cell.offset + 1 < 2 ^ 64) xs = path-all (λ x. x.cell.offset + 1 < 2 ^ 64) (meets regions route a) 0 n (λ j low high x e. arrives_below regions route a j x each (meets-arrives regions route a j x e)) in
-    all_map (λ (w : Window). w.offset + w.size < 2 ^ 64) window_of (stretches xs) (stretches-all Follows (λ x. x.cell.offset + 1 < 2 ^ 64) (λ s. s.first.cell.offset + s.len < 2 ^ 64) (λ x h. h) (λ x y len h k q. omega (arith, q, ap (λ (c : Cell). c.offset) k.cell)) xs below (path-follows regions route a n each))
-
--- and so do the views of the bitmaps that they mark
+-- the windows of a path mark offsets of 64 bits
 pub windows-bases_direct : (regions : List Region) (a n : ℕ) → All IsRegion regions → AllByRecursion (λ w. w.bitmap.base + w.size ≤ 2 ^ 64) (windows (path (meets regions Direct a) 0 n))
 windows-bases_direct regions a n each = bases_within regions Direct a n each (path-all IsMark (meets regions Direct a) 0 n (λ j low high x e.
     let arrives = meets-arrives regions Direct a j x e in
@@ -359,18 +313,11 @@ windows-one regions a n r first layout found some is_region more inside =
 
 -- what is held of names joined end to end is held of both
 pub Holds-append : (shape : Shape) (xs ys : List Name) → Holds shape (xs ++ ys) → Holds shape xs × Holds shape ys
-Holds-append shape [] ys h = (tt, h)
-Holds-append shape (x ∷ xs) ys h = let k = Holds-append shape xs ys h.1 in ((h.0, k.0), k.1)
+Holds-append = Holds-parts
 
 -- a host that holds what regions name holds what each of them names
 region_held : (shape : Shape) (regions : List Region) (a : ℕ) (r : Region) → Holds shape (flat_map region_names regions) → home regions a ≡ Some r → Holds shape (region_names r)
-region_held shape [] a r h e = absurd (none-some r e)
-region_held shape (x ∷ xs) a r h e =
-    let parts = Holds-append shape (region_names x) (flat_map region_names xs) h in
-    elim (home-cases x xs a r e) [
-      | inl k ↦ subst (λ (q : Region). Holds shape (region_names q)) k.1 parts.0
-      | inr k ↦ region_held shape xs a r parts.1 k.1
-    ]
+region_held shape regions a r h e = All-contains (λ q. Holds shape (region_names q)) regions r ((Holds-each shape regions).0 h) (home-contains regions a r e)
 
 -- what a route names besides the regions
 abbrev pub route_names : Route → List Name
@@ -410,10 +357,6 @@ windows-held shape regions route a n each held held_too =
 -- each of them, by its place in the list
 pub windows-all_held : (shape : Shape) (regions : List Region) (route : Route) (a n : ℕ) → All IsRegion regions → Holds shape (flat_map region_names regions) → Holds shape (route_names route) → All (λ w. Holds shape (window_names w)) (windows (path (meets regions route a) 0 n))
 windows-all_held shape regions route a n each held held_too = All-from_recursion (λ w. Holds shape (window_names w)) (windows (path (meets regions route a) 0 n)) (windows-held shape regions route a n each held held_too)
-
--- the windows of a path have at most the bytes that were asked for
-pub span-windows-le : (m : ℕ → Meets) (i n : ℕ) → span (windows (path m i n)) ≤ n
-span-windows-le m i n = omega (arith, span-windows (path m i n), length-path m i n)
 
 -- an access that is refused asks for something
 refused_some : (route : Route) (a n : ℕ) (access : Permissions) → allowed route a n access ≡ false → 0 < n

@@ -1,17 +1,16 @@
 -- What a walk without translation gives, one window after the other.
-use Rattle.std.proofs.Common.{◌≡◌, ℕ, zero, suc, ◌+◌, ◌-◌, ◌^◌, ◌%◌, ◌<◌, ◌≤◌, ◌⊎◌, ◌&&◌, min, Bool, true, false, not, cond, List, [], ◌∷◌, ◌++◌, map, length, Contains, suc-le-suc, Option, Some, None, option_map, Result, Ok, Err, refl, sym, ap, ap₂, subst, ◌∙◌, inl, inr, add-zero, zero-add, suc-add, not-suc-le-zero, subst₂, mod-eq_of_lt, arith}
+use Rattle.std.proofs.Common.{◌≡◌, ℕ, zero, suc, ◌+◌, ◌-◌, ◌^◌, ◌%◌, ◌<◌, ◌≤◌, ◌⊎◌, ◌&&◌, min, Bool, true, false, not, cond, List, [], ◌∷◌, ◌++◌, map, Contains, suc-le-suc, Option, Some, None, Result, Ok, Err, refl, sym, ap, ap₂, subst, ◌∙◌, inl, inr, add-zero, zero-add, suc-add, not-suc-le-zero, subst₂, mod-eq_of_lt, arith}
 use Rattle.std.proofs.lemmas.Option.{none-some, same_Some}
 use Rattle.std.proofs.lemmas.Bool.{cond-true, cond-false, cases_lt, cases_Bool, and_parts, and_from, true≢false, leb-true, ltb-true, le-leb, lt-ltb, eqb-true, eq-eqb, false_from_ne_true}
 use Rattle.vm_memory_base.specs.Address.{step, is_within}
 use Rattle.vm_memory_base.specs.Table.{Mapping}
 use Rattle.vm_memory_base.specs.declared.bitmap.BitmapId.TheVariants.{Block}
-use Rattle.vm_memory_base.specs.declared.iotlb.Permissions.{Permissions}
-use Rattle.vm_memory_guest.specs.Access.{Fault, NoRegion, NoHostBytes, Reached, Meets, Reaches, Stops, meets_at, meets, onto, or_fault, path, first_fault, same_mappings, is_cut, Stretch, lengthened, stretches, window_of, windows, access_of}
+use Rattle.vm_memory_guest.specs.Access.{Fault, NoRegion, NoHostBytes, Reached, Meets, Reaches, Stops, meets_at, meets, onto, or_fault, path, first_fault, same_mappings, is_cut, Stretch, lengthened, stretches, window_of, windows}
 use Rattle.vm_memory_guest.specs.Error.{error_of}
 use Rattle.vm_memory_guest.specs.Walk.{reach_of, error_item, items_of, walk_of}
 use Rattle.vm_memory_guest.specs.Host.{Cell}
 use Rattle.vm_memory_guest.specs.Memory.{Direct}
-use Rattle.vm_memory_guest.specs.Region.{Region, IsRegion, IsLayout, Lies, Byte, Bare, Hole, home, cell, lies_in, lies_from, same_region}
+use Rattle.vm_memory_guest.specs.Region.{Region, IsRegion, IsLayout, Lies, Byte, Bare, Hole, home, cell, lies_in, lies_from, same_region, window_at}
 use Rattle.vm_memory_guest.specs.declared.region.GuestMemoryError.{GuestMemoryError}
 use Rattle.vm_memory_guest.specs.declared.region.GuestMemoryError.TheVariants.{InvalidGuestAddress, HostAddressNotAvailable}
 use Rattle.vm_memory_guest.specs.Window.{Window}
@@ -60,7 +59,8 @@ pub first_fault-reaches : (m : ℕ → Meets) (i n : ℕ) (x : Reached) → m i 
 unfolding first_fault
 first_fault-reaches m i n x e = ap (λ o. or_fault o (first_fault m (i + 1) n)) e
 
-abbrev stretch : Reached → ℕ → Stretch
+-- so many bytes of a path from one on, with no cut between them
+abbrev pub stretch : Reached → ℕ → Stretch
 stretch x len = record { first = x; len = len }
 
 -- the first stretch begins with the first byte
@@ -225,10 +225,6 @@ direct-step regions a i j = direct_mark (a + (i + j)) (step a i + j) (step a (i 
 abbrev pub direct_items : List Region → ℕ → ℕ → List (Result Window GuestMemoryError)
 direct_items regions a n = items_of (walk_of regions a n)
 
--- an access without translation is allowed, so this is what it gives
-pub direct_items-access : (regions : List Region) (a n : ℕ) (access : Permissions) → items_of (reach_of (access_of regions Direct a n access)) ≡ direct_items regions a n
-direct_items-access regions a n access = refl
-
 items : List Reached → Option Fault → List (Result Window GuestMemoryError)
 items xs fault = items_of (reach_of (record { path = xs; fault = fault }))
 
@@ -304,7 +300,7 @@ module _ (regions : List Region) (a : ℕ) (r : Region) (first : Cell) (is_regio
 
 -- the window of len bytes of a region from an address on
 abbrev pub window_in : Region → Cell → ℕ → ℕ → Window
-window_in r first a len = record { block = record { 0 = first.block }; offset = first.offset + (a - r.start); size = len; bitmap = record { id = Block first.block; base = first.offset + (a - r.start) } }
+window_in r first a len = window_at first (a - r.start) len
 
 -- how many of the n bytes from an address on lie in a region
 abbrev pub len_in : Region → ℕ → ℕ → ℕ
@@ -342,24 +338,3 @@ walk-in_region regions a n r first layout found some is_region more = walk-in_fo
 
 pub windows-in_region : (regions : List Region) (a n : ℕ) (r : Region) (first : Cell) → IsLayout regions → home regions a ≡ Some r → r.place ≡ Some first → IsRegion r → 0 < n → windows (path (meets regions Direct a) 0 n) ≡ window_in r first a (len_in r a n) ∷ windows (path (meets regions Direct (step a (len_in r a n))) 0 (n - len_in r a n))
 windows-in_region regions a n r first layout found some is_region more = windows-in_found_region regions a n r first is_region some found (λ b w. home-layout regions a r b layout found w) more
-
-windows_items : List Stretch → Option Fault → List (Result Window GuestMemoryError)
-windows_items ss fault = map (λ w. Ok w) (map window_of ss) ++ error_item fault
-
--- a walk of some bytes gives something
-pub walk-some : (regions : List Region) (a n : ℕ) → 0 < n → 0 < length (direct_items regions a n)
-unfolding items stretches windows_items
-walk-some regions a zero h = absurd (not-suc-le-zero h)
-walk-some regions a (suc n) h = go (meets regions Direct a 0) refl
-  where
-    m : ℕ → Meets
-    m = meets regions Direct a
-
-    reached : (x : Reached) (ys : List Reached) (fault : Option Fault) → 0 < length (items (x ∷ ys) fault)
-    reached x ys fault =
-        let f = lengthened-first x (stretches ys) in
-        subst (λ (ss : List Stretch). 0 < length (windows_items ss fault)) (sym f.2) (omega arith)
-
-    go : (o : Meets) → m 0 ≡ o → 0 < length (items (path m 0 (suc n)) (first_fault m 0 (suc n)))
-    go (Reaches x) e = subst (λ (xs : List Reached). 0 < length (items xs (first_fault m 0 (suc n)))) (sym (path-reaches m 0 n x e)) (reached x (path m 1 n) (first_fault m 0 (suc n)))
-    go (Stops fault) e = subst (λ (xs : List (Result Window GuestMemoryError)). 0 < length xs) (sym (walk-stops regions a (suc n) fault h e)) (omega arith)

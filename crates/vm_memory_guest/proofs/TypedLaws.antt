@@ -14,8 +14,7 @@ use Rattle.vm_memory_guest.specs.Typed.{answered, given, first_aligned, is_uncut
 use Rattle.vm_memory_guest.specs.Window.{Window, Writes, cells, cells_of}
 use Rattle.vm_memory_guest.specs.declared.region.GuestMemoryError.{GuestMemoryError}
 use Rattle.vm_memory_guest.specs.declared.region.GuestMemoryError.TheVariants.{InvalidBackendAddress}
-use Rattle.vm_memory_guest.proofs.AccessLaws.{cells-access, follows-access}
-use Rattle.vm_memory_guest.proofs.DirtLaws.{after_write-Writes}
+use Rattle.vm_memory_guest.proofs.AccessLaws.{cells-access}
 use Rattle.vm_memory_guest.proofs.PathLaws.{length-access}
 use Rattle.vm_memory_guest.proofs.WrittenLaws.{cells-one}
 
@@ -137,9 +136,10 @@ module _ (regions : List Region) (route : Route) (a size : ℕ) (access : Permis
       answered (λ v. bytes_at blocks (cells_of v)) (place_of size x) ≡ answered (λ v. bytes_at blocks (path_cells v)) (typed_path size x)
   typed-loads blocks each = let x = access_of regions route a size access in serves-loads x.path (place_of size x) (typed_path size x) blocks (cells-access regions each a size route access) served
 
-  pub typed-stores : {B : Type 0} (marks : B → ℕ → ℕ → B → Type 0) (pages : B → PageSet) (exact : (old new : B) (offset len : ℕ) → marks old offset len new → pages new ≡ marked offset len (pages old)) (bytes : List ℕ) (old new : Host B) → All IsRegion regions
-      → let x = access_of regions route a size access in Writes marks (given (place_of size x)) bytes old new → with_pages pages new ≡ after_write (path_given (typed_path size x)) bytes (with_pages pages old)
-  typed-stores marks pages exact bytes old new each =
+  pub typed-stores : {B : Type 0} (marks : B → ℕ → ℕ → B → Type 0) (pages : B → PageSet) (bytes : List ℕ) (old new : Host B)
+      → let x = access_of regions route a size access in
+      (Writes marks (windows x.path) bytes old new → with_pages pages new ≡ after_write x.path bytes (with_pages pages old))
+      → Writes marks (given (place_of size x)) bytes old new → with_pages pages new ≡ after_write (path_given (typed_path size x)) bytes (with_pages pages old)
+  typed-stores marks pages bytes old new by_bytes =
       let x = access_of regions route a size access in
-      serves-stores marks pages x.path (place_of size x) (typed_path size x) bytes old new
-      (after_write-Writes marks pages exact x.path bytes old new (follows-access regions each a size route access) (cells-access regions each a size route access)) served
+      serves-stores marks pages x.path (place_of size x) (typed_path size x) bytes old new by_bytes served

@@ -8,6 +8,7 @@ use Rattle.vm_memory_guest.specs.Region.{Region, IsRegion, IsLayout, home, home_
 use Rattle.vm_memory_guest.specs.Window.{Window}
 use Rattle.vm_memory_guest.specs.declared.region.GuestMemoryError.{GuestMemoryError}
 use Rattle.vm_memory_guest.specs.declared.region.GuestMemoryError.TheVariants.{InvalidGuestAddress}
+use Rattle.vm_memory_guest.proofs.RegionLaws.{home_in-map}
 use Rattle.vm_memory_guest.proofs.PathWalk.{direct_items, walk-none, walk-hole, walk-bare, walk-in_region, home-within, is_within-bounds, window_in, len_in}
 
 -- an iterator that gave the first item of its list has fewer left
@@ -15,15 +16,6 @@ pub first_goes : {S A : Type 0} (rest : S → List A) (s t : S) (x : A) → rest
 first_goes rest s t x gives =
     let fewer : length (rest t) < length (rest s) = rw gives (omega arith) in
     record { on = λ _. (tt, tt, fewer); keeps = tt; rests = λ _. tt }
-
--- the region that holds an address, of values that mean regions
-pub home_in-map : {R : Type 0} (region : R → Region) (rs : List R) (a : ℕ) → option_map region (home_in region rs a) ≡ home (map region rs) a
-home_in-map region [] a = refl
-home_in-map {R} region (r ∷ rs) a = go (is_within (region r).start (region r).len a) (home_in-map region rs a)
-  where
-    go : (b : Bool) → option_map region (home_in region rs a) ≡ home (map region rs) a → option_map region (cond b (Some r) (home_in region rs a)) ≡ cond b (Some (region r)) (home (map region rs) a)
-    go true rest = refl
-    go false rest = rest
 
 -- where an address is found, and where it is not
 pub home-found : {R : Type 0} (region : R → Region) (rs : List R) (a : ℕ) (r : R) → Some r ≡ home_in region rs a → home (map region rs) a ≡ Some (region r)

@@ -1,13 +1,13 @@
 -- Bytes that are written to cells, and bytes that are read from them.
-use Rattle.std.proofs.Common.{◌≡◌, ℕ, zero, suc, ◌+◌, ◌-◌, ◌<◌, ◌≤◌, ◌≢◌, List, [], ◌∷◌, ◌++◌, map, length, get_or, set, take, drop, refl, sym, ap, ap₂, ◌∙◌, inl, inr, add-zero, zero-add, append_assoc, append-nil, arith, length-set, length-append, length-drop, set-set, get_or-set_same, get_or-set_other, take_at, drop_at, drop-drop}
+use Rattle.std.proofs.Common.{◌≡◌, ℕ, zero, suc, ◌+◌, ◌<◌, ◌≤◌, ◌≢◌, List, [], ◌∷◌, ◌++◌, map, length, get_or, set, take, drop, refl, sym, ap, ap₂, ◌∙◌, inl, inr, add-zero, append_assoc, append-nil, arith, length-set, length-append, set-set, get_or-set_same, get_or-set_other, take_at, drop_at, drop-drop}
 use Rattle.std.proofs.lemmas.Bool.{cases_eq}
-use Rattle.std.proofs.lemmas.List.{take_more, map-append, length-map, set-get_or, take_more_set, drop-set-lt, drop_more, take-append-drop}
+use Rattle.std.proofs.lemmas.List.{map-append, length-map, set-get_or, take_more_set, drop-set-lt, drop_more, take-append-drop}
 use Rattle.std.proofs.lemmas.List.Concat.{flat_map-append}
-use Rattle.std.proofs.lemmas.List.Sums.{sum_by-cons, sum_by-append, sum_by_more, sum_by-take-le}
+use Rattle.std.proofs.lemmas.List.Sums.{sum_by-cons, sum_by-append}
 use Rattle.std.proofs.lemmas.List.Elements.{All-head, All-tail, All-weaker}
 use Rattle.std.specs.List.{All, AllPairs, Contains}
 use Rattle.vm_memory_guest.specs.Host.{Cell, cells_from, block_at, byte_at, bytes_at, with_byte, written}
-use Rattle.vm_memory_guest.specs.Window.{part, span, cells_of, cells, Window}
+use Rattle.vm_memory_guest.specs.Window.{span, cells_of, cells, Window}
 use Rattle.vm_memory_guest.specs.Answer.{filled}
 
 -- two writes one after the other are one write
@@ -22,11 +22,6 @@ pub written-take : (cs : List Cell) (bytes : List ℕ) (blocks : List (List ℕ)
 written-take [] bytes blocks = refl
 written-take (c ∷ cs) [] blocks = refl
 written-take (c ∷ cs) (b ∷ bytes) blocks = written-take cs bytes (with_byte blocks c b)
-
--- no byte changes nothing
-pub written-none : (cs : List Cell) (blocks : List (List ℕ)) → written cs [] blocks ≡ blocks
-written-none [] blocks = refl
-written-none (c ∷ cs) blocks = refl
 
 -- the block after bytes were moved into it from an offset on, and the next byte at its front
 pasted : (o x : ℕ) (xs block : List ℕ) → o < length block → take (o + 1) (set block o x) ++ xs ++ drop (o + 1 + length xs) (set block o x) ≡ take o block ++ (x ∷ xs) ++ drop (o + suc (length xs)) block
@@ -51,14 +46,6 @@ written-block b o (x ∷ xs) blocks h k =
 pub length-cells_from : (b o n : ℕ) → length (cells_from b o n) ≡ n
 length-cells_from b o zero = refl
 length-cells_from b o (suc n) = ap suc (length-cells_from b (o + 1) n)
-
--- neighbouring stretches of a block are one stretch
-pub cells_from-append : (b o m n : ℕ) → cells_from b o (m + n) ≡ cells_from b o m ++ cells_from b (o + m) n
-cells_from-append b o zero n = rw (zero-add n, add-zero o)
-cells_from-append b o (suc m) n =
-    let e : suc m + n ≡ suc (m + n) = omega arith in
-    let f : o + suc m ≡ o + 1 + m = omega arith in
-    rw (e, f) (ap (λ (cs : List Cell). record { block = b; offset = o } ∷ cs) (cells_from-append b (o + 1) m n))
 
 -- the bytes in neighbouring cells of a block are a part of it
 pub bytes_at-block : (b o n : ℕ) (blocks : List (List ℕ)) → o + n ≤ length (block_at blocks b) → bytes_at blocks (cells_from b o n) ≡ take n (drop o (block_at blocks b))
@@ -110,16 +97,6 @@ lengths-written [] bytes blocks = refl
 lengths-written (c ∷ cs) [] blocks = refl
 lengths-written (c ∷ cs) (b ∷ bytes) blocks = lengths-written cs bytes (with_byte blocks c b) ∙ lengths-with_byte blocks c.block c.offset b
 
--- there are as many blocks as before a byte is written
-pub length-with_byte : (blocks : List (List ℕ)) (c : Cell) (byte : ℕ) → length (with_byte blocks c byte) ≡ length blocks
-length-with_byte blocks c byte = length-set blocks c.block (set (block_at blocks c.block) c.offset byte)
-
--- there are as many blocks as before
-pub length-written : (cs : List Cell) (bytes : List ℕ) (blocks : List (List ℕ)) → length (written cs bytes blocks) ≡ length blocks
-length-written [] bytes blocks = refl
-length-written (c ∷ cs) [] blocks = refl
-length-written (c ∷ cs) (b ∷ bytes) blocks = length-written cs bytes (with_byte blocks c b) ∙ length-with_byte blocks c b
-
 -- the length of a block is that of its number among the lengths
 pub length-block_at : (blocks : List (List ℕ)) (b : ℕ) → length (block_at blocks b) ≡ get_or (map length blocks) b 0
 length-block_at [] b = refl
@@ -130,14 +107,6 @@ length-block_at (block ∷ blocks) (suc b) = length-block_at blocks b
 pub length-block_at-written : (cs : List Cell) (bytes : List ℕ) (blocks : List (List ℕ)) (b : ℕ) → length (block_at (written cs bytes blocks) b) ≡ length (block_at blocks b)
 length-block_at-written cs bytes blocks b = length-block_at (written cs bytes blocks) b ∙ ap (λ (ns : List ℕ). get_or ns b 0) (lengths-written cs bytes blocks) ∙ sym (length-block_at blocks b)
 
--- a buffer that is filled is as long as before
-pub length-filled : (blocks : List (List ℕ)) (cs : List Cell) (buffer : List ℕ) → length cs ≤ length buffer → length (filled blocks cs buffer) ≡ length buffer
-length-filled blocks cs buffer h =
-    let a = length-append (bytes_at blocks cs) (drop (length cs) buffer) in
-    let b = length-bytes_at blocks cs in
-    let c = length-drop (length cs) buffer in
-    omega arith
-
 -- the front of a buffer that is filled has the bytes in the cells
 pub take-filled : (blocks : List (List ℕ)) (cs : List Cell) (buffer : List ℕ) → take (length cs) (filled blocks cs buffer) ≡ bytes_at blocks cs
 take-filled blocks cs buffer = take_at (bytes_at blocks cs) (drop (length cs) buffer) (length cs) (length-bytes_at blocks cs)
@@ -145,10 +114,6 @@ take-filled blocks cs buffer = take_at (bytes_at blocks cs) (drop (length cs) bu
 -- what lies behind the front is as it was
 pub drop-filled : (blocks : List (List ℕ)) (cs : List Cell) (buffer : List ℕ) → drop (length cs) (filled blocks cs buffer) ≡ drop (length cs) buffer
 drop-filled blocks cs buffer = drop_at (bytes_at blocks cs) (drop (length cs) buffer) (length cs) (length-bytes_at blocks cs)
-
--- no cells leave a buffer as it was
-pub filled-none : (blocks : List (List ℕ)) (buffer : List ℕ) → filled blocks [] buffer ≡ buffer
-filled-none blocks buffer = refl
 
 -- a buffer is filled by some cells, and what lies behind them by more
 pub filled-append : (blocks : List (List ℕ)) (xs ys : List Cell) (buffer : List ℕ) → filled blocks (xs ++ ys) buffer ≡ take (length xs) (filled blocks xs buffer) ++ filled blocks ys (drop (length xs) buffer)
@@ -205,13 +170,6 @@ byte_at-written_last xs ys bs cs c byte blocks h none inside =
     let k : c.offset < length (block_at now c.block) = rw length-block_at-written inside in
     rw (written-append xs (c ∷ ys) bs (byte ∷ cs) blocks h) (byte_at-written_other ys cs (with_byte now c byte) c none ∙ byte_at-with_byte_same now c byte k)
 
--- a cell that is written at the end has its byte
-pub byte_at-written_end : (xs : List Cell) (bs : List ℕ) (c : Cell) (byte : ℕ) (blocks : List (List ℕ)) → length xs ≡ length bs → c.offset < length (block_at blocks c.block) → byte_at (written (xs ++ c ∷ []) (bs ++ byte ∷ []) blocks) c ≡ byte
-byte_at-written_end xs bs c byte blocks h inside = byte_at-written_last xs [] bs [] c byte blocks h (λ (m : Contains [] c). absurd (not-in_none m.0 m.1)) inside
-  where
-    not-in_none : (k : ℕ) → k < 0 → ⊥
-    not-in_none k l = omega arith
-
 distinct_first : (c : Cell) (cs : List Cell) → AllPairs (λ (c d : Cell). c ≢ d) (c ∷ cs) → Contains cs c → ⊥
 distinct_first c cs h m = h 0 (suc m.0) c (omega arith) (omega arith) (sym m.2)
 
@@ -231,43 +189,6 @@ bytes_at-written (c ∷ cs) (b ∷ bytes) blocks distinct inside h =
     let within = All-weaker (λ (c : Cell). c.offset < length (block_at blocks c.block)) (λ (c : Cell). c.offset < length (block_at next c.block)) same cs (All-tail (λ (c : Cell). c.offset < length (block_at blocks c.block)) c cs inside) in
     ap₂ (λ (x : ℕ) (xs : List ℕ). x ∷ xs) first (bytes_at-written cs bytes next (distinct_rest c cs distinct) within (omega arith))
 
--- cells past the bytes are as they were
-pub written-take_cells : (cs : List Cell) (bytes : List ℕ) (blocks : List (List ℕ)) → written cs bytes blocks ≡ written (take (length bytes) cs) bytes blocks
-written-take_cells [] [] blocks = refl
-written-take_cells [] (b ∷ bytes) blocks = refl
-written-take_cells (c ∷ cs) [] blocks = refl
-written-take_cells (c ∷ cs) (b ∷ bytes) blocks = written-take_cells cs bytes (with_byte blocks c b)
-
 -- one window has its own cells
 pub cells-one : (w : Window) → cells (w ∷ []) ≡ cells_of w
 cells-one w = append-nil (cells_of w)
-
--- one window has its own bytes
-pub span-one : (w : Window) → span (w ∷ []) ≡ w.size
-span-one w = omega arith
-
--- one window more of a list has its cells
-pub cells-take_more : (ws : List Window) (i : ℕ) (d : Window) → i < length ws → cells (take (i + 1) ws) ≡ cells (take i ws) ++ cells_of (get_or ws i d)
-cells-take_more ws i d l = ap cells (take_more ws i d l) ∙ cells-append (take i ws) (get_or ws i d ∷ []) ∙ ap (λ (cs : List Cell). cells (take i ws) ++ cs) (cells-one (get_or ws i d))
-
--- one window more of a list has its bytes
-pub span-take_more : (ws : List Window) (i : ℕ) (d : Window) → i < length ws → span (take (i + 1) ws) ≡ span (take i ws) + (get_or ws i d).size
-span-take_more ws i d l = sum_by_more (λ (w : Window). w.size) ws i d l
-
--- the first windows have no more bytes than all of them
-pub span-take-le : (ws : List Window) (i : ℕ) → span (take i ws) ≤ span ws
-span-take-le ws i = sum_by-take-le (λ (w : Window). w.size) ws i
-
--- a window has its first bytes and its last
-pub cells_of-parts : (w : Window) (n : ℕ) → n ≤ w.size → cells_of w ≡ cells_of (part w 0 n) ++ cells_of (part w n (w.size - n))
-cells_of-parts w n l =
-    let e : n + (w.size - n) ≡ w.size = omega arith in
-    ap (λ (k : ℕ). cells_from w.block.0 w.offset k) (sym e) ∙ cells_from-append w.block.0 w.offset n (w.size - n) ∙ rw (add-zero w.offset)
-
--- bytes moved into a window at once
-pub written-window : (w : Window) (bytes : List ℕ) (blocks : List (List ℕ)) → length bytes ≡ w.size → w.block.0 < length blocks → w.offset + w.size ≤ length (block_at blocks w.block.0) → written (cells (w ∷ [])) bytes blocks ≡ set blocks w.block.0 (take w.offset (block_at blocks w.block.0) ++ bytes ++ drop (w.offset + w.size) (block_at blocks w.block.0))
-written-window w bytes blocks h k l = rw (cells-one w, ← h) (written-block w.block.0 w.offset bytes blocks k (rw h l))
-
--- the bytes in a window are a part of its block
-pub bytes_at-window : (w : Window) (blocks : List (List ℕ)) → w.offset + w.size ≤ length (block_at blocks w.block.0) → bytes_at blocks (cells (w ∷ [])) ≡ take w.size (drop w.offset (block_at blocks w.block.0))
-bytes_at-window w blocks l = rw (cells-one w) (bytes_at-block w.block.0 w.offset w.size blocks l)

@@ -1,5 +1,5 @@
 -- What an access reaches, byte by byte, and where it is cut into windows.
-use Rattle.std.specs.Prelude.{ℕ, zero, suc, ◌+◌, Bool, true, false, not, ◌&&◌, cond, List, [], ◌∷◌, map, Option, Some, None}
+use Rattle.std.specs.Prelude.{ℕ, zero, suc, ◌+◌, Bool, true, false, not, ◌&&◌, if◌then◌else◌, List, [], ◌∷◌, map, Option, Some, None}
 use Rattle.vm_memory_base.specs.Table.{Mapping, same_mapping, is_allowed, reason}
 use Rattle.vm_memory_base.specs.declared.bitmap.BitmapId.{BitmapId}
 use Rattle.vm_memory_base.specs.declared.bitmap.BitmapId.TheVariants.{Block, Space}
@@ -11,14 +11,16 @@ use Rattle.vm_memory_guest.specs.Region.{Byte, Bare, Hole}
 use Rattle.vm_memory_guest.specs.Memory.{Route, Direct, Through, mapping_of, physical}
 use Rattle.vm_memory_guest.specs.Window.{Window}
 
--- why an access goes no further: no region holds the address, its region has no host bytes, the translation of a range was refused, or only so many of the expected bytes were reached
+-- why an access goes no further: no region holds the address, its region has no host bytes, the translation
+-- of a range was refused, or only so many of the expected bytes were reached
 pub data Fault : Type 0 where
   NoRegion : (address : ℕ) → Fault
   NoHostBytes : Fault
   Refused : (iova len : ℕ) (reason : Reason) → Fault
   Partial : (expected completed : ℕ) → Fault
 
--- a byte that an access reaches: its cell, the region that holds it, the mapping that led there, and the offset of a bitmap that a write marks
+-- a byte that an access reaches: its cell, the region that holds it, the mapping that led there, and the
+-- offset of a bitmap that a write marks
 pub record Reached : Type 0 where
   pub cell : Cell
   pub home : Region
@@ -31,7 +33,8 @@ pub data Meets : Type 0 where
   Reaches : (reached : Reached) → Meets
   Stops : (fault : Fault) → Meets
 
--- with translation a write marks a space at the address that was asked for, without it the block at the byte's offset
+-- with translation a write marks a space at the address that was asked for, without it the block at the
+-- byte's offset
 abbrev pub bitmap_of : Route → Cell → BitmapId
 bitmap_of Direct c = Block c.block
 bitmap_of (Through f space) c = Space space
@@ -41,12 +44,19 @@ mark_of Direct x c = c.offset
 mark_of (Through f space) x c = x
 
 abbrev pub meets_at : Route → ℕ → Option Mapping → ℕ → Lies → Meets
-meets_at route x mapping p (Byte r c) = Reaches (record { cell = c; home = r; mapping = mapping; bitmap = bitmap_of route c; mark = mark_of route x c })
+meets_at route x mapping p (Byte r c) = Reaches (record {
+  cell = c;
+  home = r;
+  mapping = mapping;
+  bitmap = bitmap_of route c;
+  mark = mark_of route x c;
+})
 meets_at route x mapping p Bare = Stops NoHostBytes
 meets_at route x mapping p Hole = Stops (NoRegion p)
 
 abbrev pub meets : List Region → Route → ℕ → ℕ → Meets
-meets regions route a i = meets_at route (a + i) (mapping_of route a i) (physical route a i) (cell regions (physical route a i))
+meets regions route a i =
+    let p = physical route a i in meets_at route (a + i) (mapping_of route a i) p (cell regions p)
 
 abbrev pub onto : Meets → List Reached → List Reached
 onto (Reaches r) rest = r ∷ rest
@@ -82,7 +92,8 @@ pub record Stretch : Type 0 where
 
 abbrev pub lengthened : Reached → List Stretch → List Stretch
 lengthened x [] = record { first = x; len = 1 } ∷ []
-lengthened x (s ∷ ss) = cond (is_cut x s.first) (record { first = x; len = 1 } ∷ s ∷ ss) (record { first = x; len = s.len + 1 } ∷ ss)
+lengthened x (s ∷ ss) =
+    if is_cut x s.first then record { first = x; len = 1 } ∷ s ∷ ss else record { first = x; len = s.len + 1 } ∷ ss
 
 -- a path between its cuts
 unfoldable pub stretches : List Reached → List Stretch
@@ -90,7 +101,12 @@ stretches [] = []
 stretches (x ∷ xs) = lengthened x (stretches xs)
 
 abbrev pub window_of : Stretch → Window
-window_of s = record { block = record { 0 = s.first.cell.block }; offset = s.first.cell.offset; size = s.len; bitmap = record { id = s.first.bitmap; base = s.first.mark } }
+window_of s = record {
+  block = record { 0 = s.first.cell.block };
+  offset = s.first.cell.offset;
+  size = s.len;
+  bitmap = record { id = s.first.bitmap; base = s.first.mark };
+}
 
 -- the windows of a path
 abbrev pub windows : List Reached → List Window
@@ -112,6 +128,6 @@ refusal (Through f space) a n = Refused a n (reason f a n)
 
 -- an access of n bytes at a: one that is not allowed reaches nothing
 abbrev pub access_of : List Region → Route → ℕ → ℕ → Permissions → Access
-access_of regions route a n access = cond (allowed route a n access)
-    (record { path = path (meets regions route a) 0 n; fault = first_fault (meets regions route a) 0 n })
-    (record { path = []; fault = Some (refusal route a n) })
+access_of regions route a n access = if allowed route a n access
+    then record { path = path (meets regions route a) 0 n; fault = first_fault (meets regions route a) 0 n }
+    else record { path = []; fault = Some (refusal route a n) }

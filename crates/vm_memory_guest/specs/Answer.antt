@@ -15,12 +15,14 @@ abbrev pub told : {F E : Type 0} → (F → E) → Reach F → Reach E
 told error reach = record { windows = reach.windows; fault = option_map error reach.fault }
 
 module _ {E : Type 0} where
-  -- the answer to an access of n bytes that reached some: how many, or where they are none of more than none, what kept it
+  -- the answer to an access of n bytes that reached some: how many, or where they are none of more than none,
+  -- what kept it
   abbrev pub counted : ℕ → Option E → ℕ → Result ℕ E
   counted reached None n = Ok reached
   counted reached (Some e) n = if nat_lt 0 n && reached == 0 then Err e else Ok reached
 
-  -- the answer where all n bytes are wanted: the error for an access in part is made of the expected and the reached
+  -- the answer where all n bytes are wanted: the error for an access in part is made of the expected and the
+  -- reached
   abbrev pub exactly : (ℕ → ℕ → E) → ℕ → Option E → ℕ → Result (Unit {0}) E
   exactly partial reached fault n = if reached == n then Ok tt else short_of (partial n reached) reached fault
     where
@@ -28,10 +30,12 @@ module _ {E : Type 0} where
       short_of short reached None = Err short
       short_of short reached (Some e) = if reached == 0 then Err e else Err short
 
-  -- a call answered what is expected and left its effect. Or it answered that there was no memory, where it may want some, and left everything
+  -- a call answered what is expected and left its effect. Or it answered that there was no memory, where it
+  -- may want some, and left everything
   abbrev pub Outcome : {T : Type 0} → E → Type 0 → Result T E → Type 0 → Type 0 → Result T E → Type 0
   Outcome memory may_want expected unchanged effect (Ok value) = (Ok value ≡ expected) × effect
-  Outcome memory may_want expected unchanged effect (Err e) = ((e ≡ memory) × may_want × unchanged) ⊎ ((Err e ≡ expected) × effect)
+  Outcome memory may_want expected unchanged effect (Err e) =
+      ((e ≡ memory) × may_want × unchanged) ⊎ ((Err e ≡ expected) × effect)
 
 -- n bytes of a window from an offset on: as many as it has, and none where the offset is past its last byte
 abbrev pub window_reach : Window → ℕ → ℕ → Reach VolatileMemoryError

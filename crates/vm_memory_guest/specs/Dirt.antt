@@ -19,8 +19,10 @@ changed f xs i = change_one f xs i (slice_get xs i)
 
 -- a host whose named bitmap is marked by len bytes from an offset on
 abbrev pub marks_pages : BitmapId → ℕ → ℕ → Host PageSet → Host PageSet
-marks_pages (Block block) offset len host = record host { bitmaps = changed (marked offset len) host.bitmaps block }
-marks_pages (Space space) offset len host = record host { spaces = changed (marked offset len) host.spaces space }
+marks_pages (Block block) offset len host =
+    record host { bitmaps = changed (marked offset len) host.bitmaps block }
+marks_pages (Space space) offset len host =
+    record host { spaces = changed (marked offset len) host.spaces space }
 
 -- the dirt of each byte of a path, one after the other
 abbrev pub dirtied : List Reached → Host PageSet → Host PageSet
@@ -64,4 +66,9 @@ bytes_read xs host = bytes_at host.blocks (path_cells xs)
 
 -- a host with exact bitmaps, seen with their pages
 abbrev pub with_pages : {B : Type 0} → (B → PageSet) → Host B → Host PageSet
-with_pages pages host = record { blocks = host.blocks; bitmaps = map pages host.bitmaps; spaces = map pages host.spaces; tables = host.tables }
+with_pages pages host = record {
+  blocks = host.blocks;
+  bitmaps = map pages host.bitmaps;
+  spaces = map pages host.spaces;
+  tables = host.tables;
+}

@@ -11,7 +11,8 @@ use Rattle.vm_memory_guest.specs.declared.region.GuestMemoryError.TheVariants.{I
 abbrev pub error_of : Fault → GuestMemoryError
 error_of (NoRegion a) = InvalidGuestAddress (record { 0 = a })
 error_of NoHostBytes = HostAddressNotAvailable
-error_of (Refused iova len reason) = IommuError (CannotResolve (record { base = record { 0 = iova }; length = len }) reason)
+error_of (Refused iova len reason) =
+    IommuError (CannotResolve (record { base = record { 0 = iova }; length = len }) reason)
 error_of (Partial expected completed) = PartialBuffer expected completed
 
 -- an access that does not fit its window does not fit the region

@@ -1,5 +1,5 @@
 -- What a host holds: blocks of bytes, each with a bitmap, spaces and tables, each kind by number from 0.
-use Rattle.std.specs.Prelude.{ℕ, zero, suc, ◌+◌, ◌<◌, ◌≤◌, List, [], ◌∷◌, length, map, slice_set, slice_index, slice_index_or}
+use Rattle.std.specs.Prelude.{ℕ, zero, suc, ◌+◌, ◌<◌, ◌≤◌, List, [], ◌∷◌, ◌++◌, length, map, replicate, slice_set, slice_index, slice_index_or}
 use Rattle.vm_memory_base.specs.Table.{Table}
 
 -- the bytes of each block, the bitmap of each block, the bitmap of each space, and each table
@@ -15,8 +15,23 @@ pub record Shape : Type 0 where
   pub spaces : ℕ
   pub tables : ℕ
 
+-- the host with one more block, of so many zeroed bytes
+abbrev pub with_block : {B : Type 0} → Host B → ℕ → B → Host B
+with_block host size bitmap = record host {
+  blocks = host.blocks ++ replicate size 0 ∷ [];
+  bitmaps = host.bitmaps ++ bitmap ∷ [];
+}
+
+-- the host with one more space
+abbrev pub with_space : {B : Type 0} → Host B → B → Host B
+with_space host bitmap = record host { spaces = host.spaces ++ bitmap ∷ [] }
+
 abbrev pub shape_of : {B : Type 0} → Host B → Shape
-shape_of host = record { blocks = map length host.blocks; spaces = length host.spaces; tables = length host.tables }
+shape_of host = record {
+  blocks = map length host.blocks;
+  spaces = length host.spaces;
+  tables = length host.tables;
+}
 
 -- what a value can name in a host
 pub data Name : Type 0 where
@@ -28,7 +43,8 @@ pub data Name : Type 0 where
 -- a host of this shape holds what is named
 abbrev pub IsHeld : Shape → Name → Type 0
 IsHeld shape (Block block) = block < length shape.blocks
-IsHeld shape (Place block offset len) = (block < length shape.blocks) × (offset + len ≤ slice_index shape.blocks block)
+IsHeld shape (Place block offset len) =
+    (block < length shape.blocks) × (offset + len ≤ slice_index shape.blocks block)
 IsHeld shape (Space space) = space < shape.spaces
 IsHeld shape (Tlb table) = table < shape.tables
 
@@ -45,7 +61,8 @@ pub record Cell : Type 0 where
 -- len bytes of a block from an offset on
 abbrev pub cells_from : ℕ → ℕ → ℕ → List Cell
 cells_from block offset zero = []
-cells_from block offset (suc len) = record { block = block; offset = offset } ∷ cells_from block (offset + 1) len
+cells_from block offset (suc len) =
+    record { block = block; offset = offset } ∷ cells_from block (offset + 1) len
 
 -- the bytes of a block
 abbrev pub block_at : List (List ℕ) → ℕ → List ℕ
@@ -59,7 +76,8 @@ abbrev pub bytes_at : List (List ℕ) → List Cell → List ℕ
 bytes_at blocks cells = map (byte_at blocks) cells
 
 abbrev pub with_byte : List (List ℕ) → Cell → ℕ → List (List ℕ)
-with_byte blocks cell byte = slice_set blocks cell.block (slice_set (block_at blocks cell.block) cell.offset byte)
+with_byte blocks cell byte =
+    slice_set blocks cell.block (slice_set (block_at blocks cell.block) cell.offset byte)
 
 -- the blocks after the first bytes went into the cells, one after the other
 abbrev pub written : List Cell → List ℕ → List (List ℕ) → List (List ℕ)

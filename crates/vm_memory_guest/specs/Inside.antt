@@ -4,7 +4,8 @@ use Rattle.std.specs.declared.alloc.Global.{Global}
 use Rattle.vm_memory_guest.specs.Host.{Shape}
 
 -- the shape is that of the parts, each block has a bitmap, and 1 to 2 ^ 63 - 1 bytes
-pub record IsSound {B : Type 0} (shape : Shape) (blocks : List (List ℕ)) (bitmaps spaces : List B) : Type 0 where
+pub record IsSound {B : Type 0} (shape : Shape) (blocks : List (List ℕ)) (bitmaps spaces : List B)
+    : Type 0 where
   pub lengths : shape.blocks ≡ map length blocks
   pub spaces_counted : shape.spaces ≡ length spaces
   pub tables_counted : shape.tables ≡ 0

@@ -4,6 +4,7 @@ pub mod Collection
 pub mod Copy
 pub mod Dirt
 pub mod Error
+pub mod Examples
 pub mod Host
 pub mod Inside
 pub mod Memory

@@ -37,7 +37,8 @@ abbrev pub mapping_of : Route → ℕ → ℕ → Option Mapping
 mapping_of Direct a i = None
 mapping_of (Through f space) a i = f (a + i)
 
--- the physical address of byte i of an access at a. One that is translated has a mapping, since an access without is refused
+-- the physical address of byte i of an access at a. One that is translated has a mapping, since an access
+-- without is refused
 abbrev pub translated : ℕ → Option Mapping → ℕ
 translated x None = x
 translated x (Some m) = target x m

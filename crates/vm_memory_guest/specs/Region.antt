@@ -1,16 +1,17 @@
 -- Regions of guest physical memory, and what lies at an address.
-use Rattle.std.specs.Prelude.{ℕ, ◌+◌, ◌-◌, ◌^◌, ◌<◌, ◌≤◌, Bool, ◌&&◌, ◌==◌, List, [], ◌∷◌, find, Option, Some, None, cond, nat_lt, nat_le, Result, Ok, Err}
+use Rattle.std.specs.Prelude.{ℕ, ◌+◌, ◌-◌, ◌^◌, ◌<◌, ◌≤◌, nat_lt, nat_le, Bool, ◌&&◌, ◌==◌, cond}
+use Rattle.std.specs.Prelude.{List, [], ◌∷◌, find, Option, Some, None, Result, Ok, Err}
 use Rattle.vm_memory_base.specs.Address.{is_within}
 use Rattle.vm_memory_base.specs.declared.bitmap.BitmapId.TheVariants as bitmap
 use Rattle.vm_memory_guest.specs.Host as host
 use Rattle.vm_memory_guest.specs.Window.{Window}
 use Rattle.vm_memory_guest.specs.declared.region.GuestMemoryError.{GuestMemoryError}
-use Rattle.vm_memory_guest.specs.declared.region.GuestMemoryError.TheVariants.{HostAddressNotAvailable, InvalidBackendAddress}
+use Rattle.vm_memory_guest.specs.declared.region.GuestMemoryError.TheVariants as access
 use Rattle.vm_memory_guest.specs.declared.region.GuestRegionCollectionError.{GuestRegionCollectionError}
-use Rattle.vm_memory_guest.specs.declared.region.GuestRegionCollectionError.TheVariants.{NoMemoryRegion, MemoryRegionOverlap, UnsortedMemoryRegions}
+use Rattle.vm_memory_guest.specs.declared.region.GuestRegionCollectionError.TheVariants as layout
 use Rattle.vm_memory_guest.specs.Host.{Name, Cell}
 
--- len addresses from start on, and the cell of the first, where the region has host bytes: the others follow it
+-- len addresses from start on, and the cell of the first where the region has host bytes: the others follow
 pub record Region : Type 0 where
   pub start : ℕ
   pub len : ℕ
@@ -32,24 +33,30 @@ pub record IsRegion (r : Region) : Type 0 where
 abbrev pub last : Region → ℕ
 last r = r.start + r.len - 1
 
--- of values that mean regions the one whose region holds an address
+-- whether an address lies in a region
+abbrev pub has_address : Region → ℕ → Bool
+has_address r a = is_within r.start r.len a
+
+-- the region that holds an address, among values that mean regions
 abbrev pub home_in : {R : Type 0} → (R → Region) → List R → ℕ → Option R
-home_in region rs a = find (λ r. is_within (region r).start (region r).len a) rs
+home_in region rs a = find (λ r. has_address (region r) a) rs
 
 -- the region that holds an address
 abbrev pub home : List Region → ℕ → Option Region
 home regions a = home_in (λ r. r) regions a
 
--- what lies at an address: a byte of a host in its region, no byte in a region without host bytes, or no region
+-- what lies at an address: a byte of a host, in its region; no byte, in a region without any; or no region
 pub data Lies : Type 0 where
   Byte : (home : Region) (cell : Cell) → Lies
   Bare : Lies
   Hole : Lies
 
+-- at an offset of a region, whose first byte lies there
 abbrev pub lies_from : Region → Option Cell → ℕ → Lies
 lies_from r None offset = Bare
 lies_from r (Some first) offset = Byte r (record { block = first.block; offset = first.offset + offset })
 
+-- at an address, of which this is the home
 abbrev pub lies_in : Option Region → ℕ → Lies
 lies_in None a = Hole
 lies_in (Some r) a = lies_from r r.place (a - r.start)
@@ -62,7 +69,7 @@ cell regions a = lies_in (home regions a) a
 abbrev pub same_region : Region → Region → Bool
 same_region q r = q.start == r.start && q.len == r.len
 
--- what a region names: the place of its bytes
+-- what a region names: the place of its bytes, if it has any
 abbrev pub place_names : Option Cell → ℕ → List Name
 place_names None len = []
 place_names (Some first) len = host.Place first.block first.offset len ∷ []
@@ -72,21 +79,31 @@ region_names r = place_names r.place r.len
 
 -- the window of count bytes of a region from an offset on
 abbrev pub window_at : Cell → ℕ → ℕ → Window
-window_at first offset count = record { block = record { 0 = first.block }; offset = first.offset + offset; size = count; bitmap = record { id = bitmap.Block first.block; base = first.offset + offset } }
+window_at first offset count = record {
+  block = record { 0 = first.block };
+  offset = first.offset + offset;
+  size = count;
+  bitmap = record { id = bitmap.Block first.block; base = first.offset + offset };
+}
 
+-- what a region gives of count bytes from an offset on
 abbrev pub slice_from : Option Cell → ℕ → ℕ → ℕ → Result Window GuestMemoryError
-slice_from None len offset count = Err HostAddressNotAvailable
-slice_from (Some first) len offset count = cond (nat_le (offset + count) len) (Ok (window_at first offset count)) (Err InvalidBackendAddress)
+slice_from None len offset count = Err access.HostAddressNotAvailable
+slice_from (Some first) len offset count =
+    cond (nat_le (offset + count) len) (Ok (window_at first offset count)) (Err access.InvalidBackendAddress)
 
--- what a region gives of so many bytes from an offset on
 abbrev pub slice_of : Region → ℕ → ℕ → Result Window GuestMemoryError
 slice_of r offset count = slice_from r.place r.len offset count
 
 -- whether a region may follow another in a layout: it starts no lower, and above the last address
 abbrev pub neighbours_of : Region → Region → Result (Unit {0}) GuestRegionCollectionError
-neighbours_of q r = cond (nat_lt r.start q.start) (Err UnsortedMemoryRegions) (cond (nat_le r.start (last q)) (Err MemoryRegionOverlap) (Ok tt))
+neighbours_of q r =
+    cond (nat_lt r.start q.start) (Err layout.UnsortedMemoryRegions)
+    (cond (nat_le r.start (last q)) (Err layout.MemoryRegionOverlap) (Ok tt))
 
-abbrev pub first_error : Result (Unit {0}) GuestRegionCollectionError → Option GuestRegionCollectionError → Option GuestRegionCollectionError
+-- the error of a test, or of the later ones
+abbrev pub first_error : Result (Unit {0}) GuestRegionCollectionError
+    → Option GuestRegionCollectionError → Option GuestRegionCollectionError
 first_error (Ok done) rest = rest
 first_error (Err e) rest = Some e
 
@@ -98,8 +115,13 @@ neighbours_error (q ∷ r ∷ rs) = first_error (neighbours_of q r) (neighbours_
 
 -- why regions make no layout, if they make none
 abbrev pub layout_error : List Region → Option GuestRegionCollectionError
-layout_error [] = Some NoMemoryRegion
+layout_error [] = Some layout.NoMemoryRegion
 layout_error (r ∷ rs) = neighbours_error (r ∷ rs)
+
+-- the fault of regions that an error tells: want of memory is none
+abbrev pub fault_of : GuestRegionCollectionError → Option GuestRegionCollectionError
+fault_of layout.Memory = None
+fault_of e = Some e
 
 -- regions in ascending order, none of which reaches the next
 abbrev pub IsLayout : List Region → Type 0

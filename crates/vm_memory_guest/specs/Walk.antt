@@ -36,11 +36,13 @@ reached memory tables a n access = reach_of (access_of memory.regions (route mem
 
 -- an access is allowed, and this is its walk
 abbrev pub GivesAccess : Memory → List Table → ℕ → ℕ → Permissions → Reach Fault → Type 0
-GivesAccess memory tables a n access walk = (allowed (route memory tables) a n access ≡ true) × (walk ≡ reached memory tables a n access)
+GivesAccess memory tables a n access walk =
+    (allowed (route memory tables) a n access ≡ true) × (walk ≡ reached memory tables a n access)
 
 -- an access is not allowed, and this is why
 abbrev pub RefusesAccess : Memory → List Table → ℕ → ℕ → Permissions → GuestMemoryError → Type 0
-RefusesAccess memory tables a n access e = (allowed (route memory tables) a n access ≡ false) × (e ≡ error_of (refusal (route memory tables) a n))
+RefusesAccess memory tables a n access e =
+    (allowed (route memory tables) a n access ≡ false) × (e ≡ error_of (refusal (route memory tables) a n))
 
 -- there was no memory for the translation: an IOMMU is on
 abbrev pub WantsMemory : Memory → GuestMemoryError → Type 0

@@ -1,4 +1,5 @@
-//! What an access of guest memory is, byte by byte: each function here is a theorem, and does nothing.
+//! What an access of guest memory is, byte by byte: each function here is a theorem, and does nothing. It
+//! calls the theorems that it follows from.
 ghost use Rattle.std.specs.Prelude.{◌≡◌, ℕ, List, length, take, true, Some, All};
 ghost use Rattle.vm_memory_base.specs.declared.iotlb.Permissions.{Permissions};
 ghost use Rattle.vm_memory_guest.specs.Access.{Fault, Stops, access_of, allowed, meets, windows};
@@ -9,17 +10,31 @@ ghost use Rattle.vm_memory_guest.specs.Memory.{Route};
 ghost use Rattle.vm_memory_guest.specs.Region.{Region, IsRegion};
 ghost use Rattle.vm_memory_guest.specs.Window.{Writes, cells, span};
 
+use crate::effect_laws::windows_dirty_their_bytes;
 use vm_memory_base::ExactBitmap;
+use vm_memory_base::laws::table::allowed_where_each_address_grants;
 
 /// The windows of an access have as many bytes as it reaches, what they give to a buffer are the bytes of its
 /// cells, and a write to them of a host with exact bitmaps is the write of its bytes, one after the other.
 pub fn accesses_are_by_bytes<B: ExactBitmap>()
-    ensures count { (regions : List Region) (route : Route) (a n : ℕ) (access : Permissions) → span (windows (access_of regions route a n access).path) ≡ length (access_of regions route a n access).path }
-    ensures reads { (regions : List Region) (route : Route) (a n : ℕ) (access : Permissions) (blocks : List (List ℕ)) (buffer : List ℕ) → All IsRegion regions → let xs = (access_of regions route a n access).path in take (length xs) (filled blocks (cells (windows xs)) buffer) ≡ bytes_at blocks (path_cells xs) }
-    ensures writes { (regions : List Region) (route : Route) (a n : ℕ) (access : Permissions) (bytes : List ℕ) (old new : Host B) → All IsRegion regions → let xs = (access_of regions route a n access).path in Writes B.marks (windows xs) bytes old new → with_pages B.pages new ≡ after_write xs bytes (with_pages B.pages old) }
-{}
+    ensures count { (regions : List Region) (route : Route) (a n : ℕ) (access : Permissions)
+        → let xs = (access_of regions route a n access).path in span (windows xs) ≡ length xs }
+    ensures reads { (regions : List Region) (route : Route) (a n : ℕ) (access : Permissions)
+        (blocks : List (List ℕ)) (buffer : List ℕ) → All IsRegion regions
+        → let xs = (access_of regions route a n access).path in
+        take (length xs) (filled blocks (cells (windows xs)) buffer) ≡ bytes_at blocks (path_cells xs) }
+    ensures writes { (regions : List Region) (route : Route) (a n : ℕ) (access : Permissions)
+        (bytes : List ℕ) (old new : Host B) → All IsRegion regions
+        → let xs = (access_of regions route a n access).path in Writes B.marks (windows xs) bytes old new
+        → with_pages B.pages new ≡ after_write xs bytes (with_pages B.pages old) }
+{
+    windows_dirty_their_bytes::<B>();
+    allowed_where_each_address_grants();
+}
 
 /// What keeps an allowed access from going on is what its first byte that it does not reach meets.
 pub fn accesses_stop_at_the_first_fault()
-    ensures { (regions : List Region) (route : Route) (a n : ℕ) (access : Permissions) (fault : Fault) → allowed route a n access ≡ true → (access_of regions route a n access).fault ≡ Some fault → meets regions route a (length (access_of regions route a n access).path) ≡ Stops fault }
+    ensures { (regions : List Region) (route : Route) (a n : ℕ) (access : Permissions) (fault : Fault)
+        → allowed route a n access ≡ true → (access_of regions route a n access).fault ≡ Some fault
+        → meets regions route a (length (access_of regions route a n access).path) ≡ Stops fault }
 {}

@@ -1,13 +1,10 @@
 //! A collection of regions as a backend of guest memory.
-ghost use Rattle.std.specs.Prelude.{◌≡◌, ◌↔◌, IsTrue, map, flat_map};
-ghost use Rattle.vm_memory_guest.specs.Host.{Holds};
+ghost use Rattle.std.specs.Prelude.{map, flat_map};
 ghost use Rattle.vm_memory_guest.specs.Region.{region_names};
-ghost use Rattle.vm_memory_guest.specs.Collection.{regions_of};
 
 use crate::guest_memory::backend::GuestMemoryBackend;
 use crate::region::{GuestMemoryRegion, GuestRegionCollection};
 use crate::volatile_memory::host::{HostShape, Named};
-use std::sync::Arc;
 use vm_memory_base::GuestAddress;
 
 impl<R: GuestMemoryRegion> Named for GuestRegionCollection<R> {

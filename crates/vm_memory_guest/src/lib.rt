@@ -6,6 +6,7 @@ mod collection;
 pub mod effect_laws;
 pub mod examples;
 mod guest_memory;
+pub mod host_laws;
 mod mmap;
 pub mod path_laws;
 mod region;

@@ -1,37 +1,47 @@
-//! What paths and their windows have in common, for every list of regions and every route.
-
-ghost use Rattle.std.specs.Prelude.{◌≡◌, ℕ, ◌+◌, ◌-◌, ◌<◌, ◌≤◌, List, [], ◌∷◌, ◌++◌, map, length, flat_map, All, MatchOption};
-ghost use Rattle.vm_memory_base.specs.Address.{numbers};
+//! What paths and their windows have in common, for every list of regions and every route: each function
+//! here is a theorem, and does nothing.
+ghost use Rattle.std.specs.Prelude.{◌≡◌, ℕ, ◌+◌, ◌-◌, ◌<◌, ◌≤◌, List, [], ◌∷◌, Some, length, flat_map, All, MatchOption};
 ghost use Rattle.vm_memory_base.specs.Table.{Says};
-ghost use Rattle.vm_memory_base.specs.declared.bitmap.BitmapId.{BitmapId};
-ghost use Rattle.vm_memory_base.specs.declared.bitmap.BitmapId.TheVariants.{Block};
 ghost use Rattle.vm_memory_base.specs.declared.iotlb.Permissions.{Permissions};
 ghost use Rattle.vm_memory_guest.specs.Access.{meets, path, windows, access_of};
-ghost use Rattle.vm_memory_guest.specs.Dirt.{path_cells};
+ghost use Rattle.vm_memory_guest.specs.Dirt.{path_cells, path_marks, window_marks};
 ghost use Rattle.vm_memory_guest.specs.Host.{Cell, Shape, Space, Holds};
 ghost use Rattle.vm_memory_guest.specs.Memory.{Route, Direct, Through};
-ghost use Rattle.vm_memory_guest.specs.Region.{Region, IsRegion, IsLayout, home, region_names};
+ghost use Rattle.vm_memory_guest.specs.Region.{Region, IsRegion, IsLayout, home, region_names, window_at};
 ghost use Rattle.vm_memory_guest.specs.Window.{cells, window_names};
 
 /// The windows of a path put together are the path, and so are the marks of their bytes.
 pub fn windows_are_the_path()
-    ensures bytes { (regions : List Region) (route : Route) (a n : ℕ) → All IsRegion regions → cells (windows (path (meets regions route a) 0 n)) ≡ path_cells (path (meets regions route a) 0 n) }
-    ensures marks { (regions : List Region) (route : Route) (a n : ℕ) → All IsRegion regions → flat_map {A = BitmapId × ℕ} (λ w. map (λ offset. (w.bitmap.id, offset)) (numbers w.bitmap.base w.size)) (windows (path (meets regions route a) 0 n)) ≡ map (λ x. (x.bitmap, x.mark)) (path (meets regions route a) 0 n) }
+    ensures bytes { (regions : List Region) (route : Route) (a n : ℕ) → All IsRegion regions
+        → let xs = path (meets regions route a) 0 n in cells (windows xs) ≡ path_cells xs }
+    ensures marks { (regions : List Region) (route : Route) (a n : ℕ) → All IsRegion regions
+        → let xs = path (meets regions route a) 0 n in flat_map window_marks (windows xs) ≡ path_marks xs }
 {}
 
 /// The windows of a path inside one region are one window.
 pub fn windows_inside_a_region_are_one()
-    ensures { (regions : List Region) (a n : ℕ) (r : Region) (first : Cell) → IsLayout regions → home regions a ≡ Some r → r.place ≡ Some first → IsRegion r → 0 < n → a - r.start + n ≤ r.len → windows (path (meets regions Direct a) 0 n) ≡ record { block = record { 0 = first.block }; offset = first.offset + (a - r.start); size = n; bitmap = record { id = Block first.block; base = first.offset + (a - r.start) } } ∷ [] }
+    ensures { (regions : List Region) (a n : ℕ) (r : Region) (first : Cell) → IsLayout regions
+        → home regions a ≡ Some r → r.place ≡ Some first → IsRegion r → 0 < n → a - r.start + n ≤ r.len
+        → windows (path (meets regions Direct a) 0 n) ≡ window_at first (a - r.start) n ∷ [] }
 {}
 
 /// An access reaches at most what was asked, and all of it unless something stops it.
 pub fn accesses_reach_all_unless_stopped()
-    ensures at_most { (regions : List Region) (route : Route) (a n : ℕ) (access : Permissions) → length (access_of regions route a n access).path ≤ n }
-    ensures all { (regions : List Region) (route : Route) (a n : ℕ) (access : Permissions) → let reached = access_of regions route a n access in MatchOption reached.fault (length reached.path ≡ n) (λ fault. length reached.path < n) }
+    ensures at_most { (regions : List Region) (route : Route) (a n : ℕ) (access : Permissions)
+        → length (access_of regions route a n access).path ≤ n }
+    ensures all { (regions : List Region) (route : Route) (a n : ℕ) (access : Permissions)
+        → let reached = access_of regions route a n access in
+        MatchOption reached.fault (length reached.path ≡ n) (λ fault. length reached.path < n) }
 {}
 
 /// The windows of a memory that a host holds are held.
 pub fn windows_of_a_held_memory_are_held()
-    ensures without_translation { (shape : Shape) (regions : List Region) (a n : ℕ) → All IsRegion regions → Holds shape (flat_map region_names regions) → All (λ w. Holds shape (window_names w)) (windows (path (meets regions Direct a) 0 n)) }
-    ensures with_translation { (shape : Shape) (regions : List Region) (says : Says) (space a n : ℕ) → All IsRegion regions → Holds shape (flat_map region_names regions) → Holds shape (Space space ∷ []) → All (λ w. Holds shape (window_names w)) (windows (path (meets regions (Through says space) a) 0 n)) }
+    ensures without_translation { (shape : Shape) (regions : List Region) (a n : ℕ) → All IsRegion regions
+        → Holds shape (flat_map region_names regions)
+        → All (λ w. Holds shape (window_names w)) (windows (path (meets regions Direct a) 0 n)) }
+    ensures with_translation { (shape : Shape) (regions : List Region) (says : Says) (space a n : ℕ)
+        → All IsRegion regions → Holds shape (flat_map region_names regions)
+        → Holds shape (Space space ∷ [])
+        → All (λ w. Holds shape (window_names w))
+        (windows (path (meets regions (Through says space) a) 0 n)) }
 {}

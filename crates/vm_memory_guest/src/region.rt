@@ -1,10 +1,13 @@
 //! Regions of guest physical memory, and collections of them.
-ghost use Rattle.std.specs.Prelude.{◌≡◌, ℕ, ◌+◌, ◌-◌, ◌^◌, ◌<◌, ◌≤◌, ◌↔◌, nat_lt, List, map, IsTrue, Option, Some, None, IfSome, IfOk, MatchResult, OnOk, cond, option_copied, length, get_or, flat_map};
+ghost use Rattle.std.specs.Prelude.{◌≡◌, ℕ, ◌-◌, ◌<◌, ◌≤◌, ◌↔◌, map, flat_map, length, slice_index};
+ghost use Rattle.std.specs.Prelude.{IsTrue, None, Some, IfOk, MatchResult};
+ghost use Rattle.std.specs.Option.{option_copied};
 ghost use Rattle.std.specs.declared.alloc.Global.{Global};
 ghost use Rattle.std.specs.declared.sync.Arc.{Arc};
 ghost use Rattle.vm_memory_guest.specs.Collection.{regions_of};
 ghost use Rattle.vm_memory_guest.specs.Host.{Holds};
-ghost use Rattle.vm_memory_guest.specs.Region.{Region, IsRegion, last, home_in, region_names, IsLayout, neighbours_of, layout_error, slice_of};
+ghost use Rattle.vm_memory_guest.specs.Region.{Region, IsRegion, last, home_in, region_names, slice_of};
+ghost use Rattle.vm_memory_guest.specs.Region.{IsLayout, neighbours_of, layout_error, fault_of};
 
 use crate::volatile_memory::host::{HostShape, Named};
 use crate::volatile_memory::slice::VolatileSlice;
@@ -92,8 +95,8 @@ pub trait GuestMemoryRegion: Named + Drop {
     fn last_addr(&self) -> GuestAddress
         ensures { result.0 ≡ last (region self.now) };
 
-    /// The window of `count` bytes from `offset` on: `InvalidBackendAddress` where it passes the region's end,
-    /// `HostAddressNotAvailable` where the region has no host bytes.
+    /// The window of `count` bytes from `offset` on: `InvalidBackendAddress` where it passes the region's
+    /// end, `HostAddressNotAvailable` where the region has no host bytes.
     fn get_slice(
         &self,
         offset: MemoryRegionAddress,
@@ -129,30 +132,31 @@ pub enum GuestRegionCollectionError {
 #[derive(Drop)]
 pub struct GuestRegionCollection<R: GuestMemoryRegion> {
     regions: Vec<Arc<R>>,
+    // Their starts lie side by side, so that a search touches no region but the one that it found.
+    starts: Vec<u64>,
 }
 
 impl<R: GuestMemoryRegion> Model for GuestRegionCollection<R> {
     ghost use Rattle.std.specs.Prelude.{List, map};
-    ghost use Rattle.vm_memory_guest.specs.Region.{IsLayout};
-    ghost use Rattle.vm_memory_guest.specs.Collection.{regions_of};
+    ghost use Rattle.vm_memory_guest.specs.Collection.{regions_of, IsIndexed};
 
     ghost Value = { List R };
 
     ghost view = { λ c. regions_of c.regions };
 
-    ghost invariant = { λ c. IsLayout (map R.region (regions_of c.regions)) };
+    ghost invariant = { λ c. IsIndexed (map R.region (regions_of c.regions)) c.starts.items };
 }
 
 impl<R: GuestMemoryRegion> GuestRegionCollection<R> {
     ghost use Rattle.vm_memory_guest.specs.Collection.{regions_of};
 
-    /// The layout of these regions, in order. No region at all is `NoMemoryRegion`; of the first two
-    /// neighbours that are not in order, `UnsortedMemoryRegions` where the earlier starts above the later, else
-    /// `MemoryRegionOverlap`.
+    /// The layout of these regions, in order. No region at all is `NoMemoryRegion`; the first two neighbours
+    /// that are not in order are `UnsortedMemoryRegions` where the earlier starts above the later, else
+    /// `MemoryRegionOverlap`. Want of memory is `Memory`.
     pub fn from_arc_regions(regions: Vec<Arc<R>>) -> Result<Self, GuestRegionCollectionError>
         ensures { MatchResult result
             (λ c. (layout_error (map R.region (regions_of regions)) ≡ None) × (c ≡ regions_of regions))
-            (λ e. layout_error (map R.region (regions_of regions)) ≡ Some e) }
+            (λ e. layout_error (map R.region (regions_of regions)) ≡ fault_of e) }
     {
         if regions.is_empty() {
             return Err(GuestRegionCollectionError::NoMemoryRegion);
@@ -160,10 +164,13 @@ impl<R: GuestMemoryRegion> GuestRegionCollection<R> {
         for next in 1..regions.len() {
             neighbours(&*regions[next - 1], &*regions[next])?;
         }
-        Ok(GuestRegionCollection { regions })
+        let Ok(starts) = starts_of(&regions) else {
+            return Err(GuestRegionCollectionError::Memory);
+        };
+        Ok(GuestRegionCollection { regions, starts })
     }
 
-    /// How many regions there are.
+    /// The number of regions.
     #[inline]
     pub fn num_regions(&self) -> usize
         ensures count { result ≡ length self.now }
@@ -172,17 +179,19 @@ impl<R: GuestMemoryRegion> GuestRegionCollection<R> {
         self.regions.len()
     }
 
-    /// The region that holds an address, found by binary search.
+    /// The region that holds an address, found by binary search: one comparison with a region's start for
+    /// each binary digit of their number.
+    #[inline]
     pub fn find_region(&self, addr: GuestAddress) -> Option<&R>
         ensures found { option_copied result ≡ home_in R.region self.now addr.0 }
         ensures layout { IsLayout (map R.region self.now) }
     {
-        let next = first_above(self.regions.as_slice(), addr);
+        let (next, start) = first_above(self.starts.as_slice(), addr.0);
         if next == 0 {
             return None;
         }
         let region = &*self.regions[next - 1];
-        if addr <= region.last_addr() {
+        if addr.0 - start < region.len() {
             Some(region)
         } else {
             None
@@ -211,28 +220,49 @@ impl<R: GuestMemoryRegion> Clone for GuestRegionCollection<R> {
 
     fn clone(&self) -> Result<Self, AllocError> {
         let regions = shared(&self.regions)?;
-        Ok(GuestRegionCollection { regions })
+        let starts = self.starts.clone()?;
+        Ok(GuestRegionCollection { regions, starts })
     }
 }
 
-// The number of the first region that starts above an address, or how many there are.
-fn first_above<R: GuestMemoryRegion>(regions: &[Arc<R>], addr: GuestAddress) -> usize
-    requires { IsLayout (map R.region (map (λ (r : Arc R Global). r.value) regions.now)) }
-    ensures within { result ≤ length regions.now }
-    ensures below { (k : ℕ) (d : Region) → k < result → (get_or (map R.region (map (λ (r : Arc R Global). r.value) regions.now)) k d).start ≤ addr.0 }
-    ensures above { (k : ℕ) (d : Region) → result ≤ k → k < length regions.now → addr.0 < (get_or (map R.region (map (λ (r : Arc R Global). r.value) regions.now)) k d).start }
+// The number of the first start above an address, or how many there are, and the start before it: one probe
+// for each binary digit of their number.
+//
+// Of one conditional move the compiler makes a branch, which would often be predicted wrongly. Of two with
+// the same condition it makes none: so the start is kept beside the number.
+#[inline]
+fn first_above(starts: &[u64], addr: u64) -> (usize, u64)
+    requires { (i j : ℕ) → i ≤ j → j < length starts.now →
+        slice_index starts.now i ≤ slice_index starts.now j }
+    ensures within { result.0 ≤ length starts.now }
+    ensures below { (k : ℕ) → k < result.0 → slice_index starts.now k ≤ addr }
+    ensures above { (k : ℕ) → result.0 ≤ k → k < length starts.now → addr < slice_index starts.now k }
+    ensures start { 0 < result.0 → result.1 ≡ slice_index starts.now (result.0 - 1) }
 {
-    let mut low = 0;
-    let mut high = regions.len();
-    while low < high {
-        let middle = low + (high - low) / 2;
-        if regions[middle].start_addr() <= addr {
-            low = middle + 1;
-        } else {
-            high = middle;
-        }
+    let mut next = 0;
+    let mut start = 0;
+    let mut size = starts.len();
+    while size > 0 {
+        let half = size / 2;
+        let after = next + (size - half);
+        let probe = starts[after - 1];
+        let is_above = addr < probe;
+        next = if is_above { next } else { after };
+        start = if is_above { start } else { probe };
+        size = half;
     }
-    low
+    (next, start)
+}
+
+// The starts of regions, in order.
+fn starts_of<R: GuestMemoryRegion>(regions: &Vec<Arc<R>>) -> Result<Vec<u64>, AllocError>
+    ensures { IfOk result (λ starts.
+        starts.items ≡ map (λ (r : Arc R Global). (R.region r.value).start) regions.now.items) }
+{
+    regions
+        .iter()
+        .map(|region| region.start_addr().0)
+        .collect(*regions.allocator())
 }
 
 // The same regions, each shared once more.

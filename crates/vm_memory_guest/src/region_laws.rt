@@ -1,28 +1,37 @@
-//! What holds of layouts of regions, whatever the code does: each function here is a theorem, and does nothing.
-ghost use Rattle.std.specs.Prelude.{◌≡◌, ◌↔◌, ℕ, ◌+◌, ◌<◌, ◌≤◌, true, false, List, All, Contains, None, Some, Ok, Err, length, get_or};
-ghost use Rattle.vm_memory_base.specs.Address.{is_within};
+//! What holds of layouts of regions, whatever the code does: each function is a theorem, and does nothing.
+ghost use Rattle.std.specs.Prelude.{◌≡◌, ◌↔◌, ℕ, ◌+◌, ◌<◌, true, false, None, Some, Ok, Err};
+ghost use Rattle.std.specs.Prelude.{List, All, length, get_or};
 ghost use Rattle.vm_memory_guest.specs.declared.region.GuestRegionCollectionError.{GuestRegionCollectionError};
-ghost use Rattle.vm_memory_guest.specs.Region.{Region, IsRegion, last, home, neighbours_of, layout_error, IsLayout};
+ghost use Rattle.vm_memory_guest.specs.Region.{Region, IsRegion, last, has_address, home};
+ghost use Rattle.vm_memory_guest.specs.Region.{neighbours_of, layout_error, IsLayout};
 
 /// At most one region of a layout holds an address: two places that hold it are the same place.
 pub fn one_region_holds_an_address()
-    ensures { (rs : List Region) → All IsRegion rs → IsLayout rs → (i j a : ℕ) (d : Region) → i < length rs → j < length rs → is_within (get_or rs i d).start (get_or rs i d).len a ≡ true → is_within (get_or rs j d).start (get_or rs j d).len a ≡ true → i ≡ j }
+    ensures { (rs : List Region) → All IsRegion rs → IsLayout rs →
+        (i j a : ℕ) (d : Region) → i < length rs → j < length rs →
+        has_address (get_or rs i d) a ≡ true → has_address (get_or rs j d) a ≡ true → i ≡ j }
 {}
 
 /// The regions that pass the tests are the layouts of at least one region, and a layout is ascending and
 /// disjoint: each region ends below the start of every later one.
 pub fn layouts_pass_the_tests()
-    ensures passes { (rs : List Region) → All IsRegion rs → (layout_error rs ≡ None) ↔ ((0 < length rs) × IsLayout rs) }
-    ensures apart { (rs : List Region) → All IsRegion rs → IsLayout rs ↔ ((i j : ℕ) (d : Region) → i < j → j < length rs → last (get_or rs i d) < (get_or rs j d).start) }
+    ensures passes { (rs : List Region) → All IsRegion rs →
+        (layout_error rs ≡ None) ↔ ((0 < length rs) × IsLayout rs) }
+    ensures apart { (rs : List Region) → All IsRegion rs → IsLayout rs ↔ ((i j : ℕ) (d : Region) →
+        i < j → j < length rs → last (get_or rs i d) < (get_or rs j d).start) }
 {}
 
 /// The fault of regions is the first of neighbours.
 pub fn fault_is_the_first()
-    ensures { (rs : List Region) (i : ℕ) (e : GuestRegionCollectionError) (d : Region) → i + 1 < length rs → ((k : ℕ) → k < i → neighbours_of (get_or rs k d) (get_or rs (k + 1) d) ≡ Ok tt) → neighbours_of (get_or rs i d) (get_or rs (i + 1) d) ≡ Err e → layout_error rs ≡ Some e }
+    ensures { (rs : List Region) (i : ℕ) (e : GuestRegionCollectionError) (d : Region) → i + 1 < length rs →
+        ((k : ℕ) → k < i → neighbours_of (get_or rs k d) (get_or rs (k + 1) d) ≡ Ok tt) →
+        neighbours_of (get_or rs i d) (get_or rs (i + 1) d) ≡ Err e → layout_error rs ≡ Some e }
 {}
 
 /// The home of an address in a layout is the region that holds it, and there is none where no region does.
 pub fn home_holds_the_address()
-    ensures held { (rs : List Region) → All IsRegion rs → IsLayout rs → (i a : ℕ) (d : Region) → i < length rs → is_within (get_or rs i d).start (get_or rs i d).len a ≡ true → home rs a ≡ Some (get_or rs i d) }
-    ensures hole { (rs : List Region) (a : ℕ) (d : Region) → ((k : ℕ) → k < length rs → is_within (get_or rs k d).start (get_or rs k d).len a ≡ false) → home rs a ≡ None }
+    ensures held { (rs : List Region) → All IsRegion rs → IsLayout rs → (i a : ℕ) (d : Region) →
+        i < length rs → has_address (get_or rs i d) a ≡ true → home rs a ≡ Some (get_or rs i d) }
+    ensures hole { (rs : List Region) (a : ℕ) (d : Region) →
+        ((k : ℕ) → k < length rs → has_address (get_or rs k d) a ≡ false) → home rs a ≡ None }
 {}

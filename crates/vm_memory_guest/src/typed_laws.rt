@@ -11,6 +11,7 @@ ghost use Rattle.vm_memory_guest.specs.Region.{Region, IsRegion};
 ghost use Rattle.vm_memory_guest.specs.Typed.{answered, given, path_given, place_of, typed_path};
 ghost use Rattle.vm_memory_guest.specs.Window.{Window, Writes, cells_of};
 
+use crate::access_laws::accesses_are_by_bytes;
 use vm_memory_base::ExactBitmap;
 
 /// A load or a store takes all bytes of its access, or is refused: the window that it takes has just these
@@ -27,7 +28,9 @@ pub fn loads_and_stores_are_by_bytes<B: ExactBitmap>()
         → All IsRegion regions → let x = access_of regions route a size access in
         Writes B.marks (given (place_of size x)) bytes old new
         → with_pages B.pages new ≡ after_write (path_given (typed_path size x)) bytes (with_pages B.pages old) }
-{}
+{
+    accesses_are_by_bytes::<B>();
+}
 
 /// A copy to a window that marks its own block's bitmap at its own place, in a host with exact bitmaps, is the
 /// copy of its bytes: each takes what the other had before, and its dirt.

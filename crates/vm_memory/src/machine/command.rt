@@ -1,7 +1,7 @@
 //! Commands of a machine, and its replies.
 
 use super::list::{ByteList, NumberList};
-use vm_memory_base::GuestAddress;
+use vm_memory_base::{GuestAddress, IommuError};
 
 /// A call that a machine makes. Regions, layouts and memories go by number, from 0 in the order of making.
 #[derive(Debug, Drop)]
@@ -24,13 +24,19 @@ pub enum Command {
     },
 }
 
-/// Why a call was refused.
+/// Why a call was refused: the error that it answered, by its name.
 #[derive(Clone, Copy, Debug, PartialEq, Eq)]
 pub enum Fault {
     /// No region holds the address.
     InvalidGuestAddress(GuestAddress),
+    /// Fewer bytes were moved than were asked for.
+    PartialBuffer { expected: usize, completed: usize },
+    /// The access does not fit the region or the window.
+    InvalidBackendAddress,
     /// The region has no host bytes.
     HostAddressNotAvailable,
+    /// The translation was refused.
+    IommuError(IommuError),
     /// A layout of no region.
     NoMemoryRegion,
     /// A region reaches the next.

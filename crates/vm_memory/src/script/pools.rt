@@ -2,14 +2,18 @@
 ghost use Rattle.std.specs.Prelude.{◌≡◌, ◌++◌, ◌∷◌, [], OnOk, OnErr};
 ghost use Rattle.vm_memory_guest.specs.Collection.{regions_of};
 
-use super::line::Setup;
 use super::reply::SetupReply;
+use super::setup::Setup;
 use crate::machine::Machine;
 use std::alloc::{AllocError, Global};
 use std::marker::Model;
 use std::sync::Arc;
 use vm_memory_base::GuestAddress;
+use vm_memory_guest::host_laws::{names_are_held_one_by_one, parts_of_a_block_are_held};
 use vm_memory_guest::{BlockId, GuestRegionMmap, HostMemory, MmapRegion, MmapRegionError};
+
+/// The machine that a script commands.
+pub(super) type ScriptMachine = Machine<GuestRegionMmap, ()>;
 
 /// A host, and regions of its blocks, which it holds.
 #[derive(Drop)]
@@ -20,18 +24,17 @@ pub(super) struct Pools {
 }
 
 impl Model for Pools {
-    ghost use Rattle.std.specs.Prelude.{List, map, flat_map};
-    ghost use Rattle.vm_memory_guest.specs.Host.{Holds, shape_of};
-    ghost use Rattle.vm_memory_guest.specs.Region.{region_names};
+    ghost use Rattle.std.specs.Prelude.{List};
     ghost use Rattle.vm_memory_guest.specs.Mmap.{mmap_region};
     ghost use Rattle.vm_memory_guest.specs.Collection.{regions_of};
     ghost use Rattle.vm_memory_guest.specs.declared.mmap.GuestRegionMmap.{GuestRegionMmap};
+    ghost use Rattle.vm_memory.specs.Parts.{HoldsRegions};
 
     ghost Value = { List GuestRegionMmap };
 
     ghost view = { λ p. regions_of p.regions };
 
-    ghost invariant = { λ p. Holds (shape_of p.host) (flat_map region_names (map mmap_region (regions_of p.regions))) };
+    ghost invariant = { λ p. HoldsRegions mmap_region p.host (regions_of p.regions) };
 }
 
 impl Pools {
@@ -53,7 +56,7 @@ impl Pools {
     }
 
     /// A machine of the host and the regions.
-    pub(super) fn into_machine(self) -> Machine<GuestRegionMmap, ()> {
+    pub(super) fn into_machine(self) -> ScriptMachine {
         Machine::new(self.alloc, self.host, self.regions)
     }
 
@@ -66,6 +69,8 @@ impl Pools {
     }
 
     fn make_region(&mut self, block: BlockId, addr: GuestAddress) -> SetupReply {
+        names_are_held_one_by_one();
+        parts_of_a_block_are_held::<()>();
         if self.host.shape().block_len(block).is_none() {
             return SetupReply::NoSuch;
         }

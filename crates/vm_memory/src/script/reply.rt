@@ -2,6 +2,7 @@
 
 use crate::machine::command::{Fault, Reply};
 use std::fmt;
+use vm_memory_base::{IommuError, IovaRange, Reason};
 
 /// What a setup line answers. All but the numbers changed nothing.
 #[derive(Drop)]
@@ -52,11 +53,55 @@ impl fmt::Display for Fault {
     fn fmt<W: fmt::Write>(&self, f: &mut fmt::Formatter<W>) -> fmt::Result {
         match self {
             Fault::InvalidGuestAddress(addr) => write!(f, "G1 {:#x}", addr.0),
+            Fault::PartialBuffer {
+                expected,
+                completed,
+            } => write!(f, "G3 {expected} {completed}"),
+            Fault::InvalidBackendAddress => write!(f, "G4"),
             Fault::HostAddressNotAvailable => write!(f, "G5"),
+            Fault::IommuError(error) => write!(f, "G8 {}", Translation(error)),
             Fault::NoMemoryRegion => write!(f, "C1"),
             Fault::MemoryRegionOverlap => write!(f, "C2"),
             Fault::UnsortedMemoryRegions => write!(f, "C3"),
         }
+    }
+}
+
+// Why a translation was refused.
+#[derive(Drop)]
+struct Translation<'a>(&'a IommuError);
+
+impl fmt::Display for Translation<'_> {
+    fn fmt<W: fmt::Write>(&self, f: &mut fmt::Formatter<W>) -> fmt::Result {
+        match self.0 {
+            IommuError::CannotResolve { iova_range, reason } => {
+                write!(f, "I1 {} {}", Range(*iova_range), word_of(*reason))
+            }
+            IommuError::Fragmented {
+                iova_range,
+                continuous_length,
+            } => write!(f, "I2 {} {continuous_length}", Range(*iova_range)),
+            IommuError::IommuMisconfigured { reason } => write!(f, "I3 {}", word_of(*reason)),
+            IommuError::Memory => write!(f, "I4"),
+        }
+    }
+}
+
+fn word_of(reason: Reason) -> &'static str {
+    match reason {
+        Reason::MissingMapping => "missing",
+        Reason::AccessNotAllowed => "access",
+        Reason::NotConfigured => "configuration",
+    }
+}
+
+// A range of addresses, by its base and its length.
+#[derive(Clone, Copy)]
+struct Range(IovaRange);
+
+impl fmt::Display for Range {
+    fn fmt<W: fmt::Write>(&self, f: &mut fmt::Formatter<W>) -> fmt::Result {
+        write!(f, "{:#x}+{:#x}", self.0.base.0, self.0.length)
     }
 }
 

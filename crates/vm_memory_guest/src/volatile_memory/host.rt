@@ -252,7 +252,9 @@ impl<B> HostMemory<B> {
 }
 
 impl<B> HostMemory<B> {
-    ghost use Rattle.vm_memory_guest.specs.Window.{window_names, bitmap_name, bitmap_of, cells_of, Marks, MarksWindow, Writes};
+    ghost use Rattle.std.specs.Borrow.{Lends, sem};
+    ghost use Rattle.vm_memory_guest.specs.contracts.volatile_memory.host.HostMemory.{the_row};
+    ghost use Rattle.vm_memory_guest.specs.Window.{window_names, with_bitmap, bitmap_name, bitmap_of, cells_of, Marks, MarksWindow, Writes};
 
     /// The bytes of a window.
     pub fn bytes(&self, window: &VolatileSlice) -> &[u8]
@@ -270,6 +272,18 @@ impl<B> HostMemory<B> {
         match bitmap {
             BitmapId::Block(block) => &self.bitmaps[block],
             BitmapId::Space(space) => &self.spaces[space],
+        }
+    }
+
+    /// The bitmap of a block or of a space, to change.
+    pub fn bitmap_mut(&mut self, bitmap: BitmapId) -> &mut B
+        requires { Holds (shape_of self.old) (bitmap_name bitmap ∷ []) }
+        ensures* lends { sem 𝓛 (Lends (the_row B.row) B.row self.entry result (with_bitmap self.old bitmap)) }
+        ensures value { bitmap_of self.old bitmap ≡ Some result.now }
+    {
+        match bitmap {
+            BitmapId::Block(block) => &mut self.bitmaps[block],
+            BitmapId::Space(space) => &mut self.spaces[space],
         }
     }
 

@@ -1,25 +1,25 @@
-use Rattle.std.proofs.Common.{◌≡◌, ◌+◌, List, ◌++◌, ◌∷◌, [], take, sym, subst, ap, ◌∙◌, arith}
+use Rattle.std.proofs.Common.{◌++◌, ◌∷◌, [], take, arith}
 use Rattle.std.proofs.lemmas.List.{take_more, append_assoc}
-use Rattle.vm_memory.specs.Machine.{Run}
 use Rattle.vm_memory.specs.Parts.{state_of}
-use Rattle.vm_memory.specs.declared.machine.command.Command.{Command}
-use Rattle.vm_memory.specs.declared.machine.command.Reply.{Reply}
 use Rattle.vm_memory.proofs.StepLemmas.{Run-step}
 use Rattle.vm_memory.proofs.machine.run.Goals as goal
 
 pub loop-command-preserved : goal.loop-command-preserved
 loop-command-preserved g c =
-    let region = g.R.GuestMemoryRegion.region in
-    let pages = g.B.ExactBitmap.pages in
+    let state = state_of g.R.GuestMemoryRegion.region g.B.ExactBitmap.pages in
     let i = c.loop-command.command-index in
     let commands = c.args.commands.now in
-    let inv = c.loop-command.invariant in
-    let r = c.step-reply.result in
-    let pushed = c.in_ok-push.ensures in
     let item = c.command-item.result in
-    let old = state_of region pages c.args.machine.now in
-    let new = state_of region pages c.step-reply.new.self in
-    let here : take (i + 1) commands ≡ take i commands ++ item ∷ [] = take_more commands i item (omega arith) ∙ ap (λ (q : Command). take i commands ++ q ∷ []) (sym c.command-item.is) in
-    let ran = Run-step old (take i commands) inv.1 (state_of region pages c.loop-command.machine) item r new inv.3 c.step-reply.ensures in
-    let items = pushed.items ∙ (ap (λ (q : List Reply). q ++ r ∷ []) inv.2 ∙ append_assoc c.args.replies.now.items inv.1 (r ∷ [])) in
-    (omega (arith, inv.0, pushed.len, pushed.capacity), inv.1 ++ r ∷ [], items, subst (λ (cs : List Command). Run old cs (inv.1 ++ r ∷ []) new) (sym here) ran)
+    let r = c.step-reply.result in
+    let ran = c.loop-command.invariant.ran in
+    let pushed = c.in_ok-push.ensures in
+    record {
+      room = omega (arith, c.loop-command.invariant.room, pushed.len, pushed.capacity);
+      ran = (
+        ran.0 ++ r ∷ [],
+        rw (pushed.items, ran.1, append_assoc),
+        rw (take_more commands i item (omega arith), ← c.command-item.is)
+            (Run-step (state c.args.machine.now) (take i commands) ran.0 (state c.loop-command.machine) item r
+            (state c.step-reply.new.self) ran.2 c.step-reply.ensures),
+      );
+    }

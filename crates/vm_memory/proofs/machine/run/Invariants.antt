@@ -7,6 +7,9 @@ use Rattle.vm_memory.proofs.machine.run.Given as goal
 
 abbrev pub invariant-loop-command : goal.invariant-loop-command
 invariant-loop-command g l =
-    (vec_len l.replies + (length l.commands - l.command-index) ≤ vec_capacity l.replies)
-    × (new : List Reply) × (l.replies.items ≡ l.fn.replies.items ++ new)
-    × Run (state_of g.R.GuestMemoryRegion.region g.B.ExactBitmap.pages l.fn.machine) (take l.command-index l.commands) new (state_of g.R.GuestMemoryRegion.region g.B.ExactBitmap.pages l.machine)
+    let state = state_of g.R.GuestMemoryRegion.region g.B.ExactBitmap.pages in
+    record {
+      room : vec_len l.replies + (length l.commands - l.command-index) ≤ vec_capacity l.replies;
+      ran : (new : List Reply) × (l.replies.items ≡ l.fn.replies.items ++ new)
+          × Run (state l.fn.machine) (take l.command-index l.commands) new (state l.machine);
+    }

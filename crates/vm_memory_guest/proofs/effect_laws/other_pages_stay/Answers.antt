@@ -1,5 +1,5 @@
-use Rattle.vm_memory_guest.proofs.DirtLaws.{is_dirty_at-after_write_other}
+use Rattle.vm_memory_guest.proofs.EffectLaws.{is_dirty_at-after_write_other}
 use Rattle.vm_memory_guest.proofs.effect_laws.other_pages_stay.Goals as goal
 
 pub returns : goal.returns
-returns c = is_dirty_at-after_write_other
+returns c = is_dirty_at-after_write_other c.mark_of_a_byte.ensures.other

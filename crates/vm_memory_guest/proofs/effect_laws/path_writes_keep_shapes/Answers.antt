@@ -1,5 +1,12 @@
-use Rattle.vm_memory_guest.proofs.DirtLaws.{tables-after_write, shape_of-after_write, bitmap_shapes-after_write, space_shapes-after_write}
+use Rattle.vm_memory_guest.proofs.EffectLaws.{tables-after_write, shape_of-after_write, bitmap_shapes-after_write, space_shapes-after_write}
 use Rattle.vm_memory_guest.proofs.effect_laws.path_writes_keep_shapes.Goals as goal
 
 pub returns : goal.returns
-returns c = record { tables = tables-after_write; shape = shape_of-after_write; bitmaps = bitmap_shapes-after_write; spaces = space_shapes-after_write }
+returns c =
+    let shape_stays = c.mark_keeps_shape.ensures.shape in
+    record {
+      tables = tables-after_write shape_stays;
+      shape = shape_of-after_write shape_stays;
+      bitmaps = bitmap_shapes-after_write shape_stays;
+      spaces = space_shapes-after_write shape_stays;
+    }

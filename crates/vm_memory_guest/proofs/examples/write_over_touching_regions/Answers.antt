@@ -4,4 +4,9 @@ use Rattle.vm_memory_guest.proofs.examples.write_over_touching_regions.Goals as 
 
 pub returns : goal.returns
 unfolding path first_fault stretches
-returns c = record { write = (refl, refl, refl, refl, refl, refl); read = refl }
+returns c = record {
+  write = (refl, refl, refl, refl);
+  left = refl;
+  left_with_smaller_pages = refl;
+  read = refl;
+}

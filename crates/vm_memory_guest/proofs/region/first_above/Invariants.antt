@@ -1,17 +1,14 @@
-use Rattle.std.proofs.Common.{ℕ, ◌-◌, ◌<◌, ◌≤◌, map, length, get_or}
-use Rattle.std.specs.declared.alloc.Global.{Global}
-use Rattle.std.specs.declared.sync.Arc.{Arc}
-use Rattle.vm_memory_guest.specs.Region.{Region}
+use Rattle.std.proofs.Common.{◌≡◌, ℕ, ◌+◌, ◌-◌, ◌<◌, ◌≤◌, length, get_or}
 use Rattle.vm_memory_guest.proofs.region.first_above.Given as goal
 
--- the regions before low start no higher than the address, and those from high on start above it
-abbrev pub invariant-loop-low : goal.invariant-loop-low
-invariant-loop-low g l = record {
-  ordered : l.low ≤ l.high;
-  within : l.high ≤ length l.regions;
-  below : (k : ℕ) (d : Region) → k < l.low → (get_or (map g.R.GuestMemoryRegion.region (map (λ (r : Arc g.row.R.Denot Global). r.value) l.regions)) k d).start ≤ l.addr.0;
-  above : (k : ℕ) (d : Region) → l.high ≤ k → k < length l.regions → l.addr.0 < (get_or (map g.R.GuestMemoryRegion.region (map (λ (r : Arc g.row.R.Denot Global). r.value) l.regions)) k d).start;
+-- the starts before next are at most the address, and those from next + size on above it
+abbrev pub invariant-loop-size : goal.invariant-loop-size
+invariant-loop-size l = record {
+  within : l.next + l.size ≤ length l.starts;
+  below : (k : ℕ) → k < l.next → get_or l.starts k 0 ≤ l.addr;
+  above : (k : ℕ) → l.next + l.size ≤ k → k < length l.starts → l.addr < get_or l.starts k 0;
+  start : 0 < l.next → l.start ≡ get_or l.starts (l.next - 1) 0;
 }
 
-abbrev pub decreases-loop-low : goal.decreases-loop-low
-decreases-loop-low g l = l.high - l.low
+abbrev pub decreases-loop-size : goal.decreases-loop-size
+decreases-loop-size l = l.size

@@ -2,4 +2,7 @@ use Rattle.vm_memory_guest.proofs.RegionLaws.{layout_error-none, layout-apart, I
 use Rattle.vm_memory_guest.proofs.region_laws.layouts_pass_the_tests.Goals as goal
 
 pub returns : goal.returns
-returns c = record { passes = layout_error-none; apart = λ rs each. (layout-apart rs each, IsLayout-from_apart rs) }
+returns c = record {
+  passes = layout_error-none;
+  apart = λ rs each. (layout-apart rs each, IsLayout-from_apart rs);
+}

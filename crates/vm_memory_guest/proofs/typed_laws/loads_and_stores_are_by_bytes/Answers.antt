@@ -6,5 +6,6 @@ returns g c = record {
   answers = typed-answers;
   loads = typed-loads;
   stores = λ regions route a size access bytes old new each.
-      typed-stores regions route a size access g.B.Bitmap.marks g.B.ExactBitmap.pages g.met.B.ExactBitmap.marks_pages bytes old new each;
+      typed-stores regions route a size access g.B.Bitmap.marks g.B.ExactBitmap.pages bytes old new
+      (c.accesses_are_by_bytes.ensures.writes regions route a size access bytes old new each);
 }

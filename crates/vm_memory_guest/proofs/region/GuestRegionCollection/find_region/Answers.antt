@@ -1,66 +1,84 @@
-use Rattle.std.proofs.Common.{◌≡◌, ℕ, ◌-◌, ◌<◌, ◌≤◌, List, Some, None, map, length, get_or, sym, ap, subst, ◌∙◌, arith}
+use Rattle.std.proofs.Common.{◌≡◌, ℕ, ◌-◌, ◌<◌, ◌≤◌, List, Some, None, map, length, get_or}
+use Rattle.std.proofs.Common.{sym, ap, subst, ◌∙◌, arith}
+use Rattle.std.proofs.lemmas.List.{get_or-map, length-map}
 use Rattle.std.specs.declared.alloc.Global.{Global}
 use Rattle.std.specs.declared.sync.Arc.{Arc}
-use Rattle.vm_memory_guest.specs.Region.{Region, IsRegion, IsLayout, home, last}
-use Rattle.vm_memory_guest.proofs.RegionLaws.{le-from_true, lt-from_false, regions, All-regions, region-at, length-regions, home-below, home-before, home-between}
+use Rattle.vm_memory_guest.specs.Collection.{regions_of, IsIndexed}
+use Rattle.vm_memory_guest.specs.Region.{Region, IsRegion, home_in}
+use Rattle.vm_memory_guest.proofs.RegionLaws.{length-starts, starts-ascend}
+use Rattle.vm_memory_guest.proofs.RegionLaws.{home_in-below, home_in-before, home_in-past}
 use Rattle.vm_memory_guest.proofs.region.GuestRegionCollection.find_region.Goals as goal
 
--- an answer for shared values is one for their regions
-module _ {X : Type 0} (f : X → Region) (fits : (x : X) → IsRegion (f x)) (rs : List (Arc X Global)) (layout : IsLayout (regions f rs)) (a n : ℕ) (within : n ≤ length rs) where
-  above_here : ((k : ℕ) (d : Region) → n ≤ k → k < length rs → a < (get_or (regions f rs) k d).start) → (k : ℕ) (d : Region) → n ≤ k → k < length (regions f rs) → a < (get_or (regions f rs) k d).start
-  above_here h k d l m = let e = length-regions f rs in h k d l (omega arith)
+-- what a search by the starts told: the region x was read behind the last start that is not above the address
+module _ {X : Type 0} (region : X → Region) (fits : (x : X) → IsRegion (region x)) (rs : List (Arc X Global))
+    (xs : List X) (is : map (λ (r : Arc X Global). r.value) rs ≡ xs) (starts : List ℕ)
+    (indexed : IsIndexed (map region (map (λ (r : Arc X Global). r.value) rs)) starts)
+    (a n : ℕ) (some : 0 < n) (within : n ≤ length starts)
+    (below : (k : ℕ) → k < n → get_or starts k 0 ≤ a)
+    (above : (k : ℕ) → n ≤ k → k < length starts → a < get_or starts k 0)
+    (start : ℕ) (last : start ≡ get_or starts (n - 1) 0)
+    (r : Arc X Global) (at : r ≡ get_or rs (n - 1) r) (x : X) (read : x ≡ r.value) where
+  abbrev values : List X
+  values = map (λ (q : Arc X Global). q.value) rs
 
-  searched_below : n ≡ 0 → ((k : ℕ) (d : Region) → n ≤ k → k < length rs → a < (get_or (regions f rs) k d).start) → None ≡ home (regions f rs) a
-  searched_below e above = home-below (regions f rs) a n e (above_here above)
+  value_at : x ≡ get_or values (n - 1) x
+  value_at =
+      let value = λ (q : Arc X Global). q.value in
+      let same = length-starts region fits values starts indexed in
+      let e = length-map rs value in
+      read ∙ ap value at ∙ sym (get_or-map value rs (n - 1) r x (omega arith))
 
-  searched_before : (r : Arc X Global) → 0 < n → r ≡ get_or rs (n - 1) r → ((k : ℕ) (d : Region) → k < n → (get_or (regions f rs) k d).start ≤ a) → a ≤ last (f r.value) → Some (f r.value) ≡ home (regions f rs) a
-  searched_before r some at below y =
-      let e = length-regions f rs in
-      home-before (regions f rs) (All-regions f fits rs) layout a n (f r.value) some (omega arith) (region-at f rs (n - 1) r (f r.value) (omega arith) at) below y
+  low : start ≤ a
+  low = let h = below (n - 1) (omega arith) in omega arith
 
-  searched_between : (r : Arc X Global) → 0 < n → r ≡ get_or rs (n - 1) r → ((k : ℕ) (d : Region) → n ≤ k → k < length rs → a < (get_or (regions f rs) k d).start) → last (f r.value) < a → None ≡ home (regions f rs) a
-  searched_between r some at above y =
-      let e = length-regions f rs in
-      home-between (regions f rs) (All-regions f fits rs) layout a n (f r.value) some (omega arith) (region-at f rs (n - 1) r (f r.value) (omega arith) at) (above_here above) y
+  found : a - start < (region x).len → Some x ≡ home_in region xs a
+  found h =
+      subst (λ (ys : List X). Some x ≡ home_in region ys a) is
+      (home_in-before region fits values starts indexed a n above x some within value_at start last low h)
+
+  missed : (region x).len ≤ a - start → None ≡ home_in region xs a
+  missed h =
+      subst (λ (ys : List X). None ≡ home_in region ys a) is
+      (home_in-past region fits values starts indexed a n above x some within value_at start last low h)
 
 pub first_above-next-requires : goal.first_above-next-requires
-first_above-next-requires g c = rw c.as_slice.ensures.value c.self.invariant
+first_above-next-requires g c =
+    let xs = regions_of c.self.inside.regions in
+    starts-ascend g.R.GuestMemoryRegion.region g.met.R.GuestMemoryRegion.fits xs
+    c.as_slice.result.now (rw c.as_slice.ensures.value c.self.invariant)
 
 pub returns-then-next-eq0-clause-found : goal.returns-then-next-eq0-clause-found
 returns-then-next-eq0-clause-found g c =
-    let f = g.R.GuestMemoryRegion.region in
-    let layout : IsLayout (map f (map (λ (r : Arc g.row.R.Denot Global). r.value) c.as_slice.result.now)) = rw c.as_slice.ensures.value c.self.invariant in
-    let e = searched_below f g.met.R.GuestMemoryRegion.fits c.as_slice.result.now layout c.args.addr.0 c.first_above-next.result c.first_above-next.ensures.within c.if-next-eq0.true c.first_above-next.ensures.above in
-    subst (λ (xs : List g.row.R.Denot). None ≡ home (map f xs) c.args.addr.0) c.self.view_is
-    (subst (λ (xs : List (Arc g.row.R.Denot Global)). None ≡ home (map f (map (λ (r : Arc g.row.R.Denot Global). r.value) xs)) c.args.addr.0) c.as_slice.ensures.value e)
+    let region = g.R.GuestMemoryRegion.region in
+    let xs = regions_of c.self.inside.regions in
+    let told = c.first_above-next.ensures in
+    subst (λ (ys : List g.row.R.Denot). None ≡ home_in region ys c.args.addr.0) c.self.view_is
+    (home_in-below region g.met.R.GuestMemoryRegion.fits xs
+    c.as_slice.result.now (rw c.as_slice.ensures.value c.self.invariant)
+    c.args.addr.0 c.first_above-next.result.0 told.above c.if-next-eq0.true)
 
-pub returns-then-le-clause-found : goal.returns-then-le-clause-found
-returns-then-le-clause-found g c =
-    let f = g.R.GuestMemoryRegion.region in
-    let a = c.args.addr.0 in
-    let n = c.first_above-next.result in
-    let rs = c.as_slice.result.now in
-    let r = c.index.result.now in
-    let layout : IsLayout (map f (map (λ (q : Arc g.row.R.Denot Global). q.value) rs)) = rw c.as_slice.ensures.value c.self.invariant in
-    let test : a ≤ c.last_addr.result.0 = le-from_true a c.last_addr.result.0 c.le.result c.le.ensures c.if-le.true in
-    let end : c.last_addr.result.0 ≡ last (f r.value) = c.last_addr.ensures ∙ ap (λ (x : g.row.R.Denot). last (f x)) c.deref-region.ensures in
-    let at : r ≡ get_or rs (n - 1) r = subst (λ (xs : List (Arc g.row.R.Denot Global)). r ≡ get_or xs (n - 1) r) (sym c.as_slice.ensures.value) c.index.ensures in
-    let found = searched_before f g.met.R.GuestMemoryRegion.fits rs layout a n c.first_above-next.ensures.within r (omega arith) at c.first_above-next.ensures.below (omega arith) in
-    subst (λ (x : g.row.R.Denot). Some (f x) ≡ home (map f c.args.self.now) a) (sym c.deref-region.ensures)
-    (subst (λ (xs : List g.row.R.Denot). Some (f r.value) ≡ home (map f xs) a) c.self.view_is
-    (subst (λ (xs : List (Arc g.row.R.Denot Global)). Some (f r.value) ≡ home (map f (map (λ (q : Arc g.row.R.Denot Global). q.value) xs)) a) c.as_slice.ensures.value found))
+pub returns-then-addr-start-clause-found : goal.returns-then-addr-start-clause-found
+returns-then-addr-start-clause-found g c =
+    let region = g.R.GuestMemoryRegion.region in
+    let told = c.first_above-next.ensures in
+    let some : 0 < c.first_above-next.result.0 = omega arith in
+    let offset = c.args.addr.0 - c.first_above-next.result.1 in
+    let inside : offset < (region c.deref-region.result.now).len = omega arith in
+    found region g.met.R.GuestMemoryRegion.fits c.self.inside.regions.items c.args.self.now c.self.view_is
+    c.as_slice.result.now (rw c.as_slice.ensures.value c.self.invariant)
+    c.args.addr.0 c.first_above-next.result.0 some told.within told.below told.above
+    c.first_above-next.result.1 (told.start some)
+    c.index.result.now c.index.ensures c.deref-region.result.now c.deref-region.ensures inside
 
-pub returns-else-le-clause-found : goal.returns-else-le-clause-found
-returns-else-le-clause-found g c =
-    let f = g.R.GuestMemoryRegion.region in
-    let a = c.args.addr.0 in
-    let n = c.first_above-next.result in
-    let rs = c.as_slice.result.now in
-    let r = c.index.result.now in
-    let layout : IsLayout (map f (map (λ (q : Arc g.row.R.Denot Global). q.value) rs)) = rw c.as_slice.ensures.value c.self.invariant in
-    let test : c.last_addr.result.0 < a = lt-from_false a c.last_addr.result.0 c.le.result c.le.ensures c.if-le.false in
-    let end : c.last_addr.result.0 ≡ last (f r.value) = c.last_addr.ensures ∙ ap (λ (x : g.row.R.Denot). last (f x)) c.deref-region.ensures in
-    let at : r ≡ get_or rs (n - 1) r = subst (λ (xs : List (Arc g.row.R.Denot Global)). r ≡ get_or xs (n - 1) r) (sym c.as_slice.ensures.value) c.index.ensures in
-    let missed = searched_between f g.met.R.GuestMemoryRegion.fits rs layout a n c.first_above-next.ensures.within r (omega arith) at c.first_above-next.ensures.above (omega arith) in
-    subst (λ (xs : List g.row.R.Denot). None ≡ home (map f xs) a) c.self.view_is
-    (subst (λ (xs : List (Arc g.row.R.Denot Global)). None ≡ home (map f (map (λ (q : Arc g.row.R.Denot Global). q.value) xs)) a) c.as_slice.ensures.value missed)
+pub returns-else-addr-start-clause-found : goal.returns-else-addr-start-clause-found
+returns-else-addr-start-clause-found g c =
+    let region = g.R.GuestMemoryRegion.region in
+    let told = c.first_above-next.ensures in
+    let some : 0 < c.first_above-next.result.0 = omega arith in
+    let offset = c.args.addr.0 - c.first_above-next.result.1 in
+    let outside : (region c.deref-region.result.now).len ≤ offset = omega arith in
+    missed region g.met.R.GuestMemoryRegion.fits c.self.inside.regions.items c.args.self.now c.self.view_is
+    c.as_slice.result.now (rw c.as_slice.ensures.value c.self.invariant)
+    c.args.addr.0 c.first_above-next.result.0 some told.within told.below told.above
+    c.first_above-next.result.1 (told.start some)
+    c.index.result.now c.index.ensures c.deref-region.result.now c.deref-region.ensures outside

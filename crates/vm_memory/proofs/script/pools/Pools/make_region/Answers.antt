@@ -1,26 +1,28 @@
-use Rattle.std.proofs.Common.{◌≡◌, false, is_none, ◌<◌, List, [], ◌∷◌, ◌∙◌, subst, sym, ap, flat_map, map, length, slice_get}
-use Rattle.vm_memory_guest.specs.Host.{Holds, Place, shape_of}
-use Rattle.vm_memory_guest.specs.Region.{Region, region_names}
+use Rattle.std.proofs.Common.{map, flat_map, arith}
+use Rattle.std.proofs.lemmas.Grind.{common_steps, flat_map-append}
+use Rattle.std.proofs.lemmas.List.{map-append}
+use Rattle.vm_memory_guest.specs.Collection.{regions_of}
+use Rattle.vm_memory_guest.specs.Host.{Block, Place, IsHeld, shape_of}
 use Rattle.vm_memory_guest.specs.Mmap.{mmap_region}
-use Rattle.vm_memory_guest.specs.declared.mmap.GuestRegionMmap.{GuestRegionMmap}
-use Rattle.vm_memory.proofs.PoolLemmas.{found-within, holds-region, holds-whole}
+use Rattle.vm_memory_guest.specs.Region.{region_names}
 use Rattle.vm_memory.proofs.script.pools.Pools.make_region.Goals.{in-Ok, in-Err}
 use Rattle.vm_memory.proofs.script.pools.Pools.make_region.Goals as goal
 
--- the new region is of a whole block that the host holds
-held : (c : goal.Joined-add) → Holds (shape_of c.self.inside.host) (region_names (mmap_region c.in-Some.region))
-held c =
-    let host = c.self.inside.host in
-    let block = c.args.block.0 in
-    let mapping = c.of_block-mapping.result in
-    let test : is_none c.block_len.result ≡ false = search (c.is_none.ensures, c.if-is_none.false) in
-    let inside : block < length (map length host.blocks) = found-within (map length host.blocks) block c.block_len.result (c.block_len.ensures ∙ ap (λ shape. slice_get shape.blocks block) c.shape.ensures) test in
-    let place : Holds (shape_of host) (Place mapping.block.0 0 mapping.size ∷ []) = rw (ap (λ b. b.0) c.of_block-mapping.ensures.block) (rw c.of_block-mapping.ensures.size (holds-whole host block inside)) in
-    subst (λ (r : Region). Holds (shape_of host) (region_names r)) (sym c.in-Some.ensures.value) place
-
 pub invariant_of-self : goal.invariant_of-self
 invariant_of-self c =
+    let host = c.self.inside.host in
+    let mapping = c.of_block-mapping.result in
+    let there : IsHeld (shape_of host) (Block c.args.block.0) = grind (arith, common_steps) in
+    let whole = c.parts_of_a_block_are_held.ensures.whole host c.args.block.0 there in
+    let place : IsHeld (shape_of host) (Place mapping.block 0 mapping.size) =
+    rw (c.of_block-mapping.ensures.block, c.of_block-mapping.ensures.size) whole in
+    let old = map mmap_region (regions_of c.self.inside.regions) in
+    let region = mmap_region c.in-Some.region in
     elim c.match-add.branch [
-      | in-Ok w ↦ holds-region (shape_of c.self.inside.host) _ _ c.in-Some.region w.in-Ok.ensures.ok (held c) c.self.invariant
-      | in-Err w ↦ subst (λ (rs : List GuestRegionMmap). Holds (shape_of c.self.inside.host) (flat_map region_names (map mmap_region rs))) (sym w.in-Err.ensures.err) c.self.invariant
+      | in-Ok w ↦
+          let joined =
+          c.names_are_held_one_by_one.ensures.joined (shape_of host) (flat_map region_names old) (region_names region) in
+          rw (w.in-Ok.ensures.ok, map-append)
+          (rw flat_map-append (joined.1 (c.self.invariant, rw c.in-Some.ensures.value.1 (place, tt))))
+      | in-Err w ↦ rw w.in-Err.ensures.err c.self.invariant
     ]

@@ -1,0 +1,11 @@
+use Rattle.vm_memory.specs.declared.machine.command.Reply.TheVariants as reply
+use Rattle.vm_memory.proofs.StepLemmas.{still-step}
+use Rattle.vm_memory.proofs.machine_laws.refusals_change_nothing.Goals as goal
+
+pub returns : goal.returns
+returns c = record {
+  fault = λ old new c f step. still-step old new c (reply.Fault f) tt step;
+  no_such = λ old new c step. still-step old new c reply.NoSuch tt step;
+  memory = λ old new c step. still-step old new c reply.Memory tt step;
+  read = λ old new c bytes step. still-step old new c (reply.Bytes bytes) tt step;
+}

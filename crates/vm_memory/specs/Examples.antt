@@ -1,0 +1,78 @@
+-- A small machine, in the words of the model. The examples alone cite it.
+use Rattle.std.specs.Prelude.{ℕ, ◌-◌, ◌^◌, [], ◌∷◌, Some, None, Bool, true, false}
+use Rattle.vm_memory_base.specs.Pages.{PageSet}
+use Rattle.vm_memory_base.specs.Runs.{Run}
+use Rattle.vm_memory_base.specs.Table.{Table, Mapping}
+use Rattle.vm_memory_base.specs.declared.address.GuestAddress.{GuestAddress}
+use Rattle.vm_memory_base.specs.declared.iotlb.IommuError.TheVariants.{CannotResolve}
+use Rattle.vm_memory_base.specs.declared.iotlb.Permissions.{Permissions}
+use Rattle.vm_memory_base.specs.declared.iotlb.Permissions.TheVariants.{Read, ReadWrite}
+use Rattle.vm_memory_base.specs.declared.iotlb.Reason.{Reason}
+use Rattle.vm_memory_guest.specs.Host.{Host}
+use Rattle.vm_memory_guest.specs.Region.{Region}
+use Rattle.vm_memory.specs.State.{State, MachineMemory, plain}
+use Rattle.vm_memory.specs.declared.machine.command.Fault.{Fault}
+use Rattle.vm_memory.specs.declared.machine.command.Fault.TheVariants.{InvalidGuestAddress, IommuError}
+
+abbrev pub at : ℕ → GuestAddress
+at a = record { 0 = a }
+
+-- four addresses in block 0, the next four in block 1, and behind a hole four without host bytes
+abbrev pub low : Region
+low = record { start = 0; len = 4; place = Some (record { block = 0; offset = 0 }) }
+
+abbrev pub high : Region
+high = record { start = 4; len = 4; place = Some (record { block = 1; offset = 0 }) }
+
+abbrev pub bare : Region
+bare = record { start = 12; len = 4; place = None }
+
+-- pages of two bytes in a block, and of sixteen addresses in a space
+abbrev pub block_pages : Bool → Bool → PageSet
+block_pages first second = Some (record { page_size = 2; flags = first ∷ second ∷ [] })
+
+abbrev pub space_pages : Bool → Bool → PageSet
+space_pages first second = Some (record { page_size = 16; flags = first ∷ second ∷ [] })
+
+-- 16 to 19 lead to 2 to 5, and 20 to 23 to 4 to 7, which may only be read there
+abbrev pub mapped : ℕ → ℕ → Permissions → Run Mapping
+mapped start difference access = record {
+  start = start;
+  len = 4;
+  value = record { difference = difference; permissions = access };
+}
+
+abbrev pub table : Table
+table = record { limit = None; ranges = mapped 16 (2 ^ 64 - 14) ReadWrite ∷ mapped 20 (2 ^ 64 - 16) Read ∷ [] }
+
+abbrev pub host : Host PageSet
+host = record {
+  blocks = (1 ∷ 2 ∷ 3 ∷ 4 ∷ []) ∷ (5 ∷ 6 ∷ 7 ∷ 8 ∷ []) ∷ [];
+  bitmaps = block_pages false false ∷ block_pages false false ∷ [];
+  spaces = space_pages false false ∷ [];
+  tables = table ∷ [];
+}
+
+-- the two regions with bytes behind an IOMMU of this table and this space
+abbrev pub behind : Bool → MachineMemory
+behind on = record {
+  regions = low ∷ high ∷ [];
+  iommu = Some (record { behind = record { table = 0; space = 0 }; on = on });
+}
+
+-- a machine of these regions: memory 0 is plain, the IOMMU of memory 1 is on, and that of memory 2 is off
+abbrev pub machine : State
+machine = record {
+  regions = low ∷ high ∷ bare ∷ [];
+  translators = 0 ∷ [];
+  layouts = (low ∷ high ∷ []) ∷ [];
+  memories = plain (low ∷ high ∷ bare ∷ []) ∷ behind true ∷ behind false ∷ [];
+  host = host;
+}
+
+-- the faults of an address in no region, and of a range whose translation is refused
+abbrev pub no_region_at : ℕ → Fault
+no_region_at a = InvalidGuestAddress (at a)
+
+abbrev pub not_translated : ℕ → ℕ → Reason → Fault
+not_translated a n reason = IommuError (CannotResolve (record { base = at a; length = n }) reason)

@@ -1,0 +1,62 @@
+-- What a machine replies to calls, and what accesses reply and leave.
+use Rattle.std.specs.Prelude.{ℕ, List, length, Result, Ok, Err, option_map}
+use Rattle.vm_memory_base.specs.Pages.{PageSet}
+use Rattle.vm_memory_base.specs.Table.{Table}
+use Rattle.vm_memory_base.specs.declared.iotlb.Permissions.{Permissions}
+use Rattle.vm_memory_base.specs.declared.iotlb.Permissions.TheVariants as permissions
+use Rattle.vm_memory_guest.specs.Host.{Host}
+use Rattle.vm_memory_guest.specs.Memory.{Memory, route}
+use Rattle.vm_memory_guest.specs.Access.{Access, access_of}
+use Rattle.vm_memory_guest.specs.Answer.{counted}
+use Rattle.vm_memory_guest.specs.Dirt.{after_write, bytes_read}
+use Rattle.vm_memory_guest.specs.Error.{error_of}
+use Rattle.vm_memory_guest.specs.declared.region.GuestMemoryError.{GuestMemoryError}
+use Rattle.vm_memory_guest.specs.declared.region.GuestMemoryError.TheVariants as errors
+use Rattle.vm_memory_guest.specs.declared.region.GuestRegionCollectionError.{GuestRegionCollectionError}
+use Rattle.vm_memory_guest.specs.declared.region.GuestRegionCollectionError.TheVariants as layouts
+use Rattle.vm_memory.specs.declared.machine.command.Reply.{Reply}
+use Rattle.vm_memory.specs.declared.machine.command.Reply.TheVariants as reply
+use Rattle.vm_memory.specs.declared.machine.command.Reply.TheVariants.{Count, Bytes, Fault}
+use Rattle.vm_memory.specs.declared.machine.command.Fault.TheVariants as fault
+
+-- an error of an access: want of memory is told as such, and every other error as the fault of its name
+abbrev pub reply_of_error : GuestMemoryError → Reply
+reply_of_error (errors.InvalidGuestAddress addr) = Fault (fault.InvalidGuestAddress addr)
+reply_of_error (errors.PartialBuffer expected completed) = Fault (fault.PartialBuffer expected completed)
+reply_of_error errors.InvalidBackendAddress = Fault fault.InvalidBackendAddress
+reply_of_error errors.HostAddressNotAvailable = Fault fault.HostAddressNotAvailable
+reply_of_error (errors.IommuError e) = Fault (fault.IommuError e)
+reply_of_error errors.Memory = reply.Memory
+
+-- an error of regions that make no layout, likewise
+abbrev pub reply_of_layout_error : GuestRegionCollectionError → Reply
+reply_of_layout_error layouts.NoMemoryRegion = Fault fault.NoMemoryRegion
+reply_of_layout_error layouts.MemoryRegionOverlap = Fault fault.MemoryRegionOverlap
+reply_of_layout_error layouts.UnsortedMemoryRegions = Fault fault.UnsortedMemoryRegions
+reply_of_layout_error layouts.Memory = reply.Memory
+
+-- the answer of an access: what is told of the count of its bytes, or its error
+abbrev pub reply_of : (ℕ → Reply) → Result ℕ GuestMemoryError → Reply
+reply_of told (Ok count) = told count
+reply_of told (Err e) = reply_of_error e
+
+-- what an access of n bytes at a reaches in a host with these tables
+abbrev pub reached_by : Memory → List Table → ℕ → ℕ → Permissions → Access
+reached_by m tables a n access = access_of m.regions (route m tables) a n access
+
+-- how many of n bytes an access reached, or the error where it reached none
+abbrev pub answer_of : Access → ℕ → Result ℕ GuestMemoryError
+answer_of reached n = counted (length reached.path) (option_map error_of reached.fault) n
+
+-- a read replies the bytes of its path
+abbrev pub reads : Memory → Host PageSet → ℕ → ℕ → Reply
+reads m host a n =
+    let reached = reached_by m host.tables a n permissions.Read in
+    reply_of (λ count. Bytes (bytes_read reached.path host)) (answer_of reached n)
+
+-- a write replies the count, and leaves the bytes and their dirt in its path: it is empty where it was refused
+abbrev pub writes : Memory → Host PageSet → ℕ → List ℕ → Reply × Host PageSet
+writes m host a bytes =
+    let n = length bytes in
+    let reached = reached_by m host.tables a n permissions.Write in
+    (reply_of Count (answer_of reached n), after_write reached.path bytes host)

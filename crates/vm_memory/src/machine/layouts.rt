@@ -1,0 +1,101 @@
+//! The commands that make layouts and memories.
+ghost use Rattle.std.specs.Prelude.{◌≡◌, ◌↔◌, ◌<◌, All, IsTrue, IsSome, IfOk, Some, map};
+ghost use Rattle.vm_memory_guest.specs.Collection.{regions_of};
+ghost use Rattle.vm_memory.specs.Machine.{Step};
+ghost use Rattle.vm_memory.specs.Parts.{state_of};
+ghost use Rattle.vm_memory.specs.Reply.{reply_of_layout_error};
+ghost use Rattle.vm_memory.specs.State.{named};
+ghost use Rattle.vm_memory.specs.declared.machine.command.Command.TheVariants as command;
+
+use super::Machine;
+use super::command::{Fault, Reply};
+use std::alloc::{AllocError, Global};
+use std::sync::Arc;
+use vm_memory_base::ExactBitmap;
+use vm_memory_guest::host_laws::regions_are_held_one_by_one;
+use vm_memory_guest::{GuestMemoryRegion, GuestRegionCollection, GuestRegionCollectionError};
+
+impl<R: GuestMemoryRegion, B: ExactBitmap> Machine<R, B> {
+    pub(super) fn from_regions(&mut self, numbers: &[usize]) -> Reply
+        ensures { let before = state_of R.region B.pages self.old in
+            Step before (command.FromRegions numbers.now) result (state_of R.region B.pages self.new) }
+    {
+        regions_are_held_one_by_one();
+        if !are_there(&self.regions, numbers) {
+            return Reply::NoSuch;
+        }
+        let Ok(regions) = shared(self.alloc, &self.regions, numbers) else {
+            return Reply::Memory;
+        };
+        let layout = match GuestRegionCollection::from_arc_regions(regions) {
+            Ok(layout) => layout,
+            Err(error) => return layout_refused(error),
+        };
+        let number = self.layouts.len();
+        if self.layouts.push(layout).is_err() {
+            return Reply::Memory;
+        }
+        Reply::LayoutMade(number)
+    }
+
+    pub(super) fn plain(&mut self, layout: usize) -> Reply
+        ensures { let before = state_of R.region B.pages self.old in
+            Step before (command.Plain layout) result (state_of R.region B.pages self.new) }
+    {
+        let Some(layout) = self.layouts.get(layout) else {
+            return Reply::NoSuch;
+        };
+        let Ok(memory) = layout.clone() else {
+            return Reply::Memory;
+        };
+        let number = self.memories.len();
+        if self.memories.push(memory).is_err() {
+            return Reply::Memory;
+        }
+        Reply::MemoryMade(number)
+    }
+}
+
+// Whether each number names a region of the pool.
+fn are_there<R: GuestMemoryRegion>(pool: &Vec<Arc<R>>, numbers: &[usize]) -> bool
+    ensures { IsTrue result ↔ IsSome (named (map R.region (regions_of pool.now)) numbers.now) }
+{
+    all_below(numbers, pool.len())
+}
+
+fn all_below(numbers: &[usize], bound: usize) -> bool
+    ensures { IsTrue result ↔ All (λ number. number < bound) numbers.now }
+{
+    numbers.iter().all(|number| *number < bound)
+}
+
+// The regions of these numbers, each shared once more.
+fn shared<R: GuestMemoryRegion>(
+    alloc: Global,
+    pool: &Vec<Arc<R>>,
+    numbers: &[usize],
+) -> Result<Vec<Arc<R>>, AllocError>
+    requires { IsSome (named (map R.region (regions_of pool.now)) numbers.now) }
+    ensures { IfOk result (λ regions. named (map R.region (regions_of pool.now)) numbers.now
+        ≡ Some (map R.region (regions_of regions))) }
+{
+    let mut regions = Vec::with_capacity(alloc, numbers.len())?;
+    for number in numbers {
+        regions.push(pool[*number].clone()?)?;
+    }
+    Ok(regions)
+}
+
+// The reply to regions that make no layout.
+fn layout_refused(error: GuestRegionCollectionError) -> Reply
+    ensures { result ≡ reply_of_layout_error error }
+{
+    match error {
+        GuestRegionCollectionError::NoMemoryRegion => Reply::Fault(Fault::NoMemoryRegion),
+        GuestRegionCollectionError::MemoryRegionOverlap => Reply::Fault(Fault::MemoryRegionOverlap),
+        GuestRegionCollectionError::UnsortedMemoryRegions => {
+            Reply::Fault(Fault::UnsortedMemoryRegions)
+        }
+        GuestRegionCollectionError::Memory => Reply::Memory,
+    }
+}

@@ -1,0 +1,194 @@
+//! What a machine answers and leaves in small cases: each function here is a theorem, and does nothing.
+#![tactic(auto, unfolding(vm_memory_base::specs::Table::each, vm_memory_guest::specs::Access::path, vm_memory_guest::specs::Access::first_fault))]
+
+ghost use Rattle.std.specs.Prelude.{◌≡◌, [], ◌∷◌, ◌++◌, true, false};
+ghost use Rattle.vm_memory_base.specs.Pages.{PageSet};
+ghost use Rattle.vm_memory_base.specs.declared.iotlb.Reason.TheVariants.{MissingMapping, AccessNotAllowed};
+ghost use Rattle.vm_memory_guest.specs.Region.{Region};
+ghost use Rattle.vm_memory_guest.specs.declared.region.GuestMemoryError.TheVariants as errors;
+ghost use Rattle.vm_memory_guest.specs.declared.region.GuestRegionCollectionError.TheVariants as layouts;
+ghost use Rattle.vm_memory.specs.Examples.{at, low, high, bare, block_pages, space_pages, host, machine};
+ghost use Rattle.vm_memory.specs.Examples.{no_region_at, not_translated};
+ghost use Rattle.vm_memory.specs.Machine.{outcome, MayWant, Step, Run};
+ghost use Rattle.vm_memory.specs.Parts.{Parts, AreHeld, state_of};
+ghost use Rattle.vm_memory.specs.Reply.{reply_of_error, reply_of_layout_error};
+ghost use Rattle.vm_memory.specs.State.{State, plain};
+ghost use Rattle.vm_memory.specs.declared.machine.command.Command.TheVariants.{FromRegions, Plain, Read, Write};
+ghost use Rattle.vm_memory.specs.declared.machine.command.Reply.TheVariants.{LayoutMade, MemoryMade, Count, Bytes};
+ghost use Rattle.vm_memory.specs.declared.machine.command.Reply.TheVariants.{Fault, NoSuch, Memory};
+ghost use Rattle.vm_memory.specs.declared.machine.command.Fault.TheVariants as fault;
+
+/// The layout of regions of the pool is the next. No region at all, a region that reaches the next and a
+/// region above the next make none.
+pub fn layouts_are_made()
+    ensures made { outcome machine (FromRegions (1 ∷ 2 ∷ []))
+        ≡ (LayoutMade 1, record machine { layouts = (low ∷ high ∷ []) ∷ (high ∷ bare ∷ []) ∷ [] }) }
+    ensures no_region { outcome machine (FromRegions []) ≡ (Fault fault.NoMemoryRegion, machine) }
+    ensures overlap { outcome machine (FromRegions (0 ∷ 0 ∷ [])) ≡ (Fault fault.MemoryRegionOverlap, machine) }
+    ensures unsorted { outcome machine (FromRegions (1 ∷ 0 ∷ []))
+        ≡ (Fault fault.UnsortedMemoryRegions, machine) }
+{}
+
+/// A plain memory has the regions of its layout, and is the next.
+pub fn memories_are_made()
+    ensures { outcome machine (Plain 0)
+        ≡ (MemoryMade 3, record machine { memories = machine.memories ++ plain (low ∷ high ∷ []) ∷ [] }) }
+{}
+
+/// A number that names nothing is told, and changes nothing.
+pub fn numbers_that_name_nothing()
+    ensures region { outcome machine (FromRegions (0 ∷ 3 ∷ [])) ≡ (NoSuch, machine) }
+    ensures layout { outcome machine (Plain 1) ≡ (NoSuch, machine) }
+    ensures read { outcome machine (Read 3 (at 0) 1) ≡ (NoSuch, machine) }
+    ensures write { outcome machine (Write 3 (at 0) (9 ∷ [])) ≡ (NoSuch, machine) }
+{}
+
+/// A read goes over touching regions, and stops at a hole and at a region without host bytes.
+pub fn reads_are_answered()
+    ensures over_two_regions { outcome machine (Read 0 (at 2) 4) ≡ (Bytes (3 ∷ 4 ∷ 5 ∷ 6 ∷ []), machine) }
+    ensures up_to_a_hole { outcome machine (Read 0 (at 6) 4) ≡ (Bytes (7 ∷ 8 ∷ []), machine) }
+    ensures in_a_hole { outcome machine (Read 0 (at 8) 1) ≡ (Fault (no_region_at 8), machine) }
+    ensures bare_region { outcome machine (Read 0 (at 12) 1) ≡ (Fault fault.HostAddressNotAvailable, machine) }
+    ensures nothing_in_a_hole { outcome machine (Read 0 (at 8) 0) ≡ (Bytes [], machine) }
+{}
+
+/// A write leaves its bytes up to a hole, and marks their pages.
+pub fn writes_are_answered()
+    ensures over_two_regions { outcome machine (Write 0 (at 3) (9 ∷ 10 ∷ []))
+        ≡ (
+          Count 2,
+          record machine {
+            host = record host {
+              blocks = (1 ∷ 2 ∷ 3 ∷ 9 ∷ []) ∷ (10 ∷ 6 ∷ 7 ∷ 8 ∷ []) ∷ [];
+              bitmaps = block_pages false true ∷ block_pages true false ∷ [];
+            };
+          },
+        ) }
+    ensures up_to_a_hole { outcome machine (Write 0 (at 7) (9 ∷ 10 ∷ []))
+        ≡ (
+          Count 1,
+          record machine {
+            host = record host {
+              blocks = (1 ∷ 2 ∷ 3 ∷ 4 ∷ []) ∷ (5 ∷ 6 ∷ 7 ∷ 9 ∷ []) ∷ [];
+              bitmaps = block_pages false false ∷ block_pages false true ∷ [];
+            };
+          },
+        ) }
+    ensures in_a_hole { outcome machine (Write 0 (at 8) (9 ∷ [])) ≡ (Fault (no_region_at 8), machine) }
+    ensures nothing_in_a_hole { outcome machine (Write 0 (at 8) []) ≡ (Count 0, machine) }
+{}
+
+/// With an IOMMU that is on an access goes where its addresses are mapped, and a write marks the space.
+/// Where one address has no mapping that grants the access, nothing is reached.
+pub fn accesses_are_translated()
+    ensures read { outcome machine (Read 1 (at 18) 4) ≡ (Bytes (5 ∷ 6 ∷ 5 ∷ 6 ∷ []), machine) }
+    ensures write { outcome machine (Write 1 (at 16) (9 ∷ []))
+        ≡ (
+          Count 1,
+          record machine {
+            host = record host {
+              blocks = (1 ∷ 2 ∷ 9 ∷ 4 ∷ []) ∷ (5 ∷ 6 ∷ 7 ∷ 8 ∷ []) ∷ [];
+              spaces = space_pages false true ∷ [];
+            };
+          },
+        ) }
+    ensures not_mapped { outcome machine (Read 1 (at 2) 1)
+        ≡ (Fault (not_translated 2 1 MissingMapping), machine) }
+    ensures not_allowed { outcome machine (Write 1 (at 19) (9 ∷ 9 ∷ []))
+        ≡ (Fault (not_translated 19 2 AccessNotAllowed), machine) }
+{}
+
+/// A memory whose IOMMU is off is accessed as one without.
+pub fn accesses_of_a_memory_that_is_off()
+    ensures read { outcome machine (Read 2 (at 2) 1) ≡ (Bytes (3 ∷ []), machine) }
+    ensures write { outcome machine (Write 2 (at 2) (9 ∷ []))
+        ≡ (
+          Count 1,
+          record machine {
+            host = record host {
+              blocks = (1 ∷ 2 ∷ 9 ∷ 4 ∷ []) ∷ (5 ∷ 6 ∷ 7 ∷ 8 ∷ []) ∷ [];
+              bitmaps = block_pages false true ∷ block_pages false false ∷ [];
+            };
+          },
+        ) }
+{}
+
+/// Memory may be wanting for what is made, for the bytes of a read, and for a translation.
+pub fn who_may_want_memory()
+    ensures layout { MayWant machine (FromRegions (0 ∷ [])) }
+    ensures memory { MayWant machine (Plain 0) }
+    ensures read { MayWant machine (Read 0 (at 0) 1) }
+    ensures read_of_nothing { MayWant machine (Read 0 (at 0) 0) → ⊥ }
+    ensures write { MayWant machine (Write 0 (at 0) (9 ∷ [])) → ⊥ }
+    ensures translated_read { MayWant machine (Read 1 (at 0) 0) }
+    ensures translated_write { MayWant machine (Write 1 (at 0) (9 ∷ [])) }
+    ensures write_that_is_off { MayWant machine (Write 2 (at 0) (9 ∷ [])) → ⊥ }
+    ensures no_region { MayWant machine (FromRegions (0 ∷ 3 ∷ [])) → ⊥ }
+    ensures no_layout { MayWant machine (Plain 1) → ⊥ }
+    ensures no_memory { MayWant machine (Read 3 (at 0) 1) → ⊥ }
+{}
+
+/// A step has its one answer, and no other but want of memory, which leaves the machine.
+pub fn steps_are_determined()
+    ensures answer { Step machine (Read 0 (at 0) 2) (Bytes (1 ∷ 2 ∷ [])) machine }
+    ensures other_bytes { Step machine (Read 0 (at 0) 2) (Bytes (1 ∷ 3 ∷ [])) machine → ⊥ }
+    ensures want_of_memory { Step machine (Read 0 (at 0) 2) Memory machine }
+    ensures want_that_changes { Step machine (Plain 0) Memory (record machine { layouts = [] }) → ⊥ }
+    ensures want_of_a_write { Step machine (Write 0 (at 0) []) Memory machine → ⊥ }
+{}
+
+/// A run answers each command by a step from where the one before ended.
+pub fn runs_of_a_machine()
+    ensures run { Run
+        (record machine { layouts = []; memories = [] })
+        (FromRegions (1 ∷ []) ∷ Plain 0 ∷ Write 0 (at 4) (9 ∷ []) ∷ Read 0 (at 4) 2 ∷ [])
+        (LayoutMade 0 ∷ MemoryMade 0 ∷ Count 1 ∷ Bytes (9 ∷ 6 ∷ []) ∷ [])
+        (record machine {
+          layouts = (high ∷ []) ∷ [];
+          memories = plain (high ∷ []) ∷ [];
+          host = record host {
+            blocks = (1 ∷ 2 ∷ 3 ∷ 4 ∷ []) ∷ (9 ∷ 6 ∷ 7 ∷ 8 ∷ []) ∷ [];
+            bitmaps = block_pages false false ∷ block_pages true false ∷ [];
+          };
+        }) }
+    ensures empty { Run machine [] [] machine }
+    ensures no_reply { Run machine (Plain 0 ∷ []) [] machine → ⊥ }
+{}
+
+/// An error is told by its name, and want of memory as such.
+pub fn replies_of_errors()
+    ensures partial { reply_of_error (errors.PartialBuffer 4 2) ≡ Fault (fault.PartialBuffer 4 2) }
+    ensures backend { reply_of_error errors.InvalidBackendAddress ≡ Fault fault.InvalidBackendAddress }
+    ensures memory { reply_of_error errors.Memory ≡ Memory }
+    ensures memory_of_a_layout { reply_of_layout_error layouts.Memory ≡ Memory }
+{}
+
+/// A machine stands for what its regions and its bitmaps mean, and its memories are plain. Its host holds
+/// the bytes of every region.
+pub fn what_a_machine_stands_for()
+    ensures state { state_of {R = Region} {B = PageSet} (λ r. r) (λ b. b) (record {
+      host = host;
+      regions = low ∷ bare ∷ [];
+      layouts = (low ∷ []) ∷ [];
+      memories = (bare ∷ []) ∷ [];
+    })
+        ≡ record {
+          regions = low ∷ bare ∷ [];
+          translators = [];
+          layouts = (low ∷ []) ∷ [];
+          memories = plain (bare ∷ []) ∷ [];
+          host = host;
+        } }
+    ensures held { AreHeld {R = Region} {B = PageSet} (λ r. r) (record {
+      host = host;
+      regions = low ∷ bare ∷ [];
+      layouts = [];
+      memories = [];
+    }) }
+    ensures not_held { AreHeld {R = Region} {B = PageSet} (λ r. r) (record {
+      host = record host { blocks = [] };
+      regions = low ∷ bare ∷ [];
+      layouts = [];
+      memories = [];
+    }) → ⊥ }
+{}

@@ -1,0 +1,156 @@
+//! The words of a line: numbers, addresses and bytes, with one space between any two.
+ghost use Rattle.std.specs.Prelude.{◌≡◌};
+ghost use Rattle.vm_memory.specs.declared.script.words.LineError.TheVariants as error;
+
+use crate::machine::list::ByteList;
+use std::alloc::{AllocError, AllocFailed, Global};
+use vm_memory_base::GuestAddress;
+
+/// Why there is no line.
+#[derive(Clone, Copy)]
+pub(super) enum LineError {
+    /// It has none of the forms.
+    Bad,
+    /// There was no memory for it.
+    Memory,
+}
+
+impl From<AllocError> for LineError {
+    ghost from_gives = { λ e r. r ≡ error.Memory };
+
+    fn from(_e: AllocError) -> LineError {
+        LineError::Memory
+    }
+}
+
+impl<T: Drop> From<AllocFailed<T>> for LineError {
+    ghost from_gives = { λ e r. r ≡ error.Memory };
+
+    fn from(_e: AllocFailed<T>) -> LineError {
+        LineError::from(AllocError)
+    }
+}
+
+/// What is left of a line.
+#[derive(Drop)]
+pub(super) struct Words<'a> {
+    rest: Option<&'a str>,
+}
+
+impl<'a> Words<'a> {
+    /// The words of a line.
+    pub(super) fn new(line: &'a str) -> Words<'a> {
+        Words { rest: Some(line) }
+    }
+
+    /// The next word. After the last there is none.
+    pub(super) fn word(&mut self) -> Result<&'a str, LineError> {
+        let Some(rest) = self.rest else {
+            return Err(LineError::Bad);
+        };
+        match rest.split_once(' ') {
+            Some((word, rest)) => {
+                self.rest = Some(rest);
+                Ok(word)
+            }
+            None => {
+                self.rest = None;
+                Ok(rest)
+            }
+        }
+    }
+
+    /// The next word as a number: in decimal, or in hexadecimal after `0x`.
+    pub(super) fn number(&mut self) -> Result<u64, LineError> {
+        number(self.word()?).ok_or(LineError::Bad)
+    }
+
+    /// The next word as an address.
+    pub(super) fn address(&mut self) -> Result<GuestAddress, LineError> {
+        Ok(GuestAddress(self.number()?))
+    }
+
+    /// The next word as a number of a pool, or as a length.
+    pub(super) fn index(&mut self) -> Result<usize, LineError> {
+        Ok(self.number()? as usize)
+    }
+
+    /// The next word as bytes: two hexadecimal digits each, one or more, or a dash for none.
+    pub(super) fn bytes(&mut self, alloc: Global) -> Result<ByteList, LineError> {
+        bytes(alloc, self.word()?)
+    }
+
+    /// Nothing, where no word is left.
+    pub(super) fn end(&self) -> Result<(), LineError> {
+        if self.rest.is_some() {
+            return Err(LineError::Bad);
+        }
+        Ok(())
+    }
+}
+
+// In hexadecimal at most 16 digits.
+fn number(word: &str) -> Option<u64> {
+    match word.strip_prefix("0x") {
+        Some(digits) if digits.len() > 16 => None,
+        Some(digits) => value(digits, Radix::Hexadecimal),
+        None => value(word, Radix::Decimal),
+    }
+}
+
+#[derive(Clone, Copy)]
+enum Radix {
+    Decimal = 10,
+    Hexadecimal = 16,
+}
+
+// The value of one digit or more, of at most 2^64 - 1.
+fn value(digits: &str, radix: Radix) -> Option<u64> {
+    if digits.is_empty() {
+        return None;
+    }
+    let mut value: u64 = 0;
+    for digit in digits.bytes() {
+        let digit = u64::from(digit_of(digit, radix)?);
+        value = value.checked_mul(radix as u64)?.checked_add(digit)?;
+    }
+    Some(value)
+}
+
+fn digit_of(byte: u8, radix: Radix) -> Option<u8> {
+    let digit = match byte {
+        b'0'..=b'9' => byte - b'0',
+        b'a'..=b'f' => byte - b'a' + 10,
+        b'A'..=b'F' => byte - b'A' + 10,
+        _ => return None,
+    };
+    if digit < radix as u8 {
+        Some(digit)
+    } else {
+        None
+    }
+}
+
+fn bytes(alloc: Global, word: &str) -> Result<ByteList, LineError> {
+    let digits = match word {
+        "-" => b"",
+        "" => return Err(LineError::Bad),
+        _ => word.as_bytes(),
+    };
+    let (pairs, odd) = digits.as_chunks::<2>();
+    if !odd.is_empty() {
+        return Err(LineError::Bad);
+    }
+    let mut bytes = Vec::with_capacity(alloc, pairs.len())?;
+    for pair in pairs {
+        let byte = byte_of(*pair).ok_or(LineError::Bad)?;
+        bytes.push(byte)?;
+    }
+    Ok(ByteList::from_vec(bytes))
+}
+
+fn byte_of([high, low]: [u8; 2]) -> Option<u8> {
+    let high = digit_of(high, Radix::Hexadecimal)?;
+    let low = digit_of(low, Radix::Hexadecimal)?;
+    Some(high << 4 | low)
+}
