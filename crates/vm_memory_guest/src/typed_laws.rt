@@ -12,6 +12,7 @@ ghost use Rattle.vm_memory_guest.specs.Typed.{answered, given, path_given, place
 ghost use Rattle.vm_memory_guest.specs.Window.{Window, Writes, cells_of};
 
 use crate::access_laws::accesses_are_by_bytes;
+use crate::effect_laws::windows_dirty_their_bytes;
 use vm_memory_base::ExactBitmap;
 
 /// A load or a store takes all bytes of its access, or is refused: the window that it takes has just these
@@ -40,4 +41,6 @@ pub fn copies_are_by_bytes<B: ExactBitmap>()
         → Copies B.marks from to old new → let n = min from.size to.size in
         with_pages B.pages new
         ≡ after_copy (cells_of (front from n)) (cells_of (front to n)) (with_pages B.pages old) }
-{}
+{
+    windows_dirty_their_bytes::<B>();
+}
