@@ -12,5 +12,6 @@ pub mod Mmap
 pub mod Region
 pub mod Typed
 pub mod TypedFacts
+pub mod Volatile
 pub mod Walk
 pub mod Window

@@ -1,5 +1,5 @@
 -- Proofs for the laws of implementations of `Bytes`, which cite them; what a contract says is in Typed.
-use Rattle.std.specs.Prelude.{◌≡◌, ℕ, ◌+◌, ◌%◌, ◌^◌, Bool, true, false, ◌&&◌, ◌==◌, cond, nat_lt, nat_le, List, [], ◌∷◌, Option, Some, None, Result, Ok, Err, IfOk}
+use Rattle.std.specs.Prelude.{◌≡◌, ℕ, ◌+◌, ◌%◌, ◌^◌, ◌<◌, Bool, true, false, ◌&&◌, ◌==◌, cond, nat_lt, nat_le, List, [], ◌∷◌, Option, Some, None, Result, Ok, Err, IfOk, IsOk}
 use Rattle.std.proofs.Common.{refl, sym, arith}
 use Rattle.std.proofs.lemmas.Bool.Decides.{nat_tests}
 use Rattle.vm_memory_base.specs.declared.io.VolatileMemoryError.{VolatileMemoryError}
@@ -19,6 +19,9 @@ subslice-sized w offset count =
     chosen (λ v. v.size ≡ count) (nat_lt (offset + count) (2 ^ 64)) (cond (nat_le (offset + count) w.size) (Ok (part w offset count)) (Err (OutOfBounds (offset + count)))) (Err (Overflow offset count))
     (λ _. chosen (λ v. v.size ≡ count) (nat_le (offset + count) w.size) (Ok (part w offset count)) (Err (OutOfBounds (offset + count))) (λ _. refl) (λ _. tt))
     (λ _. tt)
+
+pub subslice-whole : (w : Window) → w.size < 2 ^ 64 → IsOk (subslice_of w 0 w.size)
+subslice-whole w small = grind (arith, nat_tests)
 
 aligned-kept : (P : Window → Type 0) (r : Result Window VolatileMemoryError) → IfOk r P → IfOk (if_aligned r) P
 aligned-kept P (Err e) h = tt

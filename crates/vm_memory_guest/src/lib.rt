@@ -23,7 +23,10 @@ pub use region::{
     GuestRegionCollectionError,
 };
 pub use volatile_memory::access::Bytes;
+pub use volatile_memory::array::VolatileArrayRef;
 pub use volatile_memory::host::{
     BlockId, HostMemory, HostShape, MmapRegionError, Named, SpaceId, TlbId,
 };
+pub use volatile_memory::memory::{VolatileMemory, compute_offset};
+pub use volatile_memory::reference::VolatileRef;
 pub use volatile_memory::slice::VolatileSlice;

@@ -1,4 +1,4 @@
-use Rattle.std.proofs.Common.{◌≡◌, ◌≤◌, ◌*◌, ◌∙◌, ap, length, arith}
+use Rattle.std.proofs.Common.{◌∙◌, ap, length, arith}
 use Rattle.vm_memory_guest.specs.Typed.{size_of}
 use Rattle.vm_memory_guest.proofs.ElementLemmas.{element-inside, values-put}
 use Rattle.vm_memory_guest.proofs.HostLemmas.{length-bytes}
