@@ -1,7 +1,7 @@
 use Rattle.std.proofs.Common.{◌≡◌, ◌≢◌, ◌+◌, ◌-◌, ◌<◌, ◌++◌, ◌∙◌, set, sym, ap, get_or, take, drop, length, arith}
 use Rattle.std.specs.Vec.{with_items}
 use Rattle.vm_memory_guest.proofs.CopyLemmas.{moved, low-at, high-at, set-low, set-high}
-use Rattle.vm_memory_guest.proofs.volatile_memory.host.copy_between.Goals as goal
+use Rattle.vm_memory_guest.proofs.volatile_memory.block.copy_between.Goals as goal
 
 pub returns-then-source-target : goal.returns-then-source-target
 returns-then-source-target c =

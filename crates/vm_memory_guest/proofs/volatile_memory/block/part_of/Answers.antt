@@ -3,7 +3,7 @@ use Rattle.std.proofs.lemmas.Grind.{common_steps}
 use Rattle.vm_memory_guest.specs.Host.{block_at}
 use Rattle.vm_memory_guest.specs.Inside.{blocks_of}
 use Rattle.vm_memory_guest.proofs.WrittenLaws.{bytes_at-block}
-use Rattle.vm_memory_guest.proofs.volatile_memory.host.part_of.Goals as goal
+use Rattle.vm_memory_guest.proofs.volatile_memory.block.part_of.Goals as goal
 
 pub returns : goal.returns
 returns c =

@@ -3,7 +3,7 @@ use Rattle.std.proofs.lemmas.Grind.{common_steps}
 use Rattle.vm_memory_guest.specs.Host.{block_at, cells_from, written}
 use Rattle.vm_memory_guest.specs.Inside.{blocks_of}
 use Rattle.vm_memory_guest.proofs.TypedLemmas.{place-long, place-put}
-use Rattle.vm_memory_guest.proofs.volatile_memory.host.put_value_in.Goals as goal
+use Rattle.vm_memory_guest.proofs.volatile_memory.block.put_value_in.Goals as goal
 
 pub returns : goal.returns
 returns g c =

@@ -4,7 +4,7 @@ use Rattle.vm_memory_guest.specs.Host.{block_at, cells_from, written}
 use Rattle.vm_memory_guest.specs.Inside.{blocks_of}
 use Rattle.vm_memory_guest.proofs.TypedLemmas.{place-put}
 use Rattle.vm_memory_guest.proofs.WrittenLaws.{lengths-written}
-use Rattle.vm_memory_guest.proofs.volatile_memory.host.put_values_in.Goals as goal
+use Rattle.vm_memory_guest.proofs.volatile_memory.block.put_values_in.Goals as goal
 
 pub returns-clause-put : goal.returns-clause-put
 returns-clause-put g c short =

@@ -6,7 +6,7 @@ use Rattle.std.specs.declared.alloc.Global.{Global}
 use Rattle.vm_memory_guest.specs.Host.{block_at}
 use Rattle.vm_memory_guest.specs.Inside.{blocks_of}
 use Rattle.vm_memory_guest.proofs.WrittenLaws.{written-block}
-use Rattle.vm_memory_guest.proofs.volatile_memory.host.put_in.Goals as goal
+use Rattle.vm_memory_guest.proofs.volatile_memory.block.put_in.Goals as goal
 
 pub returns : goal.returns
 returns c =
