@@ -23,7 +23,8 @@ module _ {E : Type 0} where
   given (Ok w) = w ∷ []
   given (Err e) = []
 
--- the window of a load or a store at an offset of a window: so many bytes from there on, where their place in the block is a multiple of their number
+-- the window of a load or a store at an offset of a window: so many bytes from there on, where their place
+-- in the block is a multiple of their number
 abbrev pub if_aligned : Result Window VolatileMemoryError → Result Window VolatileMemoryError
 if_aligned (Err e) = Err e
 if_aligned (Ok w) = if w.offset % w.size == 0 then Ok w else Err (Misaligned w.offset w.size)
@@ -31,11 +32,13 @@ if_aligned (Ok w) = if w.offset % w.size == 0 then Ok w else Err (Misaligned w.o
 abbrev pub aligned_of : Window → ℕ → ℕ → Result Window VolatileMemoryError
 aligned_of w offset size = if_aligned (subslice_of w offset size)
 
--- the window of a load or a store in guest memory: the first that is reached, where it has all bytes and its place in the block is a multiple of their number
+-- the window of a load or a store in guest memory: the first that is reached, where it has all bytes and its
+-- place in the block is a multiple of their number
 abbrev pub first_aligned : ℕ → List Window → Option GuestMemoryError → Result Window GuestMemoryError
 first_aligned size [] None = Err InvalidBackendAddress
 first_aligned size [] (Some e) = Err e
-first_aligned size (w ∷ ws) fault = if w.size == size && w.offset % size == 0 then Ok w else Err InvalidBackendAddress
+first_aligned size (w ∷ ws) fault =
+    if w.size == size && w.offset % size == 0 then Ok w else Err InvalidBackendAddress
 
 abbrev pub place_of : ℕ → Access → Result Window GuestMemoryError
 place_of size access = first_aligned size (windows access.path) (option_map error_of access.fault)
@@ -46,11 +49,14 @@ is_uncut [] = true
 is_uncut (x ∷ []) = true
 is_uncut (x ∷ y ∷ xs) = not (is_cut x y) && is_uncut (y ∷ xs)
 
--- the bytes of a load or a store in guest memory: all that are reached, where none is missing, there is no cut between them, and the first one's place in its block is a multiple of their number
+-- the bytes of a load or a store in guest memory: all that are reached, where none is missing, there is no
+-- cut between them, and the first one's place in its block is a multiple of their number
 abbrev pub whole_path : ℕ → List Reached → Option GuestMemoryError → Result (List Reached) GuestMemoryError
 whole_path size [] None = Err InvalidBackendAddress
 whole_path size [] (Some e) = Err e
-whole_path size (x ∷ xs) fault = if length (x ∷ xs) == size && is_uncut (x ∷ xs) && x.cell.offset % size == 0 then Ok (x ∷ xs) else Err InvalidBackendAddress
+whole_path size (x ∷ xs) fault =
+    if length (x ∷ xs) == size && is_uncut (x ∷ xs) && x.cell.offset % size == 0 then Ok (x ∷ xs)
+    else Err InvalidBackendAddress
 
 abbrev pub typed_path : ℕ → Access → Result (List Reached) GuestMemoryError
 typed_path size access = whole_path size access.path (option_map error_of access.fault)

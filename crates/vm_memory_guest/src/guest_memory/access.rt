@@ -26,7 +26,8 @@ impl<T: GuestMemory> Bytes<GuestAddress> for T {
 
     ghost reach = { λ m tables addr n access. told error_of (reached (T.memory m) tables addr.0 n access) };
 
-    ghost place = { λ m tables addr size access. place_of size (access_of (T.memory m).regions (route (T.memory m) tables) addr.0 size access) };
+    ghost place = { λ m tables addr size access.
+        place_of size (access_of (T.memory m).regions (route (T.memory m) tables) addr.0 size access) };
 
     ghost partial = { errors.PartialBuffer };
 
@@ -146,7 +147,8 @@ fn write_windows<M: GuestMemoryBackend, B: Bitmap>(
     requires held { AllByRecursion (λ w. Holds (shape_of host.old) (window_names w)) walk.windows }
     requires fits { span walk.windows ≤ length buf.now }
     requires asked { OnSome walk.fault (0 < length buf.now) }
-    ensures answer { result ≡ counted (span walk.entry.windows) (option_map error_of walk.entry.fault) (length buf.now) }
+    ensures answer { let fault = option_map error_of walk.entry.fault in
+        result ≡ counted (span walk.entry.windows) fault (length buf.now) }
     ensures bytes { Writes B.marks walk.entry.windows buf.now host.old host.new }
 {
     let mut total = 0;
@@ -178,7 +180,8 @@ fn read_windows<M: GuestMemoryBackend, B: Bitmap>(
     requires held { AllByRecursion (λ w. Holds (shape_of host.now) (window_names w)) walk.windows }
     requires fits { span walk.windows ≤ length buf.old }
     requires asked { OnSome walk.fault (0 < length buf.old) }
-    ensures answer { result ≡ counted (span walk.entry.windows) (option_map error_of walk.entry.fault) (length buf.old) }
+    ensures answer { let fault = option_map error_of walk.entry.fault in
+        result ≡ counted (span walk.entry.windows) fault (length buf.old) }
     ensures bytes { buf.new ≡ filled host.now.blocks (cells walk.entry.windows) buf.old }
 {
     let mut total = 0;
@@ -210,7 +213,8 @@ fn write_value<M: GuestMemoryBackend, V: ByteValued, B: Bitmap>(
     requires held { AllByRecursion (λ w. Holds (shape_of host.old) (window_names w)) walk.windows }
     requires fits { span walk.windows ≤ min V.width (2 ^ 64 - 1) }
     requires asked { OnSome walk.fault (0 < V.width) }
-    ensures answer { result ≡ counted (span walk.entry.windows) (option_map error_of walk.entry.fault) V.width }
+    ensures answer { let fault = option_map error_of walk.entry.fault in
+        result ≡ counted (span walk.entry.windows) fault V.width }
     ensures bytes { Writes B.marks walk.entry.windows (V.bytes value.now) host.old host.new }
 {
     value.known();
@@ -242,8 +246,10 @@ fn read_value<M: GuestMemoryBackend, V: ByteValued, B: Bitmap>(
     requires held { AllByRecursion (λ w. Holds (shape_of host.now) (window_names w)) walk.windows }
     requires fits { span walk.windows ≤ min V.width (2 ^ 64 - 1) }
     requires asked { OnSome walk.fault (0 < V.width) }
-    ensures answer { result ≡ counted (span walk.entry.windows) (option_map error_of walk.entry.fault) V.width }
-    ensures bytes { V.bytes value.new ≡ filled host.now.blocks (cells walk.entry.windows) (V.bytes value.old) }
+    ensures answer { let fault = option_map error_of walk.entry.fault in
+        result ≡ counted (span walk.entry.windows) fault V.width }
+    ensures bytes { let cells = cells walk.entry.windows in
+        V.bytes value.new ≡ filled host.now.blocks cells (V.bytes value.old) }
 {
     let mut total = 0;
     for item in walk {
@@ -285,7 +291,8 @@ fn first_window<M: GuestMemoryBackend>(
 // Whether all that was expected was completed.
 #[inline]
 fn whole(expected: usize, completed: usize) -> GuestMemoryResult<()>
-    ensures { result ≡ (if completed == expected then Ok tt else Err (GuestMemoryError.PartialBuffer expected completed)) }
+    ensures { result ≡ (if completed == expected then Ok tt
+        else Err (GuestMemoryError.PartialBuffer expected completed)) }
 {
     if completed != expected {
         return Err(GuestMemoryError::PartialBuffer {

@@ -144,7 +144,12 @@ impl<B> Model for HostMemory<B> {
 
     ghost use Rattle.vm_memory_guest.specs.Inside.{IsSound, blocks_of};
 
-    ghost view = { λ h. record { blocks = blocks_of h.blocks; bitmaps = h.bitmaps.items; spaces = h.spaces.items; tables = [] } };
+    ghost view = { λ h. record {
+      blocks = blocks_of h.blocks;
+      bitmaps = h.bitmaps.items;
+      spaces = h.spaces.items;
+      tables = [];
+    } };
 
     ghost invariant = { λ h. IsSound h.shape (blocks_of h.blocks) h.bitmaps.items h.spaces.items };
 }
@@ -193,11 +198,15 @@ impl<B> HostMemory<B> {
     where
         B: Drop,
         ensures number { IfOk result (λ block. block.0 ≡ length self.old.blocks) }
-        ensures ok { OnOk result (self.new ≡ record self.old { blocks = self.old.blocks ++ replicate size 0 ∷ []; bitmaps = self.old.bitmaps ++ bitmap ∷ [] }) }
+        ensures ok { OnOk result (self.new ≡ record self.old {
+          blocks = self.old.blocks ++ replicate size 0 ∷ [];
+          bitmaps = self.old.bitmaps ++ bitmap ∷ [];
+        }) }
         ensures invalid { IsErrOf result MmapRegionError.InvalidSize ↔ ((size ≡ 0) ⊎ (2 ^ 63 ≤ size)) }
         ensures sized { OnOk result ((0 < size) × (size < 2 ^ 63)) }
         ensures err { OnErr result (self.new ≡ self.old) }
-        ensures kept { (names : List Name) → Holds (shape_of self.old) names → Holds (shape_of self.new) names }
+        ensures kept { (names : List Name) → Holds (shape_of self.old) names
+            → Holds (shape_of self.new) names }
     {
         if size == 0 || size > MAX_BLOCK {
             return Err(MmapRegionError::InvalidSize);
@@ -213,7 +222,10 @@ impl<B> HostMemory<B> {
         requires some { 0 < size }
         requires bound { size < 2 ^ 63 }
         ensures number { IfOk result (λ block. block.0 ≡ length self.old.blocks) }
-        ensures ok { OnOk result (self.new ≡ record self.old { blocks = self.old.blocks ++ replicate size 0 ∷ []; bitmaps = self.old.bitmaps ++ bitmap ∷ [] }) }
+        ensures ok { OnOk result (self.new ≡ record self.old {
+          blocks = self.old.blocks ++ replicate size 0 ∷ [];
+          bitmaps = self.old.bitmaps ++ bitmap ∷ [];
+        }) }
         ensures err { OnErr result (self.new ≡ self.old) }
     {
         let bytes = zeroed(self.alloc, size)?;
@@ -233,7 +245,8 @@ impl<B> HostMemory<B> {
         ensures number { IfOk result (λ space. space.0 ≡ length self.old.spaces) }
         ensures ok { OnOk result (self.new ≡ record self.old { spaces = self.old.spaces ++ bitmap ∷ [] }) }
         ensures err { OnErr result (self.new ≡ self.old) }
-        ensures kept { (names : List Name) → Holds (shape_of self.old) names → Holds (shape_of self.new) names }
+        ensures kept { (names : List Name) → Holds (shape_of self.old) names
+            → Holds (shape_of self.new) names }
     {
         self.add_space(bitmap)
     }
@@ -258,6 +271,7 @@ impl<B> HostMemory<B> {
     ghost use Rattle.vm_memory_guest.specs.Window.{window_names, with_bitmap, bitmap_name, bitmap_of, cells_of, Marks, MarksWindow, Writes};
 
     /// The bytes of a window.
+    #[inline]
     pub fn bytes(&self, window: &VolatileSlice) -> &[u8]
         requires { Holds (shape_of self.now) (window_names window.now) }
         ensures { result.now ≡ bytes_at self.now.blocks (cells_of window.now) }
@@ -289,15 +303,19 @@ impl<B> HostMemory<B> {
     }
 
     // Moves bytes to a place of a block.
+    #[inline]
     fn put(&mut self, block: usize, offset: usize, bytes: &[u8])
         requires { Holds (shape_of self.old) (names.Place block offset (length bytes.now) ∷ []) }
-        ensures put { self.new ≡ record self.old { blocks = written (cells_from block offset (length bytes.now)) bytes.now self.old.blocks } }
+        ensures put { self.new ≡ record self.old {
+          blocks = written (cells_from block offset (length bytes.now)) bytes.now self.old.blocks;
+        } }
         ensures shape { shape_of self.new ≡ shape_of self.old }
     {
         put_in(&mut self.blocks, block, offset, bytes);
     }
 
     // Marks `len` bytes of a view of a bitmap, from its base on.
+    #[inline]
     fn mark(&mut self, at: BitmapRef, len: usize)
     where
         B: Bitmap,
@@ -331,6 +349,7 @@ impl<B> HostMemory<B> {
     }
 
     /// Moves bytes into a window of as many, and marks them, unless there are none.
+    #[inline]
     pub fn write(&mut self, window: &VolatileSlice, bytes: &[u8])
     where
         B: Bitmap,
@@ -346,10 +365,12 @@ impl<B> HostMemory<B> {
     // Moves the bytes of a value, from byte `from` on, to a place of a block.
     #[inline]
     fn put_value<T: ByteValued>(&mut self, window: &VolatileSlice, value: &T, from: usize)
-        requires held { Holds (shape_of self.old) (names.Place window.now.block.0 window.now.offset window.now.size ∷ []) }
+        requires held { Holds (shape_of self.old)
+            (names.Place window.now.block.0 window.now.offset window.now.size ∷ []) }
         requires inside { from + window.now.size ≤ T.width }
         requires fits { from + window.now.size < 2 ^ 64 }
-        ensures put { self.new ≡ record self.old { blocks = written (cells_of window.now) (take window.now.size (drop from (T.bytes value.now))) self.old.blocks } }
+        ensures put { let bytes = take window.now.size (drop from (T.bytes value.now)) in
+            self.new ≡ record self.old { blocks = written (cells_of window.now) bytes self.old.blocks } }
         ensures shape { shape_of self.new ≡ shape_of self.old }
     {
         put_value_in(
@@ -384,7 +405,8 @@ impl<B> HostMemory<B> {
 
     // Moves the bytes of values, one after the other, to a place of a block.
     fn put_values<T: ByteValued>(&mut self, window: &VolatileSlice, values: &[T])
-        requires held { Holds (shape_of self.old) (names.Place window.now.block.0 window.now.offset window.now.size ∷ []) }
+        requires held { Holds (shape_of self.old)
+            (names.Place window.now.block.0 window.now.offset window.now.size ∷ []) }
         requires size { window.now.size ≡ length values.now * size_of T.width }
         ensures put { T.width < 2 ^ 64 → self.new ≡ record self.old {
           blocks = written (cells_of window.now) (flat_map T.bytes values.now) self.old.blocks;
@@ -402,7 +424,8 @@ impl<B> HostMemory<B> {
         B: Bitmap,
         requires held { Holds (shape_of self.old) (window_names window.now) }
         requires size { window.now.size ≡ length values.now * size_of T.width }
-        ensures bytes { T.width < 2 ^ 64 → Writes B.marks (window.now ∷ []) (flat_map T.bytes values.now) self.old self.new }
+        ensures bytes { T.width < 2 ^ 64
+            → Writes B.marks (window.now ∷ []) (flat_map T.bytes values.now) self.old self.new }
         ensures shape { shape_of self.new ≡ shape_of self.old }
     {
         self.put_values(window, values);
@@ -413,8 +436,8 @@ impl<B> HostMemory<B> {
     pub(crate) fn read_values<T: ByteValued>(&self, window: &VolatileSlice, values: &mut [T])
         requires held { Holds (shape_of self.now) (window_names window.now) }
         requires size { length values.old * size_of T.width ≤ window.now.size }
-        ensures { T.width < 2 ^ 64 → values.new
-            ≡ values_of T.value_of T.width (length values.old) (bytes_at self.now.blocks (cells_of window.now)) }
+        ensures { T.width < 2 ^ 64 → let bytes = bytes_at self.now.blocks (cells_of window.now) in
+            values.new ≡ values_of T.value_of T.width (length values.old) bytes }
     {
         let bytes = self.bytes(window);
         for k in 0..values.len() {
@@ -424,8 +447,10 @@ impl<B> HostMemory<B> {
 
     // Moves the bytes of a window to another of as many, as they were.
     fn move_bytes(&mut self, from: &VolatileSlice, to: &VolatileSlice)
-        requires from { Holds (shape_of self.old) (names.Place from.now.block.0 from.now.offset from.now.size ∷ []) }
-        requires to { Holds (shape_of self.old) (names.Place to.now.block.0 to.now.offset to.now.size ∷ []) }
+        requires from { Holds (shape_of self.old)
+            (names.Place from.now.block.0 from.now.offset from.now.size ∷ []) }
+        requires to { Holds (shape_of self.old)
+            (names.Place to.now.block.0 to.now.offset to.now.size ∷ []) }
         requires size { from.now.size ≡ to.now.size }
         ensures put { self.new ≡ record self.old {
           blocks = written (cells_of to.now) (bytes_at self.old.blocks (cells_of from.now)) self.old.blocks;
@@ -451,7 +476,8 @@ impl<B> HostMemory<B> {
         requires from { Holds (shape_of self.old) (window_names from.now) }
         requires to { Holds (shape_of self.old) (window_names to.now) }
         requires size { from.now.size ≡ to.now.size }
-        ensures bytes { Writes B.marks (to.now ∷ []) (bytes_at self.old.blocks (cells_of from.now)) self.old self.new }
+        ensures bytes { let bytes = bytes_at self.old.blocks (cells_of from.now) in
+            Writes B.marks (to.now ∷ []) bytes self.old self.new }
         ensures shape { shape_of self.new ≡ shape_of self.old }
     {
         self.move_bytes(from, to);
@@ -463,7 +489,8 @@ impl<B> HostMemory<B> {
     pub(crate) fn value<T: ByteValued>(&self, window: &VolatileSlice) -> T
         requires held { Holds (shape_of self.now) (window_names window.now) }
         requires size { window.now.size ≤ T.width }
-        ensures { window.now.size ≡ T.width → result ≡ T.value_of (bytes_at self.now.blocks (cells_of window.now)) }
+        ensures { window.now.size ≡ T.width
+            → result ≡ T.value_of (bytes_at self.now.blocks (cells_of window.now)) }
     {
         let mut value = T::zeroed();
         value.set_bytes(0, self.bytes(window));
@@ -476,11 +503,15 @@ impl<B: NewBitmap + Drop> HostMemory<B> {
     /// Makes a block of `size` zeroed bytes, tracked by a new bitmap for as many, as `new_block_with` does.
     pub fn new_block(&mut self, size: usize) -> Result<BlockId, MmapRegionError>
         ensures number { IfOk result (λ block. block.0 ≡ length self.old.blocks) }
-        ensures ok { OnOk result ((bitmap : B) × B.made size bitmap × (self.new ≡ record self.old { blocks = self.old.blocks ++ replicate size 0 ∷ []; bitmaps = self.old.bitmaps ++ bitmap ∷ [] })) }
+        ensures ok { OnOk result ((bitmap : B) × B.made size bitmap × (self.new ≡ record self.old {
+          blocks = self.old.blocks ++ replicate size 0 ∷ [];
+          bitmaps = self.old.bitmaps ++ bitmap ∷ [];
+        })) }
         ensures invalid { IsErrOf result MmapRegionError.InvalidSize ↔ ((size ≡ 0) ⊎ (2 ^ 63 ≤ size)) }
         ensures sized { OnOk result ((0 < size) × (size < 2 ^ 63)) }
         ensures err { OnErr result (self.new ≡ self.old) }
-        ensures kept { (names : List Name) → Holds (shape_of self.old) names → Holds (shape_of self.new) names }
+        ensures kept { (names : List Name) → Holds (shape_of self.old) names
+            → Holds (shape_of self.new) names }
     {
         if size == 0 || size > MAX_BLOCK {
             return Err(MmapRegionError::InvalidSize);

@@ -167,7 +167,9 @@ impl VolatileSlice {
     #[inline]
     fn reached(&self, offset: usize, count: usize) -> VolatileMemoryResult<VolatileSlice>
         requires { 0 < count }
-        ensures reach { MatchResult result (λ w. window_reach self.now offset count ≡ record { windows = w ∷ []; fault = None }) (λ e. window_reach self.now offset count ≡ record { windows = []; fault = Some e }) }
+        ensures reach { let reach = window_reach self.now offset count in MatchResult result
+            (λ w. reach ≡ record { windows = w ∷ []; fault = None })
+            (λ e. reach ≡ record { windows = []; fault = Some e }) }
         ensures at_most { IfOk result (λ w. w.size ≤ count) }
     {
         if offset >= self.size {
@@ -333,8 +335,10 @@ impl Bytes<usize> for VolatileSlice {
 }
 
 // Whether all that was expected was completed.
+#[inline]
 fn whole(expected: usize, completed: usize) -> VolatileMemoryResult<()>
-    ensures { result ≡ cond (completed == expected) (Ok tt) (Err (VolatileMemoryError.PartialBuffer expected completed)) }
+    ensures { result ≡ cond (completed == expected) (Ok tt)
+        (Err (VolatileMemoryError.PartialBuffer expected completed)) }
 {
     if completed != expected {
         return Err(VolatileMemoryError::PartialBuffer {
@@ -366,8 +370,8 @@ impl VolatileSlice {
         requires held { Holds (shape_of host.now) (window_names self.now) }
         requires some { 0 < T.width }
         ensures count { result ≡ min (length buf.old) (self.now.size / size_of T.width) }
-        ensures values { T.width < 2 ^ 64 → buf.new
-            ≡ values_of T.value_of T.width result (bytes_at host.now.blocks (cells_of self.now)) ++ drop result buf.old }
+        ensures values { T.width < 2 ^ 64 → let bytes = bytes_at host.now.blocks (cells_of self.now) in
+            buf.new ≡ values_of T.value_of T.width result bytes ++ drop result buf.old }
     {
         let count = buf.len().min(self.size / T::size());
         host.read_values(self, &mut buf[..count]);
@@ -380,7 +384,8 @@ impl VolatileSlice {
         requires held { Holds (shape_of host.old) (window_names self.now) }
         requires some { 0 < T.width }
         ensures bytes { T.width < 2 ^ 64 → let count = min (length buf.now) (self.now.size / T.width) in
-            Writes B.marks (front self.now (count * T.width) ∷ []) (flat_map T.bytes (take count buf.now)) host.old host.new }
+            let bytes = flat_map T.bytes (take count buf.now) in
+            Writes B.marks (front self.now (count * T.width) ∷ []) bytes host.old host.new }
         ensures shape { shape_of host.new ≡ shape_of host.old }
     {
         let size = T::size();
