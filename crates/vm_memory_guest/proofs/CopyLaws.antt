@@ -7,7 +7,7 @@ use Rattle.vm_memory_base.specs.Pages.{PageSet}
 use Rattle.vm_memory_base.specs.declared.bitmap.BitmapId.{BitmapId}
 use Rattle.vm_memory_base.specs.declared.bitmap.BitmapId.TheVariants.{Block}
 use Rattle.vm_memory_base.specs.declared.bitmap.BitmapRef.{BitmapRef}
-use Rattle.vm_memory_guest.specs.Access.{Reached, Stretch, lengthened, stretches, window_of, windows}
+use Rattle.vm_memory_guest.specs.Access.{Reached, lengthened, stretches, window_of, windows}
 use Rattle.vm_memory_guest.specs.Copy.{front, dirtied_cells, after_copy, Copies}
 use Rattle.vm_memory_guest.specs.Dirt.{MarksFollow, after_write, dirtied, marks_pages, path_cells, path_marks, window_marks, with_pages}
 use Rattle.vm_memory_guest.specs.Host.{Cell, Host, bytes_at, cells_from, written}

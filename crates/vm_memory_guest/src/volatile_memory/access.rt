@@ -118,7 +118,7 @@ pub trait Bytes<A>: Named {
         requires { Holds (shape_of host.now) (Self.names self.now) }
         ensures { T.width < 2 ^ 64 → let r = reach self.now host.now.tables addr T.width Read in
             let value = answered (λ _. T.value_of (bytes_at host.now.blocks (cells r.windows)))
-                (exactly partial (span r.windows) r.fault T.width) in
+            (exactly partial (span r.windows) r.fault T.width) in
             Outcome no_memory (may_want self.now) value (Unit {0}) (Unit {0}) result };
 
     /// Stores a value as one atomic integer, in one window at a place that is a multiple of the value's
