@@ -12,7 +12,7 @@ use Rattle.vm_memory_guest.specs.Error.{error_of}
 use Rattle.vm_memory_guest.specs.Walk.{error_item, items_of, reached, GivesAccess, RefusesAccess, WantsMemory}
 use Rattle.vm_memory_guest.specs.Host.{Host, Shape, Cell, Name, Holds, shape_of, bytes_at}
 use Rattle.vm_memory_guest.specs.Memory.{Memory, Behind, route, route_behind, behind_names, memory_names}
-use Rattle.vm_memory_guest.specs.Region.{Region, IsRegion}
+use Rattle.vm_memory_guest.specs.Region.{IsRegion}
 use Rattle.vm_memory_guest.specs.Window.{window_names, span, cells, cells_of, Writes, Window}
 use Rattle.vm_memory_guest.specs.declared.region.GuestMemoryError.{GuestMemoryError}
 use Rattle.vm_memory_guest.specs.declared.region.GuestMemoryError.TheVariants as errors

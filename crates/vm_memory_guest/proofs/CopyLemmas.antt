@@ -1,5 +1,5 @@
 -- Copies from one block to another, and inside one.
-use Rattle.std.proofs.Common.{◌≡◌, ◌≢◌, ℕ, ◌+◌, ◌-◌, ◌<◌, ◌≤◌, List, [], ◌∷◌, ◌++◌, map, length, get_or, set, take, drop, refl, sym, ap, ◌∙◌, arith, length-append, length-drop, length-take-le, length-set, Vec}
+use Rattle.std.proofs.Common.{◌≡◌, ℕ, ◌+◌, ◌-◌, ◌<◌, ◌≤◌, List, [], ◌++◌, map, length, get_or, set, take, drop, refl, sym, ap, ◌∙◌, arith, length-append, length-drop, length-take-le, length-set, Vec}
 use Rattle.std.proofs.lemmas.List.{get_or-map, length-map, map-set, set-append_left, set-append_right, get_or-append_right, get_or_append_left, with_items_is}
 use Rattle.std.specs.Vec.{with_item, with_items}
 use Rattle.std.specs.declared.alloc.Global.{Global}

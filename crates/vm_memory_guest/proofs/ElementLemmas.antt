@@ -1,10 +1,9 @@
 -- Values one after the other.
-use Rattle.std.proofs.Common.{◌≡◌, ℕ, zero, suc, ◌+◌, ◌-◌, ◌*◌, ◌^◌, ◌<◌, ◌≤◌, min, List, [], ◌∷◌, ◌++◌, take, drop, set, length, refl, sym, ap, ◌∙◌, arith, drop-drop}
+use Rattle.std.proofs.Common.{◌≡◌, ℕ, zero, suc, ◌+◌, ◌*◌, ◌<◌, ◌≤◌, List, [], ◌∷◌, ◌++◌, take, drop, set, length, sym, ap, ◌∙◌, arith, drop-drop}
 use Rattle.std.proofs.Math.Nat.{mul-le-mul_right, suc-mul, zero-mul}
 use Rattle.std.proofs.lemmas.List.{take_more_set}
 use Rattle.vm_memory_base.specs.Bytes.{values_of}
 use Rattle.vm_memory_guest.specs.Host.{Shape, Holds}
-use Rattle.vm_memory_guest.specs.Volatile.{Elements, element_at}
 use Rattle.vm_memory_guest.specs.Window.{Window, part, window_names}
 
 -- element k of n ends where they end, at most

@@ -1,5 +1,5 @@
 -- Values that are moved into blocks and out of them.
-use Rattle.std.proofs.Common.{◌≡◌, ℕ, zero, suc, ◌+◌, ◌-◌, ◌<◌, ◌≤◌, List, [], ◌∷◌, ◌++◌, map, length, get_or, set, take, drop, replicate, Ok, refl, sym, ap, ◌∙◌, subst, arith, append-nil, append_assoc, drop-drop, take-append-drop, length-append, length-drop, length-take-le, Vec}
+use Rattle.std.proofs.Common.{◌≡◌, ℕ, ◌+◌, ◌-◌, ◌<◌, ◌≤◌, List, [], ◌∷◌, ◌++◌, map, length, set, take, drop, replicate, Ok, sym, ap, ◌∙◌, subst, arith, append_assoc, drop-drop, length-append, length-drop, length-take-le, Vec}
 use Rattle.std.proofs.lemmas.List.{map-set, with_items_is}
 use Rattle.std.specs.Vec.{with_item, with_items}
 use Rattle.std.specs.declared.alloc.Global.{Global}
@@ -7,11 +7,11 @@ use Rattle.vm_memory_base.specs.Table.{Table}
 use Rattle.vm_memory_base.specs.declared.io.VolatileMemoryError.TheVariants.{PartialBuffer}
 use Rattle.vm_memory_guest.specs.Answer.{exactly, window_reach}
 use Rattle.vm_memory_guest.specs.Typed.{answered}
-use Rattle.vm_memory_guest.specs.Host.{Cell, Host, Name, Shape, Holds, shape_of, block_at, bytes_at, cells_from, written}
+use Rattle.vm_memory_guest.specs.Host.{Cell, Host, Shape, shape_of, block_at, bytes_at, cells_from, written}
 use Rattle.vm_memory_guest.specs.Inside.{IsSound, blocks_of}
 use Rattle.vm_memory_guest.specs.Window.{Window, MarksWindow, Writes, cells, cells_of, span}
-use Rattle.vm_memory_guest.proofs.MarkLaws.{shape_of-written, Writes-one}
-use Rattle.vm_memory_guest.proofs.WrittenLaws.{written-block, written-take, lengths-written, length-cells_from, length-bytes_at}
+use Rattle.vm_memory_guest.proofs.MarkLaws.{Writes-one}
+use Rattle.vm_memory_guest.proofs.WrittenLaws.{written-block, written-take, lengths-written, length-cells_from}
 
 -- a block of which a part is replaced by as many bytes
 block-put : (blocks : Vec (Vec ℕ Global) Global) (block offset len : ℕ) (all : Vec ℕ Global) (old bytes : List ℕ)

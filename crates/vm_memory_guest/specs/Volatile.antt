@@ -6,7 +6,8 @@ use Rattle.vm_memory_guest.specs.Window.{Window, part}
 
 -- a sum of 64 bits
 abbrev pub sum_of : ℕ → ℕ → Result ℕ VolatileMemoryError
-sum_of base offset = if nat_lt (base + offset) (2 ^ 64) then Ok (base + offset) else Err (Overflow base offset)
+sum_of base offset =
+    if nat_lt (base + offset) (2 ^ 64) then Ok (base + offset) else Err (Overflow base offset)
 
 -- where so many bytes from base on end, in a memory of this size
 abbrev pub end_of : ℕ → ℕ → ℕ → Result ℕ VolatileMemoryError
@@ -24,8 +25,8 @@ pub record Elements : Type 0 where
 abbrev pub element_at : Elements → ℕ → ℕ → Window
 element_at elements size index = part elements.window (index * size) size
 
--- that many values of so many bytes each, where the window of as many bytes is asked of a memory. Their number
--- and their bytes are fewer than 2 ^ 63
+-- that many values of so many bytes each, where the window of as many bytes is asked of a memory. Their
+-- number and their bytes are fewer than 2 ^ 63
 abbrev pub elements_in : ℕ → Result Window VolatileMemoryError → Result Elements VolatileMemoryError
 elements_in count (Ok w) = Ok (record { window = w; count = count })
 elements_in count (Err e) = Err e

@@ -35,7 +35,8 @@ pub fn alignment_is_by_the_block()
 /// also where these are neighbours in one block, nor one that ends in a hole. One that begins in a hole is
 /// refused as any access.
 pub fn loads_over_touching_regions()
-    ensures inside { let host = host_of ((1 ∷ 2 ∷ 3 ∷ 4 ∷ []) ∷ (5 ∷ 6 ∷ 7 ∷ 8 ∷ []) ∷ []) (None ∷ None ∷ []) [] [] in
+    ensures inside { let blocks = (1 ∷ 2 ∷ 3 ∷ 4 ∷ []) ∷ (5 ∷ 6 ∷ 7 ∷ 8 ∷ []) ∷ [] in
+        let host = host_of blocks (None ∷ None ∷ []) [] [] in
         answered (λ xs. bytes_read xs host) (typed_path 2 (access_of touching_regions Direct 6 2 Read))
         ≡ Ok (7 ∷ 8 ∷ []) }
     ensures in_both { typed_path 4 (access_of touching_regions Direct 2 4 Read) ≡ Err InvalidBackendAddress }
@@ -45,8 +46,10 @@ pub fn loads_over_touching_regions()
         typed_path 2 (access_of regions Direct 2 2 Read) ≡ Err InvalidBackendAddress }
     ensures aligned_in_the_block { let regions = backed_region 1 4 0 0 ∷ [] in
         let host = host_of ((1 ∷ 2 ∷ 3 ∷ 4 ∷ []) ∷ []) (None ∷ []) [] [] in
-        answered (λ xs. bytes_read xs host) (typed_path 2 (access_of regions Direct 3 2 Read)) ≡ Ok (3 ∷ 4 ∷ []) }
-    ensures ends_in_a_hole { typed_path 4 (access_of (one_region 4) Direct 2 4 Read) ≡ Err InvalidBackendAddress }
+        answered (λ xs. bytes_read xs host) (typed_path 2 (access_of regions Direct 3 2 Read))
+        ≡ Ok (3 ∷ 4 ∷ []) }
+    ensures ends_in_a_hole { typed_path 4 (access_of (one_region 4) Direct 2 4 Read)
+        ≡ Err InvalidBackendAddress }
     ensures begins_in_a_hole { typed_path 4 (access_of (one_region 4) Direct 4 4 Read)
         ≡ Err (InvalidGuestAddress (record { 0 = 4 })) }
 {}
@@ -56,15 +59,18 @@ pub fn loads_over_touching_regions()
 pub fn stores_with_an_iommu()
     ensures refused { let route = Through (new_table_after (Set 8 0 4 Read ∷ [])) 0 in
         typed_path 2 (access_of (one_region 4) route 8 2 Write) ≡ Err (cannot_resolve 8 2 AccessNotAllowed) }
-    ensures two_mappings { let route = Through (new_table_after (Set 8 0 2 ReadWrite ∷ Set 10 2 2 Write ∷ [])) 0 in
+    ensures two_mappings { let says = new_table_after (Set 8 0 2 ReadWrite ∷ Set 10 2 2 Write ∷ []) in
+        let route = Through says 0 in
         typed_path 4 (access_of (one_region 4) route 8 4 Write) ≡ Err InvalidBackendAddress }
     ensures left { let route = Through (new_table_after (Set 8 0 4 Write ∷ [])) 0 in
         after_write (path_given (typed_path 2 (access_of (one_region 4) route 10 2 Write))) (7 ∷ 9 ∷ [])
         (host_of ((1 ∷ 2 ∷ 3 ∷ 4 ∷ []) ∷ []) (clean_pages 4 1 ∷ []) (clean_pages 4 3 ∷ []) [])
-        ≡ host_of ((1 ∷ 2 ∷ 7 ∷ 9 ∷ []) ∷ []) (clean_pages 4 1 ∷ []) (pages_of 4 (false ∷ false ∷ true ∷ []) ∷ []) [] }
+        ≡ host_of ((1 ∷ 2 ∷ 7 ∷ 9 ∷ []) ∷ []) (clean_pages 4 1 ∷ [])
+        (pages_of 4 (false ∷ false ∷ true ∷ []) ∷ []) [] }
 {}
 
-/// Bytes are copied as they were, also over one another, and the pages of those that were copied to are dirty.
+/// Bytes are copied as they were, also over one another, and the pages of those that were copied to are
+/// dirty.
 pub fn copies_that_overlap()
     ensures upwards { after_copy (cells_from 0 0 4) (cells_from 0 2 4)
         (host_of ((1 ∷ 2 ∷ 3 ∷ 4 ∷ 5 ∷ 6 ∷ []) ∷ []) (clean_pages 2 3 ∷ []) [] [])
@@ -85,6 +91,8 @@ pub fn arrays_in_a_window()
         ≡ Ok (record { window = block_window 0 0x12 6; count = 3 }) }
     ensures past_the_end { array_of (subslice_of (block_window 0 0x10 8) 4) 3 2 ≡ Err (OutOfBounds 10) }
     ensures too_big { array_of (subslice_of (block_window 0 0x10 8) 0) (2 ^ 62) 2 ≡ Err (TooBig (2 ^ 62) 2) }
-    ensures too_many { array_of (subslice_of (block_window 0 0x10 8) (2 ^ 64 - 1)) (2 ^ 63) 0 ≡ Err (TooBig (2 ^ 63) 0) }
-    ensures element { element_at (record { window = block_window 0 0x12 6; count = 3 }) 2 1 ≡ block_window 0 0x14 2 }
+    ensures too_many { array_of (subslice_of (block_window 0 0x10 8) (2 ^ 64 - 1)) (2 ^ 63) 0
+        ≡ Err (TooBig (2 ^ 63) 0) }
+    ensures element { element_at (record { window = block_window 0 0x12 6; count = 3 }) 2 1
+        ≡ block_window 0 0x14 2 }
 {}

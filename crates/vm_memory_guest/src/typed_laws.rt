@@ -21,20 +21,22 @@ pub fn loads_and_stores_are_by_bytes<B: ExactBitmap>()
     ensures answers { (regions : List Region) (route : Route) (a size : ℕ) (access : Permissions)
         → let x = access_of regions route a size access in
         answered (λ w. tt {0}) (place_of size x) ≡ answered (λ xs. tt {0}) (typed_path size x) }
-    ensures loads { (regions : List Region) (route : Route) (a size : ℕ) (access : Permissions) (blocks : List (List ℕ))
-        → All IsRegion regions → let x = access_of regions route a size access in
+    ensures loads { (regions : List Region) (route : Route) (a size : ℕ) (access : Permissions)
+        (blocks : List (List ℕ)) → All IsRegion regions → let x = access_of regions route a size access in
         answered (λ w. bytes_at blocks (cells_of w)) (place_of size x)
         ≡ answered (λ xs. bytes_at blocks (path_cells xs)) (typed_path size x) }
-    ensures stores { (regions : List Region) (route : Route) (a size : ℕ) (access : Permissions) (bytes : List ℕ) (old new : Host B)
-        → All IsRegion regions → let x = access_of regions route a size access in
+    ensures stores { (regions : List Region) (route : Route) (a size : ℕ) (access : Permissions)
+        (bytes : List ℕ) (old new : Host B) → All IsRegion regions
+        → let x = access_of regions route a size access in
         Writes B.marks (given (place_of size x)) bytes old new
-        → with_pages B.pages new ≡ after_write (path_given (typed_path size x)) bytes (with_pages B.pages old) }
+        → with_pages B.pages new
+        ≡ after_write (path_given (typed_path size x)) bytes (with_pages B.pages old) }
 {
     accesses_are_by_bytes::<B>();
 }
 
-/// A copy to a window that marks its own block's bitmap at its own place, in a host with exact bitmaps, is the
-/// copy of its bytes: each takes what the other had before, and its dirt.
+/// A copy to a window that marks its own block's bitmap at its own place, in a host with exact bitmaps, is
+/// the copy of its bytes: each takes what the other had before, and its dirt.
 pub fn copies_are_by_bytes<B: ExactBitmap>()
     ensures { (from to : Window) (old new : Host B)
         → to.bitmap ≡ record { id = Block to.block.0; base = to.offset } → to.offset + to.size ≤ 2 ^ 64

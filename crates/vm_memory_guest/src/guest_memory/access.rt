@@ -114,8 +114,9 @@ impl<T: GuestMemory> Bytes<GuestAddress> for T {
         addr: GuestAddress,
         _order: Ordering,
     ) -> GuestMemoryResult<()> {
-        let walk = self.get_slices(host, addr, V::size(), Permissions::Write)?;
-        let window = first_window(walk, V::size())?;
+        let size = V::size();
+        let walk = self.get_slices(host, addr, size, Permissions::Write)?;
+        let window = first_window(walk, size)?;
         host.write_value(&window, &val, 0);
         Ok(())
     }
@@ -127,8 +128,9 @@ impl<T: GuestMemory> Bytes<GuestAddress> for T {
         addr: GuestAddress,
         _order: Ordering,
     ) -> GuestMemoryResult<V> {
-        let walk = self.get_slices(host, addr, V::size(), Permissions::Read)?;
-        let window = first_window(walk, V::size())?;
+        let size = V::size();
+        let walk = self.get_slices(host, addr, size, Permissions::Read)?;
+        let window = first_window(walk, size)?;
         Ok(host.value(&window))
     }
 

@@ -127,8 +127,8 @@ pub trait Bytes<A>: Named {
             (exactly partial (span r.windows) r.fault T.width))
             (Unit {0}) (Unit {0}) result };
 
-    /// Stores a value as one atomic integer, in one window at a place that is a multiple of the value's size.
-    /// Every store is sequentially consistent, whichever order is asked for.
+    /// Stores a value as one atomic integer, in one window at a place that is a multiple of the value's
+    /// size. Every store is sequentially consistent, whichever order is asked for.
     fn store<T: AtomicAccess, B: Bitmap>(
         &self,
         host: &mut HostMemory<B>,
@@ -142,8 +142,8 @@ pub trait Bytes<A>: Named {
             (Writes B.marks (given w) (T.bytes val) host.old host.new) result }
         ensures shape { shape_of host.new ≡ shape_of host.old };
 
-    /// Loads a value as one atomic integer, from one window at a place that is a multiple of the value's size.
-    /// Every load is sequentially consistent, whichever order is asked for.
+    /// Loads a value as one atomic integer, from one window at a place that is a multiple of the value's
+    /// size. Every load is sequentially consistent, whichever order is asked for.
     fn load<T: AtomicAccess, B: Bitmap>(
         &self,
         host: &HostMemory<B>,

@@ -137,9 +137,8 @@ impl<T: ByteValued> VolatileArrayRef<T> {
         requires held { Holds (shape_of host.now) (window_names self.now.window) }
         requires some { 0 < T.width }
         ensures count { result ≡ min (length buf.old) self.now.count }
-        ensures values { T.width < 2 ^ 64 → buf.new
-            ≡ values_of T.value_of T.width result (bytes_at host.now.blocks (cells_of self.now.window))
-            ++ drop result buf.old }
+        ensures values { T.width < 2 ^ 64 → let bytes = bytes_at host.now.blocks (cells_of self.now.window) in
+            buf.new ≡ values_of T.value_of T.width result bytes ++ drop result buf.old }
     {
         let count = buf.len().min(self.nelem);
         host.read_values(&self.slice, &mut buf[..count]);
@@ -152,8 +151,8 @@ impl<T: ByteValued> VolatileArrayRef<T> {
         requires held { Holds (shape_of host.old) (window_names self.now.window) }
         requires some { 0 < T.width }
         ensures bytes { T.width < 2 ^ 64 → let count = min (length buf.now) self.now.count in
-            Writes B.marks (front self.now.window (count * T.width) ∷ []) (flat_map T.bytes (take count buf.now))
-            host.old host.new }
+            let bytes = flat_map T.bytes (take count buf.now) in
+            Writes B.marks (front self.now.window (count * T.width) ∷ []) bytes host.old host.new }
         ensures shape { shape_of host.new ≡ shape_of host.old }
     {
         let count = buf.len().min(self.nelem);

@@ -9,6 +9,7 @@ use vm_memory_base::ByteValued;
 
 // The bytes of a block from an offset on.
 #[tactic(auto, using(crate::proofs::HostLemmas::block_lemmas))]
+#[inline]
 pub(super) fn part_of(blocks: &Vec<Vec<u8>>, block: usize, offset: usize, len: usize) -> &[u8]
     requires there { block < length blocks.now.items }
     requires within { offset + len ≤ length (block_at (blocks_of blocks.now) block) }
@@ -18,10 +19,12 @@ pub(super) fn part_of(blocks: &Vec<Vec<u8>>, block: usize, offset: usize, len: u
 }
 
 // Moves bytes into a block at once.
+#[inline]
 pub(super) fn put_in(blocks: &mut Vec<Vec<u8>>, block: usize, offset: usize, bytes: &[u8])
     requires there { block < length blocks.old.items }
     requires within { offset + length bytes.now ≤ length (block_at (blocks_of blocks.old) block) }
-    ensures { blocks_of blocks.new ≡ written (cells_from block offset (length bytes.now)) bytes.now (blocks_of blocks.old) }
+    ensures { blocks_of blocks.new
+        ≡ written (cells_from block offset (length bytes.now)) bytes.now (blocks_of blocks.old) }
 {
     let all = &mut blocks[block];
     move_into(all.as_mut_slice(), offset, bytes);
@@ -41,13 +44,16 @@ pub(super) fn put_value_in<T: ByteValued>(
     requires within { offset + len ≤ length (block_at (blocks_of blocks.old) block) }
     requires inside { from + len ≤ T.width }
     requires fits { from + len < 2 ^ 64 }
-    ensures { blocks_of blocks.new ≡ written (cells_from block offset len) (take len (drop from (T.bytes value.now))) (blocks_of blocks.old) }
+    ensures { let bytes = take len (drop from (T.bytes value.now)) in
+        blocks_of blocks.new ≡ written (cells_from block offset len) bytes (blocks_of blocks.old) }
 {
     let all = &mut blocks[block];
     let place = &mut all.as_mut_slice()[offset..offset + len];
     value.copy_bytes(from, place);
 }
 
+// Moves bytes into a block from an offset on.
+#[inline]
 fn move_into(block: &mut [u8], offset: usize, bytes: &[u8])
     requires { offset + length bytes.now ≤ length block.old }
     ensures { block.new ≡ take offset block.old ++ bytes.now ++ drop (offset + length bytes.now) block.old }
@@ -86,8 +92,8 @@ fn copy_between(
     requires target { target < length blocks.old.items }
     requires readable { from + len ≤ length (block_at (blocks_of blocks.old) source) }
     requires writable { to + len ≤ length (block_at (blocks_of blocks.old) target) }
-    ensures { blocks_of blocks.new
-        ≡ written (cells_from target to len) (bytes_at (blocks_of blocks.old) (cells_from source from len)) (blocks_of blocks.old) }
+    ensures { let bytes = bytes_at (blocks_of blocks.old) (cells_from source from len) in
+        blocks_of blocks.new ≡ written (cells_from target to len) bytes (blocks_of blocks.old) }
 {
     let all = blocks.as_mut_slice();
     if source < target {
@@ -114,8 +120,8 @@ pub(super) fn copy_in(
     requires target { target < length blocks.old.items }
     requires readable { from + len ≤ length (block_at (blocks_of blocks.old) source) }
     requires writable { to + len ≤ length (block_at (blocks_of blocks.old) target) }
-    ensures { blocks_of blocks.new
-        ≡ written (cells_from target to len) (bytes_at (blocks_of blocks.old) (cells_from source from len)) (blocks_of blocks.old) }
+    ensures { let bytes = bytes_at (blocks_of blocks.old) (cells_from source from len) in
+        blocks_of blocks.new ≡ written (cells_from target to len) bytes (blocks_of blocks.old) }
 {
     if source != target {
         copy_between(blocks, source, from, target, to, len);
@@ -143,7 +149,8 @@ pub(super) fn value_in<T: ByteValued>(bytes: &[u8], k: usize) -> T
 #[inline]
 fn put_value_at<T: ByteValued>(place: &mut [u8], value: &T, k: usize)
     requires { k * size_of T.width + size_of T.width ≤ length place.old }
-    ensures { T.width < 2 ^ 64 → take ((k + 1) * T.width) place.new ≡ take (k * T.width) place.old ++ T.bytes value.now }
+    ensures { T.width < 2 ^ 64
+        → take ((k + 1) * T.width) place.new ≡ take (k * T.width) place.old ++ T.bytes value.now }
 {
     let size = T::size();
     value.known();

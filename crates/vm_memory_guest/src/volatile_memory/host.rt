@@ -265,6 +265,7 @@ impl<B> HostMemory<B> {
     ghost use Rattle.vm_memory_guest.specs.Window.{window_names, with_bitmap, bitmap_name, bitmap_of, cells_of, Marks, MarksWindow, Writes};
 
     /// The bytes of a window.
+    #[inline]
     pub fn bytes(&self, window: &VolatileSlice) -> &[u8]
         requires { Holds (shape_of self.now) (window_names window.now) }
         ensures { result.now ≡ bytes_at self.now.blocks (cells_of window.now) }
@@ -296,6 +297,7 @@ impl<B> HostMemory<B> {
     }
 
     // Moves bytes to a place of a block.
+    #[inline]
     fn put(&mut self, block: usize, offset: usize, bytes: &[u8])
         requires { Holds (shape_of self.old) (names.Place block offset (length bytes.now) ∷ []) }
         ensures put { let cells = cells_from block offset (length bytes.now) in
@@ -306,6 +308,7 @@ impl<B> HostMemory<B> {
     }
 
     // Marks `len` bytes of a view of a bitmap, from its base on.
+    #[inline]
     fn mark(&mut self, at: BitmapRef, len: usize)
     where
         B: Bitmap,
@@ -339,6 +342,7 @@ impl<B> HostMemory<B> {
     }
 
     /// Moves bytes into a window of as many, and marks them, unless there are none.
+    #[inline]
     pub fn write(&mut self, window: &VolatileSlice, bytes: &[u8])
     where
         B: Bitmap,
@@ -425,8 +429,8 @@ impl<B> HostMemory<B> {
     pub(crate) fn read_values<T: ByteValued>(&self, window: &VolatileSlice, values: &mut [T])
         requires held { Holds (shape_of self.now) (window_names window.now) }
         requires size { length values.old * size_of T.width ≤ window.now.size }
-        ensures { T.width < 2 ^ 64 → values.new
-            ≡ values_of T.value_of T.width (length values.old) (bytes_at self.now.blocks (cells_of window.now)) }
+        ensures { T.width < 2 ^ 64 → let bytes = bytes_at self.now.blocks (cells_of window.now) in
+            values.new ≡ values_of T.value_of T.width (length values.old) bytes }
     {
         let bytes = self.bytes(window);
         for k in 0..values.len() {

@@ -81,8 +81,8 @@ pub trait VolatileMemory {
         Ok(VolatileArrayRef::new(slice, n))
     }
 
-    /// Where `offset` bytes from `base` on end. `Overflow` where that is no 64-bit number, `OutOfBounds` at the
-    /// end where it passes the length.
+    /// Where `offset` bytes from `base` on end. `Overflow` where that is no 64-bit number, `OutOfBounds` at
+    /// the end where it passes the length.
     #[inline]
     final fn compute_end_offset(&self, base: usize, offset: usize) -> VolatileMemoryResult<usize>
         ensures { result ≡ end_of (size self.now) base offset }

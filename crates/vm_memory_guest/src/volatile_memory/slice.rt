@@ -335,6 +335,7 @@ impl Bytes<usize> for VolatileSlice {
 }
 
 // Whether all that was expected was completed.
+#[inline]
 fn whole(expected: usize, completed: usize) -> VolatileMemoryResult<()>
     ensures { let short = VolatileMemoryError.PartialBuffer expected completed in
         result ≡ cond (completed == expected) (Ok tt) (Err short) }
@@ -384,7 +385,8 @@ impl VolatileSlice {
         requires held { Holds (shape_of host.old) (window_names self.now) }
         requires some { 0 < T.width }
         ensures bytes { T.width < 2 ^ 64 → let count = min (length buf.now) (self.now.size / T.width) in
-            Writes B.marks (front self.now (count * T.width) ∷ []) (flat_map T.bytes (take count buf.now)) host.old host.new }
+            let bytes = flat_map T.bytes (take count buf.now) in
+            Writes B.marks (front self.now (count * T.width) ∷ []) bytes host.old host.new }
         ensures shape { shape_of host.new ≡ shape_of host.old }
     {
         let size = T::size();

@@ -15,7 +15,7 @@ returns-in_err-walk g c =
     let memory = g.T.GuestMemory.memory c.args.self.now in
     let host = c.args.host.now in
     let e = c.in_err-walk.field-0.0 in
-    let width : c.size.result ≡ g.V.ByteValued.width = omega (arith, c.size.ensures, g.met.V.AtomicAccess.fits_word.1) in
+    let width : c.size-size.result ≡ g.V.ByteValued.width = omega (arith, c.size-size.ensures, g.met.V.AtomicAccess.fits_word.1) in
     let why = subst (λ n. WantsMemory memory e ⊎ RefusesAccess memory host.tables c.args.addr.0 n Read e) width c.in_err-walk.ensures.answer in
     rw (p.1, p.2) (typed-refused memory host.tables c.args.addr.0 g.V.ByteValued.width Read (λ w. g.V.ByteValued.value_of (bytes_at host.blocks (cells_of w))) (Unit {0}) (λ ws. Unit {0}) e why tt tt)
 
@@ -24,5 +24,5 @@ value-requires-clause-held g c =
     let memory = g.T.GuestMemory.memory c.args.self.now in
     let host = c.args.host.now in
     let walk = c.in_ok-walk.walk in
-    let each = walk-held memory host.tables c.args.addr.0 c.size.result Read walk c.in_ok-walk.ensures.answer (shape_of host) (g.T.Named.names c.args.self.now) (g.met.T.GuestMemory.each_fits c.args.self.now) (g.met.T.GuestMemory.names_memory c.args.self.now) c.requires in
-    first-held (λ w. Holds (shape_of host) (window_names w)) c.size-2.result walk.windows (option_map error_of walk.fault) c.in_ok-window.window c.in_ok-window.ensures each
+    let each = walk-held memory host.tables c.args.addr.0 c.size-size.result Read walk c.in_ok-walk.ensures.answer (shape_of host) (g.T.Named.names c.args.self.now) (g.met.T.GuestMemory.each_fits c.args.self.now) (g.met.T.GuestMemory.names_memory c.args.self.now) c.requires in
+    first-held (λ w. Holds (shape_of host) (window_names w)) c.size-size.result walk.windows (option_map error_of walk.fault) c.in_ok-window.window c.in_ok-window.ensures each
