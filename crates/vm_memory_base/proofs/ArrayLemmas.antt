@@ -1,12 +1,11 @@
 -- The bytes of arrays, one by one.
-use Rattle.std.proofs.Common.{◌≡◌, ℕ, zero, suc, ◌+◌, ◌*◌, ◌/◌, ◌%◌, ◌<◌, List, [], ◌∷◌, ◌++◌, length, take, drop, slice_index, slice_set, get_or, sym, ◌∙◌, ap, refl, arith, replicate, length-append}
-use Rattle.std.specs.List.{flat_map, All}
+use Rattle.std.proofs.Common.{◌≡◌, ℕ, zero, suc, ◌+◌, ◌*◌, ◌/◌, ◌%◌, ◌<◌, List, [], ◌∷◌, ◌++◌, length, take, drop, slice_index, slice_set, get_or, sym, ◌∙◌, ap, refl, arith, replicate}
+use Rattle.std.specs.List.{flat_map}
 use Rattle.std.proofs.Math.Nat.{suc-mul, zero-mul, suc-add, zero-add}
-use Rattle.std.proofs.lemmas.List.{length-drop, length-take-le, get_or-append_right, get_or_append_left, take_more, take-append-drop, drop-drop, set-append_right, append-nil}
-use Rattle.std.proofs.lemmas.Grind.{flat_map-append}
-use Rattle.std.proofs.Math.Seq.{take-append_seam, drop-append_seam, set-append_left}
+use Rattle.std.proofs.lemmas.List.{get_or-append_right, get_or_append_left, drop-drop, set-append_right}
+use Rattle.std.proofs.Math.Seq.{set-append_left}
 use Rattle.std.proofs.lemmas.Nat.{div_below, mod_below, div-add-mod'}
-use Rattle.vm_memory_base.specs.Bytes.{AreBytes, IsByteCode, IsArrayOf, values_of}
+use Rattle.vm_memory_base.specs.Bytes.{values_of}
 
 replicate_sum : (z m n : ℕ) → replicate m z ++ replicate n z ≡ replicate (m + n) z
 replicate_sum z zero n = ap (λ k. replicate k z) (sym (zero-add n))

@@ -5,3 +5,4 @@ pub mod AlignUp
 pub mod KnownBytesJoined
 pub mod ByteLemmas
 pub mod ArrayLemmas
+pub mod BitmapLemmas

@@ -1,11 +1,9 @@
 -- Proofs that the bytes of arrays stand for their values one for one, for the laws of implementations.
-use Rattle.std.proofs.Common.{◌≡◌, ℕ, zero, suc, ◌+◌, ◌*◌, ◌/◌, ◌%◌, ◌<◌, List, [], ◌∷◌, ◌++◌, length, take, drop, slice_index, slice_set, get_or, sym, ◌∙◌, ap, refl, arith, replicate, length-append}
+use Rattle.std.proofs.Common.{◌≡◌, ℕ, zero, suc, ◌*◌, List, [], ◌∷◌, ◌++◌, length, take, drop, sym, ◌∙◌, ap, refl, arith, length-append}
 use Rattle.std.specs.List.{flat_map, All}
-use Rattle.std.proofs.Math.Nat.{suc-mul, zero-mul, suc-add, zero-add}
-use Rattle.std.proofs.lemmas.List.{length-drop, length-take-le, get_or-append_right, get_or_append_left, take_more, take-append-drop, drop-drop, set-append_right, append-nil}
-use Rattle.std.proofs.lemmas.Grind.{flat_map-append}
-use Rattle.std.proofs.Math.Seq.{take-append_seam, drop-append_seam, set-append_left}
-use Rattle.std.proofs.lemmas.Nat.{div_below, mod_below, div-add-mod'}
+use Rattle.std.proofs.Math.Nat.{suc-mul}
+use Rattle.std.proofs.lemmas.List.{length-drop, length-take-le, take-append-drop}
+use Rattle.std.proofs.Math.Seq.{take-append_seam, drop-append_seam}
 use Rattle.vm_memory_base.specs.Bytes.{AreBytes, IsByteCode, IsArrayOf, values_of}
 
 append_are_bytes : (s t : List ℕ) → AreBytes s → AreBytes t → AreBytes (s ++ t)

@@ -1,16 +1,15 @@
 -- Proofs that the bytes of integers stand for their values one for one. They stand here since the laws of
 -- implementations cite them; what a contract says is in Bytes.
-use Rattle.std.proofs.Common.{◌≡◌, ℕ, zero, suc, ◌+◌, ◌-◌, ◌*◌, ◌/◌, ◌%◌, ◌^◌, ◌<◌, ◌≤◌, List, [], ◌∷◌, ◌++◌, length, take, slice_index, slice_set, sym, ◌∙◌, ap, refl, arith, replicate, length-append, Fits, reverse, subst, inl, inr, Bool}
-use Rattle.std.specs.Int.{Width, w8, w16, w32, w64, w128, byte_at, byte_len, byte_worth, bytes_low_first, sum_through, to_le_bytes, to_be_bytes, from_le_bytes, cast_signed, cast_unsigned}
+use Rattle.std.proofs.Common.{◌≡◌, ℕ, zero, suc, ◌+◌, ◌-◌, ◌*◌, ◌/◌, ◌%◌, ◌^◌, ◌<◌, List, [], ◌∷◌, ◌++◌, length, take, slice_index, sym, ◌∙◌, ap, refl, arith, Fits, reverse, subst, inl, inr, Bool}
+use Rattle.std.specs.Int.{Width, w8, w16, w32, w64, w128, byte_at, byte_len, byte_worth, bytes_low_first, sum_through, to_le_bytes, from_le_bytes, cast_signed, cast_unsigned}
 use Rattle.std.specs.Int.RustNames.{FitsSigned}
 use mir.Val.{bits}
 use Rattle.std.specs.Bool.{Decides}
 use Rattle.std.proofs.Math.Facts.{Fits-lt-pow, Fits-bits, Fits-of_z, sfits_to_z}
 use Rattle.std.proofs.lemmas.Int.{to_z-of_z, of_z-to_z}
-use Rattle.std.proofs.Math.Nat.{pow-suc, pow-succ', div-div-eq-div-mul, mod-lt, zero-div}
-use Rattle.std.proofs.Math.Seq.{take-suc, take-set-lt}
-use Rattle.std.proofs.lemmas.List.{length-take-le, take_all, length-replicate, length-reverse, reverse-reverse, get_or-reverse, get_or_past}
-use Rattle.std.proofs.Math.ListN.{length-set}
+use Rattle.std.proofs.Math.Nat.{pow-suc, pow-succ', div-div-eq-div-mul, mod-lt}
+use Rattle.std.proofs.Math.Seq.{take-suc}
+use Rattle.std.proofs.lemmas.List.{length-take-le, take_all, length-reverse, reverse-reverse, get_or-reverse, get_or_past}
 use Rattle.std.proofs.lemmas.Bool.{cases_lt}
 use Rattle.vm_memory_base.specs.Bytes.{AreBytes, IsByteCode}
 

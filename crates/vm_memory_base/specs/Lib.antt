@@ -1,5 +1,8 @@
 pub mod Address
 pub mod Pages
+pub mod Exclusive
+pub mod OptionalBitmap
+pub mod NewPages
 pub mod Permissions
 pub mod Runs
 pub mod Table

@@ -1,5 +1,6 @@
 -- What a bitmap tracks: pages of one size, each of them clean or dirty.
-use Rattle.std.specs.Prelude.{ℕ, ◌+◌, ◌-◌, ◌*◌, ◌/◌, ◌%◌, ◌^◌, ◌<◌, ◌≤◌, ◌≡◌, min, Bool, false, ◌&&◌, ◌||◌, if◌then◌else◌, nat_lt, nat_le, List, [], ◌∷◌, length, slice_index_or, Option, Some, None, option_map}
+use Rattle.std.specs.Prelude.{ℕ, zero, suc, ◌+◌, ◌-◌, ◌*◌, ◌/◌, ◌%◌, ◌^◌, ◌<◌, ◌≤◌, ◌≡◌, min, Bool, false, not, ◌&&◌, ◌||◌, if◌then◌else◌, nat_lt, nat_le, List, [], ◌∷◌, length, take, drop, replicate, slice_index_or, Option, Some, None, option_map}
+use Rattle.std.specs.Int.{div_ceil}
 
 -- pages of one size, and of each whether it is dirty
 pub record Pages : Type 0 where
@@ -61,6 +62,17 @@ marked_each (offset ∷ offsets) set = marked_each offsets (marked offset 1 set)
 abbrev pub in_view : ℕ → ℕ → ℕ
 in_view base offset = (base + offset) % 2 ^ 64
 
+-- the flags, the first of which is that of this page, after the pages that pass the test are made clean
+abbrev pub flags_without : (ℕ → Bool) → ℕ → List Bool → List Bool
+flags_without test page [] = []
+flags_without test page (dirty ∷ flags) = (dirty && not (test page)) ∷ flags_without test (page + 1) flags
+
+-- the pages after those that a mark of len bytes from start on takes are made clean
+abbrev pub unmarked : ℕ → ℕ → PageSet → PageSet
+unmarked start len None = None
+unmarked start len (Some p) =
+    Some (record { page_size = p.page_size; flags = flags_without (takes p.page_size start len) 0 p.flags })
+
 -- the same pages, all clean
 abbrev pub all_clean : List Bool → List Bool
 all_clean [] = []
@@ -69,6 +81,25 @@ all_clean (dirty ∷ flags) = false ∷ all_clean flags
 abbrev pub cleaned : PageSet → PageSet
 cleaned None = None
 cleaned (Some p) = Some (record { page_size = p.page_size; flags = all_clean p.flags })
+
+-- so many bytes in pages of this size, all clean. The last page may be cut
+abbrev pub new_pages : ℕ → ℕ → PageSet
+new_pages size bytes = Some (record { page_size = size; flags = replicate (div_ceil bytes size) false })
+
+-- the number whose bits are these flags, the lowest first
+abbrev pub word_of : List Bool → ℕ
+word_of [] = 0
+word_of (dirty ∷ flags) = (if dirty then 1 else 0) + 2 * word_of flags
+
+-- so many words of 64 flags each
+abbrev pub words_of : ℕ → List Bool → List ℕ
+words_of zero flags = []
+words_of (suc n) flags = word_of (take 64 flags) ∷ words_of n (drop 64 flags)
+
+-- the pages as bits of words: page n is bit n % 64 of word n / 64
+abbrev pub dirty_words : PageSet → List ℕ
+dirty_words None = []
+dirty_words (Some p) = words_of (div_ceil (length p.flags) 64) p.flags
 
 -- pages have a size, and the first offset of the last is an offset
 abbrev pub IsPageSet : PageSet → Type 0

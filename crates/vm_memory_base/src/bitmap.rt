@@ -1,8 +1,11 @@
 //! Dirty tracking: which pages of a block or a space were written.
-ghost use Rattle.std.specs.Prelude.{◌≡◌, ◌^◌, ℕ, Bool, ◌<◌, IfOk};
+ghost use Rattle.std.specs.Prelude.{◌≡◌, ◌^◌, ℕ, Bool, ◌<◌, IfOk, OnOk, OnErr};
 ghost use Rattle.vm_memory_base.specs.Pages.{PageSet, IsPageSet, IsCleanFor, in_view};
 ghost use Rattle.vm_memory_base.specs.Pages as page_set;
 
+mod exclusive;
+
+pub use self::exclusive::ExclusiveBitmap;
 use std::alloc::{AllocError, Global};
 
 /// Tracks which parts of a range of bytes were written.
@@ -40,6 +43,13 @@ pub trait ExactBitmap: Bitmap {
     /// The page size in bytes and the number of pages, or nothing where nothing is tracked.
     fn shape(&self) -> Option<(usize, usize)>
         ensures { result ≡ page_set.shape (pages self.now) };
+
+    /// Takes the dirty pages: gives their numbers, ascending, and makes them clean. `AllocError` where
+    /// there is no memory for the list, and then nothing is changed.
+    fn harvest(&mut self, alloc: Global) -> Result<Vec<usize>, AllocError>
+        ensures dirty { IfOk result (λ dirty. dirty.items ≡ page_set.dirty_pages (pages self.old)) }
+        ensures clean { OnOk result (pages self.new ≡ page_set.cleaned (pages self.old)) }
+        ensures refused { OnErr result (self.new ≡ self.old) };
 
     /// Pages have a size, and every page begins at an offset of 64 bits.
     ghost fits: { (b : Self) → IsPageSet (pages b) };
@@ -96,11 +106,66 @@ impl ExactBitmap for () {
     fn shape(&self) -> Option<(usize, usize)> {
         None
     }
+
+    fn harvest(&mut self, alloc: Global) -> Result<Vec<usize>, AllocError> {
+        Ok(Vec::new(alloc))
+    }
 }
 
 impl NewBitmap for () {
     fn with_len(_alloc: Global, _len: usize) -> Result<(), AllocError> {
         Ok(())
+    }
+}
+
+/// Tracks what the bitmap that it holds tracks, and nothing where it holds none.
+impl<B: Bitmap> Bitmap for Option<B> {
+    ghost use Rattle.vm_memory_base.specs.OptionalBitmap.{MarksOption, TellsOption};
+
+    ghost marks = { MarksOption B.marks };
+
+    ghost tells = { TellsOption B.tells };
+
+    fn mark_dirty(&mut self, offset: usize, len: usize) {
+        if let Some(bitmap) = self {
+            bitmap.mark_dirty(offset, len);
+        }
+    }
+
+    fn dirty_at(&self, offset: usize) -> bool {
+        match self {
+            Some(bitmap) => bitmap.dirty_at(offset),
+            None => false,
+        }
+    }
+}
+
+impl<B: ExactBitmap> ExactBitmap for Option<B> {
+    ghost use Rattle.std.specs.Prelude.{Some, None, option_and_then};
+    ghost use Rattle.vm_memory_base.specs.OptionalBitmap.{pages_after_marks, told_of_pages};
+
+    ghost pages = { option_and_then B.pages };
+
+    ghost fits = { elim [ None ↦ tt | Some b ↦ B.fits b ] };
+
+    ghost marks_pages = { pages_after_marks B.marks B.pages B.marks_pages };
+
+    ghost tells_pages = { told_of_pages B.tells B.pages B.tells_pages };
+
+    ghost made_clean = { λ len b none. absurd none };
+
+    fn shape(&self) -> Option<(usize, usize)> {
+        match self {
+            Some(bitmap) => bitmap.shape(),
+            None => None,
+        }
+    }
+
+    fn harvest(&mut self, alloc: Global) -> Result<Vec<usize>, AllocError> {
+        match self {
+            Some(bitmap) => bitmap.harvest(alloc),
+            None => Ok(Vec::new(alloc)),
+        }
     }
 }
 

@@ -1,0 +1,13 @@
+-- What is seen of a bitmap of the program's own.
+use Rattle.std.specs.Prelude.{ℕ}
+use Rattle.std.specs.NonZero.{non_zero_usize_get}
+use Rattle.vm_memory_base.specs.Pages.{Pages}
+use Rattle.vm_memory_base.specs.declared.bitmap.exclusive.ExclusiveBitmap.{ExclusiveBitmap}
+
+-- its pages
+abbrev pub pages_of : ExclusiveBitmap → Pages
+pages_of b = record { page_size = non_zero_usize_get b.page_size; flags = b.flags.items }
+
+-- the number of bytes that it was made for
+abbrev pub bytes_of : ExclusiveBitmap → ℕ
+bytes_of b = b.byte_size
