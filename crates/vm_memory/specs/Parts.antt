@@ -14,11 +14,15 @@ pub record Parts (R B : Type 0) : Type 0 where
   pub memories : List (List R)
 
 module _ {R B : Type 0} (region : R → Region) where
+  -- a host holds the bytes of these regions
+  abbrev pub HoldsRegions : Host B → List R → Type 0
+  HoldsRegions host rs = Holds (shape_of host) (flat_map region_names (map region rs))
+
   -- the host holds the bytes of each region of the pool, of each layout and of each memory
   pub record AreHeld (m : Parts R B) : Type 0 where
-    pub pool : Holds (shape_of m.host) (flat_map region_names (map region m.regions))
-    pub layouts : All (λ rs. Holds (shape_of m.host) (flat_map region_names (map region rs))) m.layouts
-    pub memories : All (λ rs. Holds (shape_of m.host) (flat_map region_names (map region rs))) m.memories
+    pub pool : HoldsRegions m.host m.regions
+    pub layouts : All (HoldsRegions m.host) m.layouts
+    pub memories : All (HoldsRegions m.host) m.memories
 
   -- the state of the model: regions by what they mean, bitmaps by their pages
   abbrev pub state_of : (B → PageSet) → Parts R B → State

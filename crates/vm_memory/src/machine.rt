@@ -1,11 +1,9 @@
 //! A machine: a host, a pool of regions, the layouts and memories that commands make, and the run of a
 //! list of commands.
-ghost use Rattle.std.specs.Prelude.{◌≡◌, ℕ, List, ◌++◌, [], map, flat_map, OnOk, OnErr};
+ghost use Rattle.std.specs.Prelude.{◌≡◌, ℕ, List, ◌++◌, [], OnOk, OnErr};
 ghost use Rattle.vm_memory_guest.specs.Collection.{regions_of};
-ghost use Rattle.vm_memory_guest.specs.Host.{shape_of, Holds};
-ghost use Rattle.vm_memory_guest.specs.Region.{region_names};
 ghost use Rattle.vm_memory.specs.Machine.{Step, Run};
-ghost use Rattle.vm_memory.specs.Parts.{Parts, state_of};
+ghost use Rattle.vm_memory.specs.Parts.{HoldsRegions, state_of};
 ghost use Rattle.vm_memory.specs.Rounds.{IsTracked, RunsDirectly, KeepsImage, bytes_of};
 
 mod accesses;
@@ -48,7 +46,7 @@ impl<R: GuestMemoryRegion, B> Model for Machine<R, B> {
 impl<R: GuestMemoryRegion, B> Machine<R, B> {
     /// A machine with a host and a pool of regions that it holds, and nothing made yet.
     pub fn new(alloc: Global, host: HostMemory<B>, regions: Vec<Arc<R>>) -> Machine<R, B>
-        requires { Holds (shape_of host) (flat_map region_names (map R.region (regions_of regions))) }
+        requires { HoldsRegions R.region host (regions_of regions) }
         ensures { result ≡ record { host = host; regions = regions_of regions; layouts = []; memories = [] } }
     {
         Machine {

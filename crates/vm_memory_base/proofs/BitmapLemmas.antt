@@ -1,10 +1,16 @@
 -- The flags and words of a bitmap.
-use Rattle.std.proofs.Common.{◌≡◌, ℕ, zero, suc, ◌+◌, ◌-◌, ◌*◌, ◌^◌, ◌<◌, ◌≤◌, Bool, true, false, not, ◌&&◌, ◌||◌, cond, ltb, leb, List, [], ◌∷◌, ◌++◌, length, get_or, take, drop, replicate, Some, min, refl, sym, ap, inl, inr, ◌∙◌, arith, add-zero, zero-add, length-append, length-drop}
-use Rattle.std.proofs.Math.Nat.{pow-suc}
+use Rattle.std.proofs.Common.{◌≡◌, ℕ, zero, suc, ◌+◌, ◌-◌, ◌*◌, ◌/◌, ◌%◌, ◌^◌, ◌<◌, ◌≤◌, Bool, true, false, not, ◌&&◌, ◌||◌, cond, ltb, leb, List, [], ◌∷◌, ◌++◌, length, get_or, take, drop, replicate, Option, Some, None, min, refl, subst, sym, ap, inl, inr, ◌∙◌, arith, add-zero, zero-add, length-append, length-drop}
+use Rattle.std.specs.Int.{div_ceil}
+use Rattle.std.specs.List.{All, Contains}
+use Rattle.std.proofs.Math.Nat.{pow-suc, pow-succ', div-div-eq-div-mul, zero-div, zero-mul, mul-zero, suc-mul}
+use Rattle.std.proofs.Math.Pow.{pow_mono}
 use Rattle.std.proofs.lemmas.Bool.{lt-ltb, le-leb, le-ltb, lt-leb, cases_lt}
-use Rattle.std.proofs.lemmas.List.{get_or-take, get_or-drop, get_or-replicate, get_or_append_left, get_or-append_right, length-take-le, length-replicate, ext_get_or, take_all, drop-drop}
-use Rattle.vm_memory_base.specs.Pages.{PageSet, dirty_from, flags_after, flags_without, all_clean, word_of, words_of}
-use Rattle.vm_memory_base.proofs.PagesLaws.{length-flags_after, get_or-flags_after}
+use Rattle.std.proofs.lemmas.Grind.{div_ceil_times}
+use Rattle.std.proofs.lemmas.Nat.{div_below}
+use Rattle.std.proofs.lemmas.List.Elements.{All-head}
+use Rattle.std.proofs.lemmas.List.{get_or-take, get_or-drop, get_or-replicate, get_or_append_left, get_or-append_right, length-take, length-take-le, length-replicate, ext_get_or, take_all, drop-drop, drop_all}
+use Rattle.vm_memory_base.specs.Pages.{Pages, PageSet, shape, is_dirty_at, dirty_from, dirty_pages, dirty_words, takes, flags_after, flags_without, marked, unmarked, new_pages, all_clean, word_of, words_of, IsPageSet, IsCleanFor}
+use Rattle.vm_memory_base.proofs.PagesLaws.{length-flags_after, get_or-flags_after, from_page, Contains-dirty_pages}
 
 -- pages of one size with these flags
 abbrev pub with_flags : ℕ → List Bool → PageSet
@@ -52,7 +58,7 @@ get_or-filled a b d flags i h k =
           ]
     ]
 
-get_or-flags_without : (test : ℕ → Bool) (k : ℕ) (flags : List Bool) (i : ℕ) → get_or (flags_without test k flags) i false ≡ (get_or flags i false && not (test (k + i)))
+pub get_or-flags_without : (test : ℕ → Bool) (k : ℕ) (flags : List Bool) (i : ℕ) → get_or (flags_without test k flags) i false ≡ (get_or flags i false && not (test (k + i)))
 get_or-flags_without test k [] i = refl
 get_or-flags_without test k (dirty ∷ flags) zero = rw add-zero refl
 get_or-flags_without test k (dirty ∷ flags) (suc i) =
@@ -152,3 +158,152 @@ word_range k n flags e =
           let m : n - 64 * k ≡ 64 = omega arith in
           ap (λ (j : ℕ). take j (drop (64 * k) flags)) m
     ]
+
+-- ---- the bits of words
+
+-- a bit of a word is its flag
+bit_of-word_of : (flags : List Bool) (b : ℕ) → word_of flags / 2 ^ b % 2 ≡ cond (get_or flags b false) 1 0
+bit_of-word_of [] b = ap (λ (n : ℕ). n % 2) (zero-div (2 ^ b))
+bit_of-word_of (true ∷ flags) zero = omega arith
+bit_of-word_of (false ∷ flags) zero = omega arith
+bit_of-word_of (true ∷ flags) (suc b) =
+    let half : (1 + 2 * word_of flags) / 2 ≡ word_of flags = omega arith in
+    ap (λ (n : ℕ). (1 + 2 * word_of flags) / n % 2) (pow-succ' 2 b)
+    ∙ ap (λ (n : ℕ). n % 2) (sym (div-div-eq-div-mul (1 + 2 * word_of flags) 2 (2 ^ b)))
+    ∙ ap (λ (n : ℕ). n / 2 ^ b % 2) half
+    ∙ bit_of-word_of flags b
+bit_of-word_of (false ∷ flags) (suc b) =
+    let half : (0 + 2 * word_of flags) / 2 ≡ word_of flags = omega arith in
+    ap (λ (n : ℕ). (0 + 2 * word_of flags) / n % 2) (pow-succ' 2 b)
+    ∙ ap (λ (n : ℕ). n % 2) (sym (div-div-eq-div-mul (0 + 2 * word_of flags) 2 (2 ^ b)))
+    ∙ ap (λ (n : ℕ). n / 2 ^ b % 2) half
+    ∙ bit_of-word_of flags b
+
+-- each word has 64 flags, and past the last there is none
+word_at : (n : ℕ) (flags : List Bool) (w : ℕ) → (n ≤ w → length flags ≤ 64 * w) → get_or (words_of n flags) w 0 ≡ word_of (take 64 (drop (64 * w) flags))
+word_at zero flags w h = ap (λ (fs : List Bool). word_of (take 64 fs)) (sym (drop_all (64 * w) flags (h (omega arith))))
+word_at (suc n) flags zero h = refl
+word_at (suc n) flags (suc w) h =
+    let e : 64 * suc w ≡ 64 + 64 * w = omega arith in
+    let rest : n ≤ w → length (drop 64 flags) ≤ 64 * w = λ (l : n ≤ w). let all = h (omega arith) in omega (arith, length-drop 64 flags) in
+    rw e (word_at n (drop 64 flags) w rest ∙ ap (λ (fs : List Bool). word_of (take 64 fs)) (drop-drop (64 * w) 64 flags))
+
+past_the_last : (len w : ℕ) → div_ceil len 64 ≤ w → len ≤ 64 * w
+past_the_last len w h = let c = div_ceil_times len 64 (omega arith) in omega (arith, c.0, h)
+
+pub bit_of-dirty_words : (p : Pages) (w b : ℕ) → b < 64 → get_or (dirty_words (Some p)) w 0 / 2 ^ b % 2 ≡ cond (get_or p.flags (64 * w + b) false) 1 0
+bit_of-dirty_words p w b small =
+    ap (λ (n : ℕ). n / 2 ^ b % 2) (word_at (div_ceil (length p.flags) 64) p.flags w (past_the_last (length p.flags) w))
+    ∙ bit_of-word_of (take 64 (drop (64 * w) p.flags)) b
+    ∙ ap (λ (d : Bool). cond d 1 0) (get_or-take 64 (drop (64 * w) p.flags) b false small ∙ get_or-drop (64 * w) p.flags b false)
+
+length-words_of : (n : ℕ) (flags : List Bool) → length (words_of n flags) ≡ n
+length-words_of zero flags = refl
+length-words_of (suc n) flags = ap suc (length-words_of n (drop 64 flags))
+
+pub length-dirty_words : (p : Pages) → length (dirty_words (Some p)) ≡ div_ceil (length p.flags) 64
+length-dirty_words p = length-words_of (div_ceil (length p.flags) 64) p.flags
+
+pub dirty_words-lt : (p : Pages) (w : ℕ) → get_or (dirty_words (Some p)) w 0 < 2 ^ 64
+dirty_words-lt p w =
+    let word = take 64 (drop (64 * w) p.flags) in
+    let e = word_at (div_ceil (length p.flags) 64) p.flags w (past_the_last (length p.flags) w) in
+    let short : length word ≤ 64 = omega (arith, length-take 64 (drop (64 * w) p.flags)) in
+    let top : 2 ^ length word ≤ 2 ^ 64 = pow_mono {i = length word} {j = 64} short in
+    omega (arith, e, word_of-lt word)
+
+-- ---- pages made clean
+
+pub is_dirty_at-unmarked : (start len offset : ℕ) (p : Pages) → is_dirty_at (unmarked start len (Some p)) offset ≡ (is_dirty_at (Some p) offset && not (takes p.page_size start len (offset / p.page_size)))
+is_dirty_at-unmarked start len offset p =
+    get_or-flags_without (takes p.page_size start len) 0 p.flags (offset / p.page_size) ∙ rw zero-add refl
+
+pub shape-unmarked : (start len : ℕ) (set : PageSet) → shape (unmarked start len set) ≡ shape set
+shape-unmarked start len None = refl
+shape-unmarked start len (Some p) = ap (λ (n : ℕ). Some (p.page_size, n)) (length-flags_without (takes p.page_size start len) 0 p.flags)
+
+pub IsPageSet-unmarked : (start len : ℕ) (set : PageSet) → IsPageSet set → IsPageSet (unmarked start len set)
+IsPageSet-unmarked start len None h = tt
+IsPageSet-unmarked start len (Some p) h = (h.0, rw length-flags_without h.1)
+
+without_after : (test : ℕ → Bool) (k : ℕ) (flags : List Bool) → flags_without test k (flags_after test k flags) ≡ flags_without test k flags
+without_after test k [] = refl
+without_after test k (dirty ∷ flags) = let e = one dirty (test k) in let f = without_after test (k + 1) flags in cc
+  where
+    one : (d t : Bool) → ((d || t) && not t) ≡ (d && not t)
+    one true true = refl
+    one true false = refl
+    one false true = refl
+    one false false = refl
+
+-- a mark is undone with what was dirty of its pages
+pub unmarked-marked : (start len : ℕ) (set : PageSet) → unmarked start len (marked start len set) ≡ unmarked start len set
+unmarked-marked start len None = refl
+unmarked-marked start len (Some p) = ap (with_flags p.page_size) (without_after (takes p.page_size start len) 0 p.flags)
+
+-- ---- new pages
+
+pub IsPageSet-new_pages : (size bytes : ℕ) → 0 < size → bytes < 2 ^ 64 → IsPageSet (new_pages size bytes)
+IsPageSet-new_pages size bytes pos fits =
+    let count = div_ceil_times bytes size pos in
+    let some = length-replicate {A = Bool} (div_ceil bytes size) false in
+    (pos, rw some (last (div_ceil bytes size) size bytes count.1 fits pos))
+  where
+    last : (n size bytes : ℕ) → n * size < bytes + size → bytes < 2 ^ 64 → 0 < size → (n - 1) * size < 2 ^ 64
+    last zero size bytes h fits pos = omega (arith, zero-mul size)
+    last (suc n) size bytes h fits pos =
+        let e : suc n - 1 ≡ n = omega arith in
+        rw e (omega (arith, suc-mul n size))
+
+pub clean_is_not_dirty : (len offset : ℕ) (set : PageSet) → IsCleanFor len set → is_dirty_at set offset ≡ false
+clean_is_not_dirty len offset None h = refl
+clean_is_not_dirty len offset (Some p) h = at (get_or p.flags (offset / p.page_size) false) refl
+  where
+    at : (d : Bool) → get_or p.flags (offset / p.page_size) false ≡ d → d ≡ false
+    at false e = refl
+    at true e =
+        let listed : Contains (dirty_pages (Some p)) (offset / p.page_size) = (Contains-dirty_pages p (offset / p.page_size)).1 e in
+        let none : Contains [] (offset / p.page_size) = rw h.0 at listed in
+        absurd (omega (arith, none.1))
+
+-- each of the bytes lies in a page
+pub covered : (len offset : ℕ) (p : Pages) → IsCleanFor len (Some p) → offset < len → offset / p.page_size < length p.flags
+covered len offset p h inside = at p.page_size refl
+  where
+    at : (size : ℕ) → p.page_size ≡ size → offset / p.page_size < length p.flags
+    at zero e = absurd (omega (arith, ap (λ (n : ℕ). length p.flags * n) e, mul-zero (length p.flags), h.1))
+    at (suc size) e = rw e (div_below offset (suc size) (length p.flags) (omega arith) (omega (arith, ap (λ (n : ℕ). length p.flags * n) e, h.1)))
+
+-- ---- what the dirty pages decide
+
+not_listed : (page : ℕ) (flags : List Bool) (rest : List ℕ) → page ∷ rest ≡ dirty_from (page + 1) flags → ⊥
+not_listed page flags rest e =
+    let all : All (λ (other : ℕ). page + 1 ≤ other) (page ∷ rest) = subst (All (λ (other : ℕ). page + 1 ≤ other)) (sym e) (from_page (page + 1) flags) in
+    omega (arith, All-head (λ (other : ℕ). page + 1 ≤ other) page rest all)
+
+same_flags : (page : ℕ) (xs ys : List Bool) → length xs ≡ length ys → dirty_from page xs ≡ dirty_from page ys → xs ≡ ys
+same_flags page [] [] l e = refl
+same_flags page [] (b ∷ ys) l e = absurd (omega arith)
+same_flags page (a ∷ xs) [] l e = absurd (omega arith)
+same_flags page (true ∷ xs) (true ∷ ys) l e =
+    let rest : dirty_from (page + 1) xs ≡ dirty_from (page + 1) ys = cc in
+    ap (λ (fs : List Bool). true ∷ fs) (same_flags (page + 1) xs ys (omega arith) rest)
+same_flags page (false ∷ xs) (false ∷ ys) l e = ap (λ (fs : List Bool). false ∷ fs) (same_flags (page + 1) xs ys (omega arith) e)
+same_flags page (true ∷ xs) (false ∷ ys) l e = absurd (not_listed page ys (dirty_from (page + 1) xs) e)
+same_flags page (false ∷ xs) (true ∷ ys) l e = absurd (not_listed page xs (dirty_from (page + 1) ys) (sym e))
+
+abbrev first_of : Option (ℕ × ℕ) → ℕ
+first_of None = 0
+first_of (Some s) = s.0
+
+abbrev second_of : Option (ℕ × ℕ) → ℕ
+second_of None = 0
+second_of (Some s) = s.1
+
+-- page sets of one shape with the same dirty pages are one
+pub dirty_pages_decide : (p q : Pages) → shape (Some p) ≡ shape (Some q) → dirty_pages (Some p) ≡ dirty_pages (Some q) → p ≡ q
+dirty_pages_decide p q s e =
+    let size : p.page_size ≡ q.page_size = ap first_of s in
+    let count : length p.flags ≡ length q.flags = ap second_of s in
+    let flags = same_flags 0 p.flags q.flags count e in
+    ap (λ (n : ℕ). record { page_size = n; flags = p.flags }) size ∙ ap (λ (fs : List Bool). record { page_size = q.page_size; flags = fs }) flags

@@ -6,3 +6,4 @@ pub mod KnownBytesJoined
 pub mod ByteLemmas
 pub mod ArrayLemmas
 pub mod BitmapLemmas
+pub mod PieceLemmas

@@ -370,7 +370,7 @@ Contains-dirty_pages p page = (
   (λ e. let f : 0 + page ≡ page = zero-add page in rw f at (listed 0 p.flags page e)),
 )
 
-from_page : (page : ℕ) (flags : List Bool) → All (λ other. page ≤ other) (dirty_from page flags)
+pub from_page : (page : ℕ) (flags : List Bool) → All (λ other. page ≤ other) (dirty_from page flags)
 from_page page [] = All-nil (λ other. page ≤ other)
 from_page page (true ∷ flags) = All-cons (λ other. page ≤ other) page (dirty_from (page + 1) flags) (omega arith) (All-weaker (λ other. page + 1 ≤ other) (λ other. page ≤ other) (λ other h. omega arith) (dirty_from (page + 1) flags) (from_page (page + 1) flags))
 from_page page (false ∷ flags) = All-weaker (λ other. page + 1 ≤ other) (λ other. page ≤ other) (λ other h. omega arith) (dirty_from (page + 1) flags) (from_page (page + 1) flags)

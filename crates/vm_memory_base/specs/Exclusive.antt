@@ -1,4 +1,4 @@
--- What is seen of a bitmap of the program's own.
+-- What contracts see of an `ExclusiveBitmap`.
 use Rattle.std.specs.Prelude.{ℕ}
 use Rattle.std.specs.NonZero.{non_zero_usize_get}
 use Rattle.vm_memory_base.specs.Pages.{Pages}

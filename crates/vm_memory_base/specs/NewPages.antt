@@ -11,4 +11,5 @@ none_dirty page zero = refl
 none_dirty page (suc n) = none_dirty (page + 1) n
 
 pub new_pages_are_clean : (size bytes : ℕ) → 0 < size → IsCleanFor bytes (new_pages size bytes)
-new_pages_are_clean size bytes pos = (none_dirty 0 (div_ceil bytes size), rw length-replicate (div_ceil_times bytes size pos).0)
+new_pages_are_clean size bytes pos =
+    (none_dirty 0 (div_ceil bytes size), rw length-replicate (div_ceil_times bytes size pos).0)

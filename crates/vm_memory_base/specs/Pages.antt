@@ -11,6 +11,10 @@ pub record Pages : Type 0 where
 abbrev pub PageSet : Type 0
 PageSet = Option Pages
 
+-- pages of this size with these flags
+abbrev pub pages_with : ℕ → List Bool → PageSet
+pages_with size flags = Some (record { page_size = size; flags = flags })
+
 -- the page size and the number of pages, where pages are tracked
 abbrev pub shape : PageSet → Option (ℕ × ℕ)
 shape set = option_map (λ p. (p.page_size, length p.flags)) set
@@ -50,8 +54,7 @@ flags_after test page (dirty ∷ flags) = (dirty || test page) ∷ flags_after t
 -- the pages after a mark of len bytes from start on. Pages past the last are no pages
 abbrev pub marked : ℕ → ℕ → PageSet → PageSet
 marked start len None = None
-marked start len (Some p) =
-    Some (record { page_size = p.page_size; flags = flags_after (takes p.page_size start len) 0 p.flags })
+marked start len (Some p) = pages_with p.page_size (flags_after (takes p.page_size start len) 0 p.flags)
 
 -- the pages after a mark of one byte at each of these offsets, in order
 abbrev pub marked_each : List ℕ → PageSet → PageSet
@@ -70,8 +73,7 @@ flags_without test page (dirty ∷ flags) = (dirty && not (test page)) ∷ flags
 -- the pages after those that a mark of len bytes from start on takes are made clean
 abbrev pub unmarked : ℕ → ℕ → PageSet → PageSet
 unmarked start len None = None
-unmarked start len (Some p) =
-    Some (record { page_size = p.page_size; flags = flags_without (takes p.page_size start len) 0 p.flags })
+unmarked start len (Some p) = pages_with p.page_size (flags_without (takes p.page_size start len) 0 p.flags)
 
 -- the same pages, all clean
 abbrev pub all_clean : List Bool → List Bool
@@ -80,11 +82,11 @@ all_clean (dirty ∷ flags) = false ∷ all_clean flags
 
 abbrev pub cleaned : PageSet → PageSet
 cleaned None = None
-cleaned (Some p) = Some (record { page_size = p.page_size; flags = all_clean p.flags })
+cleaned (Some p) = pages_with p.page_size (all_clean p.flags)
 
 -- so many bytes in pages of this size, all clean. The last page may be cut
 abbrev pub new_pages : ℕ → ℕ → PageSet
-new_pages size bytes = Some (record { page_size = size; flags = replicate (div_ceil bytes size) false })
+new_pages size bytes = pages_with size (replicate (div_ceil bytes size) false)
 
 -- the number whose bits are these flags, the lowest first
 abbrev pub word_of : List Bool → ℕ

@@ -1,6 +1,6 @@
 //! Values as bytes.
 
-ghost use Rattle.std.specs.Prelude.{◌≡◌, ℕ, ◌-◌, ◌^◌, ◌<◌, ◌≤◌, ◌↔◌, List, min, length, replicate, slice_index, slice_set, SomeIff, IsTrue, OnOk, IfOk};
+ghost use Rattle.std.specs.Prelude.{◌≡◌, ℕ, ◌+◌, ◌-◌, ◌^◌, ◌<◌, ◌≤◌, ◌↔◌, List, ◌++◌, min, length, take, drop, replicate, slice_index, slice_set, SomeIff, IsTrue, OnOk, IfOk};
 ghost use Rattle.std.specs.Io.KnownBytes.{Appends, Consumes};
 ghost use Rattle.std.specs.Bool.{OnTrue, OnFalse};
 ghost use Rattle.vm_memory_base.specs.Bytes.{IsByteCode};
@@ -13,7 +13,7 @@ mod pieces;
 pub use self::atomic::AtomicAccess;
 pub use self::integers::FixedInteger;
 pub(crate) use self::integers::reversed;
-use self::pieces::{PIECE, read_piece, write_piece};
+use self::pieces::{PIECE, copy_part, put_part, read_piece, write_piece};
 use std::io::{self, Read, Write};
 
 /// Types whose values stand one for one for the lists of a fixed number of bytes.
@@ -72,6 +72,37 @@ pub trait ByteValued: Copy {
 
     // Values and lists of bytes stand for one another, so both round trips lead back.
     ghost laws: { IsByteCode width is_value bytes value_of };
+
+    /// Copies the bytes of the value, from byte `from` on, over `out`.
+    #[inline]
+    final fn copy_bytes(&self, from: usize, out: &mut [u8])
+        requires inside { from + length out.old ≤ width }
+        requires fits { from + length out.old < 2 ^ 64 }
+        ensures { out.new ≡ take (length out.old) (drop from (bytes self.now)) }
+    {
+        self.known();
+        if from > 0 || !self.to_slice(out) {
+            copy_part(self, from, out);
+        }
+    }
+
+    /// Replaces the bytes of the value, from byte `from` on, by those of `data`.
+    #[inline]
+    final fn set_bytes(&mut self, from: usize, data: &[u8])
+        requires inside { from + length «data».now ≤ width }
+        requires fits { from + length «data».now < 2 ^ 64 }
+        ensures { bytes self.new ≡ take from (bytes self.old) ++ «data».now
+            ++ drop (from + length «data».now) (bytes self.old) }
+    {
+        self.known();
+        if from == 0 {
+            if let Some(whole) = Self::from_slice(data) {
+                *self = whole;
+                return;
+            }
+        }
+        put_part(self, from, data);
+    }
 
     /// Writes the bytes of the value to a writer, at most 64 at once.
     ///

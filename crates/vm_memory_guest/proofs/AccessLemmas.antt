@@ -111,7 +111,7 @@ counted-none total n e none some = grind (arith, nat_tests)
 counted-some : (total n : ℕ) (e : GuestMemoryError) → total ≢ 0 → Ok total ≡ counted total (Some e) n
 counted-some total n e some = grind (arith, nat_tests)
 
-asked_some : (fault : Option Fault) (n : ℕ) (e : GuestMemoryError) → OnSome fault (0 < n) → option_map error_of fault ≡ Some e → 0 < n
+pub asked_some : (fault : Option Fault) (n : ℕ) (e : GuestMemoryError) → OnSome fault (0 < n) → option_map error_of fault ≡ Some e → 0 < n
 asked_some None n e asked is = absurd (cc)
 asked_some (Some fault) n e asked is = asked
 
@@ -214,7 +214,7 @@ unfolding stretches
 none_reached = refl
 
 -- an access that is refused reaches nothing
-accessed-refused : (memory : Memory) (tables : List Table) (a n : ℕ) (access : Permissions) (e : GuestMemoryError) → RefusesAccess memory tables a n access e → told error_of (reached memory tables a n access) ≡ record { windows = []; fault = Some e }
+pub accessed-refused : (memory : Memory) (tables : List Table) (a n : ℕ) (access : Permissions) (e : GuestMemoryError) → RefusesAccess memory tables a n access e → told error_of (reached memory tables a n access) ≡ record { windows = []; fault = Some e }
 accessed-refused memory tables a n access e refused = rw (refused.0, refused.1, none_reached) refl
 
 route_held : (shape : Shape) (behind : Option Behind) (tables : List Table) → Holds shape (behind_names behind) → Holds shape (route_names (route_behind behind tables))
@@ -240,7 +240,7 @@ reached-fits memory tables a n access =
     omega arith
 
 -- where something stops an access, it asked for something
-reached-asked : (memory : Memory) (tables : List Table) (a n : ℕ) (access : Permissions) → OnSome (reached memory tables a n access).fault (0 < n)
+pub reached-asked : (memory : Memory) (tables : List Table) (a n : ℕ) (access : Permissions) → OnSome (reached memory tables a n access).fault (0 < n)
 reached-asked memory tables a n access = go (access_of memory.regions (route memory tables) a n access) (access-ends memory.regions (route memory tables) a n access)
   where
     stops : (o : Option Fault) (k : ℕ) → MatchOption o (k ≡ n) (λ fault. k < n) → OnSome o (0 < n)
@@ -257,7 +257,7 @@ counted-at_most k None n (Ok count) is most = let same : count ≡ k = cc in ome
 counted-at_most k (Some e) n (Ok count) is most = grind (arith, nat_tests)
 
 -- an outcome that is what was expected, with its effect
-outcome : {T E : Type 0} (memory : E) (may_want : Type 0) (r expected : Result T E) (unchanged effect : Type 0) → r ≡ expected → effect → Outcome memory may_want expected unchanged effect r
+pub outcome : {T E : Type 0} (memory : E) (may_want : Type 0) (r expected : Result T E) (unchanged effect : Type 0) → r ≡ expected → effect → Outcome memory may_want expected unchanged effect r
 outcome memory may_want (Ok value) expected unchanged effect is done = (is, done)
 outcome memory may_want (Err e) expected unchanged effect is done = inr (is, done)
 

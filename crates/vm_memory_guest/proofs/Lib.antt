@@ -8,5 +8,11 @@ pub mod WrittenLaws
 pub mod PathLaws
 pub mod PathWalk
 pub mod WalkLemmas
+pub mod TypedLemmas
+pub mod TypedWalk
+pub mod CopyLemmas
+pub mod ElementLemmas
+pub mod CopyLaws
+pub mod TypedLaws
 pub mod RegionLaws
 pub mod AccessLemmas

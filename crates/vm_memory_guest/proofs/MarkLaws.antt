@@ -4,8 +4,8 @@ use Rattle.vm_memory_base.specs.declared.bitmap.BitmapId.{BitmapId}
 use Rattle.vm_memory_base.specs.declared.bitmap.BitmapId.TheVariants.{Block, Space}
 use Rattle.vm_memory_base.specs.Table.{Table}
 use Rattle.vm_memory_guest.specs.Host.{Host, Cell, shape_of, written}
-use Rattle.vm_memory_guest.specs.Window.{span, cells, MarksOne, Marks, MarksWindow, MarksAll, Writes, Window}
-use Rattle.vm_memory_guest.proofs.WrittenLaws.{written-append, written-take, lengths-written, cells-append, length-cells}
+use Rattle.vm_memory_guest.specs.Window.{span, cells, MarksOne, Marks, MarksWindow, MarksAll, Writes, Window, cells_of}
+use Rattle.vm_memory_guest.proofs.WrittenLaws.{cells-one, written-append, written-take, lengths-written, cells-append, length-cells}
 
 -- a case for each answer of a test, each followed by what it says
 match_bool-weaker : (b : Bool) (P Q R S : Type 0) → (P → R) → (Q → S) → MatchBool b P Q → MatchBool b R S
@@ -129,3 +129,7 @@ module _ {B : Type 0} (marks : B → ℕ → ℕ → B → Type 0) where
   -- a write of as many bytes as the windows have is a write of all bytes
   pub Writes-from_take : (ws : List Window) (bytes : List ℕ) (old new : Host B) → Writes marks ws (take (span ws) bytes) old new → Writes marks ws bytes old new
   Writes-from_take ws bytes old new h = subst (λ (blocks : List (List ℕ)). MarksAll marks ws (record old { blocks = blocks }) new) (sym (written-span ws bytes old.blocks)) h
+
+  -- a write to one window
+  pub Writes-one : (w : Window) (bytes : List ℕ) (old new : Host B) → MarksWindow marks w (record old { blocks = written (cells_of w) bytes old.blocks }) new → Writes marks (w ∷ []) bytes old new
+  Writes-one w bytes old new h = (new, rw (cells-one w) h, refl)

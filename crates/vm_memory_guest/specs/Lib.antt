@@ -1,6 +1,7 @@
 pub mod Access
 pub mod Answer
 pub mod Collection
+pub mod Copy
 pub mod Dirt
 pub mod Error
 pub mod Examples
@@ -9,5 +10,8 @@ pub mod Inside
 pub mod Memory
 pub mod Mmap
 pub mod Region
+pub mod Typed
+pub mod TypedFacts
+pub mod Volatile
 pub mod Walk
 pub mod Window

@@ -11,6 +11,8 @@ mod mmap;
 pub mod path_laws;
 mod region;
 pub mod region_laws;
+pub mod typed_examples;
+pub mod typed_laws;
 mod volatile_memory;
 
 pub use guest_memory::backend::{GuestMemoryBackend, GuestMemoryBackendSliceIterator};
@@ -21,7 +23,10 @@ pub use region::{
     GuestRegionCollectionError,
 };
 pub use volatile_memory::access::Bytes;
+pub use volatile_memory::array::VolatileArrayRef;
 pub use volatile_memory::host::{
     BlockId, HostMemory, HostShape, MmapRegionError, Named, SpaceId, TlbId,
 };
+pub use volatile_memory::memory::{VolatileMemory, compute_offset};
+pub use volatile_memory::reference::VolatileRef;
 pub use volatile_memory::slice::VolatileSlice;

@@ -1,8 +1,9 @@
 //! Regions over whole blocks of a host.
 ghost use Rattle.std.specs.Prelude.{◌≡◌, ◌+◌, ◌^◌, ◌<◌, ◌≤◌, ◌↔◌, ◌⊎◌, List, [], ◌∷◌, ◌++◌, length};
-ghost use Rattle.std.specs.Prelude.{replicate, IsSome, IfSome, IfOk, OnOk, OnErr, IsErrOf};
+ghost use Rattle.std.specs.Prelude.{replicate, Some, IsSome, IfSome, IfOk, OnOk, OnErr, IsErrOf};
 ghost use Rattle.vm_memory_guest.specs.Host as names;
 ghost use Rattle.vm_memory_guest.specs.Host.{Name, shape_of, Holds, block_at};
+ghost use Rattle.vm_memory_guest.specs.Region.{slice_from};
 
 use crate::region::{
     GuestMemoryError, GuestMemoryRegion, GuestMemoryResult, GuestRegionCollection,
@@ -82,6 +83,23 @@ impl MmapRegion {
         ensures { result ≡ self.now.size }
     {
         self.size
+    }
+
+    // The window of `count` bytes from `offset` on, or `InvalidBackendAddress` where it passes the end.
+    #[inline]
+    fn window(&self, offset: u64, count: usize) -> GuestMemoryResult<VolatileSlice>
+        ensures { result ≡
+            slice_from (Some (record { block = self.now.block; offset = 0 })) self.now.size offset count }
+    {
+        if offset > self.size as u64 || count > self.size - offset as usize {
+            return Err(GuestMemoryError::InvalidBackendAddress);
+        }
+        let start = offset as usize;
+        let bitmap = BitmapRef {
+            id: BitmapId::Block(self.block.0),
+            base: start,
+        };
+        Ok(VolatileSlice::new(self.block, start, count, bitmap))
     }
 }
 
@@ -180,16 +198,7 @@ impl GuestMemoryRegion for GuestRegionMmap {
         offset: MemoryRegionAddress,
         count: usize,
     ) -> GuestMemoryResult<VolatileSlice> {
-        let size = self.mapping.size;
-        if offset.0 > size as u64 || count > size - offset.0 as usize {
-            return Err(GuestMemoryError::InvalidBackendAddress);
-        }
-        let start = offset.0 as usize;
-        let bitmap = BitmapRef {
-            id: BitmapId::Block(self.mapping.block.0),
-            base: start,
-        };
-        Ok(VolatileSlice::new(self.mapping.block, start, count, bitmap))
+        self.mapping.window(offset.0, count)
     }
 }
 

@@ -24,19 +24,17 @@ pub(super) struct Pools {
 }
 
 impl Model for Pools {
-    ghost use Rattle.std.specs.Prelude.{List, map, flat_map};
-    ghost use Rattle.vm_memory_guest.specs.Host.{Holds, shape_of};
-    ghost use Rattle.vm_memory_guest.specs.Region.{region_names};
+    ghost use Rattle.std.specs.Prelude.{List};
     ghost use Rattle.vm_memory_guest.specs.Mmap.{mmap_region};
     ghost use Rattle.vm_memory_guest.specs.Collection.{regions_of};
     ghost use Rattle.vm_memory_guest.specs.declared.mmap.GuestRegionMmap.{GuestRegionMmap};
+    ghost use Rattle.vm_memory.specs.Parts.{HoldsRegions};
 
     ghost Value = { List GuestRegionMmap };
 
     ghost view = { λ p. regions_of p.regions };
 
-    ghost invariant = { λ p.
-        Holds (shape_of p.host) (flat_map region_names (map mmap_region (regions_of p.regions))) };
+    ghost invariant = { λ p. HoldsRegions mmap_region p.host (regions_of p.regions) };
 }
 
 impl Pools {

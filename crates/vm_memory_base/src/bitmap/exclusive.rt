@@ -3,7 +3,7 @@ ghost use Rattle.std.specs.Prelude.{◌≡◌, ℕ, ◌-◌, ◌<◌, ◌≤◌,
 ghost use Rattle.std.specs.NonZero.{non_zero_usize_get};
 ghost use Rattle.std.specs.Int.{div_ceil};
 ghost use Rattle.vm_memory_base.specs.Pages as page_set;
-ghost use Rattle.vm_memory_base.specs.Pages.{IsPageSet};
+ghost use Rattle.vm_memory_base.specs.Pages.{IsPageSet, pages_with};
 
 use super::{Bitmap, ExactBitmap, NewBitmap};
 use std::alloc::{AllocError, Global};
@@ -15,7 +15,7 @@ use std::num::NonZeroUsize;
 /// use std::num::NonZeroUsize;
 /// use vm_memory_base::{Bitmap, ExactBitmap, ExclusiveBitmap};
 ///
-/// let page_size = NonZeroUsize::new(0x1000).ok_or("a page size of 0")?;
+/// let page_size = NonZeroUsize::new(0x1000).unwrap();
 /// let mut bitmap = ExclusiveBitmap::new(rt.alloc(), 0x2001, page_size)?;
 /// bitmap.mark_dirty(0xfff, 2);
 /// assert!(rt; bitmap.harvest(rt.alloc())?.as_slice() == [0, 1].as_slice());
@@ -26,7 +26,7 @@ pub struct ExclusiveBitmap {
     flags: Vec<bool>,
     byte_size: usize,
     page_size: NonZeroUsize,
-    ghost fits: { IsPageSet (Some (record { page_size = non_zero_usize_get page_size; flags = flags.items })) },
+    ghost fits: { IsPageSet (pages_with (non_zero_usize_get page_size) flags.items) },
 }
 
 impl ExclusiveBitmap {
@@ -139,7 +139,8 @@ fn word(flags: &[bool]) -> u64
 
 // The flags as bits of words.
 fn words(alloc: Global, flags: &[bool]) -> Result<Vec<u64>, AllocError>
-    ensures { IfOk result (λ words. words.items ≡ page_set.words_of (div_ceil (length flags.now) 64) flags.now) }
+    ensures { IfOk result (λ words. words.items
+        ≡ page_set.words_of (div_ceil (length flags.now) 64) flags.now) }
 {
     let count = flags.len().div_ceil(64);
     let mut words = Vec::with_capacity(alloc, count)?;
@@ -166,18 +167,21 @@ fn dirty_pages(alloc: Global, flags: &[bool]) -> Result<Vec<usize>, AllocError>
 impl Bitmap for ExclusiveBitmap {
     ghost use Rattle.vm_memory_base.specs.Exclusive.{pages_of, bytes_of};
 
-    ghost marks = { λ old offset len new. (Some (pages_of new) ≡ page_set.marked offset len (Some (pages_of old)))
+    ghost marks = { λ old offset len new.
+        (Some (pages_of new) ≡ page_set.marked offset len (Some (pages_of old)))
         × (bytes_of new ≡ bytes_of old) };
 
     ghost tells = { λ b offset told. told ≡ page_set.is_dirty_at (Some (pages_of b)) offset };
 
     ghost made = { λ len b. (Some (pages_of b) ≡ page_set.new_pages 0x1000 len) × (bytes_of b ≡ len) };
 
+    #[inline]
     fn mark_dirty(&mut self, offset: usize, len: usize) {
         let (first, end) = self.taken(offset, len);
         set_flags(&mut self.flags, first, end, true);
     }
 
+    #[inline]
     fn dirty_at(&self, offset: usize) -> bool {
         let page = offset / self.page_size.get();
         page < self.flags.len() && self.flags[page]
@@ -188,7 +192,7 @@ impl ExactBitmap for ExclusiveBitmap {
     ghost use Rattle.std.proofs.Common.{subst, sym, arith};
     ghost use Rattle.vm_memory_base.specs.Pages.{IsCleanFor};
     ghost use Rattle.vm_memory_base.specs.NewPages.{new_pages_are_clean};
-    ghost use Rattle.vm_memory_base.specs.Exclusive.{pages_of};
+    ghost use Rattle.vm_memory_base.specs.Exclusive.{pages_of, bytes_of};
 
     ghost pages = { λ b. Some (pages_of b) };
 
@@ -198,13 +202,20 @@ impl ExactBitmap for ExclusiveBitmap {
 
     ghost tells_pages = { λ b offset told h. h };
 
-    ghost made_clean = { λ len b h. subst (IsCleanFor len) (sym h.0) (new_pages_are_clean 0x1000 len (omega arith)) };
+    ghost made_clean = { λ len b h.
+        subst (IsCleanFor len) (sym h.0) (new_pages_are_clean 0x1000 len (omega arith)) };
 
+    #[inline]
     fn shape(&self) -> Option<(usize, usize)> {
         Some((self.page_size.get(), self.flags.len()))
     }
 
-    fn harvest(&mut self, alloc: Global) -> Result<Vec<usize>, AllocError> {
+    fn harvest(&mut self, alloc: Global) -> Result<Vec<usize>, AllocError>
+        ensures dirty { IfOk result (λ dirty. dirty.items ≡ page_set.dirty_pages (Some (pages_of self.old))) }
+        ensures clean { OnOk result (Some (pages_of self.new) ≡ page_set.cleaned (Some (pages_of self.old))) }
+        ensures refused { OnErr result (self.new ≡ self.old) }
+        ensures bytes { bytes_of self.new ≡ bytes_of self.old }
+    {
         let dirty = dirty_pages(alloc, &self.flags)?;
         self.reset();
         Ok(dirty)
@@ -217,3 +228,6 @@ impl NewBitmap for ExclusiveBitmap {
         ExclusiveBitmap::new(alloc, len, NonZeroUsize::new(0x1000).unwrap())
     }
 }
+
+#[cfg(test)]
+mod tests;

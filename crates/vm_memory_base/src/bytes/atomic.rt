@@ -1,7 +1,7 @@
 //! Values that are read and written as one atomic integer.
 
-ghost use Rattle.std.specs.Prelude.{◌≡◌};
-ghost use Rattle.std.proofs.Common.{refl, ap};
+ghost use Rattle.std.specs.Prelude.{◌≡◌, ◌<◌, ◌≤◌};
+ghost use Rattle.std.proofs.Common.{refl, ap, lit<, lit≤};
 
 use super::ByteValued;
 use crate::atomic_integer::AtomicInteger;
@@ -22,6 +22,9 @@ pub trait AtomicAccess: ByteValued
     // A value takes as many bytes as the atomic integer's.
     ghost same_width: { Self.width ≡ Self.A.V.width };
 
+    // That are 1 to 8 bytes.
+    ghost fits_word: { (0 < Self.width) × (Self.width ≤ 8) };
+
     // The bytes stay when a value is converted, either way.
     ghost bytes_from: { (v : Self.A.V) (x : Self) → Self.from_gives v x → Self.bytes x ≡ Self.A.V.bytes v };
 
@@ -33,6 +36,8 @@ impl AtomicAccess for i8 {
 
     ghost same_width = { refl };
 
+    ghost fits_word = { (lit< tt, lit≤ tt) };
+
     ghost bytes_from = { λ v x e. ap ⟦<i8 as ByteValued>⟧.bytes e };
 
     ghost bytes_into = { λ x v e. ap ⟦<i8 as ByteValued>⟧.bytes e };
@@ -42,6 +47,8 @@ impl AtomicAccess for i16 {
     type A = AtomicI16;
 
     ghost same_width = { refl };
+
+    ghost fits_word = { (lit< tt, lit≤ tt) };
 
     ghost bytes_from = { λ v x e. ap ⟦<i16 as ByteValued>⟧.bytes e };
 
@@ -53,6 +60,8 @@ impl AtomicAccess for i32 {
 
     ghost same_width = { refl };
 
+    ghost fits_word = { (lit< tt, lit≤ tt) };
+
     ghost bytes_from = { λ v x e. ap ⟦<i32 as ByteValued>⟧.bytes e };
 
     ghost bytes_into = { λ x v e. ap ⟦<i32 as ByteValued>⟧.bytes e };
@@ -62,6 +71,8 @@ impl AtomicAccess for i64 {
     type A = AtomicI64;
 
     ghost same_width = { refl };
+
+    ghost fits_word = { (lit< tt, lit≤ tt) };
 
     ghost bytes_from = { λ v x e. ap ⟦<i64 as ByteValued>⟧.bytes e };
 
@@ -73,6 +84,8 @@ impl AtomicAccess for u8 {
 
     ghost same_width = { refl };
 
+    ghost fits_word = { (lit< tt, lit≤ tt) };
+
     ghost bytes_from = { λ v x e. ap ⟦<u8 as ByteValued>⟧.bytes e };
 
     ghost bytes_into = { λ x v e. ap ⟦<u8 as ByteValued>⟧.bytes e };
@@ -82,6 +95,8 @@ impl AtomicAccess for u16 {
     type A = AtomicU16;
 
     ghost same_width = { refl };
+
+    ghost fits_word = { (lit< tt, lit≤ tt) };
 
     ghost bytes_from = { λ v x e. ap ⟦<u16 as ByteValued>⟧.bytes e };
 
@@ -93,6 +108,8 @@ impl AtomicAccess for u32 {
 
     ghost same_width = { refl };
 
+    ghost fits_word = { (lit< tt, lit≤ tt) };
+
     ghost bytes_from = { λ v x e. ap ⟦<u32 as ByteValued>⟧.bytes e };
 
     ghost bytes_into = { λ x v e. ap ⟦<u32 as ByteValued>⟧.bytes e };
@@ -102,6 +119,8 @@ impl AtomicAccess for u64 {
     type A = AtomicU64;
 
     ghost same_width = { refl };
+
+    ghost fits_word = { (lit< tt, lit≤ tt) };
 
     ghost bytes_from = { λ v x e. ap ⟦<u64 as ByteValued>⟧.bytes e };
 
@@ -113,6 +132,8 @@ impl AtomicAccess for isize {
 
     ghost same_width = { refl };
 
+    ghost fits_word = { (lit< tt, lit≤ tt) };
+
     ghost bytes_from = { λ v x e. ap ⟦<isize as ByteValued>⟧.bytes e };
 
     ghost bytes_into = { λ x v e. ap ⟦<isize as ByteValued>⟧.bytes e };
@@ -122,6 +143,8 @@ impl AtomicAccess for usize {
     type A = AtomicUsize;
 
     ghost same_width = { refl };
+
+    ghost fits_word = { (lit< tt, lit≤ tt) };
 
     ghost bytes_from = { λ v x e. ap ⟦<usize as ByteValued>⟧.bytes e };
 

@@ -1,6 +1,6 @@
 //! The bytes of a value in pieces, through `std::io`.
 
-ghost use Rattle.std.specs.Prelude.{◌≡◌, ◌+◌, ◌^◌, ◌<◌, ◌≤◌, length, take, drop, OnOk};
+ghost use Rattle.std.specs.Prelude.{◌≡◌, ◌+◌, ◌^◌, ◌<◌, ◌≤◌, ◌++◌, length, take, drop, OnOk};
 ghost use Rattle.std.specs.Io.KnownBytes.{Appends, Consumes};
 
 use super::ByteValued;
@@ -27,10 +27,51 @@ fn put_bytes<T: ByteValued>(value: &mut T, from: usize, data: &[u8])
     requires fits { from + length «data».now < 2 ^ 64 }
     ensures before { take from (T.bytes value.new) ≡ take from (T.bytes value.old) }
     ensures put { take (length «data».now) (drop from (T.bytes value.new)) ≡ «data».now }
+    ensures after { drop (from + length «data».now) (T.bytes value.new)
+        ≡ drop (from + length «data».now) (T.bytes value.old) }
 {
     value.known();
     for i in 0..data.len() {
         value.set_byte(from + i, data[i]);
+    }
+}
+
+// Copies the bytes of a value from byte `from` on, by way of all bytes of a short one.
+pub(super) fn copy_part<T: ByteValued>(value: &T, from: usize, out: &mut [u8])
+    requires inside { from + length out.old ≤ T.width }
+    requires fits { from + length out.old < 2 ^ 64 }
+    ensures { out.new ≡ take (length out.old) (drop from (T.bytes value.now)) }
+{
+    if T::size() > PIECE {
+        copy_bytes(value, from, out);
+        return;
+    }
+    value.known();
+    let mut piece = [0u8; PIECE];
+    let all = &mut piece[..T::size()];
+    value.to_slice(all);
+    let end = from + out.len();
+    out.copy_from_slice(&all[from..end]);
+}
+
+// Replaces the bytes of a value from byte `from` on, by way of all bytes of a short one.
+pub(super) fn put_part<T: ByteValued>(value: &mut T, from: usize, data: &[u8])
+    requires inside { from + length «data».now ≤ T.width }
+    requires fits { from + length «data».now < 2 ^ 64 }
+    ensures { T.bytes value.new ≡ take from (T.bytes value.old) ++ «data».now
+        ++ drop (from + length «data».now) (T.bytes value.old) }
+{
+    value.known();
+    if T::size() > PIECE {
+        put_bytes(value, from, data);
+        return;
+    }
+    let mut piece = [0u8; PIECE];
+    let all = &mut piece[..T::size()];
+    value.to_slice(all);
+    all[from..from + data.len()].copy_from_slice(data);
+    if let Some(new) = T::from_slice(all) {
+        *value = new;
     }
 }
 

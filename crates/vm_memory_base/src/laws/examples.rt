@@ -1,7 +1,7 @@
 //! What the definitions say in small cases.
-ghost use Rattle.std.specs.Prelude.{◌≡◌, ◌-◌, ◌^◌, true, false, [], ◌∷◌, Some};
+ghost use Rattle.std.specs.Prelude.{◌≡◌, ◌-◌, ◌*◌, ◌^◌, true, false, [], ◌∷◌, Some};
 ghost use Rattle.vm_memory_base.specs.Address.{next, step, difference, is_within, numbers};
-ghost use Rattle.vm_memory_base.specs.Pages.{dirty_pages, is_dirty_at, marked, in_view, IsPageSet};
+ghost use Rattle.vm_memory_base.specs.Pages.{dirty_pages, dirty_words, is_dirty_at, marked, unmarked, new_pages, in_view, IsPageSet};
 ghost use Rattle.vm_memory_base.specs.Runs.{runs};
 ghost use Rattle.vm_memory_base.specs.Table.{same_mapping, Set, Invalidate, says_nothing, new_table_after, is_allowed, reason, pieces, misses, failures};
 ghost use Rattle.vm_memory_base.specs.declared.iotlb.Permissions.TheVariants.{No, Read, Write, ReadWrite};
@@ -152,6 +152,27 @@ pub fn mark_ends_at_the_greatest_offset()
     ensures whole { let clean = false ∷ false ∷ false ∷ false ∷ [] in
         marked (2 ^ 63) (2 ^ 64 - 1) (Some (record { page_size = 2 ^ 62; flags = clean }))
         ≡ Some (record { page_size = 2 ^ 62; flags = false ∷ false ∷ true ∷ true ∷ [] }) }
+{}
+
+/// The number of pages is rounded up, and new pages are clean.
+pub fn new_pages_of_bytes()
+    ensures whole { new_pages 4 8 ≡ Some (record { page_size = 4; flags = false ∷ false ∷ [] }) }
+    ensures cut { new_pages 4 9 ≡ Some (record { page_size = 4; flags = false ∷ false ∷ false ∷ [] }) }
+    ensures none { new_pages 4 0 ≡ Some (record { page_size = 4; flags = [] }) }
+{}
+
+/// Undoing a mark that reaches into two pages makes both clean, and one of no bytes makes none.
+pub fn pages_made_clean()
+    ensures two { unmarked 3 2 (Some (record { page_size = 4; flags = true ∷ true ∷ true ∷ [] }))
+        ≡ Some (record { page_size = 4; flags = false ∷ false ∷ true ∷ [] }) }
+    ensures none { unmarked 3 0 (Some (record { page_size = 4; flags = true ∷ true ∷ true ∷ [] }))
+        ≡ Some (record { page_size = 4; flags = true ∷ true ∷ true ∷ [] }) }
+{}
+
+/// A mark over the end of a word sets the highest bits of it and the lowest of the next.
+pub fn words_of_a_mark()
+    ensures low { dirty_words (Some (record { page_size = 4; flags = true ∷ false ∷ true ∷ [] })) ≡ 5 ∷ [] }
+    ensures two_words { dirty_words (marked 60 10 (new_pages 1 130)) ≡ 15 * 2 ^ 60 ∷ 63 ∷ 0 ∷ [] }
 {}
 
 /// Offsets in a view are taken modulo 2 ^ 64.

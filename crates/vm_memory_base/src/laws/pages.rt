@@ -1,7 +1,8 @@
 //! What holds of page sets and the marks that they take.
-ghost use Rattle.std.specs.Prelude.{◌≡◌, ◌↔◌, ℕ, ◌+◌, ◌-◌, ◌/◌, ◌^◌, ◌<◌, ◌≤◌, Bool, false, true, ◌||◌, ◌&&◌, nat_lt, List, [], ◌++◌, None, Some, length, slice_index_or, AllPairs, Contains};
+ghost use Rattle.std.specs.Prelude.{◌≡◌, ◌↔◌, ℕ, ◌+◌, ◌-◌, ◌*◌, ◌/◌, ◌%◌, ◌^◌, ◌<◌, ◌≤◌, Bool, false, true, not, ◌||◌, ◌&&◌, nat_lt, if◌then◌else◌, List, [], ◌++◌, None, Some, length, slice_index, slice_index_or, AllPairs, Contains};
+ghost use Rattle.std.specs.Int.{div_ceil};
 ghost use Rattle.vm_memory_base.specs.Address.{is_within, numbers};
-ghost use Rattle.vm_memory_base.specs.Pages.{Pages, PageSet, shape, is_dirty_at, dirty_pages, takes, flags_after, marked, marked_each, cleaned, IsPageSet};
+ghost use Rattle.vm_memory_base.specs.Pages.{Pages, PageSet, shape, is_dirty_at, dirty_pages, takes, flags_after, flags_without, marked, marked_each, unmarked, cleaned, new_pages, dirty_words, IsPageSet, IsCleanFor};
 
 /// A mark of no bytes changes nothing.
 pub fn empty_mark()
@@ -85,6 +86,38 @@ pub fn mark_order()
         → marked start len (marked start len set) ≡ marked start len set }
 {}
 
+/// Undoing a mark makes its pages clean, and no other, and keeps the shape.
+pub fn unmark_cleans()
+    ensures pages { (test : ℕ → Bool) (page : ℕ) (flags : List Bool) (i : ℕ)
+        → slice_index_or (flags_without test page flags) i false
+        ≡ (slice_index_or flags i false && not (test (page + i))) }
+    ensures bytes { (start len offset : ℕ) (p : Pages) → is_dirty_at (unmarked start len (Some p)) offset
+        ≡ (is_dirty_at (Some p) offset && not (takes p.page_size start len (offset / p.page_size))) }
+    ensures after_a_mark { (start len : ℕ) (set : PageSet)
+        → unmarked start len (marked start len set) ≡ unmarked start len set }
+    ensures shape { (start len : ℕ) (set : PageSet) → shape (unmarked start len set) ≡ shape set }
+    ensures valid { (start len : ℕ) (set : PageSet) → IsPageSet set → IsPageSet (unmarked start len set) }
+{}
+
+/// New pages are clean and cover their bytes, and each of these lies in one of them.
+pub fn new_pages_cover()
+    ensures clean { (size bytes : ℕ) → 0 < size → IsCleanFor bytes (new_pages size bytes) }
+    ensures valid { (size bytes : ℕ) → 0 < size → bytes < 2 ^ 64 → IsPageSet (new_pages size bytes) }
+    ensures no_byte_dirty { (len offset : ℕ) (set : PageSet) → IsCleanFor len set
+        → is_dirty_at set offset ≡ false }
+    ensures each_byte { (len offset : ℕ) (p : Pages) → IsCleanFor len (Some p) → offset < len
+        → offset / p.page_size < length p.flags }
+{}
+
+/// Each page is a bit of the words, which have no other bits.
+pub fn words_have_the_pages()
+    ensures bits { (p : Pages) (word bit : ℕ) → bit < 64
+        → slice_index (dirty_words (Some p)) word / 2 ^ bit % 2
+        ≡ (if slice_index_or p.flags (64 * word + bit) false then 1 else 0) }
+    ensures count { (p : Pages) → length (dirty_words (Some p)) ≡ div_ceil (length p.flags) 64 }
+    ensures fits { (p : Pages) (word : ℕ) → slice_index (dirty_words (Some p)) word < 2 ^ 64 }
+{}
+
 /// Where nothing is tracked nothing is dirty, before and after each mark.
 pub fn nothing_tracked()
     ensures marked { (start len : ℕ) → marked start len None ≡ None }
@@ -100,9 +133,12 @@ pub fn cleaned_is_clean()
     ensures valid { (set : PageSet) → IsPageSet set → IsPageSet (cleaned set) }
 {}
 
-/// The dirty pages are listed, no other pages are, and they ascend.
+/// The dirty pages are listed, no other pages are, and they ascend. Together with the shape they decide
+/// the page set.
 pub fn dirty_pages_are_listed()
     ensures exactly { (p : Pages) (page : ℕ) → Contains (dirty_pages (Some p)) page
         ↔ (slice_index_or p.flags page false ≡ true) }
+    ensures decide { (p q : Pages) → shape (Some p) ≡ shape (Some q)
+        → dirty_pages (Some p) ≡ dirty_pages (Some q) → p ≡ q }
     ensures ascending { (set : PageSet) → AllPairs (λ page other. page < other) (dirty_pages set) }
 {}

@@ -1,9 +1,13 @@
 //! Access to bytes of guest memory, by guest address.
-ghost use Rattle.std.specs.Prelude.{◌≡◌, ◌<◌, ◌≤◌, length, OnSome, IsSome, Ok, Err, option_map, ◌==◌, if◌then◌else◌};
+ghost use Rattle.std.specs.Prelude.{◌≡◌, ◌-◌, ◌^◌, ◌<◌, ◌≤◌, min, length, OnSome, IsSome, Ok, Err, option_map, ◌==◌, if◌then◌else◌};
 ghost use Rattle.std.specs.List.{AllByRecursion};
+ghost use Rattle.vm_memory_guest.specs.Access.{access_of, windows};
 ghost use Rattle.vm_memory_guest.specs.Host.{shape_of, Holds};
 ghost use Rattle.vm_memory_guest.specs.Answer.{counted, filled, told};
 ghost use Rattle.vm_memory_guest.specs.Error.{error_of};
+ghost use Rattle.vm_memory_guest.specs.Memory.{route};
+ghost use Rattle.vm_memory_guest.specs.Typed.{first_aligned, place_of};
+ghost use Rattle.vm_memory_guest.specs.TypedFacts.{first-sized};
 ghost use Rattle.vm_memory_guest.specs.Walk.{reached};
 ghost use Rattle.vm_memory_guest.specs.Window.{span, cells, window_names, Writes};
 ghost use Rattle.vm_memory_guest.specs.declared.region.GuestMemoryError.TheVariants as errors;
@@ -13,12 +17,17 @@ use super::memory::{GuestMemory, IommuMemorySliceIterator};
 use crate::region::{GuestMemoryError, GuestMemoryResult};
 use crate::volatile_memory::access::Bytes;
 use crate::volatile_memory::host::HostMemory;
-use vm_memory_base::{Bitmap, GuestAddress, Permissions};
+use crate::volatile_memory::slice::VolatileSlice;
+use std::sync::atomic::Ordering;
+use vm_memory_base::{AtomicAccess, Bitmap, ByteValued, GuestAddress, Permissions};
 
 impl<T: GuestMemory> Bytes<GuestAddress> for T {
     type E = GuestMemoryError;
 
     ghost reach = { λ m tables addr n access. told error_of (reached (T.memory m) tables addr.0 n access) };
+
+    ghost place = { λ m tables addr size access.
+        place_of size (access_of (T.memory m).regions (route (T.memory m) tables) addr.0 size access) };
 
     ghost partial = { errors.PartialBuffer };
 
@@ -70,6 +79,62 @@ impl<T: GuestMemory> Bytes<GuestAddress> for T {
         let completed = Bytes::read(self, host, buf, addr)?;
         whole(expected, completed)
     }
+
+    #[inline]
+    fn write_obj<V: ByteValued, B: Bitmap>(
+        &self,
+        host: &mut HostMemory<B>,
+        val: V,
+        addr: GuestAddress,
+    ) -> GuestMemoryResult<()> {
+        let walk = self.get_slices(host, addr, V::size(), Permissions::Write)?;
+        let completed = write_value(walk, host, &val)?;
+        whole(V::size(), completed)
+    }
+
+    #[inline]
+    fn read_obj<V: ByteValued, B: Bitmap>(
+        &self,
+        host: &HostMemory<B>,
+        addr: GuestAddress,
+    ) -> GuestMemoryResult<V> {
+        let walk = self.get_slices(host, addr, V::size(), Permissions::Read)?;
+        let mut value = V::zeroed();
+        let completed = read_value(walk, host, &mut value)?;
+        whole(V::size(), completed)?;
+        value.known();
+        Ok(value)
+    }
+
+    #[inline]
+    fn store<V: AtomicAccess, B: Bitmap>(
+        &self,
+        host: &mut HostMemory<B>,
+        val: V,
+        addr: GuestAddress,
+        _order: Ordering,
+    ) -> GuestMemoryResult<()> {
+        let walk = self.get_slices(host, addr, V::size(), Permissions::Write)?;
+        let window = first_window(walk, V::size())?;
+        host.write_value(&window, &val, 0);
+        Ok(())
+    }
+
+    #[inline]
+    fn load<V: AtomicAccess, B: Bitmap>(
+        &self,
+        host: &HostMemory<B>,
+        addr: GuestAddress,
+        _order: Ordering,
+    ) -> GuestMemoryResult<V> {
+        let walk = self.get_slices(host, addr, V::size(), Permissions::Read)?;
+        let window = first_window(walk, V::size())?;
+        Ok(host.value(&window))
+    }
+
+    ghost place_has_all = { λ m tables addr size access.
+        let reached = access_of (T.memory m).regions (route (T.memory m) tables) addr.0 size access in
+        first-sized size (windows reached.path) (option_map error_of reached.fault) };
 }
 
 // Moves the buffer into the windows that a walk gives, one after the other, up to an error.
@@ -82,7 +147,8 @@ fn write_windows<M: GuestMemoryBackend, B: Bitmap>(
     requires held { AllByRecursion (λ w. Holds (shape_of host.old) (window_names w)) walk.windows }
     requires fits { span walk.windows ≤ length buf.now }
     requires asked { OnSome walk.fault (0 < length buf.now) }
-    ensures answer { result ≡ counted (span walk.entry.windows) (option_map error_of walk.entry.fault) (length buf.now) }
+    ensures answer { let walk = walk.entry in
+        result ≡ counted (span walk.windows) (option_map error_of walk.fault) (length buf.now) }
     ensures bytes { Writes B.marks walk.entry.windows buf.now host.old host.new }
 {
     let mut total = 0;
@@ -114,7 +180,8 @@ fn read_windows<M: GuestMemoryBackend, B: Bitmap>(
     requires held { AllByRecursion (λ w. Holds (shape_of host.now) (window_names w)) walk.windows }
     requires fits { span walk.windows ≤ length buf.old }
     requires asked { OnSome walk.fault (0 < length buf.old) }
-    ensures answer { result ≡ counted (span walk.entry.windows) (option_map error_of walk.entry.fault) (length buf.old) }
+    ensures answer { let walk = walk.entry in
+        result ≡ counted (span walk.windows) (option_map error_of walk.fault) (length buf.old) }
     ensures bytes { buf.new ≡ filled host.now.blocks (cells walk.entry.windows) buf.old }
 {
     let mut total = 0;
@@ -136,10 +203,96 @@ fn read_windows<M: GuestMemoryBackend, B: Bitmap>(
     Ok(total)
 }
 
+// Moves the bytes of a value into the windows that a walk gives, as `write_windows` does.
+#[inline]
+fn write_value<M: GuestMemoryBackend, V: ByteValued, B: Bitmap>(
+    walk: IommuMemorySliceIterator<'_, M>,
+    host: &mut HostMemory<B>,
+    value: &V,
+) -> GuestMemoryResult<usize>
+    requires held { AllByRecursion (λ w. Holds (shape_of host.old) (window_names w)) walk.windows }
+    requires fits { span walk.windows ≤ min V.width (2 ^ 64 - 1) }
+    requires asked { OnSome walk.fault (0 < V.width) }
+    ensures answer { let walk = walk.entry in
+        result ≡ counted (span walk.windows) (option_map error_of walk.fault) V.width }
+    ensures bytes { Writes B.marks walk.entry.windows (V.bytes value.now) host.old host.new }
+{
+    value.known();
+    let mut total = 0;
+    for item in walk {
+        match item {
+            Ok(window) => {
+                host.write_value(&window, value, total);
+                total += window.len();
+            }
+            Err(error) => {
+                if total == 0 {
+                    return Err(error);
+                }
+                return Ok(total);
+            }
+        }
+    }
+    Ok(total)
+}
+
+// Fills the bytes of a value from the windows that a walk gives, as `read_windows` does.
+#[inline]
+fn read_value<M: GuestMemoryBackend, V: ByteValued, B: Bitmap>(
+    walk: IommuMemorySliceIterator<'_, M>,
+    host: &HostMemory<B>,
+    value: &mut V,
+) -> GuestMemoryResult<usize>
+    requires held { AllByRecursion (λ w. Holds (shape_of host.now) (window_names w)) walk.windows }
+    requires fits { span walk.windows ≤ min V.width (2 ^ 64 - 1) }
+    requires asked { OnSome walk.fault (0 < V.width) }
+    ensures answer { let walk = walk.entry in
+        result ≡ counted (span walk.windows) (option_map error_of walk.fault) V.width }
+    ensures bytes { let cells = cells walk.entry.windows in
+        V.bytes value.new ≡ filled host.now.blocks cells (V.bytes value.old) }
+{
+    let mut total = 0;
+    for item in walk {
+        match item {
+            Ok(window) => {
+                value.set_bytes(total, host.bytes(&window));
+                total += window.len();
+            }
+            Err(error) => {
+                if total == 0 {
+                    return Err(error);
+                }
+                return Ok(total);
+            }
+        }
+    }
+    Ok(total)
+}
+
+// The window of a load or a store of `size` bytes: the first that a walk gives.
+#[inline]
+fn first_window<M: GuestMemoryBackend>(
+    mut walk: IommuMemorySliceIterator<'_, M>,
+    size: usize,
+) -> GuestMemoryResult<VolatileSlice>
+    requires { 0 < size }
+    ensures { result ≡ first_aligned size walk.entry.windows (option_map error_of walk.entry.fault) }
+{
+    let Some(first) = walk.next() else {
+        return Err(GuestMemoryError::InvalidBackendAddress);
+    };
+    let window = first?;
+    if window.len() != size || !window.is_aligned(size) {
+        return Err(GuestMemoryError::InvalidBackendAddress);
+    }
+    Ok(window)
+}
+
 // Whether all that was expected was completed.
 #[inline]
 fn whole(expected: usize, completed: usize) -> GuestMemoryResult<()>
-    ensures { result ≡ (if completed == expected then Ok tt else Err (GuestMemoryError.PartialBuffer expected completed)) }
+    ensures { let short = GuestMemoryError.PartialBuffer expected completed in
+        result ≡ (if completed == expected then Ok tt else Err short) }
 {
     if completed != expected {
         return Err(GuestMemoryError::PartialBuffer {

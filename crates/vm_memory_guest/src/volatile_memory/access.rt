@@ -1,14 +1,16 @@
 //! What access to bytes means, whatever is accessed.
-ghost use Rattle.std.specs.Prelude.{◌≡◌, ◌≤◌, ℕ, List, length, IfOk};
+ghost use Rattle.std.specs.Prelude.{◌≡◌, ◌≤◌, ◌<◌, ◌^◌, ℕ, List, length, Result, IfOk};
 ghost use Rattle.vm_memory_base.specs.Table.{Table};
 ghost use Rattle.vm_memory_base.specs.declared.iotlb.Permissions.{Permissions};
 ghost use Rattle.vm_memory_base.specs.declared.iotlb.Permissions.TheVariants.{Read, Write};
-ghost use Rattle.vm_memory_guest.specs.Host.{shape_of, Holds};
-ghost use Rattle.vm_memory_guest.specs.Window.{span, cells, Writes};
+ghost use Rattle.vm_memory_guest.specs.Host.{shape_of, bytes_at, Holds};
+ghost use Rattle.vm_memory_guest.specs.Window.{Window, span, cells, cells_of, Writes};
 ghost use Rattle.vm_memory_guest.specs.Answer.{Reach, Outcome, counted, exactly, filled};
+ghost use Rattle.vm_memory_guest.specs.Typed.{answered, given};
 
 use super::host::{HostMemory, Named};
-use vm_memory_base::Bitmap;
+use std::sync::atomic::Ordering;
+use vm_memory_base::{AtomicAccess, Bitmap, ByteValued};
 
 /// Access to bytes by addresses of type `A`: an offset of a window, or an address of guest memory.
 ///
@@ -26,6 +28,10 @@ pub trait Bytes<A>: Named {
 
     /// What an access of so many bytes at an address reaches, in a host with these tables.
     ghost reach: { Self → List Table → A → ℕ → Permissions → Reach Self.E };
+
+    /// The one window that a load or a store of so many bytes at an address takes, in a host with these
+    /// tables, or why there is none.
+    ghost place: { Self → List Table → A → ℕ → Permissions → Result Window Self.E };
 
     /// The error of an access in part, of the expected and the completed bytes.
     ghost partial: { ℕ → ℕ → Self.E };
@@ -45,7 +51,8 @@ pub trait Bytes<A>: Named {
     ) -> Result<usize, Self::E>
         requires { Holds (shape_of host.old) (Self.names self.now) }
         ensures answer { let r = reach self.now host.old.tables addr (length buf.now) Write in
-            Outcome no_memory (may_want self.now) (counted (span r.windows) r.fault (length buf.now)) (host.new ≡ host.old)
+            Outcome no_memory (may_want self.now)
+            (counted (span r.windows) r.fault (length buf.now)) (host.new ≡ host.old)
             (Writes B.marks r.windows buf.now host.old host.new) result }
         ensures at_most { IfOk result (λ count. count ≤ length buf.now) }
         ensures shape { shape_of host.new ≡ shape_of host.old };
@@ -59,7 +66,8 @@ pub trait Bytes<A>: Named {
     ) -> Result<usize, Self::E>
         requires { Holds (shape_of host.now) (Self.names self.now) }
         ensures answer { let r = reach self.now host.now.tables addr (length buf.old) Read in
-            Outcome no_memory (may_want self.now) (counted (span r.windows) r.fault (length buf.old)) (buf.new ≡ buf.old)
+            Outcome no_memory (may_want self.now)
+            (counted (span r.windows) r.fault (length buf.old)) (buf.new ≡ buf.old)
             (buf.new ≡ filled host.now.blocks (cells r.windows) buf.old) result }
         ensures at_most { IfOk result (λ count. count ≤ length buf.old) };
 
@@ -73,7 +81,8 @@ pub trait Bytes<A>: Named {
     ) -> Result<(), Self::E>
         requires { Holds (shape_of host.old) (Self.names self.now) }
         ensures answer { let r = reach self.now host.old.tables addr (length buf.now) Write in
-            Outcome no_memory (may_want self.now) (exactly partial (span r.windows) r.fault (length buf.now)) (host.new ≡ host.old)
+            Outcome no_memory (may_want self.now)
+            (exactly partial (span r.windows) r.fault (length buf.now)) (host.new ≡ host.old)
             (Writes B.marks r.windows buf.now host.old host.new) result }
         ensures shape { shape_of host.new ≡ shape_of host.old };
 
@@ -87,6 +96,67 @@ pub trait Bytes<A>: Named {
     ) -> Result<(), Self::E>
         requires { Holds (shape_of host.now) (Self.names self.now) }
         ensures answer { let r = reach self.now host.now.tables addr (length buf.old) Read in
-            Outcome no_memory (may_want self.now) (exactly partial (span r.windows) r.fault (length buf.old)) (buf.new ≡ buf.old)
+            Outcome no_memory (may_want self.now)
+            (exactly partial (span r.windows) r.fault (length buf.old)) (buf.new ≡ buf.old)
             (buf.new ≡ filled host.now.blocks (cells r.windows) buf.old) result };
+
+    /// Writes a value, as `write_slice` writes its bytes.
+    fn write_obj<T: ByteValued, B: Bitmap>(
+        &self,
+        host: &mut HostMemory<B>,
+        val: T,
+        addr: A,
+    ) -> Result<(), Self::E>
+        requires { Holds (shape_of host.old) (Self.names self.now) }
+        ensures answer { T.width < 2 ^ 64 → let r = reach self.now host.old.tables addr T.width Write in
+            Outcome no_memory (may_want self.now)
+            (exactly partial (span r.windows) r.fault T.width) (host.new ≡ host.old)
+            (Writes B.marks r.windows (T.bytes val) host.old host.new) result }
+        ensures shape { shape_of host.new ≡ shape_of host.old };
+
+    /// Reads a value, as `read_slice` reads its bytes.
+    fn read_obj<T: ByteValued, B: Bitmap>(
+        &self,
+        host: &HostMemory<B>,
+        addr: A,
+    ) -> Result<T, Self::E>
+        requires { Holds (shape_of host.now) (Self.names self.now) }
+        ensures { T.width < 2 ^ 64 → let r = reach self.now host.now.tables addr T.width Read in
+            Outcome no_memory (may_want self.now)
+            (answered (λ _. T.value_of (bytes_at host.now.blocks (cells r.windows)))
+            (exactly partial (span r.windows) r.fault T.width))
+            (Unit {0}) (Unit {0}) result };
+
+    /// Stores a value as one atomic integer, in one window at a place that is a multiple of the value's size.
+    /// Every store is sequentially consistent, whichever order is asked for.
+    fn store<T: AtomicAccess, B: Bitmap>(
+        &self,
+        host: &mut HostMemory<B>,
+        val: T,
+        addr: A,
+        order: Ordering,
+    ) -> Result<(), Self::E>
+        requires { Holds (shape_of host.old) (Self.names self.now) }
+        ensures answer { let w = place self.now host.old.tables addr T.width Write in
+            Outcome no_memory (may_want self.now) (answered (λ _. tt) w) (host.new ≡ host.old)
+            (Writes B.marks (given w) (T.bytes val) host.old host.new) result }
+        ensures shape { shape_of host.new ≡ shape_of host.old };
+
+    /// Loads a value as one atomic integer, from one window at a place that is a multiple of the value's size.
+    /// Every load is sequentially consistent, whichever order is asked for.
+    fn load<T: AtomicAccess, B: Bitmap>(
+        &self,
+        host: &HostMemory<B>,
+        addr: A,
+        order: Ordering,
+    ) -> Result<T, Self::E>
+        requires { Holds (shape_of host.now) (Self.names self.now) }
+        ensures { let w = place self.now host.now.tables addr T.width Read in
+            Outcome no_memory (may_want self.now)
+            (answered (λ v. T.value_of (bytes_at host.now.blocks (cells_of v))) w)
+            (Unit {0}) (Unit {0}) result };
+
+    /// A load or a store of so many bytes takes as many.
+    ghost place_has_all: { (m : Self) (tables : List Table) (addr : A) (n : ℕ) (access : Permissions)
+        → IfOk (place m tables addr n access) (λ w. w.size ≡ n) };
 }

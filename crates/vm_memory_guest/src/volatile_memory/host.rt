@@ -1,14 +1,18 @@
 //! Host memory: every block, bitmap and space, which each access is lent.
-ghost use Rattle.std.specs.Prelude.{◌≡◌, ℕ, ◌+◌, ◌-◌, ◌^◌, ◌<◌, ◌≤◌, ◌↔◌, ◌⊎◌, [], ◌∷◌, ◌++◌, List, length, take, drop, map, replicate, slice_get, slice_set, nat_lt, All, IsTrue, Some, IfOk, IfSome, OnOk, OnErr, IsErrOf};
+ghost use Rattle.std.specs.Prelude.{◌≡◌, ◌≢◌, ℕ, ◌+◌, ◌-◌, ◌*◌, ◌^◌, ◌<◌, ◌≤◌, ◌↔◌, ◌⊎◌, [], ◌∷◌, ◌++◌, List, length, take, drop, map, replicate, slice_get, slice_set, nat_lt, All, IsTrue, Some, IfOk, IfSome, OnOk, OnErr, IsErrOf};
 ghost use Rattle.vm_memory_guest.specs.Host as names;
-ghost use Rattle.vm_memory_guest.specs.Host.{Host, Shape, shape_of, Name, IsHeld, Holds, block_at, bytes_at, cells_from, written};
+ghost use Rattle.vm_memory_guest.specs.Host.{Host, Shape, with_block, with_space, shape_of, Name, IsHeld, Holds, block_at, bytes_at, cells_from, written};
+ghost use Rattle.std.specs.List.{flat_map};
+ghost use Rattle.vm_memory_base.specs.Bytes.{values_of};
 ghost use Rattle.vm_memory_guest.specs.Inside.{blocks_of};
+ghost use Rattle.vm_memory_guest.specs.Typed.{size_of};
 
+use super::block::{copy_in, part_of, put_in, put_value_in, put_values_in, value_in};
 use super::slice::VolatileSlice;
 use std::alloc::{AllocError, Global};
 use std::marker::Model;
 use thiserror::Error;
-use vm_memory_base::{Bitmap, BitmapId, BitmapRef, NewBitmap};
+use vm_memory_base::{Bitmap, BitmapId, BitmapRef, ByteValued, NewBitmap};
 
 /// The number of a block of a host, from 0 in the order of making.
 #[derive(Clone, Copy, Debug, PartialEq, Eq)]
@@ -140,7 +144,12 @@ impl<B> Model for HostMemory<B> {
 
     ghost use Rattle.vm_memory_guest.specs.Inside.{IsSound, blocks_of};
 
-    ghost view = { λ h. record { blocks = blocks_of h.blocks; bitmaps = h.bitmaps.items; spaces = h.spaces.items; tables = [] } };
+    ghost view = { λ h. record {
+      blocks = blocks_of h.blocks;
+      bitmaps = h.bitmaps.items;
+      spaces = h.spaces.items;
+      tables = [];
+    } };
 
     ghost invariant = { λ h. IsSound h.shape (blocks_of h.blocks) h.bitmaps.items h.spaces.items };
 }
@@ -191,11 +200,12 @@ impl<B> HostMemory<B> {
     where
         B: Drop,
         ensures number { IfOk result (λ block. block.0 ≡ length self.old.blocks) }
-        ensures ok { OnOk result (self.new ≡ record self.old { blocks = self.old.blocks ++ replicate size 0 ∷ []; bitmaps = self.old.bitmaps ++ bitmap ∷ [] }) }
+        ensures ok { OnOk result (self.new ≡ with_block self.old size bitmap) }
         ensures invalid { IsErrOf result MmapRegionError.InvalidSize ↔ ((size ≡ 0) ⊎ (2 ^ 63 ≤ size)) }
         ensures sized { OnOk result ((0 < size) × (size < 2 ^ 63)) }
         ensures err { OnErr result (self.new ≡ self.old) }
-        ensures kept { (names : List Name) → Holds (shape_of self.old) names → Holds (shape_of self.new) names }
+        ensures kept { (names : List Name) → Holds (shape_of self.old) names
+            → Holds (shape_of self.new) names }
     {
         if size == 0 || size > MAX_BLOCK {
             return Err(MmapRegionError::InvalidSize);
@@ -211,7 +221,7 @@ impl<B> HostMemory<B> {
         requires some { 0 < size }
         requires bound { size < 2 ^ 63 }
         ensures number { IfOk result (λ block. block.0 ≡ length self.old.blocks) }
-        ensures ok { OnOk result (self.new ≡ record self.old { blocks = self.old.blocks ++ replicate size 0 ∷ []; bitmaps = self.old.bitmaps ++ bitmap ∷ [] }) }
+        ensures ok { OnOk result (self.new ≡ with_block self.old size bitmap) }
         ensures err { OnErr result (self.new ≡ self.old) }
     {
         let bytes = zeroed(self.alloc, size)?;
@@ -229,9 +239,10 @@ impl<B> HostMemory<B> {
     where
         B: Drop,
         ensures number { IfOk result (λ space. space.0 ≡ length self.old.spaces) }
-        ensures ok { OnOk result (self.new ≡ record self.old { spaces = self.old.spaces ++ bitmap ∷ [] }) }
+        ensures ok { OnOk result (self.new ≡ with_space self.old bitmap) }
         ensures err { OnErr result (self.new ≡ self.old) }
-        ensures kept { (names : List Name) → Holds (shape_of self.old) names → Holds (shape_of self.new) names }
+        ensures kept { (names : List Name) → Holds (shape_of self.old) names
+            → Holds (shape_of self.new) names }
     {
         self.add_space(bitmap)
     }
@@ -240,7 +251,7 @@ impl<B> HostMemory<B> {
     where
         B: Drop,
         ensures number { IfOk result (λ space. space.0 ≡ length self.old.spaces) }
-        ensures ok { OnOk result (self.new ≡ record self.old { spaces = self.old.spaces ++ bitmap ∷ [] }) }
+        ensures ok { OnOk result (self.new ≡ with_space self.old bitmap) }
         ensures err { OnErr result (self.new ≡ self.old) }
     {
         let space = SpaceId(self.spaces.len());
@@ -289,7 +300,9 @@ impl<B> HostMemory<B> {
     // Moves bytes to a place of a block.
     fn put(&mut self, block: usize, offset: usize, bytes: &[u8])
         requires { Holds (shape_of self.old) (names.Place block offset (length bytes.now) ∷ []) }
-        ensures { self.new ≡ record self.old { blocks = written (cells_from block offset (length bytes.now)) bytes.now self.old.blocks } }
+        ensures put { let cells = cells_from block offset (length bytes.now) in
+            self.new ≡ record self.old { blocks = written cells bytes.now self.old.blocks } }
+        ensures shape { shape_of self.new ≡ shape_of self.old }
     {
         put_in(&mut self.blocks, block, offset, bytes);
     }
@@ -313,6 +326,20 @@ impl<B> HostMemory<B> {
         }
     }
 
+    // Marks the bytes of a window, unless there are none.
+    #[inline]
+    fn mark_window(&mut self, window: &VolatileSlice)
+    where
+        B: Bitmap,
+        requires { Holds (shape_of self.old) (bitmap_name window.now.bitmap.id ∷ []) }
+        ensures marks { MarksWindow B.marks window.now self.old self.new }
+        ensures shape { shape_of self.new ≡ shape_of self.old }
+    {
+        if window.size > 0 {
+            self.mark(window.bitmap, window.size);
+        }
+    }
+
     /// Moves bytes into a window of as many, and marks them, unless there are none.
     pub fn write(&mut self, window: &VolatileSlice, bytes: &[u8])
     where
@@ -323,9 +350,142 @@ impl<B> HostMemory<B> {
         ensures shape { shape_of self.new ≡ shape_of self.old }
     {
         self.put(window.block.0, window.offset, bytes);
-        if window.size > 0 {
-            self.mark(window.bitmap, window.size);
+        self.mark_window(window);
+    }
+
+    // Moves the bytes of a value, from byte `from` on, to a place of a block.
+    #[inline]
+    fn put_value<T: ByteValued>(&mut self, window: &VolatileSlice, value: &T, from: usize)
+        requires held { let w = window.now in
+            Holds (shape_of self.old) (names.Place w.block.0 w.offset w.size ∷ []) }
+        requires inside { from + window.now.size ≤ T.width }
+        requires fits { from + window.now.size < 2 ^ 64 }
+        ensures put { let bytes = take window.now.size (drop from (T.bytes value.now)) in
+            self.new ≡ record self.old { blocks = written (cells_of window.now) bytes self.old.blocks } }
+        ensures shape { shape_of self.new ≡ shape_of self.old }
+    {
+        put_value_in(
+            &mut self.blocks,
+            window.block.0,
+            window.offset,
+            window.size,
+            value,
+            from,
+        );
+    }
+
+    /// Moves the bytes of a value, from byte `from` on, into a window, and marks them, unless there are none.
+    #[inline]
+    pub(crate) fn write_value<T: ByteValued>(
+        &mut self,
+        window: &VolatileSlice,
+        value: &T,
+        from: usize,
+    )
+    where
+        B: Bitmap,
+        requires held { Holds (shape_of self.old) (window_names window.now) }
+        requires inside { from + window.now.size ≤ T.width }
+        requires fits { from + window.now.size < 2 ^ 64 }
+        ensures bytes { Writes B.marks (window.now ∷ []) (drop from (T.bytes value.now)) self.old self.new }
+        ensures shape { shape_of self.new ≡ shape_of self.old }
+    {
+        self.put_value(window, value, from);
+        self.mark_window(window);
+    }
+
+    // Moves the bytes of values, one after the other, to a place of a block.
+    fn put_values<T: ByteValued>(&mut self, window: &VolatileSlice, values: &[T])
+        requires held { let w = window.now in
+            Holds (shape_of self.old) (names.Place w.block.0 w.offset w.size ∷ []) }
+        requires size { window.now.size ≡ length values.now * size_of T.width }
+        ensures put { T.width < 2 ^ 64 → self.new ≡ record self.old {
+          blocks = written (cells_of window.now) (flat_map T.bytes values.now) self.old.blocks;
+        } }
+        ensures shape { shape_of self.new ≡ shape_of self.old }
+    {
+        let blocks = &mut self.blocks;
+        put_values_in(blocks, window.block.0, window.offset, window.size, values);
+    }
+
+    /// Moves the bytes of values, one after the other, into a window of as many, and marks them, unless there
+    /// are none.
+    pub(crate) fn write_values<T: ByteValued>(&mut self, window: &VolatileSlice, values: &[T])
+    where
+        B: Bitmap,
+        requires held { Holds (shape_of self.old) (window_names window.now) }
+        requires size { window.now.size ≡ length values.now * size_of T.width }
+        ensures bytes { T.width < 2 ^ 64
+            → Writes B.marks (window.now ∷ []) (flat_map T.bytes values.now) self.old self.new }
+        ensures shape { shape_of self.new ≡ shape_of self.old }
+    {
+        self.put_values(window, values);
+        self.mark_window(window);
+    }
+
+    /// Replaces values by those whose bytes a window has at its front, one after the other.
+    pub(crate) fn read_values<T: ByteValued>(&self, window: &VolatileSlice, values: &mut [T])
+        requires held { Holds (shape_of self.now) (window_names window.now) }
+        requires size { length values.old * size_of T.width ≤ window.now.size }
+        ensures { T.width < 2 ^ 64 → values.new
+            ≡ values_of T.value_of T.width (length values.old) (bytes_at self.now.blocks (cells_of window.now)) }
+    {
+        let bytes = self.bytes(window);
+        for k in 0..values.len() {
+            values[k] = value_in(bytes, k);
         }
+    }
+
+    // Moves the bytes of a window to another of as many, as they were.
+    fn move_bytes(&mut self, from: &VolatileSlice, to: &VolatileSlice)
+        requires from { let w = from.now in
+            Holds (shape_of self.old) (names.Place w.block.0 w.offset w.size ∷ []) }
+        requires to { Holds (shape_of self.old) (names.Place to.now.block.0 to.now.offset to.now.size ∷ []) }
+        requires size { from.now.size ≡ to.now.size }
+        ensures put { self.new ≡ record self.old {
+          blocks = written (cells_of to.now) (bytes_at self.old.blocks (cells_of from.now)) self.old.blocks;
+        } }
+        ensures shape { shape_of self.new ≡ shape_of self.old }
+    {
+        let blocks = &mut self.blocks;
+        copy_in(
+            blocks,
+            from.block.0,
+            from.offset,
+            to.block.0,
+            to.offset,
+            to.size,
+        );
+    }
+
+    /// Moves the bytes of a window to another of as many, as they were, also where the two overlap, and marks
+    /// the other's, unless there are none.
+    pub(crate) fn copy(&mut self, from: &VolatileSlice, to: &VolatileSlice)
+    where
+        B: Bitmap,
+        requires from { Holds (shape_of self.old) (window_names from.now) }
+        requires to { Holds (shape_of self.old) (window_names to.now) }
+        requires size { from.now.size ≡ to.now.size }
+        ensures bytes { let bytes = bytes_at self.old.blocks (cells_of from.now) in
+            Writes B.marks (to.now ∷ []) bytes self.old self.new }
+        ensures shape { shape_of self.new ≡ shape_of self.old }
+    {
+        self.move_bytes(from, to);
+        self.mark_window(to);
+    }
+
+    /// The value whose bytes a window has.
+    #[inline]
+    pub(crate) fn value<T: ByteValued>(&self, window: &VolatileSlice) -> T
+        requires held { Holds (shape_of self.now) (window_names window.now) }
+        requires size { window.now.size ≤ T.width }
+        ensures { window.now.size ≡ T.width
+            → result ≡ T.value_of (bytes_at self.now.blocks (cells_of window.now)) }
+    {
+        let mut value = T::zeroed();
+        value.set_bytes(0, self.bytes(window));
+        value.known();
+        value
     }
 }
 
@@ -333,11 +493,12 @@ impl<B: NewBitmap + Drop> HostMemory<B> {
     /// Makes a block of `size` zeroed bytes, tracked by a new bitmap for as many, as `new_block_with` does.
     pub fn new_block(&mut self, size: usize) -> Result<BlockId, MmapRegionError>
         ensures number { IfOk result (λ block. block.0 ≡ length self.old.blocks) }
-        ensures ok { OnOk result ((bitmap : B) × B.made size bitmap × (self.new ≡ record self.old { blocks = self.old.blocks ++ replicate size 0 ∷ []; bitmaps = self.old.bitmaps ++ bitmap ∷ [] })) }
+        ensures ok { OnOk result ((bitmap : B) × B.made size bitmap × (self.new ≡ with_block self.old size bitmap)) }
         ensures invalid { IsErrOf result MmapRegionError.InvalidSize ↔ ((size ≡ 0) ⊎ (2 ^ 63 ≤ size)) }
         ensures sized { OnOk result ((0 < size) × (size < 2 ^ 63)) }
         ensures err { OnErr result (self.new ≡ self.old) }
-        ensures kept { (names : List Name) → Holds (shape_of self.old) names → Holds (shape_of self.new) names }
+        ensures kept { (names : List Name) → Holds (shape_of self.old) names
+            → Holds (shape_of self.new) names }
     {
         if size == 0 || size > MAX_BLOCK {
             return Err(MmapRegionError::InvalidSize);
@@ -353,31 +514,4 @@ fn zeroed(alloc: Global, size: usize) -> Result<Vec<u8>, AllocError>
     ensures { IfOk result (λ bytes. bytes.items ≡ replicate size 0) }
 {
     vec![in alloc; 0u8; size]
-}
-
-// The bytes of a block from an offset on.
-#[tactic(auto, using(crate::proofs::HostLemmas::block_lemmas))]
-fn part_of(blocks: &Vec<Vec<u8>>, block: usize, offset: usize, len: usize) -> &[u8]
-    requires there { block < length blocks.now.items }
-    requires within { offset + len ≤ length (block_at (blocks_of blocks.now) block) }
-    ensures { result.now ≡ bytes_at (blocks_of blocks.now) (cells_from block offset len) }
-{
-    &blocks[block].as_slice()[offset..offset + len]
-}
-
-// Moves bytes into a block at once.
-fn put_in(blocks: &mut Vec<Vec<u8>>, block: usize, offset: usize, bytes: &[u8])
-    requires there { block < length blocks.old.items }
-    requires within { offset + length bytes.now ≤ length (block_at (blocks_of blocks.old) block) }
-    ensures { blocks_of blocks.new ≡ written (cells_from block offset (length bytes.now)) bytes.now (blocks_of blocks.old) }
-{
-    let all = &mut blocks[block];
-    move_into(all.as_mut_slice(), offset, bytes);
-}
-
-fn move_into(block: &mut [u8], offset: usize, bytes: &[u8])
-    requires { offset + length bytes.now ≤ length block.old }
-    ensures { block.new ≡ take offset block.old ++ bytes.now ++ drop (offset + length bytes.now) block.old }
-{
-    block[offset..offset + bytes.len()].copy_from_slice(bytes);
 }

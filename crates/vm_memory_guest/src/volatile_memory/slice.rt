@@ -1,13 +1,22 @@
 //! Windows of host memory.
-ghost use Rattle.std.specs.Prelude.{◌≡◌, ℕ, ◌+◌, ◌-◌, ◌^◌, ◌<◌, ◌≤◌, ◌↔◌, ◌∷◌, [], ◌==◌, cond, nat_lt, IsTrue, IfOk, MatchResult};
-ghost use Rattle.vm_memory_guest.specs.Window.{window_names, part, offset_of, subslice_of};
+ghost use Rattle.std.specs.Prelude.{◌≡◌, ℕ, ◌+◌, ◌-◌, ◌*◌, ◌/◌, ◌%◌, ◌^◌, ◌++◌, min, length, take, drop, ◌<◌, ◌≤◌, ◌↔◌, ◌∷◌, [], ◌==◌, cond, nat_lt, IsTrue, IfOk, MatchResult};
+ghost use Rattle.std.specs.List.{flat_map};
+ghost use Rattle.vm_memory_base.specs.Bytes.{values_of};
+ghost use Rattle.vm_memory_guest.specs.Host.{shape_of, bytes_at, Holds};
+ghost use Rattle.vm_memory_guest.specs.Window.{window_names, cells_of, part, offset_of, subslice_of, Writes};
 ghost use Rattle.vm_memory_guest.specs.Answer.{window_reach};
+ghost use Rattle.vm_memory_guest.specs.Copy.{front, Copies};
+ghost use Rattle.vm_memory_guest.specs.Typed.{aligned_of, answered, size_of};
+ghost use Rattle.vm_memory_guest.specs.TypedFacts.{aligned-sized};
 ghost use Rattle.vm_memory_base.specs.declared.io.VolatileMemoryError.TheVariants.{PartialBuffer, Memory};
 
 use super::access::Bytes;
 use super::host::{BlockId, HostMemory, HostShape, Named};
 use std::marker::Model;
-use vm_memory_base::{Bitmap, BitmapRef, VolatileMemoryError, VolatileMemoryResult};
+use std::sync::atomic::Ordering;
+use vm_memory_base::{
+    AtomicAccess, Bitmap, BitmapRef, ByteValued, VolatileMemoryError, VolatileMemoryResult,
+};
 
 /// A window: so many bytes of a block from an offset on, and the view of a bitmap that writes mark.
 ///
@@ -113,8 +122,26 @@ impl VolatileSlice {
         Ok(self.part(count, self.size - count))
     }
 
+    /// The first `mid` bytes, and the bytes from there on. Refused as `offset` is.
     #[inline]
-    fn part(&self, offset: usize, size: usize) -> Self
+    pub fn split_at(&self, mid: usize) -> VolatileMemoryResult<(Self, Self)>
+        ensures { result ≡ answered (λ end. (front self.now mid, end)) (offset_of self.now mid) }
+    {
+        let end = self.offset(mid)?;
+        Ok((self.front(mid), end))
+    }
+
+    // The first `size` bytes.
+    #[inline]
+    pub(super) fn front(&self, size: usize) -> Self
+        requires { size ≤ self.now.size }
+        ensures { result ≡ front self.now size }
+    {
+        VolatileSlice { size, ..*self }
+    }
+
+    #[inline]
+    pub(super) fn part(&self, offset: usize, size: usize) -> Self
         requires { offset + size ≤ self.now.size }
         ensures { result ≡ part self.now offset size }
     {
@@ -140,7 +167,9 @@ impl VolatileSlice {
     #[inline]
     fn reached(&self, offset: usize, count: usize) -> VolatileMemoryResult<VolatileSlice>
         requires { 0 < count }
-        ensures reach { MatchResult result (λ w. window_reach self.now offset count ≡ record { windows = w ∷ []; fault = None }) (λ e. window_reach self.now offset count ≡ record { windows = []; fault = Some e }) }
+        ensures reach { let reach = window_reach self.now offset count in
+            MatchResult result (λ w. reach ≡ record { windows = w ∷ []; fault = None })
+            (λ e. reach ≡ record { windows = []; fault = Some e }) }
         ensures at_most { IfOk result (λ w. w.size ≤ count) }
     {
         if offset >= self.size {
@@ -150,10 +179,39 @@ impl VolatileSlice {
     }
 }
 
+impl VolatileSlice {
+    // Whether the place in the block is a multiple of `size`.
+    #[inline]
+    pub(crate) fn is_aligned(&self, size: usize) -> bool
+        requires { 0 < size }
+        ensures { result ≡ (self.now.offset % size == 0) }
+    {
+        self.offset % size == 0
+    }
+
+    // `size` bytes from an offset on, whose place in the block is a multiple of `size`.
+    #[inline]
+    fn aligned(&self, offset: usize, size: usize) -> VolatileMemoryResult<VolatileSlice>
+        requires { 0 < size }
+        ensures { result ≡ aligned_of self.now offset size }
+    {
+        let window = self.subslice(offset, size)?;
+        if !window.is_aligned(size) {
+            return Err(VolatileMemoryError::Misaligned {
+                addr: window.offset,
+                alignment: size,
+            });
+        }
+        Ok(window)
+    }
+}
+
 impl Bytes<usize> for VolatileSlice {
     type E = VolatileMemoryError;
 
     ghost reach = { λ w tables offset count access. window_reach w offset count };
+
+    ghost place = { λ w tables offset size access. aligned_of w offset size };
 
     ghost partial = { PartialBuffer };
 
@@ -215,11 +273,71 @@ impl Bytes<usize> for VolatileSlice {
         let completed = self.read(host, buf, addr)?;
         whole(expected, completed)
     }
+
+    #[inline]
+    fn write_obj<T: ByteValued, B: Bitmap>(
+        &self,
+        host: &mut HostMemory<B>,
+        val: T,
+        addr: usize,
+    ) -> VolatileMemoryResult<()> {
+        let expected = T::size();
+        if expected == 0 {
+            return Ok(());
+        }
+        let window = self.reached(addr, expected)?;
+        host.write_value(&window, &val, 0);
+        whole(expected, window.len())
+    }
+
+    #[inline]
+    fn read_obj<T: ByteValued, B: Bitmap>(
+        &self,
+        host: &HostMemory<B>,
+        addr: usize,
+    ) -> VolatileMemoryResult<T> {
+        let expected = T::size();
+        if expected == 0 {
+            let value = T::zeroed();
+            value.known();
+            return Ok(value);
+        }
+        let window = self.reached(addr, expected)?;
+        whole(expected, window.len())?;
+        Ok(host.value(&window))
+    }
+
+    #[inline]
+    fn store<T: AtomicAccess, B: Bitmap>(
+        &self,
+        host: &mut HostMemory<B>,
+        val: T,
+        addr: usize,
+        _order: Ordering,
+    ) -> VolatileMemoryResult<()> {
+        let window = self.aligned(addr, T::size())?;
+        host.write_value(&window, &val, 0);
+        Ok(())
+    }
+
+    #[inline]
+    fn load<T: AtomicAccess, B: Bitmap>(
+        &self,
+        host: &HostMemory<B>,
+        addr: usize,
+        _order: Ordering,
+    ) -> VolatileMemoryResult<T> {
+        let window = self.aligned(addr, T::size())?;
+        Ok(host.value(&window))
+    }
+
+    ghost place_has_all = { λ w tables offset size access. aligned-sized w offset size };
 }
 
 // Whether all that was expected was completed.
 fn whole(expected: usize, completed: usize) -> VolatileMemoryResult<()>
-    ensures { result ≡ cond (completed == expected) (Ok tt) (Err (VolatileMemoryError.PartialBuffer expected completed)) }
+    ensures { let short = VolatileMemoryError.PartialBuffer expected completed in
+        result ≡ cond (completed == expected) (Ok tt) (Err short) }
 {
     if completed != expected {
         return Err(VolatileMemoryError::PartialBuffer {
@@ -228,4 +346,49 @@ fn whole(expected: usize, completed: usize) -> VolatileMemoryResult<()>
         });
     }
     Ok(())
+}
+
+impl VolatileSlice {
+    /// Copies its first bytes to the front of another window, as many as both have. They are copied as they
+    /// were, also where the two overlap, and marked in the other.
+    #[inline]
+    pub fn copy_to_volatile_slice<B: Bitmap>(&self, host: &mut HostMemory<B>, slice: VolatileSlice)
+        requires from { Holds (shape_of host.old) (window_names self.now) }
+        requires to { Holds (shape_of host.old) (window_names slice) }
+        ensures bytes { Copies B.marks self.now slice host.old host.new }
+        ensures shape { shape_of host.new ≡ shape_of host.old }
+    {
+        let count = self.size.min(slice.size);
+        host.copy(&self.front(count), &slice.front(count));
+    }
+
+    /// Copies values out of its first bytes, as many as it has whole and the buffer has room for, and answers
+    /// how many.
+    #[inline]
+    pub fn copy_to<T: ByteValued, B: Bitmap>(&self, host: &HostMemory<B>, buf: &mut [T]) -> usize
+        requires held { Holds (shape_of host.now) (window_names self.now) }
+        requires some { 0 < T.width }
+        ensures count { result ≡ min (length buf.old) (self.now.size / size_of T.width) }
+        ensures values { T.width < 2 ^ 64 → buf.new
+            ≡ values_of T.value_of T.width result (bytes_at host.now.blocks (cells_of self.now))
+            ++ drop result buf.old }
+    {
+        let count = buf.len().min(self.size / T::size());
+        host.read_values(self, &mut buf[..count]);
+        count
+    }
+
+    /// Copies the bytes of values to its front, as many as it has room for whole, and marks these bytes.
+    #[inline]
+    pub fn copy_from<T: ByteValued, B: Bitmap>(&self, host: &mut HostMemory<B>, buf: &[T])
+        requires held { Holds (shape_of host.old) (window_names self.now) }
+        requires some { 0 < T.width }
+        ensures bytes { T.width < 2 ^ 64 → let count = min (length buf.now) (self.now.size / T.width) in
+            Writes B.marks (front self.now (count * T.width) ∷ []) (flat_map T.bytes (take count buf.now)) host.old host.new }
+        ensures shape { shape_of host.new ≡ shape_of host.old }
+    {
+        let size = T::size();
+        let count = buf.len().min(self.size / size);
+        host.write_values(&self.front(count * size), &buf[..count]);
+    }
 }

@@ -1,8 +1,8 @@
-use Rattle.std.proofs.Common.{List, ◌≡◌, ◌++◌, ◌∷◌, [], map, flat_map}
+use Rattle.std.proofs.Common.{◌≡◌, ◌++◌, ◌∷◌, [], map}
 use Rattle.std.proofs.lemmas.List.Elements.{All-push}
 use Rattle.vm_memory_guest.specs.Collection.{regions_of}
-use Rattle.vm_memory_guest.specs.Host.{Holds, shape_of}
-use Rattle.vm_memory_guest.specs.Region.{region_names}
+use Rattle.vm_memory_guest.specs.Host.{shape_of}
+use Rattle.vm_memory.specs.Parts.{HoldsRegions}
 use Rattle.vm_memory.proofs.NamedLemmas.{named-among}
 use Rattle.vm_memory.proofs.machine.Machine.from_regions.Goals as goal
 
@@ -14,15 +14,14 @@ invariant_of-self-2 g c =
     let layout = c.in-Ok-from_arc_regions.layout in
     let pushed : c.push.new.self.items ≡ inside.layouts.items ++ layout ∷ [] =
     rw c.if-is_err.ensures.negation at c.push.ensures.items in
-    let IsHeld : List g.row.R.Denot → Type 0 = λ rs. Holds (shape_of inside.host) (flat_map region_names (map region rs)) in
     let pool = map region (regions_of inside.regions) in
     let chosen = map region (regions_of c.in-Ok.regions) in
     let among = named-among pool c.args.numbers.now chosen c.in-Ok.ensures in
-    let names : IsHeld layout =
+    let names : HoldsRegions region inside.host layout =
     rw c.in-Ok-from_arc_regions.ensures.1
     (c.regions_are_held_one_by_one.ensures.among (shape_of inside.host) pool chosen held.pool among) in
     record {
       pool = held.pool;
-      layouts = rw pushed (All-push IsHeld inside.layouts.items layout held.layouts names);
+      layouts = rw pushed (All-push (HoldsRegions region inside.host) inside.layouts.items layout held.layouts names);
       memories = held.memories;
     }

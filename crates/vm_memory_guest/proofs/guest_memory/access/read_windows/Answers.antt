@@ -1,4 +1,4 @@
-use Rattle.std.proofs.Common.{◌≡◌, ◌∙◌, ◌+◌, ◌≤◌, sym, ap, length, arith}
+use Rattle.std.proofs.Common.{◌∙◌, ◌+◌, ◌≤◌, sym, ap, length, arith}
 use Rattle.vm_memory_guest.specs.Host.{Holds, shape_of}
 use Rattle.vm_memory_guest.specs.Walk.{items_of}
 use Rattle.vm_memory_guest.specs.Window.{window_names}

@@ -1,0 +1,63 @@
+use crate::{Bitmap, ExactBitmap, ExclusiveBitmap, NewBitmap};
+use std::alloc::AllocError;
+use std::num::NonZeroUsize;
+use std::process::Abort;
+use std::test::Fail;
+
+#[test]
+fn words_of_marks(rt: HostRuntime) -> Result<(), Fail> {
+    let mut bitmap = ExclusiveBitmap::new(rt.alloc(), 200, NonZeroUsize::MIN)?;
+    assert!(rt; bitmap.len() == 200);
+    assert!(rt; bitmap.byte_size() == 200);
+    let cases = [
+        (60, 10, [0xf000_0000_0000_0000, 0x3f, 0, 0]),
+        (190, usize::MAX, [0, 0, 0xc000_0000_0000_0000, 0xff]),
+        (0, 0, [0; 4]),
+        (200, 1, [0; 4]),
+    ];
+    for (offset, len, wanted) in cases {
+        bitmap.mark_dirty(offset, len);
+        let words = bitmap.get_and_reset(rt.alloc())?;
+        assert!(rt; words.as_slice() == wanted.as_slice());
+    }
+    bitmap.mark_dirty(0, 130);
+    bitmap.reset_addr_range(64, 64);
+    let words = bitmap.get_and_reset(rt.alloc())?;
+    assert!(rt; words.as_slice() == [u64::MAX, 0, 3, 0].as_slice());
+    bitmap.mark_dirty(5, 1);
+    bitmap.reset();
+    assert!(rt; !bitmap.dirty_at(5));
+    Ok(())
+}
+
+// Marks a bitmap of pages of 0x1000 bytes and takes the dirty pages.
+fn marks_and_harvests<B: ExactBitmap>(
+    rt: &impl Abort,
+    bitmap: &mut B,
+    alloc: std::alloc::Global,
+) -> Result<(), AllocError> {
+    bitmap.mark_dirty(0xfff, 2);
+    bitmap.mark_dirty(0x2000, 0);
+    assert!(rt; bitmap.dirty_at(0x1fff));
+    assert!(rt; !bitmap.dirty_at(0x2000));
+    assert!(rt; bitmap.shape() == Some((0x1000, 3)));
+    let pages = bitmap.harvest(alloc)?;
+    assert!(rt; pages.as_slice() == [0, 1].as_slice());
+    let pages = bitmap.harvest(alloc)?;
+    assert!(rt; pages.len() == 0);
+    Ok(())
+}
+
+#[test]
+fn harvests(rt: HostRuntime) -> Result<(), Fail> {
+    let mut bitmap = ExclusiveBitmap::with_len(rt.alloc(), 0x2001)?;
+    marks_and_harvests(&rt, &mut bitmap, rt.alloc())?;
+    marks_and_harvests(&rt, &mut Some(bitmap), rt.alloc())?;
+    let mut none: Option<ExclusiveBitmap> = None;
+    none.mark_dirty(0, 1);
+    assert!(rt; !none.dirty_at(0));
+    assert!(rt; none.shape().is_none());
+    assert!(rt; none.harvest(rt.alloc())?.len() == 0);
+    assert!(rt; ().harvest(rt.alloc())?.len() == 0);
+    Ok(())
+}

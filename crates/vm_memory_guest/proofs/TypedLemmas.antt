@@ -1,0 +1,95 @@
+-- Values that are moved into blocks and out of them.
+use Rattle.std.proofs.Common.{◌≡◌, ℕ, zero, suc, ◌+◌, ◌-◌, ◌<◌, ◌≤◌, List, [], ◌∷◌, ◌++◌, map, length, get_or, set, take, drop, replicate, Ok, refl, sym, ap, ◌∙◌, subst, arith, append-nil, append_assoc, drop-drop, take-append-drop, length-append, length-drop, length-take-le, Vec}
+use Rattle.std.proofs.lemmas.List.{map-set, with_items_is}
+use Rattle.std.specs.Vec.{with_item, with_items}
+use Rattle.std.specs.declared.alloc.Global.{Global}
+use Rattle.vm_memory_base.specs.Table.{Table}
+use Rattle.vm_memory_base.specs.declared.io.VolatileMemoryError.TheVariants.{PartialBuffer}
+use Rattle.vm_memory_guest.specs.Answer.{exactly, window_reach}
+use Rattle.vm_memory_guest.specs.Typed.{answered}
+use Rattle.vm_memory_guest.specs.Host.{Cell, Host, Name, Shape, Holds, shape_of, block_at, bytes_at, cells_from, written}
+use Rattle.vm_memory_guest.specs.Inside.{IsSound, blocks_of}
+use Rattle.vm_memory_guest.specs.Window.{Window, MarksWindow, Writes, cells, cells_of, span}
+use Rattle.vm_memory_guest.proofs.MarkLaws.{shape_of-written, Writes-one}
+use Rattle.vm_memory_guest.proofs.WrittenLaws.{written-block, written-take, lengths-written, length-cells_from, length-bytes_at}
+
+-- a block of which a part is replaced by as many bytes
+block-put : (blocks : Vec (Vec ℕ Global) Global) (block offset len : ℕ) (all : Vec ℕ Global) (old bytes : List ℕ)
+    → block < length (blocks_of blocks) → all.items ≡ block_at (blocks_of blocks) block → old ≡ all.items → length bytes ≡ len
+    → offset + len ≤ length (block_at (blocks_of blocks) block)
+    → blocks_of (with_item blocks block (with_items all (take offset old ++ (bytes ++ drop (offset + len - offset) (drop offset old)))))
+    ≡ written (cells_from block offset len) bytes (blocks_of blocks)
+block-put blocks block offset len all old bytes there is same long within =
+    let whole = block_at (blocks_of blocks) block in
+    let count : offset + len - offset ≡ len = omega arith in
+    let new = take offset whole ++ bytes ++ drop (offset + length bytes) whole in
+    let back : drop (offset + len - offset) (drop offset old) ≡ drop (offset + length bytes) whole =
+    ap (λ (k : ℕ). drop k (drop offset old)) (count ∙ sym long) ∙ drop-drop (length bytes) offset old ∙ ap (drop (offset + length bytes)) (same ∙ is) in
+    let moved : take offset old ++ (bytes ++ drop (offset + len - offset) (drop offset old)) ≡ new =
+    rw (back, same, is) (sym (append_assoc (take offset whole) bytes (drop (offset + length bytes) whole))) in
+    let front = length-take-le offset whole (omega arith) in
+    let rest = length-drop (offset + length bytes) whole in
+    let total : length new ≡ length whole =
+    let a = length-append (take offset whole ++ bytes) (drop (offset + length bytes) whole) in
+    let b = length-append (take offset whole) bytes in
+    omega arith in
+    let kept : length new ≡ all.len = let k = ap length is in let l = all.ok.0 in omega arith in
+    let here : offset + length bytes ≤ length whole = omega arith in
+    rw moved (map-set (λ (v : Vec ℕ Global). v.items) blocks.items block (with_items all new)
+    ∙ ap (set (blocks_of blocks) block) (with_items_is all new kept)
+    ∙ (sym (written-block block offset bytes (blocks_of blocks) there here) ∙ ap (λ (n : ℕ). written (cells_from block offset n) bytes (blocks_of blocks)) long))
+
+-- the part of a block that lies at a place has as many bytes
+pub place-long : (block : List ℕ) (offset len : ℕ) → offset + len ≤ length block → length (take (offset + len - offset) (drop offset block)) ≡ len
+place-long block offset len within =
+    let rest = length-drop offset block in
+    let enough : offset + len - offset ≤ length (drop offset block) = omega arith in
+    let long = length-take-le (offset + len - offset) (drop offset block) enough in
+    omega arith
+
+-- a block whose part at a place was changed
+pub place-put : (blocks : Vec (Vec ℕ Global) Global) (block offset len : ℕ) (all : Vec ℕ Global) (old bytes : List ℕ)
+    → block < length (blocks_of blocks) → all.items ≡ block_at (blocks_of blocks) block → old ≡ all.items
+    → offset + len ≤ length (block_at (blocks_of blocks) block) → length bytes ≡ length (take (offset + len - offset) (drop offset old))
+    → blocks_of (with_item blocks block (with_items all (take offset old ++ (bytes ++ drop (offset + len - offset) (drop offset old)))))
+    ≡ written (cells_from block offset len) bytes (blocks_of blocks)
+place-put blocks block offset len all old bytes there is same within kept =
+    let whole : length old ≡ length (block_at (blocks_of blocks) block) = ap length (same ∙ is) in
+    block-put blocks block offset len all old bytes there is same (kept ∙ place-long old offset len (omega arith)) within
+
+-- a host whose blocks are as long as before is as sound
+pub sound-put : {B : Type 0} (shape : Shape) (old new : List (List ℕ)) (bitmaps spaces : List B) → map length new ≡ map length old
+    → IsSound shape old bitmaps spaces → IsSound shape new bitmaps spaces
+sound-put shape old new bitmaps spaces same sound = record {
+  lengths = rw same sound.lengths;
+  spaces_counted = sound.spaces_counted;
+  tables_counted = sound.tables_counted;
+  tracked = rw same sound.tracked;
+  sized = rw same sound.sized;
+}
+
+-- the window is marked behind the write of its bytes
+pub Writes-put : {B : Type 0} (marks : B → ℕ → ℕ → B → Type 0) (w : Window) (bytes : List ℕ) (old put new : Host B) (k : ℕ) → k ≡ w.size
+    → put ≡ record old { blocks = written (cells_of w) (take k bytes) old.blocks } → MarksWindow marks w put new → Writes marks (w ∷ []) bytes old new
+Writes-put {B} marks w bytes old put new k all is marked =
+    let count : k ≡ length (cells_of w) = all ∙ sym (length-cells_from w.block.0 w.offset w.size) in
+    let same : written (cells_of w) (take k bytes) old.blocks ≡ written (cells_of w) bytes old.blocks =
+    ap (λ (n : ℕ). written (cells_of w) (take n bytes) old.blocks) count ∙ sym (written-take (cells_of w) bytes old.blocks) in
+    Writes-one marks w bytes old new (subst (λ (h : Host B). MarksWindow marks w h new) (is ∙ ap (λ (bs : List (List ℕ)). record old { blocks = bs }) same) marked)
+
+-- each block keeps its length
+pub lengths-put : (cells : List Cell) (bytes : List ℕ) (old new : List (List ℕ)) → new ≡ written cells bytes old → map length new ≡ map length old
+lengths-put cells bytes old new is = ap (map length) is ∙ lengths-written cells bytes old
+
+-- a host whose blocks are as long as before has the shape that it had
+pub shape-put : {B : Type 0} (old new : List (List ℕ)) (bitmaps spaces : List B) (tables : List Table) → map length new ≡ map length old
+    → shape_of (record { blocks = new; bitmaps = bitmaps; spaces = spaces; tables = tables }) ≡ shape_of (record { blocks = old; bitmaps = bitmaps; spaces = spaces; tables = tables })
+shape-put old new bitmaps spaces tables same = ap (λ (ls : List ℕ). record { blocks = ls; spaces = length spaces; tables = length tables }) same
+
+-- a value of no bytes is read anywhere
+pub empty-value : {V : Type 0} (value_of : List ℕ → V) (w : Window) (offset width : ℕ) (blocks : List (List ℕ)) (value : V) (bytes : List ℕ)
+    → width ≡ 0 → bytes ≡ replicate width 0 → value_of bytes ≡ value
+    → let r = window_reach w offset width in Ok value ≡ answered (λ done. value_of (bytes_at blocks (cells r.windows))) (exactly PartialBuffer (span r.windows) r.fault width)
+empty-value {V} value_of w offset width blocks value bytes none zeros same =
+    let empty : bytes ≡ [] = zeros ∙ ap (λ (n : ℕ). replicate n 0) none in
+    rw none (ap (λ (v : V). Ok v) (sym same ∙ ap value_of empty))

@@ -1,0 +1,28 @@
+use Rattle.std.proofs.Common.{◌≡◌, ◌⊎◌, option_map, subst, arith}
+use Rattle.std.proofs.lemmas.Result.{err_from_is_err_and}
+use Rattle.vm_memory_base.specs.declared.iotlb.Permissions.TheVariants.{Read}
+use Rattle.vm_memory_guest.specs.Error.{error_of}
+use Rattle.vm_memory_guest.specs.Host.{Holds, bytes_at, shape_of}
+use Rattle.vm_memory_guest.specs.Walk.{RefusesAccess, WantsMemory}
+use Rattle.vm_memory_guest.specs.Window.{cells_of, window_names}
+use Rattle.vm_memory_guest.proofs.AccessLemmas.{walk-held}
+use Rattle.vm_memory_guest.proofs.TypedWalk.{first-held, typed-refused}
+use Rattle.vm_memory_guest.proofs.guest_memory.access.AnyBytesGuestAddress.load.Goals as goal
+
+pub returns-in_err-walk : goal.returns-in_err-walk
+returns-in_err-walk g c =
+    let p = err_from_is_err_and c.from_residual.result c.from_residual.ensures.1 in
+    let memory = g.T.GuestMemory.memory c.args.self.now in
+    let host = c.args.host.now in
+    let e = c.in_err-walk.field-0.0 in
+    let width : c.size.result ≡ g.V.ByteValued.width = omega (arith, c.size.ensures, g.met.V.AtomicAccess.fits_word.1) in
+    let why = subst (λ n. WantsMemory memory e ⊎ RefusesAccess memory host.tables c.args.addr.0 n Read e) width c.in_err-walk.ensures.answer in
+    rw (p.1, p.2) (typed-refused memory host.tables c.args.addr.0 g.V.ByteValued.width Read (λ w. g.V.ByteValued.value_of (bytes_at host.blocks (cells_of w))) (Unit {0}) (λ ws. Unit {0}) e why tt tt)
+
+pub value-requires-clause-held : goal.value-requires-clause-held
+value-requires-clause-held g c =
+    let memory = g.T.GuestMemory.memory c.args.self.now in
+    let host = c.args.host.now in
+    let walk = c.in_ok-walk.walk in
+    let each = walk-held memory host.tables c.args.addr.0 c.size.result Read walk c.in_ok-walk.ensures.answer (shape_of host) (g.T.Named.names c.args.self.now) (g.met.T.GuestMemory.each_fits c.args.self.now) (g.met.T.GuestMemory.names_memory c.args.self.now) c.requires in
+    first-held (λ w. Holds (shape_of host) (window_names w)) c.size-2.result walk.windows (option_map error_of walk.fault) c.in_ok-window.window c.in_ok-window.ensures each

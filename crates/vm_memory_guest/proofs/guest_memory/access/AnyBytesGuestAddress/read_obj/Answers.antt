@@ -1,0 +1,46 @@
+use Rattle.std.proofs.Common.{◌≡◌, ◌⊎◌, ◌≤◌, [], ◌∙◌, ap, sym, subst, arith, length}
+use Rattle.std.proofs.lemmas.Result.{err_from_is_err_and}
+use Rattle.std.proofs.lemmas.List.{length-replicate}
+use Rattle.vm_memory_base.specs.declared.iotlb.Permissions.TheVariants.{Read}
+use Rattle.vm_memory_guest.specs.Answer.{exactly}
+use Rattle.vm_memory_guest.specs.Host.{bytes_at, shape_of}
+use Rattle.vm_memory_guest.specs.Typed.{answered}
+use Rattle.vm_memory_guest.specs.Walk.{GivesAccess, RefusesAccess, WantsMemory}
+use Rattle.vm_memory_guest.specs.Window.{cells, span}
+use Rattle.vm_memory_guest.specs.declared.region.GuestMemoryError.TheVariants.{PartialBuffer}
+use Rattle.vm_memory_guest.proofs.AccessLemmas.{walk-held, walk-fits, walk-asked}
+use Rattle.vm_memory_guest.proofs.TypedWalk.{asked-of, exactly-none, completed-whole, value-read, value-refused}
+use Rattle.vm_memory_guest.proofs.guest_memory.access.AnyBytesGuestAddress.read_obj.Goals as goal
+
+pub returns-in_err-walk : goal.returns-in_err-walk
+returns-in_err-walk g c short =
+    let p = err_from_is_err_and c.from_residual.result c.from_residual.ensures.1 in
+    let memory = g.T.GuestMemory.memory c.args.self.now in
+    let host = c.args.host.now in
+    let e = c.in_err-walk.field-0.0 in
+    let width : c.size.result ≡ g.V.ByteValued.width = omega (arith, c.size.ensures) in
+    let why = subst (λ n. WantsMemory memory e ⊎ RefusesAccess memory host.tables c.args.addr.0 n Read e) width c.in_err-walk.ensures.answer in
+    rw (p.1, p.2) (value-refused memory host.tables c.args.addr.0 g.V.ByteValued.width Read (λ r. answered (λ done. g.V.ByteValued.value_of (bytes_at host.blocks (cells r.windows))) (exactly PartialBuffer (span r.windows) r.fault g.V.ByteValued.width)) (Unit {0}) (λ ws. Unit {0}) e why (λ some. ap (answered (λ done. g.V.ByteValued.value_of [])) (exactly-none g.V.ByteValued.width e some)) tt tt)
+
+pub read_value-requires-clause-held : goal.read_value-requires-clause-held
+read_value-requires-clause-held g c =
+    walk-held (g.T.GuestMemory.memory c.args.self.now) c.args.host.now.tables c.args.addr.0 c.size.result Read c.in_ok-walk.walk c.in_ok-walk.ensures.answer (shape_of c.args.host.now) (g.T.Named.names c.args.self.now) (g.met.T.GuestMemory.each_fits c.args.self.now) (g.met.T.GuestMemory.names_memory c.args.self.now) c.requires
+
+pub read_value-requires-clause-fits : goal.read_value-requires-clause-fits
+read_value-requires-clause-fits g c = subst (λ n. span c.in_ok-walk.walk.windows ≤ n) c.size.ensures (walk-fits (g.T.GuestMemory.memory c.args.self.now) c.args.host.now.tables c.args.addr.0 c.size.result Read c.in_ok-walk.walk c.in_ok-walk.ensures.answer)
+
+pub read_value-requires-clause-asked : goal.read_value-requires-clause-asked
+read_value-requires-clause-asked g c =
+    asked-of c.in_ok-walk.walk.fault c.size.result g.V.ByteValued.width c.size.ensures (walk-asked (g.T.GuestMemory.memory c.args.self.now) c.args.host.now.tables c.args.addr.0 c.size.result Read c.in_ok-walk.walk c.in_ok-walk.ensures.answer)
+
+pub returns : goal.returns
+returns g c short =
+    let memory = g.T.GuestMemory.memory c.args.self.now in
+    let host = c.args.host.now in
+    let walk = c.in_ok-walk.walk in
+    let width : c.size.result ≡ g.V.ByteValued.width = omega (arith, c.size.ensures) in
+    let gives = subst (λ n. GivesAccess memory host.tables c.args.addr.0 n Read walk) width c.in_ok-walk.ensures.answer in
+    let all : c.in_ok-completed.completed ≡ g.V.ByteValued.width = completed-whole c.in_ok-completed.completed c.size-2.result c.in_ok-whole.field-0 c.in_ok-whole.ensures ∙ (c.size-2.ensures ∙ sym c.size.ensures ∙ width) in
+    let zeros = ap length c.zeroed-value.ensures ∙ length-replicate g.V.ByteValued.width 0 in
+    let value = g.met.V.ByteValued.laws.from_bytes c.read_value.new.value c.known.ensures in
+    (value-read memory host.tables c.args.addr.0 g.V.ByteValued.width Read walk gives host.blocks c.read_value.new.value g.V.ByteValued.value_of (g.V.ByteValued.bytes c.zeroed-value.result) (g.V.ByteValued.bytes c.read_value.new.value) c.in_ok-completed.completed c.in_ok-completed.ensures.answer all zeros c.in_ok-completed.ensures.bytes value, tt)

@@ -1,0 +1,90 @@
+//! What the definitions of loads, stores, copies and arrays say in small cases: each function here is a
+//! theorem, and does nothing.
+ghost use Rattle.std.specs.Prelude.{◌≡◌, ◌-◌, ◌^◌, false, true, [], ◌∷◌, None, Ok, Err};
+ghost use Rattle.vm_memory_base.specs.Table.{Set, new_table_after};
+ghost use Rattle.vm_memory_base.specs.declared.io.VolatileMemoryError.TheVariants.{
+  Misaligned,
+  OutOfBounds,
+  TooBig,
+};
+ghost use Rattle.vm_memory_base.specs.declared.iotlb.Permissions.TheVariants.{Read, Write, ReadWrite};
+ghost use Rattle.vm_memory_base.specs.declared.iotlb.Reason.TheVariants.{AccessNotAllowed};
+ghost use Rattle.vm_memory_guest.specs.Access.{access_of};
+ghost use Rattle.vm_memory_guest.specs.Copy.{after_copy};
+ghost use Rattle.vm_memory_guest.specs.Dirt.{after_write, bytes_read};
+ghost use Rattle.vm_memory_guest.specs.Examples.{backed_region, block_window, cannot_resolve, clean_pages};
+ghost use Rattle.vm_memory_guest.specs.Examples.{host_of, one_region, pages_of, touching_regions};
+ghost use Rattle.vm_memory_guest.specs.Host.{cells_from};
+ghost use Rattle.vm_memory_guest.specs.Memory.{Direct, Through};
+ghost use Rattle.vm_memory_guest.specs.Typed.{aligned_of, answered, path_given, typed_path};
+ghost use Rattle.vm_memory_guest.specs.Volatile.{array_of, element_at};
+ghost use Rattle.vm_memory_guest.specs.Window.{subslice_of};
+ghost use Rattle.vm_memory_guest.specs.declared.region.GuestMemoryError.TheVariants.{
+  InvalidBackendAddress,
+  InvalidGuestAddress,
+};
+
+/// The alignment of a load or a store is that of its place in the block, wherever the window begins.
+pub fn alignment_is_by_the_block()
+    ensures aligned { aligned_of (block_window 0 0x11 8) 1 2 ≡ Ok (block_window 0 0x12 2) }
+    ensures misaligned { aligned_of (block_window 0 0x10 8) 1 2 ≡ Err (Misaligned 0x11 2) }
+    ensures past_the_end { aligned_of (block_window 0 0x10 8) 5 4 ≡ Err (OutOfBounds 9) }
+{}
+
+/// A value in one of two touching regions is loaded, at a multiple of its size. One that lies in both is not,
+/// also where these are neighbours in one block, nor one that ends in a hole. One that begins in a hole is
+/// refused as any access.
+pub fn loads_over_touching_regions()
+    ensures inside { let host = host_of ((1 ∷ 2 ∷ 3 ∷ 4 ∷ []) ∷ (5 ∷ 6 ∷ 7 ∷ 8 ∷ []) ∷ []) (None ∷ None ∷ []) [] [] in
+        answered (λ xs. bytes_read xs host) (typed_path 2 (access_of touching_regions Direct 6 2 Read))
+        ≡ Ok (7 ∷ 8 ∷ []) }
+    ensures in_both { typed_path 4 (access_of touching_regions Direct 2 4 Read) ≡ Err InvalidBackendAddress }
+    ensures in_both_of_one_block { let regions = backed_region 0 4 0 0 ∷ backed_region 4 4 0 4 ∷ [] in
+        typed_path 8 (access_of regions Direct 0 8 Read) ≡ Err InvalidBackendAddress }
+    ensures misaligned { let regions = backed_region 1 4 0 0 ∷ [] in
+        typed_path 2 (access_of regions Direct 2 2 Read) ≡ Err InvalidBackendAddress }
+    ensures aligned_in_the_block { let regions = backed_region 1 4 0 0 ∷ [] in
+        let host = host_of ((1 ∷ 2 ∷ 3 ∷ 4 ∷ []) ∷ []) (None ∷ []) [] [] in
+        answered (λ xs. bytes_read xs host) (typed_path 2 (access_of regions Direct 3 2 Read)) ≡ Ok (3 ∷ 4 ∷ []) }
+    ensures ends_in_a_hole { typed_path 4 (access_of (one_region 4) Direct 2 4 Read) ≡ Err InvalidBackendAddress }
+    ensures begins_in_a_hole { typed_path 4 (access_of (one_region 4) Direct 4 4 Read)
+        ≡ Err (InvalidGuestAddress (record { 0 = 4 })) }
+{}
+
+/// With an IOMMU a store marks the space, does not go over two mappings, and is refused where it is not
+/// permitted.
+pub fn stores_with_an_iommu()
+    ensures refused { let route = Through (new_table_after (Set 8 0 4 Read ∷ [])) 0 in
+        typed_path 2 (access_of (one_region 4) route 8 2 Write) ≡ Err (cannot_resolve 8 2 AccessNotAllowed) }
+    ensures two_mappings { let route = Through (new_table_after (Set 8 0 2 ReadWrite ∷ Set 10 2 2 Write ∷ [])) 0 in
+        typed_path 4 (access_of (one_region 4) route 8 4 Write) ≡ Err InvalidBackendAddress }
+    ensures left { let route = Through (new_table_after (Set 8 0 4 Write ∷ [])) 0 in
+        after_write (path_given (typed_path 2 (access_of (one_region 4) route 10 2 Write))) (7 ∷ 9 ∷ [])
+        (host_of ((1 ∷ 2 ∷ 3 ∷ 4 ∷ []) ∷ []) (clean_pages 4 1 ∷ []) (clean_pages 4 3 ∷ []) [])
+        ≡ host_of ((1 ∷ 2 ∷ 7 ∷ 9 ∷ []) ∷ []) (clean_pages 4 1 ∷ []) (pages_of 4 (false ∷ false ∷ true ∷ []) ∷ []) [] }
+{}
+
+/// Bytes are copied as they were, also over one another, and the pages of those that were copied to are dirty.
+pub fn copies_that_overlap()
+    ensures upwards { after_copy (cells_from 0 0 4) (cells_from 0 2 4)
+        (host_of ((1 ∷ 2 ∷ 3 ∷ 4 ∷ 5 ∷ 6 ∷ []) ∷ []) (clean_pages 2 3 ∷ []) [] [])
+        ≡ host_of ((1 ∷ 2 ∷ 1 ∷ 2 ∷ 3 ∷ 4 ∷ []) ∷ []) (pages_of 2 (false ∷ true ∷ true ∷ []) ∷ []) [] [] }
+    ensures downwards { after_copy (cells_from 0 2 4) (cells_from 0 0 4)
+        (host_of ((1 ∷ 2 ∷ 3 ∷ 4 ∷ 5 ∷ 6 ∷ []) ∷ []) (clean_pages 2 3 ∷ []) [] [])
+        ≡ host_of ((3 ∷ 4 ∷ 5 ∷ 6 ∷ 5 ∷ 6 ∷ []) ∷ []) (pages_of 2 (true ∷ true ∷ false ∷ []) ∷ []) [] [] }
+    ensures to_another_block { after_copy (cells_from 0 1 2) (cells_from 1 0 2)
+        (host_of ((1 ∷ 2 ∷ 3 ∷ []) ∷ (7 ∷ 8 ∷ 9 ∷ []) ∷ []) (clean_pages 2 2 ∷ clean_pages 2 2 ∷ []) [] [])
+        ≡ host_of ((1 ∷ 2 ∷ 3 ∷ []) ∷ (2 ∷ 3 ∷ 9 ∷ []) ∷ [])
+        (clean_pages 2 2 ∷ pages_of 2 (true ∷ false ∷ []) ∷ []) [] [] }
+{}
+
+/// An array has the window of its values' bytes. One whose values or bytes are too many is refused as such,
+/// wherever it is.
+pub fn arrays_in_a_window()
+    ensures inside { array_of (subslice_of (block_window 0 0x10 8) 2) 3 2
+        ≡ Ok (record { window = block_window 0 0x12 6; count = 3 }) }
+    ensures past_the_end { array_of (subslice_of (block_window 0 0x10 8) 4) 3 2 ≡ Err (OutOfBounds 10) }
+    ensures too_big { array_of (subslice_of (block_window 0 0x10 8) 0) (2 ^ 62) 2 ≡ Err (TooBig (2 ^ 62) 2) }
+    ensures too_many { array_of (subslice_of (block_window 0 0x10 8) (2 ^ 64 - 1)) (2 ^ 63) 0 ≡ Err (TooBig (2 ^ 63) 0) }
+    ensures element { element_at (record { window = block_window 0 0x12 6; count = 3 }) 2 1 ≡ block_window 0 0x14 2 }
+{}
