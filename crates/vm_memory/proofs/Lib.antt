@@ -1,4 +1,6 @@
 pub mod AccessLemmas
+pub mod BitmapLemmas
 pub mod ListLemmas
 pub mod NamedLemmas
+pub mod RoundsLemmas
 pub mod StepLemmas

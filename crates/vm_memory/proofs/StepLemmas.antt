@@ -1,12 +1,14 @@
 -- Steps and runs of the model.
 use Rattle.std.proofs.Common.{◌≡◌, ℕ, List, [], ◌∷◌, ◌++◌, length, Bool, true, false, ◌&&◌, ◌==◌, nat_lt, cond, Option, Some, None, Ok, Err, subst, ap, ◌∙◌, refl, inl, inr, arith, slice_get, option_map}
 use Rattle.std.proofs.lemmas.Bool.{eqb-true}
+use Rattle.vm_memory_base.specs.Pages.{dirty_pages, cleaned}
 use Rattle.vm_memory_base.specs.declared.iotlb.Permissions.TheVariants as permissions
 use Rattle.vm_memory_guest.specs.Access.{Reached}
 use Rattle.vm_memory_guest.specs.Answer.{counted}
 use Rattle.vm_memory_guest.specs.Dirt.{after_write}
 use Rattle.vm_memory_guest.specs.Error.{error_of}
 use Rattle.vm_memory_guest.specs.Region.{Region, layout_error}
+use Rattle.vm_memory_guest.specs.Window.{bitmap_of, with_bitmap}
 use Rattle.vm_memory_guest.specs.declared.region.GuestMemoryError.{GuestMemoryError}
 use Rattle.vm_memory_guest.specs.declared.region.GuestRegionCollectionError.{GuestRegionCollectionError}
 use Rattle.vm_memory.specs.State.{State, MachineMemory, named, plain, meaning}
@@ -30,6 +32,7 @@ abbrev pub IsStill : Reply → Type 0
 IsStill (reply.LayoutMade n) = ⊥
 IsStill (reply.MemoryMade n) = ⊥
 IsStill (reply.Count n) = ⊥
+IsStill (reply.Pages pages) = ⊥
 IsStill r = Unit {0}
 
 there : {X : Type 0} (old new : State) (o : Option X) (answer : X → Reply × State) (r : Reply)
@@ -81,3 +84,9 @@ still-step old new c r still step = elim step [ inl e ↦ go c e | inr want ↦ 
         there old new (slice_get old.memories memory) _ r (λ m f. ap (λ (p : Reply × State). p.1) f) e
     go (command.Write memory addr bytes) e =
         there old new (slice_get old.memories memory) _ r (λ m. wrote m addr.0 bytes) e
+    go (command.Dirty id) e =
+        there old new (bitmap_of old.host id) _ r (λ set f. ap (λ (p : Reply × State). p.1) f) e
+    go (command.Harvest id) e =
+        there old new (bitmap_of old.host id) _ r
+        (λ set f. absurd (no_change (with_host old (reply.Pages (dirty_pages set), with_bitmap old.host id (cleaned set))) f))
+        e

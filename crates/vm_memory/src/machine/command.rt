@@ -1,7 +1,7 @@
 //! Commands of a machine, and its replies.
 
 use super::list::{ByteList, NumberList};
-use vm_memory_base::{GuestAddress, IommuError};
+use vm_memory_base::{BitmapId, GuestAddress, IommuError};
 
 /// A call that a machine makes. Regions, layouts and memories go by number, from 0 in the order of making.
 #[derive(Debug, Drop)]
@@ -22,6 +22,10 @@ pub enum Command {
         addr: GuestAddress,
         bytes: ByteList,
     },
+    /// Asks for the dirty pages of a block's bitmap or of a space.
+    Dirty(BitmapId),
+    /// Takes the dirty pages of a block's bitmap or of a space: none of them is dirty then.
+    Harvest(BitmapId),
 }
 
 /// Why a call was refused: the error that it answered, by its name.
@@ -56,6 +60,8 @@ pub enum Reply {
     Count(usize),
     /// The bytes that were read.
     Bytes(ByteList),
+    /// The numbers of the dirty pages, ascending.
+    Pages(NumberList),
     /// The call was refused.
     Fault(Fault),
     /// A number names nothing.
