@@ -2,3 +2,4 @@ pub mod AccessLemmas
 pub mod ListLemmas
 pub mod NamedLemmas
 pub mod StepLemmas
+pub mod TypedLemmas

@@ -5,3 +5,4 @@ pub mod Parts
 pub mod Reply
 pub mod Script
 pub mod State
+pub mod Typed

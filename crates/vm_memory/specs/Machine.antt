@@ -1,5 +1,5 @@
 -- A machine as a model: what a command answers and leaves, a step of it, and a run of steps.
-use Rattle.std.specs.Prelude.{◌≡◌, ◌⊎◌, ◌<◌, List, [], ◌∷◌, ◌++◌, length, slice_get}
+use Rattle.std.specs.Prelude.{◌≡◌, ◌⊎◌, ◌<◌, IsTrue, List, [], ◌∷◌, ◌++◌, length, slice_get}
 use Rattle.std.specs.Prelude.{Option, Some, None, IsSome, IsSomeAnd}
 use Rattle.vm_memory_base.specs.Pages.{PageSet}
 use Rattle.vm_memory_guest.specs.Host.{Host}
@@ -7,8 +7,9 @@ use Rattle.vm_memory_guest.specs.Region.{Region, layout_error}
 use Rattle.vm_memory_guest.specs.declared.region.GuestRegionCollectionError.{GuestRegionCollectionError}
 use Rattle.vm_memory.specs.State.{State, MachineMemory, plain, meaning, named, IsOn}
 use Rattle.vm_memory.specs.Reply.{reads, writes, reply_of_layout_error}
+use Rattle.vm_memory.specs.Typed.{integer_of, fits_width, loads, stores}
 use Rattle.vm_memory.specs.declared.machine.command.Command.{Command}
-use Rattle.vm_memory.specs.declared.machine.command.Command.TheVariants.{FromRegions, Plain, Read, Write}
+use Rattle.vm_memory.specs.declared.machine.command.Command.TheVariants.{FromRegions, Plain, Read, Write, Store, Load}
 use Rattle.vm_memory.specs.declared.machine.command.Reply.{Reply}
 use Rattle.vm_memory.specs.declared.machine.command.Reply.TheVariants.{LayoutMade, MemoryMade, NoSuch, Memory}
 
@@ -41,6 +42,12 @@ outcome old (Read memory addr count) =
 outcome old (Write memory addr bytes) =
     if_there old (slice_get old.memories memory)
     (λ m. with_host old (writes (meaning m) old.host addr.0 bytes))
+outcome old (Store memory width addr value) =
+    if_there old (slice_get old.memories memory)
+    (λ m. with_host old (stores (meaning m) old.host addr.0 (integer_of width) value))
+outcome old (Load memory width addr) =
+    if_there old (slice_get old.memories memory)
+    (λ m. (loads (meaning m) old.host addr.0 (integer_of width), old))
 
 -- where memory may be wanting: for what is made, for the bytes that a read reserves, and for a translation
 abbrev pub MayWant : State → Command → Type 0
@@ -48,6 +55,9 @@ MayWant old (FromRegions numbers) = IsSome (named old.regions numbers)
 MayWant old (Plain layout) = IsSome (slice_get old.layouts layout)
 MayWant old (Read memory addr n) = IsSomeAnd (slice_get old.memories memory) (λ m. IsOn m ⊎ (0 < n))
 MayWant old (Write memory addr bytes) = IsSomeAnd (slice_get old.memories memory) IsOn
+MayWant old (Store memory width addr value) =
+    IsSomeAnd (slice_get old.memories memory) (λ m. IsOn m × IsTrue (fits_width (integer_of width) value))
+MayWant old (Load memory width addr) = IsSomeAnd (slice_get old.memories memory) IsOn
 
 -- from old, a machine may answer a command so and be in new then
 abbrev pub Step : State → Command → Reply → State → Type 0

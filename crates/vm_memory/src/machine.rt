@@ -9,6 +9,7 @@ mod accesses;
 pub mod command;
 mod layouts;
 pub mod list;
+mod typed;
 
 use command::{Command, Reply};
 use std::alloc::{AllocError, Global};
@@ -89,6 +90,17 @@ impl<R: GuestMemoryRegion, B: ExactBitmap> Machine<R, B> {
                 addr,
                 bytes,
             } => self.write(*memory, *addr, bytes.as_slice()),
+            Command::Store {
+                memory,
+                width,
+                addr,
+                value,
+            } => self.store(*memory, *width, *addr, *value),
+            Command::Load {
+                memory,
+                width,
+                addr,
+            } => self.load(*memory, *width, *addr),
         }
     }
 }
