@@ -4,3 +4,4 @@ pub mod ListLemmas
 pub mod NamedLemmas
 pub mod RoundsLemmas
 pub mod StepLemmas
+pub mod TypedLemmas

@@ -6,3 +6,4 @@ pub mod Reply
 pub mod Rounds
 pub mod Script
 pub mod State
+pub mod Typed

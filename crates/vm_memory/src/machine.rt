@@ -10,6 +10,7 @@ mod accesses;
 pub mod command;
 mod layouts;
 pub mod list;
+mod typed;
 mod rounds;
 
 use crate::machine_laws::runs_keep_images;
@@ -93,6 +94,17 @@ impl<R: GuestMemoryRegion, B: ExactBitmap> Machine<R, B> {
                 addr,
                 bytes,
             } => self.write(*memory, *addr, bytes.as_slice()),
+            Command::Store {
+                memory,
+                width,
+                addr,
+                value,
+            } => self.store(*memory, *width, *addr, *value),
+            Command::Load {
+                memory,
+                width,
+                addr,
+            } => self.load(*memory, *width, *addr),
             Command::Dirty(bitmap) => self.dirty(*bitmap),
             Command::Harvest(bitmap) => self.harvest(*bitmap),
         }

@@ -16,7 +16,7 @@ ghost use Rattle.vm_memory.specs.declared.machine.command.Command.{Command};
 ghost use Rattle.vm_memory.specs.declared.machine.command.Command.TheVariants as command;
 ghost use Rattle.vm_memory.specs.declared.machine.command.Command.TheVariants.{Harvest};
 ghost use Rattle.vm_memory.specs.declared.machine.command.Reply.{Reply};
-ghost use Rattle.vm_memory.specs.declared.machine.command.Reply.TheVariants.{Bytes, NoSuch, Memory};
+ghost use Rattle.vm_memory.specs.declared.machine.command.Reply.TheVariants.{Bytes, Value, NoSuch, BadRange, Memory};
 ghost use Rattle.vm_memory.specs.declared.machine.command.Reply.TheVariants as reply;
 ghost use Rattle.vm_memory.specs.declared.machine.command.Fault.{Fault};
 
@@ -25,12 +25,14 @@ use vm_memory_guest::effect_laws::{
     dirt_stays, named_pages_are_dirty, other_bytes_stay, path_writes_keep_shapes,
 };
 
-/// A command that is refused, or finds no memory, changes nothing, and neither does a read.
+/// A command that is refused, or finds no memory, changes nothing, and neither does a read or a load.
 pub fn refusals_change_nothing()
     ensures fault { (old new : State) (c : Command) (f : Fault) → Step old c (reply.Fault f) new → new ≡ old }
     ensures no_such { (old new : State) (c : Command) → Step old c NoSuch new → new ≡ old }
     ensures memory { (old new : State) (c : Command) → Step old c Memory new → new ≡ old }
     ensures read { (old new : State) (c : Command) (bytes : List ℕ) → Step old c (Bytes bytes) new → new ≡ old }
+    ensures load { (old new : State) (c : Command) (value : ℕ) → Step old c (Value value) new → new ≡ old }
+    ensures bad_range { (old new : State) (c : Command) → Step old c BadRange new → new ≡ old }
 {}
 
 /// An image that mirrors a block which its bitmap covers is kept by every run: at each state of it, patched

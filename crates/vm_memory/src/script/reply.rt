@@ -39,7 +39,9 @@ impl fmt::Display for Reply {
         match self {
             Reply::LayoutMade(number) => write!(f, "layout {number}"),
             Reply::MemoryMade(number) => write!(f, "memory {number}"),
+            Reply::Done => write!(f, "ok"),
             Reply::Count(count) => write!(f, "count {count}"),
+            Reply::Value(value) => write!(f, "value {value}"),
             Reply::Bytes(bytes) => write!(f, "bytes {}", Hex(bytes.as_slice())),
             Reply::Pages(pages) => write!(f, "pages {}", Numbers(pages.as_slice())),
             Reply::Fault(fault) => write!(f, "error {fault}"),
