@@ -1,4 +1,5 @@
 pub mod AccessLemmas
+pub mod CopyLemmas
 pub mod ListLemmas
 pub mod NamedLemmas
 pub mod StepLemmas

@@ -6,10 +6,11 @@ use Rattle.vm_memory_guest.specs.Host.{Host}
 use Rattle.vm_memory_guest.specs.Region.{Region, layout_error}
 use Rattle.vm_memory_guest.specs.declared.region.GuestRegionCollectionError.{GuestRegionCollectionError}
 use Rattle.vm_memory.specs.State.{State, MachineMemory, plain, meaning, named, IsOn}
+use Rattle.vm_memory.specs.Copy.{copies}
 use Rattle.vm_memory.specs.Reply.{reads, writes, reply_of_layout_error}
 use Rattle.vm_memory.specs.Typed.{integer_of, fits_width, loads, stores}
 use Rattle.vm_memory.specs.declared.machine.command.Command.{Command}
-use Rattle.vm_memory.specs.declared.machine.command.Command.TheVariants.{FromRegions, Plain, Read, Write, Store, Load}
+use Rattle.vm_memory.specs.declared.machine.command.Command.TheVariants.{FromRegions, Plain, Read, Write, Store, Load, Copy}
 use Rattle.vm_memory.specs.declared.machine.command.Reply.{Reply}
 use Rattle.vm_memory.specs.declared.machine.command.Reply.TheVariants.{LayoutMade, MemoryMade, NoSuch, Memory}
 
@@ -48,6 +49,7 @@ outcome old (Store memory width addr value) =
 outcome old (Load memory width addr) =
     if_there old (slice_get old.memories memory)
     (λ m. (loads (meaning m) old.host addr.0 (integer_of width), old))
+outcome old (Copy from to) = with_host old (copies old.host from to)
 
 -- where memory may be wanting: for what is made, for the bytes that a read reserves, and for a translation
 abbrev pub MayWant : State → Command → Type 0
@@ -58,6 +60,7 @@ MayWant old (Write memory addr bytes) = IsSomeAnd (slice_get old.memories memory
 MayWant old (Store memory width addr value) =
     IsSomeAnd (slice_get old.memories memory) (λ m. IsOn m × IsTrue (fits_width (integer_of width) value))
 MayWant old (Load memory width addr) = IsSomeAnd (slice_get old.memories memory) IsOn
+MayWant old (Copy from to) = ⊥
 
 -- from old, a machine may answer a command so and be in new then
 abbrev pub Step : State → Command → Reply → State → Type 0

@@ -7,6 +7,7 @@ ghost use Rattle.vm_memory.specs.Parts.{HoldsRegions, state_of};
 
 mod accesses;
 pub mod command;
+mod copies;
 mod layouts;
 pub mod list;
 mod typed;
@@ -101,6 +102,7 @@ impl<R: GuestMemoryRegion, B: ExactBitmap> Machine<R, B> {
                 width,
                 addr,
             } => self.load(*memory, *width, *addr),
+            Command::Copy { from, to } => self.copy(*from, *to),
         }
     }
 }

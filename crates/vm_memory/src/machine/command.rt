@@ -37,6 +37,19 @@ pub enum Command {
         width: Width,
         addr: GuestAddress,
     },
+    /// Copies the first bytes of a window to the front of another, as many as both have.
+    Copy {
+        from: BlockRange,
+        to: BlockRange,
+    },
+}
+
+/// A window of a block of the host: `len` bytes from `offset` on.
+#[derive(Clone, Copy, Debug, PartialEq, Eq)]
+pub struct BlockRange {
+    pub block: usize,
+    pub offset: usize,
+    pub len: usize,
 }
 
 /// How many bytes a value that is stored or loaded takes.
