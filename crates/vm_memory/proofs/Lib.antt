@@ -1,5 +1,6 @@
 pub mod AccessLemmas
 pub mod BitmapLemmas
+pub mod CopyLemmas
 pub mod ListLemmas
 pub mod NamedLemmas
 pub mod RoundsLemmas
