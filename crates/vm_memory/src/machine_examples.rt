@@ -14,8 +14,11 @@ ghost use Rattle.vm_memory.specs.Parts.{Parts, AreHeld, state_of};
 ghost use Rattle.vm_memory.specs.Reply.{reply_of_error, reply_of_layout_error};
 ghost use Rattle.vm_memory.specs.State.{State, plain};
 ghost use Rattle.vm_memory.specs.declared.machine.command.Command.TheVariants.{FromRegions, Plain, Read, Write};
+ghost use Rattle.vm_memory.specs.declared.machine.command.Command.TheVariants.{Store, Load};
 ghost use Rattle.vm_memory.specs.declared.machine.command.Reply.TheVariants.{LayoutMade, MemoryMade, Count, Bytes};
 ghost use Rattle.vm_memory.specs.declared.machine.command.Reply.TheVariants.{Fault, NoSuch, Memory};
+ghost use Rattle.vm_memory.specs.declared.machine.command.Reply.TheVariants.{Done, Value, BadRange};
+ghost use Rattle.vm_memory.specs.declared.machine.command.Width.TheVariants.{One, Two, Four, Eight};
 ghost use Rattle.vm_memory.specs.declared.machine.command.Fault.TheVariants as fault;
 
 /// The layout of regions of the pool is the next. No region at all, a region that reaches the next and a
@@ -113,6 +116,52 @@ pub fn accesses_of_a_memory_that_is_off()
         ) }
 {}
 
+/// A store leaves the bytes of its value, the lowest first, and marks their pages. It is refused where its
+/// place in the block is no multiple of its width, and where it lies in two regions. What it left is loaded.
+pub fn stores_are_answered()
+    ensures aligned { outcome machine (Store 0 Two (at 2) 2569)
+        ≡ (
+          Done,
+          record machine {
+            host = record host {
+              blocks = (1 ∷ 2 ∷ 9 ∷ 10 ∷ []) ∷ (5 ∷ 6 ∷ 7 ∷ 8 ∷ []) ∷ [];
+              bitmaps = block_pages false true ∷ block_pages false false ∷ [];
+            };
+          },
+        ) }
+    ensures misaligned { outcome machine (Store 0 Two (at 1) 9) ≡ (Fault fault.InvalidBackendAddress, machine) }
+    ensures over_two_regions { outcome machine (Store 0 Eight (at 0) 9)
+        ≡ (Fault fault.InvalidBackendAddress, machine) }
+    ensures in_a_hole { outcome machine (Store 0 One (at 8) 9) ≡ (Fault (no_region_at 8), machine) }
+    ensures too_great { outcome machine (Store 0 One (at 8) 256) ≡ (BadRange, machine) }
+    ensures no_memory { outcome machine (Store 3 One (at 0) 256) ≡ (NoSuch, machine) }
+    ensures translated { outcome machine (Store 1 Two (at 16) 2569)
+        ≡ (
+          Done,
+          record machine {
+            host = record host {
+              blocks = (1 ∷ 2 ∷ 9 ∷ 10 ∷ []) ∷ (5 ∷ 6 ∷ 7 ∷ 8 ∷ []) ∷ [];
+              spaces = space_pages false true ∷ [];
+            };
+          },
+        ) }
+    ensures not_allowed { outcome machine (Store 1 One (at 20) 9)
+        ≡ (Fault (not_translated 20 1 AccessNotAllowed), machine) }
+    ensures loaded { (outcome (outcome machine (Store 0 Two (at 2) 2569)).1 (Load 0 Two (at 2))).0 ≡ Value 2569 }
+{}
+
+/// A load replies the value of its bytes, and is refused where a store would be.
+pub fn loads_are_answered()
+    ensures word { outcome machine (Load 0 Four (at 4)) ≡ (Value 134678021, machine) }
+    ensures byte { outcome machine (Load 0 One (at 3)) ≡ (Value 4, machine) }
+    ensures misaligned { outcome machine (Load 0 Four (at 2)) ≡ (Fault fault.InvalidBackendAddress, machine) }
+    ensures bare_region { outcome machine (Load 0 Two (at 12))
+        ≡ (Fault fault.HostAddressNotAvailable, machine) }
+    ensures no_memory { outcome machine (Load 3 One (at 0)) ≡ (NoSuch, machine) }
+    ensures readable { outcome machine (Load 1 Four (at 20)) ≡ (Value 134678021, machine) }
+    ensures two_mappings { outcome machine (Load 1 Two (at 19)) ≡ (Fault fault.InvalidBackendAddress, machine) }
+{}
+
 /// Memory may be wanting for what is made, for the bytes of a read, and for a translation.
 pub fn who_may_want_memory()
     ensures layout { MayWant machine (FromRegions (0 ∷ [])) }
@@ -123,6 +172,11 @@ pub fn who_may_want_memory()
     ensures translated_read { MayWant machine (Read 1 (at 0) 0) }
     ensures translated_write { MayWant machine (Write 1 (at 0) (9 ∷ [])) }
     ensures write_that_is_off { MayWant machine (Write 2 (at 0) (9 ∷ [])) → ⊥ }
+    ensures store { MayWant machine (Store 0 One (at 0) 9) → ⊥ }
+    ensures translated_store { MayWant machine (Store 1 One (at 0) 9) }
+    ensures store_too_great { MayWant machine (Store 1 One (at 0) 256) → ⊥ }
+    ensures translated_load { MayWant machine (Load 1 One (at 0)) }
+    ensures load_that_is_off { MayWant machine (Load 2 One (at 0)) → ⊥ }
     ensures no_region { MayWant machine (FromRegions (0 ∷ 3 ∷ [])) → ⊥ }
     ensures no_layout { MayWant machine (Plain 1) → ⊥ }
     ensures no_memory { MayWant machine (Read 3 (at 0) 1) → ⊥ }

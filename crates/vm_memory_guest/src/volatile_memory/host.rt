@@ -1,5 +1,5 @@
 //! Host memory: every block, bitmap and space, which each access is lent.
-ghost use Rattle.std.specs.Prelude.{◌≡◌, ◌≢◌, ℕ, ◌+◌, ◌-◌, ◌*◌, ◌^◌, ◌<◌, ◌≤◌, ◌↔◌, ◌⊎◌, [], ◌∷◌, ◌++◌, List, length, take, drop, map, replicate, slice_get, slice_set, nat_lt, IsTrue, Some, IfOk, IfSome, OnOk, OnErr, IsErrOf};
+ghost use Rattle.std.specs.Prelude.{◌≡◌, ◌≢◌, ℕ, ◌+◌, ◌-◌, ◌*◌, ◌^◌, ◌<◌, ◌≤◌, ◌↔◌, ◌⊎◌, [], ◌∷◌, ◌++◌, List, length, take, drop, map, replicate, slice_get, slice_set, nat_lt, All, IsTrue, Some, IfOk, IfSome, OnOk, OnErr, IsErrOf};
 ghost use Rattle.vm_memory_guest.specs.Host as names;
 ghost use Rattle.vm_memory_guest.specs.Host.{Host, Shape, with_block, with_space, shape_of, Name, IsHeld, Holds, block_at, bytes_at, cells_from, written};
 ghost use Rattle.std.specs.List.{flat_map};
@@ -168,9 +168,11 @@ impl<B> HostMemory<B> {
         }
     }
 
-    /// What the host holds.
+    /// What the host holds. Each block has 1 to 2^63 - 1 bytes, and a bitmap.
     pub fn shape(&self) -> &HostShape
-        ensures { result.now ≡ shape_of self.now }
+        ensures value { result.now ≡ shape_of self.now }
+        ensures tracked { length self.now.bitmaps ≡ length self.now.blocks }
+        ensures sized { All (λ len. (0 < len) × (len < 2 ^ 63)) (shape_of self.now).blocks }
     {
         &self.shape
     }
