@@ -1,5 +1,5 @@
 -- An image that is patched in rounds, and the block that it mirrors.
-use Rattle.std.proofs.Common.{◌≡◌, ◌↔◌, ℕ, zero, suc, ◌+◌, ◌*◌, ◌/◌, ◌^◌, ◌<◌, ◌==◌, ◌≢◌, true, false, cond, List, [], ◌∷◌, map, length, get_or, Option, Some, None, option_map, Result, Ok, Err, IsSome, All, IfSome, Contains, refl, sym, ap, subst, ◌∙◌, inl, inr, arith, zero-add}
+use Rattle.std.proofs.Common.{◌≡◌, ◌↔◌, Bool, ◌&&◌, ◌%◌, ℕ, zero, suc, ◌+◌, ◌*◌, ◌/◌, ◌^◌, ◌<◌, ◌==◌, ◌≢◌, true, false, cond, List, [], ◌∷◌, map, length, get_or, Option, Some, None, option_map, Result, Ok, Err, IsSome, All, IfSome, Contains, refl, sym, ap, subst, ◌∙◌, inl, inr, arith, zero-add}
 use Rattle.std.proofs.lemmas.Bool.{eqb-true, eqb-false, cases_Bool, true≢false, cond-true, cond-false, false_from_ne_true}
 use Rattle.std.proofs.lemmas.Cmp.{nat_eq_equiv}
 use Rattle.std.proofs.lemmas.List.{length-map, get_or-map, get_or-set_same, get_or-set_other, ext_get_or}
@@ -9,6 +9,8 @@ use Rattle.std.proofs.lemmas.Map.Views.{list_any-from_Contains, Contains-from_an
 use Rattle.std.proofs.lemmas.Nat.{div_below}
 use Rattle.std.proofs.lemmas.Option.{slice_get_cases, slice_get_within, slice_get-map, get_or_from_slice_get}
 use Rattle.std.specs.Cmp.{both_ways}
+use Rattle.std.specs.Int as int
+use Rattle.std.specs.Int.{to_le_bytes}
 use Rattle.std.specs.List.{list_any, range_with_len, slice_get}
 use Rattle.vm_memory_base.specs.Address.{numbers}
 use Rattle.vm_memory_base.specs.Pages.{Pages, PageSet, shape, is_dirty_at, dirty_pages, cleaned}
@@ -20,17 +22,21 @@ use Rattle.vm_memory_base.specs.declared.iotlb.Permissions.{Permissions}
 use Rattle.vm_memory_base.specs.declared.iotlb.Permissions.TheVariants as permissions
 use Rattle.vm_memory_guest.specs.Access.{Reached, onto, meets, meets_at, path, access_of}
 use Rattle.vm_memory_guest.specs.Dirt.{pages_at, path_cells, after_write, bytes_read}
+use Rattle.vm_memory_guest.specs.Error.{error_of}
 use Rattle.vm_memory_guest.specs.Host.{Host, Cell, block_at, byte_at, written}
 use Rattle.vm_memory_guest.specs.Memory.{Behind, Direct, physical, route_behind}
 use Rattle.vm_memory_guest.specs.Region.{Region, Lies, Byte, Bare, Hole, cell, layout_error}
+use Rattle.vm_memory_guest.specs.Typed.{is_uncut, path_given, whole_path}
 use Rattle.vm_memory_guest.specs.Window.{bitmap_of, with_bitmap}
 use Rattle.vm_memory_guest.specs.declared.region.GuestMemoryError.{GuestMemoryError}
 use Rattle.vm_memory_guest.specs.declared.region.GuestMemoryError.TheVariants as errors
+use Rattle.vm_memory_guest.specs.declared.region.GuestMemoryError.TheVariants.{InvalidBackendAddress}
 use Rattle.vm_memory_guest.specs.declared.region.GuestRegionCollectionError.{GuestRegionCollectionError}
 use Rattle.vm_memory.specs.Machine.{Step, Run, if_there, new_layout, with_host, outcome}
 use Rattle.vm_memory.specs.Reply.{reached_by, answer_of, reply_of, writes}
 use Rattle.vm_memory.specs.Rounds.{patched, patched_by, patched_with, bytes_of, pages_of, image_now, image_after, MirrorsBlock, Cover, IsTracked, IsDirect, RunsDirectly, KeepsImage}
 use Rattle.vm_memory.specs.State.{State, MachineMemory, named, meaning, IsOn}
+use Rattle.vm_memory.specs.Typed.{integer_of, fits_width, taken_by, stores_bytes, stores}
 use Rattle.vm_memory.specs.declared.machine.command.Command.{Command}
 use Rattle.vm_memory.specs.declared.machine.command.Command.TheVariants as command
 use Rattle.vm_memory.specs.declared.machine.command.Reply.{Reply}
@@ -137,6 +143,17 @@ pub direct_marks : (o : Option Behind) → (IsSome o → ⊥) → (regions : Lis
     → All MarksItsCell (access_of regions (route_behind o tables) a n access).path
 direct_marks None off regions tables a n access = marks_own regions a 0 n
 direct_marks (Some b) off regions tables a n access = absurd (off refl)
+
+-- the bytes of a load or a store are those of the path
+whole_given : (size : ℕ) (xs : List Reached) (fault : Option GuestMemoryError) → All MarksItsCell xs
+    → All MarksItsCell (path_given (whole_path size xs fault))
+whole_given size [] None own = All-nil MarksItsCell
+whole_given size [] (Some e) own = All-nil MarksItsCell
+whole_given size (x ∷ xs) fault own = go (length (x ∷ xs) == size && is_uncut (x ∷ xs) && x.cell.offset % size == 0)
+  where
+    go : (b : Bool) → All MarksItsCell (path_given (cond b (Ok (x ∷ xs)) (Err InvalidBackendAddress)))
+    go true = own
+    go false = All-nil MarksItsCell
 
 -- ---- what a write keeps
 
@@ -321,6 +338,25 @@ module _ (are_listed : AreListed) (cleaned_stay : CleanedStay) (laws : WriteLaws
         subst (KeepsBlock block image) (sym (ap (λ (p : Reply × State). p.1.host) e))
         (write_keeps laws reached.path own bytes old.host block image kept)
 
+    stored : (a : ℕ) (w : int.Width) (value : ℕ) (r : Reply) (o : Option MachineMemory) → IfSome o (λ m. IsOn m → ⊥)
+        → (r, new) ≡ if_there old o (λ m. with_host old (stores (meaning m) old.host a w value))
+        → KeepsBlock block image new.host
+    stored a w value r None off e = stays r (reply.NoSuch, old) e refl
+    stored a w value r (Some m) off e = go (fits_width w value) e
+      where
+        go : (b : Bool)
+            → (r, new) ≡ with_host old (cond b (stores_bytes (meaning m) old.host a (to_le_bytes w value)) (reply.BadRange, old.host))
+            → KeepsBlock block image new.host
+        go true e =
+            let bytes = to_le_bytes w value in
+            let n = length bytes in
+            let reached = reached_by (meaning m) old.host.tables a n permissions.Write in
+            let own = direct_marks (meaning m).iommu off (meaning m).regions old.host.tables a n permissions.Write in
+            subst (KeepsBlock block image) (sym (ap (λ (p : Reply × State). p.1.host) e))
+            (write_keeps laws (path_given (taken_by (meaning m) old.host.tables a n permissions.Write))
+            (whole_given n reached.path (option_map error_of reached.fault) own) bytes old.host block image kept)
+        go false e = subst (KeepsBlock block image) (sym (ap (λ (p : Reply × State). p.1.host) e)) kept
+
     harvested : (b : ℕ) (r : Reply) (o : Option PageSet) → slice_get old.host.bitmaps b ≡ o
         → (r, new) ≡ if_there old o
         (λ set. with_host old (reply.Pages (dirty_pages set), with_bitmap old.host (Block b) (cleaned set)))
@@ -344,6 +380,10 @@ module _ (are_listed : AreListed) (cleaned_stay : CleanedStay) (laws : WriteLaws
         stays r _ e (same_host old (slice_get old.memories memory) _ (λ m. refl))
     answered (command.Write memory addr bytes) r direct e =
         wrote addr.0 bytes r (slice_get old.memories memory) direct e
+    answered (command.Store memory width addr value) r direct e =
+        stored addr.0 (integer_of width) value r (slice_get old.memories memory) direct e
+    answered (command.Load memory width addr) r direct e =
+        stays r _ e (same_host old (slice_get old.memories memory) _ (λ m. refl))
     answered (command.Dirty id) r direct e = stays r _ e (same_host old (bitmap_of old.host id) _ (λ set. refl))
     answered (command.Harvest (Block b)) r direct e = harvested b r (slice_get old.host.bitmaps b) refl e
     answered (command.Harvest (Space s)) r direct e = spaced s r (slice_get old.host.spaces s) e

@@ -11,7 +11,7 @@ use Rattle.vm_memory_guest.specs.Host.{Host, block_at}
 use Rattle.vm_memory.specs.Machine.{Run}
 use Rattle.vm_memory.specs.State.{State, IsOn}
 use Rattle.vm_memory.specs.declared.machine.command.Command.{Command}
-use Rattle.vm_memory.specs.declared.machine.command.Command.TheVariants.{Write, Harvest}
+use Rattle.vm_memory.specs.declared.machine.command.Command.TheVariants.{Write, Store, Harvest}
 use Rattle.vm_memory.specs.declared.machine.command.Reply.{Reply}
 use Rattle.vm_memory.specs.declared.machine.command.Reply.TheVariants.{Pages}
 
@@ -64,6 +64,7 @@ IsTracked block host = Cover (shape (pages_of block host)) (length (bytes_of blo
 -- a command does not write through an IOMMU that is on
 abbrev pub IsDirect : State → Command → Type 0
 IsDirect old (Write memory addr bytes) = IfSome (slice_get old.memories memory) (λ m. IsOn m → ⊥)
+IsDirect old (Store memory width addr value) = IfSome (slice_get old.memories memory) (λ m. IsOn m → ⊥)
 IsDirect old c = Unit {0}
 
 -- no command of a run does
