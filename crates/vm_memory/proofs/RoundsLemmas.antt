@@ -1,5 +1,5 @@
 -- An image that is patched in rounds, and the block that it mirrors.
-use Rattle.std.proofs.Common.{◌≡◌, ◌↔◌, ℕ, zero, suc, ◌+◌, ◌*◌, ◌/◌, ◌^◌, ◌<◌, ◌==◌, ◌≢◌, true, false, cond, List, [], ◌∷◌, map, length, get_or, Option, Some, None, option_map, Result, Ok, Err, IsSome, All, IfSome, Contains, refl, sym, ap, subst, ◌∙◌, inl, inr, arith, zero-add}
+use Rattle.std.proofs.Common.{◌≡◌, ◌↔◌, ℕ, zero, suc, ◌+◌, ◌*◌, ◌/◌, ◌^◌, ◌<◌, ◌==◌, ◌≢◌, Bool, true, false, cond, List, [], ◌∷◌, map, length, get_or, Option, Some, None, option_map, Result, Ok, Err, IsSome, All, IfSome, Contains, refl, sym, ap, subst, ◌∙◌, inl, inr, arith, zero-add}
 use Rattle.std.proofs.lemmas.Bool.{eqb-true, eqb-false, cases_Bool, true≢false, cond-true, cond-false, false_from_ne_true}
 use Rattle.std.proofs.lemmas.Cmp.{nat_eq_equiv}
 use Rattle.std.proofs.lemmas.List.{length-map, get_or-map, get_or-set_same, get_or-set_other, ext_get_or}
@@ -9,6 +9,8 @@ use Rattle.std.proofs.lemmas.Map.Views.{list_any-from_Contains, Contains-from_an
 use Rattle.std.proofs.lemmas.Nat.{div_below}
 use Rattle.std.proofs.lemmas.Option.{slice_get_cases, slice_get_within, slice_get-map, get_or_from_slice_get}
 use Rattle.std.specs.Cmp.{both_ways}
+use Rattle.std.specs.Int as int
+use Rattle.std.specs.Int.{to_le_bytes}
 use Rattle.std.specs.List.{list_any, range_with_len, slice_get}
 use Rattle.vm_memory_base.specs.Address.{numbers}
 use Rattle.vm_memory_base.specs.Pages.{Pages, PageSet, shape, is_dirty_at, dirty_pages, cleaned}
@@ -20,9 +22,11 @@ use Rattle.vm_memory_base.specs.declared.iotlb.Permissions.{Permissions}
 use Rattle.vm_memory_base.specs.declared.iotlb.Permissions.TheVariants as permissions
 use Rattle.vm_memory_guest.specs.Access.{Reached, onto, meets, meets_at, path, access_of}
 use Rattle.vm_memory_guest.specs.Dirt.{pages_at, path_cells, after_write, bytes_read}
+use Rattle.vm_memory_guest.specs.Error.{error_of}
 use Rattle.vm_memory_guest.specs.Host.{Host, Cell, block_at, byte_at, written}
 use Rattle.vm_memory_guest.specs.Memory.{Behind, Direct, physical, route_behind}
 use Rattle.vm_memory_guest.specs.Region.{Region, Lies, Byte, Bare, Hole, cell, layout_error}
+use Rattle.vm_memory_guest.specs.Typed.{path_given, typed_path, whole_path}
 use Rattle.vm_memory_guest.specs.Window.{bitmap_of, with_bitmap}
 use Rattle.vm_memory_guest.specs.declared.region.GuestMemoryError.{GuestMemoryError}
 use Rattle.vm_memory_guest.specs.declared.region.GuestMemoryError.TheVariants as errors
@@ -31,6 +35,7 @@ use Rattle.vm_memory.specs.Machine.{Step, Run, if_there, new_layout, with_host, 
 use Rattle.vm_memory.specs.Reply.{reached_by, answer_of, reply_of, writes}
 use Rattle.vm_memory.specs.Rounds.{patched, patched_by, patched_with, bytes_of, pages_of, image_now, image_after, MirrorsBlock, Cover, IsTracked, IsDirect, RunsDirectly, KeepsImage}
 use Rattle.vm_memory.specs.State.{State, MachineMemory, named, meaning, IsOn}
+use Rattle.vm_memory.specs.Typed.{integer_of, fits_width, stores, stores_bytes}
 use Rattle.vm_memory.specs.declared.machine.command.Command.{Command}
 use Rattle.vm_memory.specs.declared.machine.command.Command.TheVariants as command
 use Rattle.vm_memory.specs.declared.machine.command.Reply.{Reply}
@@ -137,6 +142,18 @@ pub direct_marks : (o : Option Behind) → (IsSome o → ⊥) → (regions : Lis
     → All MarksItsCell (access_of regions (route_behind o tables) a n access).path
 direct_marks None off regions tables a n access = marks_own regions a 0 n
 direct_marks (Some b) off regions tables a n access = absurd (off refl)
+
+-- and so do those that a store takes
+taken_marks : (b : Bool) (xs : List Reached) (e : GuestMemoryError) → All MarksItsCell xs
+    → All MarksItsCell (path_given (cond b (Ok xs) (Err e)))
+taken_marks true xs e own = own
+taken_marks false xs e own = All-nil MarksItsCell
+
+pub whole_marks : (size : ℕ) (xs : List Reached) (fault : Option GuestMemoryError) → All MarksItsCell xs
+    → All MarksItsCell (path_given (whole_path size xs fault))
+whole_marks size [] None own = All-nil MarksItsCell
+whole_marks size [] (Some e) own = All-nil MarksItsCell
+whole_marks size (x ∷ xs) fault own = taken_marks _ (x ∷ xs) _ own
 
 -- ---- what a write keeps
 
@@ -310,16 +327,40 @@ module _ (are_listed : AreListed) (cleaned_stay : CleanedStay) (laws : WriteLaws
     stays r a e same =
         subst (KeepsBlock block image) (sym (ap (λ (p : Reply × State). p.1.host) e ∙ same)) kept
 
+    -- a command that leaves another host
+    leaves : (r : Reply) (a : Reply × Host PageSet) → (r, new) ≡ with_host old a → KeepsBlock block image a.1
+        → KeepsBlock block image new.host
+    leaves r a e after = subst (KeepsBlock block image) (sym (ap (λ (p : Reply × State). p.1.host) e)) after
+
+    reached_marks : (m : MachineMemory) → (IsOn m → ⊥) → (a n : ℕ)
+        → All MarksItsCell (reached_by (meaning m) old.host.tables a n permissions.Write).path
+    reached_marks m off a n = direct_marks (meaning m).iommu off (meaning m).regions old.host.tables a n permissions.Write
+
     wrote : (a : ℕ) (bytes : List ℕ) (r : Reply) (o : Option MachineMemory) → IfSome o (λ m. IsOn m → ⊥)
         → (r, new) ≡ if_there old o (λ m. with_host old (writes (meaning m) old.host a bytes))
         → KeepsBlock block image new.host
     wrote a bytes r None off e = stays r (reply.NoSuch, old) e refl
     wrote a bytes r (Some m) off e =
+        let reached = reached_by (meaning m) old.host.tables a (length bytes) permissions.Write in
+        leaves r (writes (meaning m) old.host a bytes) e
+        (write_keeps laws reached.path (reached_marks m off a (length bytes)) bytes old.host block image kept)
+
+    -- the bytes of a store, if its value fits
+    fitting : (m : MachineMemory) → (IsOn m → ⊥) → (a : ℕ) (bytes : List ℕ) (b : Bool)
+        → KeepsBlock block image (cond b (stores_bytes (meaning m) old.host a bytes) (reply.BadRange, old.host)).1
+    fitting m off a bytes true =
         let n = length bytes in
         let reached = reached_by (meaning m) old.host.tables a n permissions.Write in
-        let own = direct_marks (meaning m).iommu off (meaning m).regions old.host.tables a n permissions.Write in
-        subst (KeepsBlock block image) (sym (ap (λ (p : Reply × State). p.1.host) e))
-        (write_keeps laws reached.path own bytes old.host block image kept)
+        let own = whole_marks n reached.path (option_map error_of reached.fault) (reached_marks m off a n) in
+        write_keeps laws (path_given (typed_path n reached)) own bytes old.host block image kept
+    fitting m off a bytes false = kept
+
+    stored : (a : ℕ) (w : int.Width) (value : ℕ) (r : Reply) (o : Option MachineMemory) → IfSome o (λ m. IsOn m → ⊥)
+        → (r, new) ≡ if_there old o (λ m. with_host old (stores (meaning m) old.host a w value))
+        → KeepsBlock block image new.host
+    stored a w value r None off e = stays r (reply.NoSuch, old) e refl
+    stored a w value r (Some m) off e =
+        leaves r (stores (meaning m) old.host a w value) e (fitting m off a (to_le_bytes w value) (fits_width w value))
 
     harvested : (b : ℕ) (r : Reply) (o : Option PageSet) → slice_get old.host.bitmaps b ≡ o
         → (r, new) ≡ if_there old o
@@ -344,6 +385,10 @@ module _ (are_listed : AreListed) (cleaned_stay : CleanedStay) (laws : WriteLaws
         stays r _ e (same_host old (slice_get old.memories memory) _ (λ m. refl))
     answered (command.Write memory addr bytes) r direct e =
         wrote addr.0 bytes r (slice_get old.memories memory) direct e
+    answered (command.Store memory width addr value) r direct e =
+        stored addr.0 (integer_of width) value r (slice_get old.memories memory) direct e
+    answered (command.Load memory width addr) r direct e =
+        stays r _ e (same_host old (slice_get old.memories memory) _ (λ m. refl))
     answered (command.Dirty id) r direct e = stays r _ e (same_host old (bitmap_of old.host id) _ (λ set. refl))
     answered (command.Harvest (Block b)) r direct e = harvested b r (slice_get old.host.bitmaps b) refl e
     answered (command.Harvest (Space s)) r direct e = spaced s r (slice_get old.host.spaces s) e

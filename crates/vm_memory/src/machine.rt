@@ -10,8 +10,8 @@ mod accesses;
 pub mod command;
 mod layouts;
 pub mod list;
-mod typed;
 mod rounds;
+mod typed;
 
 use crate::machine_laws::runs_keep_images;
 use command::{Command, Reply};

@@ -1,4 +1,4 @@
-use Rattle.std.proofs.Common.{◌≡◌, ◌∙◌, ap, sym, subst, IsSome, Result}
+use Rattle.std.proofs.Common.{◌∙◌, ap, sym, subst, IsSome}
 use Rattle.vm_memory_base.specs.declared.iotlb.Permissions.TheVariants as permissions
 use Rattle.vm_memory_guest.specs.Access.{access_of}
 use Rattle.vm_memory_guest.specs.Answer.{Outcome}
