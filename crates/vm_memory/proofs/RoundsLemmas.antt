@@ -27,18 +27,17 @@ use Rattle.vm_memory_guest.specs.Error.{error_of}
 use Rattle.vm_memory_guest.specs.Host.{Host, Cell, block_at, byte_at, bytes_at, cells_from, written}
 use Rattle.vm_memory_guest.specs.Memory.{Behind, Direct, physical, route_behind}
 use Rattle.vm_memory_guest.specs.Region.{Region, Lies, Byte, Bare, Hole, cell, layout_error}
-use Rattle.vm_memory_guest.specs.Typed.{is_uncut, path_given, whole_path}
+use Rattle.vm_memory_guest.specs.Typed.{path_given, typed_path, whole_path}
 use Rattle.vm_memory_guest.specs.Window.{bitmap_of, with_bitmap}
 use Rattle.vm_memory_guest.specs.declared.region.GuestMemoryError.{GuestMemoryError}
 use Rattle.vm_memory_guest.specs.declared.region.GuestMemoryError.TheVariants as errors
-use Rattle.vm_memory_guest.specs.declared.region.GuestMemoryError.TheVariants.{InvalidBackendAddress}
 use Rattle.vm_memory_guest.specs.declared.region.GuestRegionCollectionError.{GuestRegionCollectionError}
 use Rattle.vm_memory.specs.Copy.{copied, has_block, ends_inside}
 use Rattle.vm_memory.specs.Machine.{Step, Run, if_there, new_layout, with_host, outcome}
 use Rattle.vm_memory.specs.Reply.{reached_by, answer_of, reply_of, writes}
 use Rattle.vm_memory.specs.Rounds.{patched, patched_by, patched_with, bytes_of, pages_of, image_now, image_after, MirrorsBlock, Cover, IsTracked, IsDirect, RunsDirectly, KeepsImage}
 use Rattle.vm_memory.specs.State.{State, MachineMemory, named, meaning, IsOn}
-use Rattle.vm_memory.specs.Typed.{integer_of, fits_width, taken_by, stores_bytes, stores}
+use Rattle.vm_memory.specs.Typed.{integer_of, fits_width, stores, stores_bytes}
 use Rattle.vm_memory.specs.declared.machine.command.BlockRange.{BlockRange}
 use Rattle.vm_memory.specs.declared.machine.command.Command.{Command}
 use Rattle.vm_memory.specs.declared.machine.command.Command.TheVariants as command
@@ -147,16 +146,17 @@ pub direct_marks : (o : Option Behind) → (IsSome o → ⊥) → (regions : Lis
 direct_marks None off regions tables a n access = marks_own regions a 0 n
 direct_marks (Some b) off regions tables a n access = absurd (off refl)
 
--- the bytes of a load or a store are those of the path
-whole_given : (size : ℕ) (xs : List Reached) (fault : Option GuestMemoryError) → All MarksItsCell xs
+-- and so do those that a store takes
+taken_marks : (b : Bool) (xs : List Reached) (e : GuestMemoryError) → All MarksItsCell xs
+    → All MarksItsCell (path_given (cond b (Ok xs) (Err e)))
+taken_marks true xs e own = own
+taken_marks false xs e own = All-nil MarksItsCell
+
+pub whole_marks : (size : ℕ) (xs : List Reached) (fault : Option GuestMemoryError) → All MarksItsCell xs
     → All MarksItsCell (path_given (whole_path size xs fault))
-whole_given size [] None own = All-nil MarksItsCell
-whole_given size [] (Some e) own = All-nil MarksItsCell
-whole_given size (x ∷ xs) fault own = go (length (x ∷ xs) == size && is_uncut (x ∷ xs) && x.cell.offset % size == 0)
-  where
-    go : (b : Bool) → All MarksItsCell (path_given (cond b (Ok (x ∷ xs)) (Err InvalidBackendAddress)))
-    go true = own
-    go false = All-nil MarksItsCell
+whole_marks size [] None own = All-nil MarksItsCell
+whole_marks size [] (Some e) own = All-nil MarksItsCell
+whole_marks size (x ∷ xs) fault own = taken_marks _ (x ∷ xs) _ own
 
 -- the path of cells that mark their own places
 abbrev itself : Cell → Reached
@@ -358,35 +358,40 @@ module _ (are_listed : AreListed) (cleaned_stay : CleanedStay) (laws : WriteLaws
     stays r a e same =
         subst (KeepsBlock block image) (sym (ap (λ (p : Reply × State). p.1.host) e ∙ same)) kept
 
+    -- a command that leaves another host
+    leaves : (r : Reply) (a : Reply × Host PageSet) → (r, new) ≡ with_host old a → KeepsBlock block image a.1
+        → KeepsBlock block image new.host
+    leaves r a e after = subst (KeepsBlock block image) (sym (ap (λ (p : Reply × State). p.1.host) e)) after
+
+    reached_marks : (m : MachineMemory) → (IsOn m → ⊥) → (a n : ℕ)
+        → All MarksItsCell (reached_by (meaning m) old.host.tables a n permissions.Write).path
+    reached_marks m off a n = direct_marks (meaning m).iommu off (meaning m).regions old.host.tables a n permissions.Write
+
     wrote : (a : ℕ) (bytes : List ℕ) (r : Reply) (o : Option MachineMemory) → IfSome o (λ m. IsOn m → ⊥)
         → (r, new) ≡ if_there old o (λ m. with_host old (writes (meaning m) old.host a bytes))
         → KeepsBlock block image new.host
     wrote a bytes r None off e = stays r (reply.NoSuch, old) e refl
     wrote a bytes r (Some m) off e =
+        let reached = reached_by (meaning m) old.host.tables a (length bytes) permissions.Write in
+        leaves r (writes (meaning m) old.host a bytes) e
+        (write_keeps laws reached.path (reached_marks m off a (length bytes)) bytes old.host block image kept)
+
+    -- the bytes of a store, if its value fits
+    fitting : (m : MachineMemory) → (IsOn m → ⊥) → (a : ℕ) (bytes : List ℕ) (b : Bool)
+        → KeepsBlock block image (cond b (stores_bytes (meaning m) old.host a bytes) (reply.BadRange, old.host)).1
+    fitting m off a bytes true =
         let n = length bytes in
         let reached = reached_by (meaning m) old.host.tables a n permissions.Write in
-        let own = direct_marks (meaning m).iommu off (meaning m).regions old.host.tables a n permissions.Write in
-        subst (KeepsBlock block image) (sym (ap (λ (p : Reply × State). p.1.host) e))
-        (write_keeps laws reached.path own bytes old.host block image kept)
+        let own = whole_marks n reached.path (option_map error_of reached.fault) (reached_marks m off a n) in
+        write_keeps laws (path_given (typed_path n reached)) own bytes old.host block image kept
+    fitting m off a bytes false = kept
 
     stored : (a : ℕ) (w : int.Width) (value : ℕ) (r : Reply) (o : Option MachineMemory) → IfSome o (λ m. IsOn m → ⊥)
         → (r, new) ≡ if_there old o (λ m. with_host old (stores (meaning m) old.host a w value))
         → KeepsBlock block image new.host
     stored a w value r None off e = stays r (reply.NoSuch, old) e refl
-    stored a w value r (Some m) off e = go (fits_width w value) e
-      where
-        go : (b : Bool)
-            → (r, new) ≡ with_host old (cond b (stores_bytes (meaning m) old.host a (to_le_bytes w value)) (reply.BadRange, old.host))
-            → KeepsBlock block image new.host
-        go true e =
-            let bytes = to_le_bytes w value in
-            let n = length bytes in
-            let reached = reached_by (meaning m) old.host.tables a n permissions.Write in
-            let own = direct_marks (meaning m).iommu off (meaning m).regions old.host.tables a n permissions.Write in
-            subst (KeepsBlock block image) (sym (ap (λ (p : Reply × State). p.1.host) e))
-            (write_keeps laws (path_given (taken_by (meaning m) old.host.tables a n permissions.Write))
-            (whole_given n reached.path (option_map error_of reached.fault) own) bytes old.host block image kept)
-        go false e = subst (KeepsBlock block image) (sym (ap (λ (p : Reply × State). p.1.host) e)) kept
+    stored a w value r (Some m) off e =
+        leaves r (stores (meaning m) old.host a w value) e (fitting m off a (to_le_bytes w value) (fits_width w value))
 
     copied_keeps : (from to : BlockRange) (r : Reply) (there fits : Bool)
         → (r, new) ≡ with_host old

@@ -1,7 +1,7 @@
 -- An image of a block that is kept in rounds: each harvest of the block's bitmap patches it with the pages
 -- that the harvest takes.
 use Rattle.std.specs.Prelude.{◌≡◌, ℕ, ◌*◌, ◌/◌, ◌≤◌, ◌==◌, if◌then◌else◌, List, ◌∷◌, length, map}
-use Rattle.std.specs.Prelude.{slice_get, slice_index, Option, Some, None, IfSome}
+use Rattle.std.specs.Prelude.{slice_get, slice_index, Option, Some, None, IfSome, option_and_then}
 use Rattle.std.specs.List.{list_any}
 use Rattle.vm_memory_base.specs.Address.{numbers}
 use Rattle.vm_memory_base.specs.Pages.{PageSet, shape, dirty_pages}
@@ -61,11 +61,15 @@ Cover (Some s) len = len ≤ s.1 * s.0
 abbrev pub IsTracked : ℕ → Host PageSet → Type 0
 IsTracked block host = Cover (shape (pages_of block host)) (length (bytes_of block host))
 
--- a command does not write through an IOMMU that is on
+-- the memory that a command writes to, if it writes
+abbrev pub written_memory : Command → Option ℕ
+written_memory (Write memory addr bytes) = Some memory
+written_memory (Store memory width addr value) = Some memory
+written_memory c = None
+
+-- a command does not write to a memory whose IOMMU is on
 abbrev pub IsDirect : State → Command → Type 0
-IsDirect old (Write memory addr bytes) = IfSome (slice_get old.memories memory) (λ m. IsOn m → ⊥)
-IsDirect old (Store memory width addr value) = IfSome (slice_get old.memories memory) (λ m. IsOn m → ⊥)
-IsDirect old c = Unit {0}
+IsDirect old c = IfSome (option_and_then (slice_get old.memories) (written_memory c)) (λ m. IsOn m → ⊥)
 
 -- no command of a run does
 abbrev pub RunsDirectly : (old : State) (cs : List Command) (rs : List Reply) (new : State)

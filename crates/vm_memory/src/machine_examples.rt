@@ -249,6 +249,7 @@ pub fn direct_commands()
     ensures plain { IsDirect machine (Write 0 (at 0) (9 ∷ [])) }
     ensures off { IsDirect machine (Write 2 (at 0) (9 ∷ [])) }
     ensures on { IsDirect machine (Write 1 (at 0) (9 ∷ [])) → ⊥ }
+    ensures store { IsDirect machine (Store 1 One (at 16) 9) → ⊥ }
     ensures read { IsDirect machine (Read 1 (at 16) 1) }
     ensures no_memory { IsDirect machine (Write 3 (at 0) (9 ∷ [])) }
 {}
