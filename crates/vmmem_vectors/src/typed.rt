@@ -3,11 +3,13 @@
 use crate::regions::TestRegion;
 use crate::support::{Place, expect_text, memory_of};
 use std::alloc::Global;
+use std::num::NonZeroUsize;
 use std::sync::atomic::Ordering;
 use std::test::Fail;
 use vm_memory::{
-    ByteValued, Bytes, GuestAddress, GuestMemoryRegion, GuestMemoryResult, GuestRegionCollection,
-    GuestRegionMmap, HostMemory, MemoryRegionAddress, MmapRegion, VolatileSlice,
+    ByteValued, Bytes, ExactBitmap, ExclusiveBitmap, GuestAddress, GuestMemoryRegion,
+    GuestMemoryResult, GuestRegionCollection, GuestRegionMmap, HostMemory, MemoryRegionAddress,
+    MmapRegion, VolatileSlice,
 };
 use vm_memory_guest::{VolatileArrayRef, VolatileMemory};
 
@@ -231,5 +233,23 @@ fn an_array_in_a_window(rt: HostRuntime) -> Result<(), Fail> {
     let count = array.copy_to(&host, &mut values);
     assert!(rt; [array.element_size(), count] == [2, 3]);
     assert!(rt; values == [0x1615, 0x1817, 0x1a19, 9]);
+    Ok(())
+}
+
+#[test]
+fn a_store_marks_its_bytes(rt: HostRuntime) -> Result<(), Fail> {
+    let mut host: HostMemory<ExclusiveBitmap> = HostMemory::new(rt.alloc());
+    let page = NonZeroUsize::new(1).ok_or("a page has a byte")?;
+    let block = host.new_block_with(0x20, ExclusiveBitmap::new(rt.alloc(), 0x20, page)?)?;
+    assert!(rt; host.shape().block_len(block).is_some());
+    let mapping = MmapRegion::of_block(&host, block);
+    let region = GuestRegionMmap::new(mapping, GuestAddress(0)).ok_or("the region fits")?;
+    let window = region.get_slice(MemoryRegionAddress(2), 0x1e)?;
+    assert!(rt; host.holds(&window));
+    let refused = window.store(&mut host, 7u32, 8, Ordering::SeqCst);
+    window.store(&mut host, 7u32, 2, Ordering::SeqCst)?;
+    let dirty = host.bitmap_mut(window.bitmap().id).harvest(rt.alloc())?;
+    assert!(rt; refused.is_err());
+    assert!(rt; dirty.as_slice() == [4, 5, 6, 7].as_slice());
     Ok(())
 }
