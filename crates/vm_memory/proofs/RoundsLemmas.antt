@@ -1,5 +1,5 @@
 -- An image that is patched in rounds, and the block that it mirrors.
-use Rattle.std.proofs.Common.{◌≡◌, ◌↔◌, Bool, ◌&&◌, ◌%◌, ℕ, zero, suc, ◌+◌, ◌*◌, ◌/◌, ◌^◌, ◌<◌, ◌==◌, ◌≢◌, true, false, cond, List, [], ◌∷◌, map, length, get_or, Option, Some, None, option_map, Result, Ok, Err, IsSome, All, IfSome, Contains, min, refl, sym, ap, subst, ◌∙◌, inl, inr, arith, zero-add}
+use Rattle.std.proofs.Common.{◌≡◌, ◌↔◌, Bool, ◌&&◌, ℕ, zero, suc, ◌+◌, ◌*◌, ◌/◌, ◌^◌, ◌<◌, ◌==◌, ◌≢◌, true, false, cond, List, [], ◌∷◌, map, length, get_or, Option, Some, None, option_map, Result, Ok, Err, IsSome, All, IfSome, Contains, min, refl, sym, ap, subst, ◌∙◌, inl, inr, arith, zero-add}
 use Rattle.std.proofs.lemmas.Bool.{eqb-true, eqb-false, cases_Bool, true≢false, cond-true, cond-false, false_from_ne_true}
 use Rattle.std.proofs.lemmas.Cmp.{nat_eq_equiv}
 use Rattle.std.proofs.lemmas.List.{length-map, get_or-map, get_or-set_same, get_or-set_other, ext_get_or}
