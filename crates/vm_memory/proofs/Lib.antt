@@ -1,7 +1,9 @@
 pub mod AccessLemmas
 pub mod BitmapLemmas
+pub mod BlockLemmas
 pub mod ListLemmas
 pub mod NamedLemmas
+pub mod PatchLemmas
 pub mod RoundsLemmas
 pub mod StepLemmas
 pub mod TypedLemmas

@@ -10,6 +10,7 @@ mod accesses;
 pub mod command;
 mod layouts;
 pub mod list;
+mod pages;
 mod rounds;
 mod typed;
 
