@@ -1,5 +1,5 @@
 -- Bitmaps of a host by their names, and their dirty pages one after the other.
-use Rattle.std.proofs.Common.{◌≡◌, ℕ, ◌+◌, ◌-◌, ◌*◌, ◌^◌, ◌<◌, ◌≤◌, Bool, true, false, cond, List, [], ◌∷◌, ◌++◌, set, take, length, get_or, slice_get, Some, None, option_map, refl, sym, ap, ◌∙◌, inl, inr, arith, add-zero, zero-add, mul-div_cancel, mul-le-mul_right}
+use Rattle.std.proofs.Common.{◌≡◌, ℕ, ◌+◌, ◌-◌, ◌*◌, ◌^◌, ◌<◌, ◌≤◌, Bool, true, false, cond, List, [], ◌∷◌, ◌++◌, set, take, map, length, get_or, slice_get, Some, None, option_map, refl, sym, ap, ◌∙◌, inl, inr, arith, add-zero, zero-add, mul-div_cancel, mul-le-mul_right}
 use Rattle.std.proofs.lemmas.List.{map-set, set-get_or, take_more, take_all, length-take-le}
 use Rattle.std.proofs.lemmas.Option.{slice_get-map, get_or_from_slice_get, none-some, same_Some}
 use Rattle.vm_memory_base.specs.Pages.{PageSet, IsPageSet, shape, is_dirty_at, dirty_from, dirty_pages, cleaned}
@@ -11,6 +11,7 @@ use Rattle.vm_memory_guest.specs.Region.{Region}
 use Rattle.vm_memory_guest.specs.Window.{bitmap_of, with_bitmap}
 use Rattle.vm_memory.specs.Machine.{Step}
 use Rattle.vm_memory.specs.Parts.{Parts, state_of}
+use Rattle.vm_memory.specs.Rounds.{pages_of}
 use Rattle.vm_memory.specs.declared.machine.command.Command.TheVariants as command
 use Rattle.vm_memory.specs.declared.machine.command.Reply.TheVariants as reply
 
@@ -27,6 +28,13 @@ module _ {B : Type 0} (pages : B → PageSet) (host : Host B) where
       ap (λ (bs : List PageSet). record (with_pages pages host) { bitmaps = bs }) (map-set pages host.bitmaps block b)
   with_pages-with_bitmap (Space space) b =
       ap (λ (bs : List PageSet). record (with_pages pages host) { spaces = bs }) (map-set pages host.spaces space b)
+
+  -- the pages of a block's bitmap
+  pub pages_of-with_pages : (block : ℕ) (b : B) → bitmap_of host (Block block) ≡ Some b
+      → pages_of block (with_pages pages host) ≡ pages b
+  pages_of-with_pages block b there =
+      get_or_from_slice_get (map pages host.bitmaps) block (pages b) None
+      (slice_get-map pages host.bitmaps block ∙ ap (option_map pages) there)
 
 -- the bitmap that is there, put there again
 set-same : {X : Type 0} (xs : List X) (i : ℕ) (x : X) → slice_get xs i ≡ Some x → set xs i x ≡ xs

@@ -1,8 +1,10 @@
 pub mod AccessLemmas
 pub mod BitmapLemmas
+pub mod BlockLemmas
 pub mod CopyLemmas
 pub mod ListLemmas
 pub mod NamedLemmas
+pub mod PatchLemmas
 pub mod RoundsLemmas
 pub mod StepLemmas
 pub mod TypedLemmas

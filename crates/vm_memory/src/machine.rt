@@ -11,6 +11,7 @@ pub mod command;
 mod copies;
 mod layouts;
 pub mod list;
+mod pages;
 mod rounds;
 mod typed;
 

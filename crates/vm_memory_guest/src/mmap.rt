@@ -9,11 +9,13 @@ use crate::region::{
     GuestMemoryError, GuestMemoryRegion, GuestMemoryResult, GuestRegionCollection,
 };
 use crate::volatile_memory::host::{BlockId, HostMemory, HostShape, MmapRegionError, Named};
+use crate::volatile_memory::memory::VolatileMemory;
 use crate::volatile_memory::slice::VolatileSlice;
 use std::marker::Model;
 use std::sync::Arc;
 use vm_memory_base::{
     BitmapId, BitmapRef, GuestAddress, GuestUsize, MemoryRegionAddress, NewBitmap,
+    VolatileMemoryResult,
 };
 
 /// A whole block of a host: 1 to 2^63 - 1 bytes.
@@ -101,6 +103,35 @@ impl MmapRegion {
         };
         Ok(VolatileSlice::new(self.block, start, count, bitmap))
     }
+}
+
+/// The bytes of the block, writes to which mark the block's bitmap.
+impl VolatileMemory for MmapRegion {
+    ghost use Rattle.vm_memory_guest.specs.Mmap.{block_window};
+    ghost use Rattle.vm_memory_guest.specs.TypedFacts.{subslice-sized, subslice-whole};
+    ghost use Rattle.vm_memory_guest.specs.Window.{subslice_of};
+
+    ghost size = { λ r. r.size };
+
+    ghost slice = { λ r. subslice_of (block_window r) };
+
+    #[inline]
+    fn len(&self) -> usize {
+        self.size
+    }
+
+    #[inline]
+    fn get_slice(&self, offset: usize, count: usize) -> VolatileMemoryResult<VolatileSlice> {
+        let bitmap = BitmapRef {
+            id: BitmapId::Block(self.block.0),
+            base: 0,
+        };
+        VolatileSlice::new(self.block, 0, self.size, bitmap).subslice(offset, count)
+    }
+
+    ghost gives_all = { λ r. subslice-sized (block_window r) };
+
+    ghost gives_whole = { λ r. subslice-whole (block_window r) };
 }
 
 /// A block of a host at a guest address. One block may lie at several.

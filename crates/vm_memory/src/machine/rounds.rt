@@ -1,80 +1,101 @@
-//! The commands that ask for dirty pages.
-ghost use Rattle.std.specs.Prelude.{◌≡◌, [], ◌∷◌, Some, None, IfOk};
-ghost use Rattle.std.specs.Bool.{OnTrue, OnFalse};
-ghost use Rattle.vm_memory_base.specs.Pages as page_set;
-ghost use Rattle.vm_memory_guest.specs.Host.{Holds, shape_of};
-ghost use Rattle.vm_memory_guest.specs.Window.{bitmap_name, bitmap_of};
-ghost use Rattle.vm_memory.specs.Machine.{Step};
-ghost use Rattle.vm_memory.specs.Parts.{state_of};
-ghost use Rattle.vm_memory.specs.declared.machine.command.Command.TheVariants as command;
+//! The image of a block that is brought up to date in rounds.
+ghost use Rattle.std.specs.Prelude.{◌≡◌, ◌-◌, ◌<◌, ◌≤◌, [], ◌∷◌, ◌++◌, take, drop, length, OnOk, OnErr};
+ghost use Rattle.vm_memory_base.specs.Pages.{cleaned};
+ghost use Rattle.vm_memory_base.specs.declared.bitmap.BitmapId.TheVariants.{Block};
+ghost use Rattle.vm_memory_guest.specs.Dirt.{with_pages};
+ghost use Rattle.vm_memory_guest.specs.Host as names;
+ghost use Rattle.vm_memory_guest.specs.Host.{Holds, block_at, shape_of};
+ghost use Rattle.vm_memory_guest.specs.Window.{with_bitmap};
+ghost use Rattle.vm_memory.specs.Rounds.{patched, image_now, pages_of};
 
 use super::Machine;
-use super::command::Reply;
-use super::list::NumberList;
 use std::alloc::{AllocError, Global};
 use vm_memory_base::{BitmapId, ExactBitmap};
-use vm_memory_guest::{GuestMemoryRegion, HostMemory};
+use vm_memory_guest::{BlockId, GuestMemoryRegion, HostMemory, MmapRegion, VolatileMemory};
 
 impl<R: GuestMemoryRegion, B: ExactBitmap> Machine<R, B> {
-    pub(super) fn dirty(&mut self, bitmap: BitmapId) -> Reply
-        ensures { let before = state_of R.region B.pages self.old in
-            Step before (command.Dirty bitmap) result (state_of R.region B.pages self.new) }
+    /// Brings an image of a block up to date: takes the dirty pages of the block's bitmap, so that none is
+    /// dirty, and copies the bytes of these pages from the block. `AllocError` where there is no memory for
+    /// the list of pages: then nothing is changed.
+    ///
+    /// An image that was a copy of the block at some time, and that got the pages of each harvest since, is
+    /// the block then: docs/DEFINITIONS.md, "Rounds".
+    pub fn sync(&mut self, block: BlockId, image: &mut [u8]) -> Result<(), AllocError>
+        requires there { Holds (shape_of self.old.host) (names.Block block.0 ∷ []) }
+        requires len { length image.old ≡ length (block_at self.old.host.blocks block.0) }
+        ensures image { let before = with_pages B.pages self.old.host in
+            OnOk result (image.new ≡ image_now block.0 before image.old) }
+        ensures clean { let before = with_pages B.pages self.old.host in
+            OnOk result ((after : B) × (B.pages after ≡ cleaned (pages_of block.0 before))
+            × (self.new ≡ record self.old { host = with_bitmap self.old.host (Block block.0) after })) }
+        ensures refused { OnErr result ((self.new ≡ self.old) × (image.new ≡ image.old)) }
     {
-        if !has_bitmap(&self.host, bitmap) {
-            return Reply::NoSuch;
-        }
-        match dirty_pages(self.alloc, self.host.bitmap(bitmap)) {
-            Ok(pages) => Reply::Pages(NumberList::from_vec(pages)),
-            Err(_) => Reply::Memory,
-        }
-    }
-
-    pub(super) fn harvest(&mut self, bitmap: BitmapId) -> Reply
-        ensures { let before = state_of R.region B.pages self.old in
-            Step before (command.Harvest bitmap) result (state_of R.region B.pages self.new) }
-    {
-        if !has_bitmap(&self.host, bitmap) {
-            return Reply::NoSuch;
-        }
-        match self.host.bitmap_mut(bitmap).harvest(self.alloc) {
-            Ok(pages) => Reply::Pages(NumberList::from_vec(pages)),
-            Err(_) => Reply::Memory,
-        }
+        sync_in(self.alloc, &mut self.host, block, image)
     }
 }
 
-fn has_bitmap<B>(host: &HostMemory<B>, bitmap: BitmapId) -> bool
-    ensures held { OnTrue result (Holds (shape_of host.now) (bitmap_name bitmap ∷ [])) }
-    ensures missing { OnFalse result (bitmap_of host.now bitmap ≡ None) }
-{
-    host.shape().has_bitmap(bitmap)
-}
-
-// The numbers of the dirty pages, ascending.
-fn dirty_pages<B: ExactBitmap>(alloc: Global, bitmap: &B) -> Result<Vec<usize>, AllocError>
-    ensures { IfOk result (λ dirty. dirty.items ≡ page_set.dirty_pages (B.pages bitmap.now)) }
-{
-    match bitmap.shape() {
-        Some((page_size, pages)) => dirty_of(alloc, bitmap, page_size, pages),
-        None => Ok(Vec::new(alloc)),
-    }
-}
-
-// Those of a bitmap that tracks so many pages of this size.
-fn dirty_of<B: ExactBitmap>(
+// The same of a host.
+fn sync_in<B: ExactBitmap>(
     alloc: Global,
-    bitmap: &B,
-    page_size: usize,
-    pages: usize,
-) -> Result<Vec<usize>, AllocError>
-    requires { page_set.shape (B.pages bitmap.now) ≡ Some (page_size, pages) }
-    ensures { IfOk result (λ dirty. dirty.items ≡ page_set.dirty_pages (B.pages bitmap.now)) }
+    host: &mut HostMemory<B>,
+    block: BlockId,
+    image: &mut [u8],
+) -> Result<(), AllocError>
+    requires there { Holds (shape_of host.old) (names.Block block.0 ∷ []) }
+    requires len { length image.old ≡ length (block_at host.old.blocks block.0) }
+    ensures image { let before = with_pages B.pages host.old in
+        OnOk result (image.new ≡ image_now block.0 before image.old) }
+    ensures clean { let before = with_pages B.pages host.old in
+        OnOk result ((after : B) × (B.pages after ≡ cleaned (pages_of block.0 before))
+        × (host.new ≡ with_bitmap host.old (Block block.0) after)) }
+    ensures refused { OnErr result ((host.new ≡ host.old) × (image.new ≡ image.old)) }
 {
-    let mut dirty = Vec::new(alloc);
-    for page in 0..pages {
-        if bitmap.dirty_at(page * page_size) {
-            dirty.push(page)?;
-        }
+    let bitmap = host.bitmap_mut(BitmapId::Block(block.0));
+    let Some((page_size, _)) = bitmap.shape() else {
+        return Ok(());
+    };
+    let pages = bitmap.harvest(alloc)?;
+    copy_pages(whole_block(host, block), pages.as_slice(), page_size, image);
+    Ok(())
+}
+
+// The bytes of a block.
+fn whole_block<B>(host: &HostMemory<B>, block: BlockId) -> &[u8]
+    requires { Holds (shape_of host.now) (names.Block block.0 ∷ []) }
+    ensures { result.now ≡ block_at host.now.blocks block.0 }
+{
+    let window = MmapRegion::of_block(host, block).as_volatile_slice();
+    host.bytes(&window)
+}
+
+// Copies pages of this size from a block to an image of it.
+fn copy_pages(block: &[u8], pages: &[usize], page_size: usize, image: &mut [u8])
+    requires some { 0 < page_size }
+    requires len { length image.old ≡ length block.now }
+    ensures { image.new ≡ patched page_size pages.now block.now image.old }
+{
+    for page in pages {
+        copy_page(block, *page, page_size, image);
     }
-    Ok(dirty)
+}
+
+// The last page may be cut by the block's end, and a page past it has no bytes.
+fn copy_page(block: &[u8], page: usize, page_size: usize, image: &mut [u8])
+    requires some { 0 < page_size }
+    requires len { length image.old ≡ length block.now }
+    ensures { image.new ≡ patched page_size (page ∷ []) block.now image.old }
+{
+    let start = page.saturating_mul(page_size).min(block.len());
+    let end = start.saturating_add(page_size).min(block.len());
+    copy_part(block, start, end, image);
+}
+
+fn copy_part(block: &[u8], start: usize, end: usize, image: &mut [u8])
+    requires ordered { start ≤ end }
+    requires within { end ≤ length block.now }
+    requires len { length image.old ≡ length block.now }
+    ensures { image.new ≡ take start image.old
+        ++ (take (end - start) (drop start block.now) ++ drop end image.old) }
+{
+    image[start..end].copy_from_slice(&block[start..end]);
 }

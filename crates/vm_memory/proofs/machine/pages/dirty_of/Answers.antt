@@ -1,8 +1,8 @@
 use Rattle.std.proofs.Common.{◌≡◌, ◌*◌, append-nil}
 use Rattle.vm_memory_base.specs.Pages.{is_dirty_at}
 use Rattle.vm_memory.proofs.BitmapLemmas.{dirty_below-more}
-use Rattle.vm_memory.proofs.machine.rounds.dirty_of.Goals as goal
-use Rattle.vm_memory.proofs.machine.rounds.dirty_of.Goals.{then-dirty_at+in_ok-push, else-dirty_at}
+use Rattle.vm_memory.proofs.machine.pages.dirty_of.Goals as goal
+use Rattle.vm_memory.proofs.machine.pages.dirty_of.Goals.{then-dirty_at+in_ok-push, else-dirty_at}
 
 pub loop-page-preserved : goal.loop-page-preserved
 loop-page-preserved g c =
