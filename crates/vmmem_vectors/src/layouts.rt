@@ -2,7 +2,7 @@
 
 use crate::regions::TestRegion;
 use crate::support::{Place, expect_text, memory_of, regions_of};
-use std::alloc::Global;
+use std::alloc::{AllocError, Global};
 use std::sync::Arc;
 use std::test::Fail;
 use vm_memory::{
@@ -25,16 +25,23 @@ const LAYOUTS: [(&[u64], &str); 9] = [
     (&[0, 0x1001], "Some(0) None;Some(4097) None;"),
 ];
 
-fn layout_text(alloc: Global, starts: &[u64]) -> Result<String, Fail> {
+fn regions_at(alloc: Global, starts: &[u64]) -> Result<Vec<Arc<TestRegion>>, Fail> {
     let mut host = HostMemory::new(alloc);
     let mut places = Vec::new(alloc);
     for start in starts {
         places.push(Place::Block(*start, 0x1000))?;
     }
-    let regions = regions_of(alloc, &mut host, places.as_slice())?;
+    regions_of(alloc, &mut host, places.as_slice())
+}
+
+fn layout_text(
+    alloc: Global,
+    regions: Vec<Arc<TestRegion>>,
+    starts: &[u64],
+) -> Result<String, AllocError> {
     match GuestRegionCollection::from_arc_regions(regions) {
         Ok(layout) => homes_text(alloc, &layout, starts),
-        Err(error) => Ok(format!(in alloc; "{error:?}")?),
+        Err(error) => format!(in alloc; "{error:?}"),
     }
 }
 
@@ -42,7 +49,7 @@ fn homes_text(
     alloc: Global,
     layout: &GuestRegionCollection<TestRegion>,
     starts: &[u64],
-) -> Result<String, Fail> {
+) -> Result<String, AllocError> {
     let mut text = String::new(alloc);
     for start in starts {
         let at = home_of(layout, *start);
@@ -61,7 +68,8 @@ fn home_of(layout: &GuestRegionCollection<TestRegion>, addr: u64) -> Option<u64>
 #[test]
 fn regions_make_a_layout_or_an_error(rt: HostRuntime) -> Result<(), Fail> {
     for (case, (starts, wanted)) in LAYOUTS.iter().enumerate() {
-        let text = layout_text(rt.alloc(), starts)?;
+        let regions = regions_at(rt.alloc(), starts)?;
+        let text = layout_text(rt.alloc(), regions, starts)?;
         expect_text(case, text.as_str(), wanted)?;
     }
     Ok(())
@@ -74,7 +82,7 @@ fn a_copy_of_a_layout_has_its_regions(rt: HostRuntime) -> Result<(), Fail> {
     let layout = memory_of(rt.alloc(), &mut host, &places)?;
     let copy = layout.clone()?;
     let homes = [0xf, 0x10, 0x2f, 0x30].map(|addr| home_of(&copy, addr));
-    assert!(rt; homes == [Some(0), None, Some(0x20), None]);
+    assert!(rt; homes == [Some(0), None, Some(0x20), None] && copy.num_regions() == 2);
     Ok(())
 }
 
@@ -102,14 +110,20 @@ fn a_block_has_a_size(rt: HostRuntime) -> Result<(), Fail> {
     Ok(())
 }
 
+// The numbers of two new blocks and of a new space.
+fn next_numbers(host: &mut HostMemory<()>) -> Result<(usize, usize, usize), Fail> {
+    let block = host.new_block(3)?;
+    let with_bitmap = host.new_block_with(5, ())?;
+    let space = host.new_space(())?;
+    Ok((block.0, with_bitmap.0, space.0))
+}
+
 #[test]
 fn blocks_and_spaces_go_by_number(rt: HostRuntime) -> Result<(), Fail> {
     let mut host: HostMemory<()> = HostMemory::new(rt.alloc());
     for number in 0..10usize {
-        let block = host.new_block(number + 1)?;
-        let with_bitmap = host.new_block_with(5, ())?;
-        let space = host.new_space(())?;
-        assert!(rt; block.0 == 2 * number && with_bitmap.0 == 2 * number + 1 && space.0 == number);
+        let numbers = next_numbers(&mut host)?;
+        assert!(rt; numbers == (2 * number, 2 * number + 1, number));
     }
     assert!(rt; MmapRegion::new(&mut host, 7)?.size() == 7);
     Ok(())

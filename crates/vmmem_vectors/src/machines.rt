@@ -34,12 +34,38 @@ fn machine_of(alloc: Global, places: &[Place]) -> Result<Machine<TestRegion, ()>
     Ok(Machine::new(alloc, host, regions))
 }
 
-// The replies of a machine of these regions to commands.
-fn replies_of(alloc: Global, places: &[Place], commands: &[Command]) -> Result<Vec<Reply>, Fail> {
+// Runs commands on a machine of these regions, so many at a time, and compares the lines of all replies.
+fn expect_replies(
+    alloc: Global,
+    places: &[Place],
+    commands: &[Command],
+    at_a_time: usize,
+    wanted: &str,
+) -> Result<(), Fail> {
     let mut machine = machine_of(alloc, places)?;
     let mut replies = Vec::new(alloc);
-    run(&mut machine, commands, &mut replies)?;
-    Ok(replies)
+    for part in commands.chunks(at_a_time.max(1)) {
+        run_on(&mut machine, part, &mut replies)?;
+    }
+    let text = lines_of(alloc, replies.as_slice())?;
+    expect_text(0, text.as_str(), wanted)
+}
+
+// It tells its caller less than `run`, and so makes the proof there short.
+fn run_on(
+    machine: &mut Machine<TestRegion, ()>,
+    commands: &[Command],
+    replies: &mut Vec<Reply>,
+) -> Result<(), AllocError> {
+    run(machine, commands, replies)
+}
+
+fn lines_of(alloc: Global, replies: &[Reply]) -> Result<String, AllocError> {
+    let mut text = String::new(alloc);
+    for reply in replies {
+        writeln!(text, "{reply}")?;
+    }
+    Ok(text)
 }
 
 fn layout_of(alloc: Global, numbers: &[usize]) -> Result<Command, AllocError> {
@@ -84,21 +110,29 @@ fn command_of(alloc: Global, line: Line) -> Result<Command, AllocError> {
     }
 }
 
-// Runs all lines at once, and compares the replies.
-fn expect_replies(alloc: Global, places: &[Place], lines: &[(Line, &str)]) -> Result<(), Fail> {
+fn commands_of(alloc: Global, lines: &[(Line, &str)]) -> Result<Vec<Command>, AllocError> {
     let mut commands = Vec::new(alloc);
     for (line, _) in lines {
         commands.push(command_of(alloc, *line)?)?;
     }
-    let replies = replies_of(alloc, places, commands.as_slice())?;
-    if replies.len() != lines.len() {
-        return Err(Fail::new("each command has a reply"));
+    Ok(commands)
+}
+
+// Each command with its reply: all commands are run at once, and one by one.
+fn expect_lines(alloc: Global, places: &[Place], lines: &[(Line, &str)]) -> Result<(), Fail> {
+    let mut wanted = String::new(alloc);
+    for (_, reply) in lines {
+        writeln!(wanted, "{reply}")?;
     }
-    for (case, (reply, (_, wanted))) in replies.iter().zip(lines).enumerate() {
-        let text = reply.to_string(alloc)?;
-        expect_text(case, text.as_str(), wanted)?;
-    }
-    Ok(())
+    let commands = commands_of(alloc, lines)?;
+    expect_replies(
+        alloc,
+        places,
+        commands.as_slice(),
+        lines.len(),
+        wanted.as_str(),
+    )?;
+    expect_replies(alloc, places, commands.as_slice(), 1, wanted.as_str())
 }
 
 const APART: [Place; 2] = [Place::Block(0, 4), Place::Block(0x10, 4)];
@@ -166,21 +200,10 @@ const ON_A_BARE_REGION: [(Line, &str); 6] = [
 
 #[test]
 fn each_command_has_its_reply(rt: HostRuntime) -> Result<(), Fail> {
-    expect_replies(rt.alloc(), &APART, &ON_REGIONS_APART)?;
-    expect_replies(rt.alloc(), &TOUCHING, &ON_TOUCHING_REGIONS)?;
-    expect_replies(rt.alloc(), &TO_THE_END, &AROUND_THE_END)?;
-    expect_replies(rt.alloc(), &BEFORE_A_BARE_REGION, &ON_A_BARE_REGION)
-}
-
-#[test]
-fn replies_are_appended(rt: HostRuntime) -> Result<(), Fail> {
-    let mut machine = machine_of(rt.alloc(), &APART)?;
-    let mut replies = Vec::new(rt.alloc());
-    run(&mut machine, &[layout_of(rt.alloc(), &[1])?], &mut replies)?;
-    run(&mut machine, &[], &mut replies)?;
-    run(&mut machine, &[Command::Plain(0)], &mut replies)?;
-    let text = format!(in rt.alloc(); "{replies:?}")?;
-    expect_text(0, text.as_str(), "[LayoutMade(0), MemoryMade(0)]")
+    expect_lines(rt.alloc(), &APART, &ON_REGIONS_APART)?;
+    expect_lines(rt.alloc(), &TOUCHING, &ON_TOUCHING_REGIONS)?;
+    expect_lines(rt.alloc(), &TO_THE_END, &AROUND_THE_END)?;
+    expect_lines(rt.alloc(), &BEFORE_A_BARE_REGION, &ON_A_BARE_REGION)
 }
 
 // Ten regions of 0x10 bytes, one after the other.
@@ -197,8 +220,8 @@ const TEN: [Place; 10] = [
     Place::Block(0x1090, 0x10),
 ];
 
-// Ten layouts, of the first region and of as many more as their number says, a memory of each, forty writes
-// of four bytes to the last memory, one after the other from offset 2 on, and forty reads.
+// Ten layouts, of the first region and of as many more as their number says, and a memory of each. Then forty
+// writes of forty bytes to the last memory, each four bytes after the one before, and forty reads.
 fn command_on_ten(alloc: Global, index: u8) -> Result<Command, AllocError> {
     let numbers = [0, 1, 2, 3, 4, 5, 6, 7, 8, 9];
     if index < 10 {
@@ -207,47 +230,43 @@ fn command_on_ten(alloc: Global, index: u8) -> Result<Command, AllocError> {
         Ok(Command::Plain(usize::from(index - 10)))
     } else if index < 60 {
         let number = index - 20;
-        write_of(alloc, 9, 0x1002 + 4 * u64::from(number), &[number; 4])
+        write_of(alloc, 9, 0x1002 + 4 * u64::from(number), &[number; 40])
     } else {
         let number = index - 60;
         Ok(read_of(usize::from(number / 4), 0x1000 + u64::from(number), 160))
     }
 }
 
-// The replies: the last write has room for two bytes, and a read ends where its memory ends.
-fn reply_on_ten(alloc: Global, index: u8) -> Result<String, AllocError> {
+// Its reply: an access ends where its memory ends. Of each write, the first four bytes are not overwritten.
+fn add_reply_on_ten(text: &mut String, index: u8) -> Result<(), AllocError> {
     if index < 10 {
-        return format!(in alloc; "layout {index}");
+        return writeln!(text, "layout {index}");
     }
     if index < 20 {
-        return format!(in alloc; "memory {}", index - 10);
+        return writeln!(text, "memory {}", index - 10);
     }
     if index < 60 {
-        return format!(in alloc; "count {}", if index == 59 { 2 } else { 4 });
+        let room = 158 - 4 * (index - 20);
+        return writeln!(text, "count {}", room.min(40));
     }
     let number = usize::from(index - 60);
-    let mut text = String::from_str(alloc, "bytes ")?;
+    text.push_str("bytes ")?;
     for place in number..(number / 4 + 1) * 0x10 {
         let byte = place.saturating_sub(2) / 4;
         write!(text, "{byte:02x}")?;
     }
-    Ok(text)
+    text.push('\n')
 }
 
 #[test]
 fn a_hundred_commands_run_at_once(rt: HostRuntime) -> Result<(), Fail> {
     let mut commands = Vec::new(rt.alloc());
+    let mut wanted = String::new(rt.alloc());
     for index in 0..100 {
         commands.push(command_on_ten(rt.alloc(), index)?)?;
+        add_reply_on_ten(&mut wanted, index)?;
     }
-    let replies = replies_of(rt.alloc(), &TEN, commands.as_slice())?;
-    assert!(rt; replies.len() == 100);
-    for (index, reply) in (0..100).zip(&replies) {
-        let text = reply.to_string(rt.alloc())?;
-        let wanted = reply_on_ten(rt.alloc(), index)?;
-        expect_text(usize::from(index), text.as_str(), wanted.as_str())?;
-    }
-    Ok(())
+    expect_replies(rt.alloc(), &TEN, commands.as_slice(), 100, wanted.as_str())
 }
 
 // So many bytes, no two neighbouring pages of which are alike.
@@ -262,90 +281,98 @@ fn pattern(alloc: Global, size: usize) -> Result<Vec<u8>, AllocError> {
 // A block of 1 MiB lies at two addresses, one after the other.
 const TWICE: [Place; 2] = [Place::Block(0x1000, 0x10_0000), Place::Again(0x10_1000)];
 
-#[test]
-fn a_mebibyte_is_written_and_read_whole(rt: HostRuntime) -> Result<(), Fail> {
-    let mut bytes = pattern(rt.alloc(), 0x10_0000)?;
-    let commands = vec![in rt.alloc();
-        layout_of(rt.alloc(), &[0, 1])?,
-        Command::Plain(0),
-        write_of(rt.alloc(), 0, 0x1000, bytes.as_slice())?,
-        write_of(rt.alloc(), 0, 0x10_0fff, &[0xfe, 0xff])?,
-        read_of(0, 0x1000, 0x20_0000),
-    ]?;
-    let mut replies = replies_of(rt.alloc(), &TWICE, commands.as_slice())?;
-    let Some(Reply::Bytes(read)) = replies.pop() else {
-        return Err(Fail::new("the last reply has bytes"));
-    };
-    let text = format!(in rt.alloc(); "{replies:?}")?;
-    expect_text(
-        0,
-        text.as_str(),
-        "[LayoutMade(0), MemoryMade(0), Count(1048576), Count(2)]",
-    )?;
-    // The last byte of the block, and the first.
-    assert!(rt; bytes.len() == 0x10_0000);
-    bytes[0xf_ffff] = 0xfe;
-    bytes[0] = 0xff;
-    let (low, high) = read
-        .as_slice()
-        .split_at_checked(0x10_0000)
-        .ok_or("1 MiB twice")?;
-    assert!(rt; low == bytes.as_slice() && high == bytes.as_slice());
-    Ok(())
+fn commands_on_twice(alloc: Global, bytes: &[u8]) -> Result<Vec<Command>, AllocError> {
+    let mut commands = Vec::new(alloc);
+    commands.push(layout_of(alloc, &[0, 1])?)?;
+    commands.push(Command::Plain(0))?;
+    commands.push(write_of(alloc, 0, 0x1000, bytes)?)?;
+    // The last byte of the block, and then its first.
+    commands.push(write_of(alloc, 0, 0x10_0fff, &[0xfe, 0xff])?)?;
+    commands.push(read_of(0, 0x1000, 0x20_0000))?;
+    Ok(commands)
 }
 
-const REPLIES: &str = "\
+#[test]
+fn a_mebibyte_is_written_and_read_whole(rt: HostRuntime) -> Result<(), Fail> {
+    let bytes = pattern(rt.alloc(), 0x10_0000)?;
+    let commands = commands_on_twice(rt.alloc(), bytes.as_slice())?;
+    let mut wanted = String::from_str(
+        rt.alloc(),
+        "layout 0\nmemory 0\ncount 1048576\ncount 2\nbytes ",
+    )?;
+    for _ in 0..2 {
+        wanted.push_str("ff")?;
+        for index in 1..0xf_ffffu32 {
+            write!(wanted, "{:02x}", index % 251)?;
+        }
+        wanted.push_str("fe")?;
+    }
+    wanted.push('\n')?;
+    expect_replies(rt.alloc(), &TWICE, commands.as_slice(), 5, wanted.as_str())
+}
+
+static FAULTS: [Fault; 9] = [
+    Fault::InvalidGuestAddress(GuestAddress(0)),
+    Fault::InvalidGuestAddress(GuestAddress(0xabc0)),
+    Fault::PartialBuffer {
+        expected: 8,
+        completed: 6,
+    },
+    Fault::InvalidBackendAddress,
+    Fault::HostAddressNotAvailable,
+    Fault::IommuError(IommuError::CannotResolve {
+        iova_range: IovaRange {
+            base: GuestAddress(0x5000),
+            length: 2,
+        },
+        reason: Reason::MissingMapping,
+    }),
+    Fault::NoMemoryRegion,
+    Fault::MemoryRegionOverlap,
+    Fault::UnsortedMemoryRegions,
+];
+
+fn some_replies(alloc: Global) -> Result<Vec<Reply>, AllocError> {
+    let mut replies = Vec::new(alloc);
+    replies.push(Reply::LayoutMade(12))?;
+    replies.push(Reply::MemoryMade(3))?;
+    replies.push(Reply::Count(256))?;
+    replies.push(Reply::Bytes(ByteList::from_vec(vec![in alloc; 0u8, 0xa, 0xff]?)))?;
+    replies.push(Reply::Bytes(ByteList::from_vec(Vec::new(alloc))))?;
+    replies.push(Reply::Fault(Fault::InvalidBackendAddress))?;
+    replies.push(Reply::NoSuch)?;
+    replies.push(Reply::BadRange)?;
+    replies.push(Reply::Memory)?;
+    Ok(replies)
+}
+
+const LINES: &str = "\
 layout 12
 memory 3
 count 256
 bytes 000aff
 bytes -
-error G1 0x0
-error G1 0xabc0
-error G3 8 6
 error G4
-error G5
-error G8 I1 0x5000+0x2 missing
-error C1
-error C2
-error C3
 error NoSuch
 error BadRange
 error Memory
+G1 0x0
+G1 0xabc0
+G3 8 6
+G4
+G5
+G8 I1 0x5000+0x2 missing
+C1
+C2
+C3
 ";
 
 #[test]
 fn a_reply_has_its_line(rt: HostRuntime) -> Result<(), Fail> {
-    let mut text = String::new(rt.alloc());
-    for reply in [
-        Reply::LayoutMade(12),
-        Reply::MemoryMade(3),
-        Reply::Count(256),
-        Reply::Bytes(ByteList::from_vec(vec![in rt.alloc(); 0u8, 0xa, 0xff]?)),
-        Reply::Bytes(ByteList::from_vec(Vec::new(rt.alloc()))),
-        Reply::Fault(Fault::InvalidGuestAddress(GuestAddress(0))),
-        Reply::Fault(Fault::InvalidGuestAddress(GuestAddress(0xabc0))),
-        Reply::Fault(Fault::PartialBuffer {
-            expected: 8,
-            completed: 6,
-        }),
-        Reply::Fault(Fault::InvalidBackendAddress),
-        Reply::Fault(Fault::HostAddressNotAvailable),
-        Reply::Fault(Fault::IommuError(IommuError::CannotResolve {
-            iova_range: IovaRange {
-                base: GuestAddress(0x5000),
-                length: 2,
-            },
-            reason: Reason::MissingMapping,
-        })),
-        Reply::Fault(Fault::NoMemoryRegion),
-        Reply::Fault(Fault::MemoryRegionOverlap),
-        Reply::Fault(Fault::UnsortedMemoryRegions),
-        Reply::NoSuch,
-        Reply::BadRange,
-        Reply::Memory,
-    ] {
-        writeln!(text, "{reply}")?;
+    let replies = some_replies(rt.alloc())?;
+    let mut text = lines_of(rt.alloc(), replies.as_slice())?;
+    for fault in &FAULTS {
+        writeln!(text, "{fault}")?;
     }
-    expect_text(0, text.as_str(), REPLIES)
+    expect_text(0, text.as_str(), LINES)
 }

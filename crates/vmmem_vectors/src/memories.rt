@@ -1,7 +1,7 @@
 //! Access to guest memory by guest address, where it ends before all bytes are moved.
 
 use crate::regions::TestRegion;
-use crate::support::{Place, expect_text, memory_of};
+use crate::support::{Place, expect_accesses, memory_of};
 use std::alloc::Global;
 use std::test::Fail;
 use vm_memory::{Bytes, GuestAddress, GuestRegionCollection, HostMemory};
@@ -66,7 +66,7 @@ const AT_A_BARE_REGION: [Access; 4] = [
     ),
 ];
 
-// What each access of so many bytes at an address answers, a line each.
+// What each access of so many bytes at an address answers.
 fn accesses_of(
     alloc: Global,
     host: &mut HostMemory<()>,
@@ -83,22 +83,21 @@ fn accesses_of(
     let wrote_all = memory.write_slice(host, bytes.as_slice(), addr);
     let had = memory.read(host, buffer.as_mut_slice(), addr);
     let had_all = memory.read_slice(host, buffer.as_mut_slice(), addr);
-    Ok(format!(in alloc; "{wrote:?}\n{had:?}\n{wrote_all:?}\n{had_all:?}\n")?)
+    Ok(format!(in alloc; "{wrote:?} {had:?} {wrote_all:?} {had_all:?}")?)
 }
 
-fn expect_accesses(alloc: Global, places: &[Place], cases: &[Access]) -> Result<(), Fail> {
+fn expect_cases(alloc: Global, places: &[Place], cases: &[Access]) -> Result<(), Fail> {
     let mut host = HostMemory::new(alloc);
     let memory = memory_of(alloc, &mut host, places)?;
     for (case, (addr, count, any, all)) in cases.iter().enumerate() {
         let text = accesses_of(alloc, &mut host, &memory, GuestAddress(*addr), *count)?;
-        let wanted = format!(in alloc; "{any}\n{any}\n{all}\n{all}\n")?;
-        expect_text(case, text.as_str(), wanted.as_str())?;
+        expect_accesses(alloc, case, text.as_str(), any, all)?;
     }
     Ok(())
 }
 
 #[test]
 fn an_access_ends_where_no_byte_is(rt: HostRuntime) -> Result<(), Fail> {
-    expect_accesses(rt.alloc(), &AROUND_A_HOLE, &AT_A_HOLE)?;
-    expect_accesses(rt.alloc(), &BEFORE_A_BARE_REGION, &AT_A_BARE_REGION)
+    expect_cases(rt.alloc(), &AROUND_A_HOLE, &AT_A_HOLE)?;
+    expect_cases(rt.alloc(), &BEFORE_A_BARE_REGION, &AT_A_BARE_REGION)
 }

@@ -360,22 +360,28 @@ fn a_failed_write_is_told(rt: HostRuntime) -> Result<(), Fail> {
     Ok(())
 }
 
+static FAULTS: [DriveFault; 5] = [
+    DriveFault::BadLine(1),
+    DriveFault::BadLine(1204),
+    DriveFault::Read,
+    DriveFault::Write,
+    DriveFault::Memory,
+];
+
+const FAULT_TEXTS: &str = "\
+1 line 1: bad line
+1 line 1204: bad line
+2 read failed
+2 write failed
+3 out of memory
+";
+
 #[test]
 fn a_fault_has_its_status_and_its_text(rt: HostRuntime) -> Result<(), Fail> {
     let mut text = String::new(rt.alloc());
-    for fault in [
-        DriveFault::BadLine(1),
-        DriveFault::BadLine(1204),
-        DriveFault::Read,
-        DriveFault::Write,
-        DriveFault::Memory,
-    ] {
+    for fault in &FAULTS {
         let status = fault.status();
         writeln!(text, "{status} {fault}")?;
     }
-    expect_text(
-        0,
-        text.as_str(),
-        "1 line 1: bad line\n1 line 1204: bad line\n2 read failed\n2 write failed\n3 out of memory\n",
-    )
+    expect_text(0, text.as_str(), FAULT_TEXTS)
 }

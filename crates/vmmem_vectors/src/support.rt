@@ -61,3 +61,15 @@ pub fn expect_text(case: usize, told: &str, wanted: &str) -> Result<(), Fail> {
     }
     Ok(())
 }
+
+/// Fails where a write, a read, a write of all and a read of all do not answer so, in this order.
+pub fn expect_accesses(
+    alloc: Global,
+    case: usize,
+    told: &str,
+    any: &str,
+    all: &str,
+) -> Result<(), Fail> {
+    let wanted = format!(in alloc; "{any} {any} {all} {all}")?;
+    expect_text(case, told, wanted.as_str())
+}

@@ -12,6 +12,66 @@ const RANGE: IovaRange = IovaRange {
     length: 20,
 };
 
+static OF_WINDOWS: [VolatileMemoryError; 6] = [
+    VolatileMemoryError::OutOfBounds { addr: 0x19 },
+    VolatileMemoryError::Overflow {
+        base: usize::MAX,
+        offset: 10,
+    },
+    VolatileMemoryError::TooBig {
+        nelements: 3,
+        size: 0x8000_0000_0000_0000,
+    },
+    VolatileMemoryError::Misaligned {
+        addr: 0x13,
+        alignment: 8,
+    },
+    VolatileMemoryError::PartialBuffer {
+        expected: 8,
+        completed: 4,
+    },
+    VolatileMemoryError::Memory,
+];
+
+static OF_MEMORIES: [GuestMemoryError; 6] = [
+    GuestMemoryError::InvalidGuestAddress(GuestAddress(0x400)),
+    GuestMemoryError::PartialBuffer {
+        expected: 8,
+        completed: 4,
+    },
+    GuestMemoryError::InvalidBackendAddress,
+    GuestMemoryError::HostAddressNotAvailable,
+    GuestMemoryError::IommuError(IommuError::CannotResolve {
+        iova_range: RANGE,
+        reason: Reason::MissingMapping,
+    }),
+    GuestMemoryError::Memory,
+];
+
+static OF_TRANSLATIONS: [IommuError; 4] = [
+    IommuError::CannotResolve {
+        iova_range: RANGE,
+        reason: Reason::AccessNotAllowed,
+    },
+    IommuError::Fragmented {
+        iova_range: RANGE,
+        continuous_length: 16,
+    },
+    IommuError::IommuMisconfigured {
+        reason: Reason::NotConfigured,
+    },
+    IommuError::Memory,
+];
+
+static OF_LAYOUTS: [GuestRegionCollectionError; 4] = [
+    GuestRegionCollectionError::NoMemoryRegion,
+    GuestRegionCollectionError::MemoryRegionOverlap,
+    GuestRegionCollectionError::UnsortedMemoryRegions,
+    GuestRegionCollectionError::Memory,
+];
+
+static OF_BLOCKS: [MmapRegionError; 2] = [MmapRegionError::InvalidSize, MmapRegionError::Memory];
+
 const TEXTS: &str = "\
 address 0x19 is out of bounds
 address 0xffffffffffffffff offset by 0xa would overflow
@@ -40,69 +100,19 @@ out of memory
 #[test]
 fn an_error_has_its_text(rt: HostRuntime) -> Result<(), Fail> {
     let mut text = String::new(rt.alloc());
-    for error in [
-        VolatileMemoryError::OutOfBounds { addr: 0x19 },
-        VolatileMemoryError::Overflow {
-            base: usize::MAX,
-            offset: 10,
-        },
-        VolatileMemoryError::TooBig {
-            nelements: 3,
-            size: 0x8000_0000_0000_0000,
-        },
-        VolatileMemoryError::Misaligned {
-            addr: 0x13,
-            alignment: 8,
-        },
-        VolatileMemoryError::PartialBuffer {
-            expected: 8,
-            completed: 4,
-        },
-        VolatileMemoryError::Memory,
-    ] {
+    for error in &OF_WINDOWS {
         writeln!(text, "{error}")?;
     }
-    for error in [
-        GuestMemoryError::InvalidGuestAddress(GuestAddress(0x400)),
-        GuestMemoryError::PartialBuffer {
-            expected: 8,
-            completed: 4,
-        },
-        GuestMemoryError::InvalidBackendAddress,
-        GuestMemoryError::HostAddressNotAvailable,
-        GuestMemoryError::IommuError(IommuError::CannotResolve {
-            iova_range: RANGE,
-            reason: Reason::MissingMapping,
-        }),
-        GuestMemoryError::Memory,
-    ] {
+    for error in &OF_MEMORIES {
         writeln!(text, "{error}")?;
     }
-    for error in [
-        IommuError::CannotResolve {
-            iova_range: RANGE,
-            reason: Reason::AccessNotAllowed,
-        },
-        IommuError::Fragmented {
-            iova_range: RANGE,
-            continuous_length: 16,
-        },
-        IommuError::IommuMisconfigured {
-            reason: Reason::NotConfigured,
-        },
-        IommuError::Memory,
-    ] {
+    for error in &OF_TRANSLATIONS {
         writeln!(text, "{error}")?;
     }
-    for error in [
-        GuestRegionCollectionError::NoMemoryRegion,
-        GuestRegionCollectionError::MemoryRegionOverlap,
-        GuestRegionCollectionError::UnsortedMemoryRegions,
-        GuestRegionCollectionError::Memory,
-    ] {
+    for error in &OF_LAYOUTS {
         writeln!(text, "{error}")?;
     }
-    for error in [MmapRegionError::InvalidSize, MmapRegionError::Memory] {
+    for error in &OF_BLOCKS {
         writeln!(text, "{error}")?;
     }
     expect_text(0, text.as_str(), TEXTS)

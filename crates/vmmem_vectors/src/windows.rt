@@ -1,6 +1,6 @@
 //! Windows: parts of them, and access to their bytes.
 
-use crate::support::expect_text;
+use crate::support::{expect_accesses, expect_text};
 use std::alloc::Global;
 use std::test::Fail;
 use vm_memory::{
@@ -8,10 +8,17 @@ use vm_memory::{
     MmapRegion, VolatileMemoryResult, VolatileSlice,
 };
 
-// A region of so many bytes, at 0.
-fn region_of(host: &mut HostMemory<()>, size: usize) -> Result<GuestRegionMmap, Fail> {
-    let mapping = MmapRegion::new(host, size)?;
-    Ok(GuestRegionMmap::new(mapping, GuestAddress(0)).ok_or("the region fits")?)
+// A window of so many bytes from an offset on, in a block of 0x20, and the window of the whole block.
+fn windows_of(
+    host: &mut HostMemory<()>,
+    offset: u64,
+    count: usize,
+) -> Result<(VolatileSlice, VolatileSlice), Fail> {
+    let mapping = MmapRegion::new(host, 0x20)?;
+    let region = GuestRegionMmap::new(mapping, GuestAddress(0)).ok_or("the region fits")?;
+    let part = region.get_slice(MemoryRegionAddress(offset), count)?;
+    let whole = region.get_slice(MemoryRegionAddress(0), 0x20)?;
+    Ok((part, whole))
 }
 
 fn expect_len(
@@ -54,8 +61,7 @@ const PARTS: [(usize, usize, &str); 5] = [
 #[test]
 fn a_part_lies_in_its_window(rt: HostRuntime) -> Result<(), Fail> {
     let mut host: HostMemory<()> = HostMemory::new(rt.alloc());
-    let region = region_of(&mut host, 0x1000)?;
-    let window = region.get_slice(MemoryRegionAddress(0x10), 8)?;
+    let (window, _) = windows_of(&mut host, 0x10, 8)?;
     for (case, (count, wanted)) in OFFSETS.iter().enumerate() {
         expect_len(rt.alloc(), case, window.offset(*count), wanted)?;
     }
@@ -85,7 +91,7 @@ const ACCESSES: [(usize, usize, &str, &str); 6] = [
     (usize::MAX, 0, "Ok(0)", "Ok(())"),
 ];
 
-// What each access of so many bytes at an offset answers, a line each.
+// What each access of so many bytes at an offset answers.
 fn accesses_of(
     alloc: Global,
     host: &mut HostMemory<()>,
@@ -102,18 +108,16 @@ fn accesses_of(
     let wrote_all = window.write_slice(host, bytes.as_slice(), offset);
     let had = window.read(host, buffer.as_mut_slice(), offset);
     let had_all = window.read_slice(host, buffer.as_mut_slice(), offset);
-    Ok(format!(in alloc; "{wrote:?}\n{had:?}\n{wrote_all:?}\n{had_all:?}\n")?)
+    Ok(format!(in alloc; "{wrote:?} {had:?} {wrote_all:?} {had_all:?}")?)
 }
 
 #[test]
 fn an_access_reaches_to_the_end_of_its_window(rt: HostRuntime) -> Result<(), Fail> {
     let mut host: HostMemory<()> = HostMemory::new(rt.alloc());
-    let region = region_of(&mut host, 0x1000)?;
-    let window = region.get_slice(MemoryRegionAddress(0x10), 8)?;
+    let (window, _) = windows_of(&mut host, 0x10, 8)?;
     for (case, (offset, count, any, all)) in ACCESSES.iter().enumerate() {
         let text = accesses_of(rt.alloc(), &mut host, &window, *offset, *count)?;
-        let wanted = format!(in rt.alloc(); "{any}\n{any}\n{all}\n{all}\n")?;
-        expect_text(case, text.as_str(), wanted.as_str())?;
+        expect_accesses(rt.alloc(), case, text.as_str(), any, all)?;
     }
     Ok(())
 }
@@ -121,14 +125,11 @@ fn an_access_reaches_to_the_end_of_its_window(rt: HostRuntime) -> Result<(), Fai
 #[test]
 fn a_write_stays_in_its_window(rt: HostRuntime) -> Result<(), Fail> {
     let mut host: HostMemory<()> = HostMemory::new(rt.alloc());
-    let region = region_of(&mut host, 0x20)?;
-    let window = region.get_slice(MemoryRegionAddress(0x10), 4)?;
-    let all = region.get_slice(MemoryRegionAddress(0), 0x20)?;
-    assert!(rt; host.holds(&window));
-    assert!(rt; host.holds(&all));
+    let (window, whole) = windows_of(&mut host, 0x10, 4)?;
+    assert!(rt; host.holds(&window) && host.holds(&whole));
     window.write(&mut host, &[1, 2, 3, 4, 5, 6], 1)?;
     let mut buffer = [9; 8];
-    all.read_slice(&host, &mut buffer, 0xe)?;
+    whole.read_slice(&host, &mut buffer, 0xe)?;
     assert!(rt; buffer == [0, 0, 0, 1, 2, 3, 0, 0]);
     Ok(())
 }

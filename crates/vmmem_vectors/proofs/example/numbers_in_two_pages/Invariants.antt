@@ -1,6 +1,6 @@
 use Rattle.std.proofs.Common.{◌≡◌}
 use Rattle.vm_memory_guest.specs.Host.{shape_of}
-use Rattle.vmmem_vectors.proofs.example.two_blocks_and_a_hole.Given as goal
+use Rattle.vmmem_vectors.proofs.example.numbers_in_two_pages.Given as goal
 
 -- writes change no length and no number of blocks
 abbrev pub invariant-loop-number : goal.invariant-loop-number
