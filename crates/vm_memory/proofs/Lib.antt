@@ -1,6 +1,7 @@
 pub mod AccessLemmas
 pub mod BitmapLemmas
 pub mod BlockLemmas
+pub mod CopyLemmas
 pub mod ListLemmas
 pub mod NamedLemmas
 pub mod PatchLemmas

@@ -1,5 +1,5 @@
 -- An image that is patched in rounds, and the block that it mirrors.
-use Rattle.std.proofs.Common.{◌≡◌, ◌↔◌, ℕ, zero, suc, ◌+◌, ◌*◌, ◌/◌, ◌^◌, ◌<◌, ◌==◌, ◌≢◌, Bool, true, false, cond, List, [], ◌∷◌, map, length, get_or, Option, Some, None, option_map, Result, Ok, Err, IsSome, All, IfSome, Contains, refl, sym, ap, subst, ◌∙◌, inl, inr, arith, zero-add}
+use Rattle.std.proofs.Common.{◌≡◌, ◌↔◌, Bool, ◌&&◌, ℕ, zero, suc, ◌+◌, ◌*◌, ◌/◌, ◌^◌, ◌<◌, ◌==◌, ◌≢◌, true, false, cond, List, [], ◌∷◌, map, length, get_or, Option, Some, None, option_map, Result, Ok, Err, IsSome, All, IfSome, Contains, min, refl, sym, ap, subst, ◌∙◌, inl, inr, arith, zero-add}
 use Rattle.std.proofs.lemmas.Bool.{eqb-true, eqb-false, cases_Bool, true≢false, cond-true, cond-false, false_from_ne_true}
 use Rattle.std.proofs.lemmas.Cmp.{nat_eq_equiv}
 use Rattle.std.proofs.lemmas.List.{length-map, get_or-map, get_or-set_same, get_or-set_other, ext_get_or}
@@ -21,9 +21,10 @@ use Rattle.vm_memory_base.specs.declared.bitmap.BitmapId.TheVariants.{Block, Spa
 use Rattle.vm_memory_base.specs.declared.iotlb.Permissions.{Permissions}
 use Rattle.vm_memory_base.specs.declared.iotlb.Permissions.TheVariants as permissions
 use Rattle.vm_memory_guest.specs.Access.{Reached, onto, meets, meets_at, path, access_of}
-use Rattle.vm_memory_guest.specs.Dirt.{pages_at, path_cells, after_write, bytes_read}
+use Rattle.vm_memory_guest.specs.Copy.{after_copy, dirtied_cells}
+use Rattle.vm_memory_guest.specs.Dirt.{pages_at, path_cells, after_write, bytes_read, dirtied, marks_pages}
 use Rattle.vm_memory_guest.specs.Error.{error_of}
-use Rattle.vm_memory_guest.specs.Host.{Host, Cell, block_at, byte_at, written}
+use Rattle.vm_memory_guest.specs.Host.{Host, Cell, block_at, byte_at, bytes_at, cells_from, written}
 use Rattle.vm_memory_guest.specs.Memory.{Behind, Direct, physical, route_behind}
 use Rattle.vm_memory_guest.specs.Region.{Region, Lies, Byte, Bare, Hole, cell, layout_error}
 use Rattle.vm_memory_guest.specs.Typed.{path_given, typed_path, whole_path}
@@ -31,11 +32,13 @@ use Rattle.vm_memory_guest.specs.Window.{bitmap_of, with_bitmap}
 use Rattle.vm_memory_guest.specs.declared.region.GuestMemoryError.{GuestMemoryError}
 use Rattle.vm_memory_guest.specs.declared.region.GuestMemoryError.TheVariants as errors
 use Rattle.vm_memory_guest.specs.declared.region.GuestRegionCollectionError.{GuestRegionCollectionError}
+use Rattle.vm_memory.specs.Copy.{copied, has_block, ends_inside}
 use Rattle.vm_memory.specs.Machine.{Step, Run, if_there, new_layout, with_host, outcome}
 use Rattle.vm_memory.specs.Reply.{reached_by, answer_of, reply_of, writes}
 use Rattle.vm_memory.specs.Rounds.{patched, patched_by, patched_with, bytes_of, pages_of, image_now, image_after, MirrorsBlock, Cover, IsTracked, IsDirect, RunsDirectly, KeepsImage}
 use Rattle.vm_memory.specs.State.{State, MachineMemory, named, meaning, IsOn}
 use Rattle.vm_memory.specs.Typed.{integer_of, fits_width, stores, stores_bytes}
+use Rattle.vm_memory.specs.declared.machine.command.BlockRange.{BlockRange}
 use Rattle.vm_memory.specs.declared.machine.command.Command.{Command}
 use Rattle.vm_memory.specs.declared.machine.command.Command.TheVariants as command
 use Rattle.vm_memory.specs.declared.machine.command.Reply.{Reply}
@@ -154,6 +157,34 @@ pub whole_marks : (size : ℕ) (xs : List Reached) (fault : Option GuestMemoryEr
 whole_marks size [] None own = All-nil MarksItsCell
 whole_marks size [] (Some e) own = All-nil MarksItsCell
 whole_marks size (x ∷ xs) fault own = taken_marks _ (x ∷ xs) _ own
+
+-- the path of cells that mark their own places
+abbrev itself : Cell → Reached
+itself c = record {
+  cell = c;
+  home = record { start = 0; len = 0; place = None };
+  mapping = None;
+  bitmap = Block c.block;
+  mark = c.offset;
+}
+
+itself_marks : (cs : List Cell) → All MarksItsCell (map itself cs)
+itself_marks [] = All-nil MarksItsCell
+itself_marks (c ∷ cs) = All-cons MarksItsCell _ (map itself cs) (refl, refl) (itself_marks cs)
+
+cells-itself : (cs : List Cell) → path_cells (map itself cs) ≡ cs
+cells-itself [] = refl
+cells-itself (c ∷ cs) = ap (λ (ds : List Cell). c ∷ ds) (cells-itself cs)
+
+dirtied-itself : (cs : List Cell) (host : Host PageSet) → dirtied (map itself cs) host ≡ dirtied_cells cs host
+dirtied-itself [] host = refl
+dirtied-itself (c ∷ cs) host = dirtied-itself cs (marks_pages (Block c.block) c.offset 1 host)
+
+after_copy-is : (from to : List Cell) (host : Host PageSet)
+    → after_write (map itself to) (bytes_at host.blocks from) host ≡ after_copy from to host
+after_copy-is from to host =
+    let start : List Cell → Host PageSet = λ cs. record host { blocks = written cs (bytes_at host.blocks from) host.blocks } in
+    ap (λ (cs : List Cell). dirtied (map itself to) (start cs)) (cells-itself to) ∙ dirtied-itself to (start to)
 
 -- ---- what a write keeps
 
@@ -362,6 +393,20 @@ module _ (are_listed : AreListed) (cleaned_stay : CleanedStay) (laws : WriteLaws
     stored a w value r (Some m) off e =
         leaves r (stores (meaning m) old.host a w value) e (fitting m off a (to_le_bytes w value) (fits_width w value))
 
+    copied_keeps : (from to : BlockRange) (r : Reply) (there fits : Bool)
+        → (r, new) ≡ with_host old
+        (cond there (cond fits (reply.Done, copied old.host from to) (reply.BadRange, old.host)) (reply.NoSuch, old.host))
+        → KeepsBlock block image new.host
+    copied_keeps from to r false fits e = stays r (reply.NoSuch, old) e refl
+    copied_keeps from to r true false e = stays r (reply.BadRange, old) e refl
+    copied_keeps from to r true true e =
+        let n = min from.len to.len in
+        let source = cells_from from.block from.offset n in
+        let cs = cells_from to.block to.offset n in
+        subst (KeepsBlock block image)
+        (after_copy-is source cs old.host ∙ sym (ap (λ (p : Reply × State). p.1.host) e))
+        (write_keeps laws (map itself cs) (itself_marks cs) (bytes_at old.host.blocks source) old.host block image kept)
+
     harvested : (b : ℕ) (r : Reply) (o : Option PageSet) → slice_get old.host.bitmaps b ≡ o
         → (r, new) ≡ if_there old o
         (λ set. with_host old (reply.Pages (dirty_pages set), with_bitmap old.host (Block b) (cleaned set)))
@@ -389,6 +434,9 @@ module _ (are_listed : AreListed) (cleaned_stay : CleanedStay) (laws : WriteLaws
         stored addr.0 (integer_of width) value r (slice_get old.memories memory) direct e
     answered (command.Load memory width addr) r direct e =
         stays r _ e (same_host old (slice_get old.memories memory) _ (λ m. refl))
+    answered (command.Copy from to) r direct e =
+        copied_keeps from to r (has_block old.host from && has_block old.host to)
+        (ends_inside old.host from && ends_inside old.host to) e
     answered (command.Dirty id) r direct e = stays r _ e (same_host old (bitmap_of old.host id) _ (λ set. refl))
     answered (command.Harvest (Block b)) r direct e = harvested b r (slice_get old.host.bitmaps b) refl e
     answered (command.Harvest (Space s)) r direct e = spaced s r (slice_get old.host.spaces s) e

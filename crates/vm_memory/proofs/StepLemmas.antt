@@ -5,10 +5,12 @@ use Rattle.vm_memory_base.specs.Pages.{dirty_pages, cleaned}
 use Rattle.std.specs.Int as int
 use Rattle.std.specs.Int.{to_le_bytes}
 use Rattle.vm_memory_base.specs.declared.iotlb.Permissions.TheVariants as permissions
+use Rattle.vm_memory_base.specs.Pages.{PageSet}
 use Rattle.vm_memory_guest.specs.Access.{Reached}
 use Rattle.vm_memory_guest.specs.Answer.{counted}
 use Rattle.vm_memory_guest.specs.Dirt.{after_write}
 use Rattle.vm_memory_guest.specs.Error.{error_of}
+use Rattle.vm_memory_guest.specs.Host.{Host}
 use Rattle.vm_memory_guest.specs.Region.{Region, layout_error}
 use Rattle.vm_memory_guest.specs.Window.{bitmap_of, with_bitmap}
 use Rattle.vm_memory_guest.specs.Typed.{path_given}
@@ -17,6 +19,8 @@ use Rattle.vm_memory_guest.specs.declared.region.GuestRegionCollectionError.{Gue
 use Rattle.vm_memory.specs.State.{State, MachineMemory, named, plain, meaning}
 use Rattle.vm_memory.specs.Machine.{Step, Run, if_there, new_layout, new_memory, with_host, outcome}
 use Rattle.vm_memory.specs.Reply.{reply_of, reached_by, writes}
+use Rattle.vm_memory.specs.Copy as copy
+use Rattle.vm_memory.specs.Copy.{has_block, ends_inside}
 use Rattle.vm_memory.specs.Typed.{fits_width, integer_of, stores, stores_bytes, taken_by}
 use Rattle.vm_memory.specs.declared.machine.command.Command.{Command}
 use Rattle.vm_memory.specs.declared.machine.command.Command.TheVariants as command
@@ -102,6 +106,14 @@ still-step old new c r still step = elim step [ inl e ↦ go c e | inr want ↦ 
             after (with_host old (stores_bytes (meaning m) old.host a bytes)) e
             ∙ ap (λ (xs : List Reached). record old { host = after_write xs bytes old.host }) none
 
+    copied : (there fits : Bool) (host : Host PageSet)
+        → (r, new) ≡ with_host old
+        (cond there (cond fits (reply.Done, host) (reply.BadRange, old.host)) (reply.NoSuch, old.host))
+        → new ≡ old
+    copied false fits host e = after (reply.NoSuch, old) e
+    copied true false host e = after (reply.BadRange, old) e
+    copied true true host e = absurd (no_change (with_host old (reply.Done, host)) e)
+
     go : (c : Command) → (r, new) ≡ outcome old c → new ≡ old
     go (command.FromRegions ns) e = there old new (named old.regions ns) _ r (λ rs. made rs (layout_error rs)) e
     go (command.Plain layout) e =
@@ -120,3 +132,6 @@ still-step old new c r still step = elim step [ inl e ↦ go c e | inr want ↦ 
         there old new (slice_get old.memories memory) _ r (λ m. stored m addr.0 (integer_of width) value) e
     go (command.Load memory width addr) e =
         there old new (slice_get old.memories memory) _ r (λ m f. ap (λ (p : Reply × State). p.1) f) e
+    go (command.Copy from to) e =
+        copied (has_block old.host from && has_block old.host to)
+        (ends_inside old.host from && ends_inside old.host to) (copy.copied old.host from to) e

@@ -11,6 +11,7 @@ use Rattle.vm_memory_base.specs.declared.iotlb.Reason.{Reason}
 use Rattle.vm_memory_guest.specs.Host.{Host}
 use Rattle.vm_memory_guest.specs.Region.{Region}
 use Rattle.vm_memory.specs.State.{State, MachineMemory, plain}
+use Rattle.vm_memory.specs.declared.machine.command.BlockRange.{BlockRange}
 use Rattle.vm_memory.specs.declared.machine.command.Fault.{Fault}
 use Rattle.vm_memory.specs.declared.machine.command.Fault.TheVariants.{InvalidGuestAddress, IommuError}
 
@@ -86,3 +87,7 @@ no_region_at a = InvalidGuestAddress (at a)
 
 abbrev pub not_translated : ℕ → ℕ → Reason → Fault
 not_translated a n reason = IommuError (CannotResolve (record { base = at a; length = n }) reason)
+
+-- a window of a block
+abbrev pub in_block : ℕ → ℕ → ℕ → BlockRange
+in_block block offset len = record { block = block; offset = offset; len = len }

@@ -1,3 +1,4 @@
+pub mod Copy
 pub mod Examples
 pub mod Inside
 pub mod Machine

@@ -7,11 +7,12 @@ use Rattle.vm_memory_guest.specs.Region.{Region, layout_error}
 use Rattle.vm_memory_guest.specs.Window.{bitmap_of, with_bitmap}
 use Rattle.vm_memory_guest.specs.declared.region.GuestRegionCollectionError.{GuestRegionCollectionError}
 use Rattle.vm_memory.specs.State.{State, MachineMemory, plain, meaning, named, IsOn}
+use Rattle.vm_memory.specs.Copy.{copies}
 use Rattle.vm_memory.specs.Reply.{reads, writes, reply_of_layout_error}
 use Rattle.vm_memory.specs.Typed.{integer_of, fits_width, loads, stores}
 use Rattle.vm_memory.specs.declared.machine.command.Command.{Command}
 use Rattle.vm_memory.specs.declared.machine.command.Command.TheVariants.{FromRegions, Plain, Read, Write}
-use Rattle.vm_memory.specs.declared.machine.command.Command.TheVariants.{Store, Load, Dirty, Harvest}
+use Rattle.vm_memory.specs.declared.machine.command.Command.TheVariants.{Store, Load, Copy, Dirty, Harvest}
 use Rattle.vm_memory.specs.declared.machine.command.Reply.{Reply}
 use Rattle.vm_memory.specs.declared.machine.command.Reply.TheVariants.{LayoutMade, MemoryMade, Pages}
 use Rattle.vm_memory.specs.declared.machine.command.Reply.TheVariants.{NoSuch, Memory}
@@ -55,6 +56,7 @@ outcome old (Dirty id) = if_there old (bitmap_of old.host id) (λ set. (Pages (d
 outcome old (Harvest id) =
     if_there old (bitmap_of old.host id)
     (λ set. with_host old (Pages (dirty_pages set), with_bitmap old.host id (cleaned set)))
+outcome old (Copy from to) = with_host old (copies old.host from to)
 
 -- where memory may be wanting: for what is made, for the bytes and the pages that a reply lists, and for a
 -- translation
@@ -68,6 +70,7 @@ MayWant old (Store memory width addr value) =
 MayWant old (Load memory width addr) = IsSomeAnd (slice_get old.memories memory) IsOn
 MayWant old (Dirty id) = IsSome (bitmap_of old.host id)
 MayWant old (Harvest id) = IsSome (bitmap_of old.host id)
+MayWant old (Copy from to) = ⊥
 
 -- from old, a machine may answer a command so and be in new then
 abbrev pub Step : State → Command → Reply → State → Type 0

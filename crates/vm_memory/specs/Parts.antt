@@ -4,7 +4,10 @@ use Rattle.vm_memory_base.specs.Pages.{PageSet}
 use Rattle.vm_memory_guest.specs.Host.{Host, shape_of, Holds}
 use Rattle.vm_memory_guest.specs.Region.{Region, region_names}
 use Rattle.vm_memory_guest.specs.Dirt.{with_pages}
+use Rattle.vm_memory_base.specs.declared.bitmap.BitmapId.TheVariants.{Block}
+use Rattle.vm_memory_guest.specs.Window.{Window}
 use Rattle.vm_memory.specs.State.{State, plain}
+use Rattle.vm_memory.specs.declared.machine.command.BlockRange.{BlockRange}
 
 -- a host, a pool of regions, and the layouts and memories that were made
 pub record Parts (R B : Type 0) : Type 0 where
@@ -33,3 +36,12 @@ module _ {R B : Type 0} (region : R → Region) where
     memories = map (λ rs. plain (map region rs)) m.memories;
     host = with_pages pages m.host;
   }
+
+-- a window of a block, writes to which mark the block's bitmap
+abbrev pub window_of : BlockRange → Window
+window_of w = record {
+  block = record { 0 = w.block };
+  offset = w.offset;
+  size = w.len;
+  bitmap = record { id = Block w.block; base = w.offset };
+}

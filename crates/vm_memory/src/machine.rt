@@ -8,6 +8,7 @@ ghost use Rattle.vm_memory.specs.Rounds.{IsTracked, RunsDirectly, KeepsImage, by
 
 mod accesses;
 pub mod command;
+mod copies;
 mod layouts;
 pub mod list;
 mod pages;
@@ -108,6 +109,7 @@ impl<R: GuestMemoryRegion, B: ExactBitmap> Machine<R, B> {
             } => self.load(*memory, *width, *addr),
             Command::Dirty(bitmap) => self.dirty(*bitmap),
             Command::Harvest(bitmap) => self.harvest(*bitmap),
+            Command::Copy { from, to } => self.copy(*from, *to),
         }
     }
 }

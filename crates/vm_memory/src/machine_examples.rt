@@ -10,14 +10,14 @@ ghost use Rattle.vm_memory_guest.specs.declared.region.GuestMemoryError.TheVaria
 ghost use Rattle.vm_memory_guest.specs.declared.region.GuestRegionCollectionError.TheVariants as layouts;
 ghost use Rattle.vm_memory.specs.Examples.{at, low, high, bare, block_pages, space_pages, host, machine};
 ghost use Rattle.vm_memory.specs.Examples.{marked_host, marked};
-ghost use Rattle.vm_memory.specs.Examples.{no_region_at, not_translated};
+ghost use Rattle.vm_memory.specs.Examples.{no_region_at, not_translated, in_block};
 ghost use Rattle.vm_memory.specs.Machine.{outcome, MayWant, Step, Run};
 ghost use Rattle.vm_memory.specs.Parts.{Parts, AreHeld, state_of};
 ghost use Rattle.vm_memory.specs.Reply.{reply_of_error, reply_of_layout_error};
 ghost use Rattle.vm_memory.specs.Rounds.{patched, image_after, MirrorsBlock, IsTracked, IsDirect};
 ghost use Rattle.vm_memory.specs.State.{State, plain};
 ghost use Rattle.vm_memory.specs.declared.machine.command.Command.TheVariants.{FromRegions, Plain, Read, Write};
-ghost use Rattle.vm_memory.specs.declared.machine.command.Command.TheVariants.{Store, Load, Dirty, Harvest};
+ghost use Rattle.vm_memory.specs.declared.machine.command.Command.TheVariants.{Store, Load, Copy, Dirty, Harvest};
 ghost use Rattle.vm_memory.specs.declared.machine.command.Reply.TheVariants.{LayoutMade, MemoryMade, Count, Bytes, Pages};
 ghost use Rattle.vm_memory.specs.declared.machine.command.Reply.TheVariants.{Fault, NoSuch, Memory};
 ghost use Rattle.vm_memory.specs.declared.machine.command.Reply.TheVariants.{Done, Value, BadRange};
@@ -167,6 +167,36 @@ pub fn loads_are_answered()
     ensures two_mappings { outcome machine (Load 1 Two (at 19)) ≡ (Fault fault.InvalidBackendAddress, machine) }
 {}
 
+/// A copy moves as many bytes as both windows have, as they were, and marks those of the other. It is refused
+/// where a window passes its block.
+pub fn copies_are_answered()
+    ensures overlapping { outcome machine (Copy (in_block 0 0 3) (in_block 0 1 3))
+        ≡ (
+          Done,
+          record machine {
+            host = record host {
+              blocks = (1 ∷ 1 ∷ 2 ∷ 3 ∷ []) ∷ (5 ∷ 6 ∷ 7 ∷ 8 ∷ []) ∷ [];
+              bitmaps = block_pages true true ∷ block_pages false false ∷ [];
+            };
+          },
+        ) }
+    ensures lesser_length { outcome machine (Copy (in_block 0 2 2) (in_block 1 0 4))
+        ≡ (
+          Done,
+          record machine {
+            host = record host {
+              blocks = (1 ∷ 2 ∷ 3 ∷ 4 ∷ []) ∷ (3 ∷ 4 ∷ 7 ∷ 8 ∷ []) ∷ [];
+              bitmaps = block_pages false false ∷ block_pages true false ∷ [];
+            };
+          },
+        ) }
+    ensures nothing { outcome machine (Copy (in_block 0 4 0) (in_block 1 0 4)) ≡ (Done, machine) }
+    ensures past_the_end { outcome machine (Copy (in_block 0 3 2) (in_block 1 0 4)) ≡ (BadRange, machine) }
+    ensures other_past_the_end { outcome machine (Copy (in_block 0 3 1) (in_block 1 1 4))
+        ≡ (BadRange, machine) }
+    ensures no_block { outcome machine (Copy (in_block 0 3 2) (in_block 2 0 1)) ≡ (NoSuch, machine) }
+{}
+
 /// Dirty pages are answered ascending, and stay dirty.
 pub fn dirty_pages_are_answered()
     ensures block { outcome marked (Dirty (Block 1)) ≡ (Pages (0 ∷ 1 ∷ []), marked) }
@@ -239,6 +269,7 @@ pub fn who_may_want_memory()
     ensures translated_store { MayWant machine (Store 1 One (at 0) 9) }
     ensures store_too_great { MayWant machine (Store 1 One (at 0) 256) → ⊥ }
     ensures translated_load { MayWant machine (Load 1 One (at 0)) }
+    ensures copy { MayWant machine (Copy (in_block 0 0 1) (in_block 1 0 1)) → ⊥ }
     ensures load_that_is_off { MayWant machine (Load 2 One (at 0)) → ⊥ }
     ensures no_region { MayWant machine (FromRegions (0 ∷ 3 ∷ [])) → ⊥ }
     ensures no_layout { MayWant machine (Plain 1) → ⊥ }

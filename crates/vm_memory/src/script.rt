@@ -4,7 +4,7 @@
 //! the last line may lack. An empty line and a line that begins with `#` do nothing. `block SIZE PAGE`
 //! and `region B A` come first and fill the pools; the first command makes the machine. The commands are
 //! `layout R`, `plain L`, `read M A N`, `write M A BYTES`, `store M W A VALUE` and `load M W A`, where `W`
-//! is 1, 2, 4 or 8 bytes.
+//! is 1, 2, 4 or 8 bytes, and `copy B A N B2 A2 N2` of windows of two blocks.
 
 ghost use Rattle.std.specs.Prelude.{◌≡◌};
 ghost use Rattle.vm_memory.specs.Script.{status_of};

@@ -1,8 +1,8 @@
 -- The walk through a backend, one call after the other.
-use Rattle.std.proofs.Common.{◌≡◌, ℕ, ◌+◌, ◌-◌, ◌^◌, ◌<◌, ◌≤◌, min, List, [], ◌∷◌, length, Option, Some, None, Bool, true, false, cond, map, option_map, Result, Ok, Err, refl, sym, ap, ◌∙◌, arith}
+use Rattle.std.proofs.Common.{◌≡◌, ℕ, ◌+◌, ◌-◌, ◌^◌, ◌<◌, ◌≤◌, min, List, [], ◌∷◌, length, Option, Some, None, map, option_map, Result, Ok, Err, sym, ap, ◌∙◌, arith}
 use Rattle.std.proofs.lemmas.Bool.Decides.{nat_tests}
 use Rattle.std.specs.Iterator.{MakesProgress, item_count}
-use Rattle.vm_memory_base.specs.Address.{step, is_within}
+use Rattle.vm_memory_base.specs.Address.{step}
 use Rattle.vm_memory_guest.specs.Host.{Cell}
 use Rattle.vm_memory_guest.specs.Region.{Region, IsRegion, IsLayout, home, home_in, slice_from, window_at}
 use Rattle.vm_memory_guest.specs.Window.{Window}

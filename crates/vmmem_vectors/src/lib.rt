@@ -17,4 +17,6 @@ mod support;
 #[cfg(test)]
 mod texts;
 #[cfg(test)]
+mod typed;
+#[cfg(test)]
 mod windows;

@@ -8,7 +8,7 @@ use std::test::Fail;
 use vm_memory::{DriveFault, drive};
 
 // Scripts, and what they tell: their replies, and then the status and the text of a fault.
-const SCRIPTS: [(&[u8], &str); 14] = [
+const SCRIPTS: [(&[u8], &str); 16] = [
     (b"", ""),
     (b"\n\n# nothing\n#\xff\x00\r  \n", ""),
     (
@@ -54,6 +54,24 @@ const SCRIPTS: [(&[u8], &str); 14] = [
         "block 0\nregion 0\nerror NoSuch\nlayout 0\nerror NoSuch\nmemory 0\nbytes -\nerror G1 0x4\n\
          bytes 00000000\n",
     ),
+    // A value is stored and loaded in one place or not at all: not where a byte of it has no region, nor where
+    // its place in the block is no multiple of its width. A copy moves bytes as they were.
+    (
+        b"block 0x400 1\nregion 0 0\nlayout 0\nplain 0\nstore 0 4 0x3fe 0x01020304\n\
+          store 0 4 2 0x01020304\nstore 0 4 4 0x01020304\nread 0 2 8\nload 0 2 4\nstore 0 1 0 256\n\
+          store 0 8 0x400 1\ncopy 0 4 4 0 6 4\nread 0 4 6\n",
+        "block 0\nregion 0\nlayout 0\nmemory 0\nerror G4\nerror G4\nok\nbytes 0000040302010000\n\
+         value 772\nerror BadRange\nerror G1 0x400\nok\nbytes 040304030201\n",
+    ),
+    // What is named is looked for first, and then the range is tested.
+    (
+        b"block 8 1\nregion 0 0\nlayout 0\nplain 0\nstore 1 1 0 256\nload 1 8 0\nstore 0 1 8 256\n\
+          store 0 8 0 0xffffffffffffffff\nload 0 8 0\nload 0 1 7\ncopy 1 0 1 0 0 1\ncopy 0 9 0 1 0 0\n\
+          copy 0 1 8 0 0 1\ncopy 0 0 1 0 8 1\ncopy 0 8 0 0 0 8\ncopy 0 0xffffffffffffffff 2 0 0 1\n",
+        "block 0\nregion 0\nlayout 0\nmemory 0\nerror NoSuch\nerror NoSuch\nerror BadRange\nok\n\
+         value 18446744073709551615\nvalue 255\nerror NoSuch\nerror NoSuch\nerror BadRange\n\
+         error BadRange\nok\nerror BadRange\n",
+    ),
     // A line that sets up comes before the first command, also before one that was refused.
     (
         b"block 1 1\nplain 0\nblock 1 1\n",
@@ -92,7 +110,7 @@ fn each_line_has_its_reply(rt: HostRuntime) -> Result<(), Fail> {
 }
 
 // Lines that are bad before the first command and after it.
-const BAD_LINES: [&[u8]; 66] = [
+const BAD_LINES: [&[u8]; 78] = [
     // between words there is one space, and no other byte
     b" ",
     b"\r",
@@ -137,6 +155,19 @@ const BAD_LINES: [&[u8]; 66] = [
     b"read 0 0 1 1",
     b"write 0 0",
     b"write 0 0 01 02",
+    b"store",
+    b"store 0 4 0",
+    b"store 0 4 0 0 0",
+    b"load 0 4",
+    b"load 0 4 0 0",
+    b"copy 0 0 0 0 0",
+    b"copy 0 0 0 0 0 0 0",
+    // widths other than 1, 2, 4 and 8
+    b"store 0 0 0 0",
+    b"store 0 3 0 0",
+    b"load 0 5 0",
+    b"load 0 16 0",
+    b"store 0 x 0 0",
     // a page of no bytes
     b"block 1 0",
     b"block 1 0x0",

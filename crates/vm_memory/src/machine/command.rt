@@ -37,10 +37,23 @@ pub enum Command {
         width: Width,
         addr: GuestAddress,
     },
+    /// Copies the first bytes of a window to the front of another, as many as both have.
+    Copy {
+        from: BlockRange,
+        to: BlockRange,
+    },
     /// Asks for the dirty pages of a block's bitmap or of a space.
     Dirty(BitmapId),
     /// Takes the dirty pages of a block's bitmap or of a space: none of them is dirty then.
     Harvest(BitmapId),
+}
+
+/// A window of a block of the host: `len` bytes from `offset` on.
+#[derive(Clone, Copy, Debug, PartialEq, Eq)]
+pub struct BlockRange {
+    pub block: usize,
+    pub offset: usize,
+    pub len: usize,
 }
 
 /// How many bytes a value that is stored or loaded takes.

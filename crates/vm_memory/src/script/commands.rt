@@ -35,6 +35,10 @@ pub(super) fn parse(
             width: words.width()?,
             addr: words.address()?,
         },
+        "copy" => Command::Copy {
+            from: words.block_range()?,
+            to: words.block_range()?,
+        },
         _ => return Err(LineError::Bad),
     })
 }

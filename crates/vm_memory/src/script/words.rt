@@ -2,7 +2,7 @@
 ghost use Rattle.std.specs.Prelude.{◌≡◌};
 ghost use Rattle.vm_memory.specs.declared.script.words.LineError.TheVariants as error;
 
-use crate::machine::command::Width;
+use crate::machine::command::{BlockRange, Width};
 use crate::machine::list::ByteList;
 use std::alloc::{AllocError, AllocFailed, Global};
 use vm_memory_base::GuestAddress;
@@ -74,6 +74,15 @@ impl<'a> Words<'a> {
     /// The next word as a number of a pool, or as a length.
     pub(super) fn index(&mut self) -> Result<usize, LineError> {
         Ok(self.number()? as usize)
+    }
+
+    /// The next three words as a window of a block: its block, its offset and its length.
+    pub(super) fn block_range(&mut self) -> Result<BlockRange, LineError> {
+        Ok(BlockRange {
+            block: self.index()?,
+            offset: self.index()?,
+            len: self.index()?,
+        })
     }
 
     /// The next word as the width of a value: 1, 2, 4 or 8 bytes.

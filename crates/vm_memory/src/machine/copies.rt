@@ -1,0 +1,64 @@
+//! The command that copies between windows of blocks.
+ghost use Rattle.std.specs.Prelude.{◌≡◌, ◌+◌, ◌^◌, ◌<◌, ◌≤◌, length, if◌then◌else◌, Some, None, nat_lt, IfSome};
+ghost use Rattle.vm_memory_guest.specs.Dirt.{with_pages};
+ghost use Rattle.vm_memory_guest.specs.Host.{shape_of, Holds};
+ghost use Rattle.vm_memory_guest.specs.Window.{window_names};
+ghost use Rattle.vm_memory.specs.Copy.{copies, ends_inside};
+ghost use Rattle.vm_memory.specs.Machine.{Step};
+ghost use Rattle.vm_memory.specs.Parts.{state_of, window_of};
+ghost use Rattle.vm_memory.specs.declared.machine.command.Command.TheVariants as command;
+
+use super::Machine;
+use super::command::{BlockRange, Reply};
+use vm_memory_base::{ExactBitmap, GuestAddress, MemoryRegionAddress};
+use vm_memory_guest::host_laws::parts_of_a_block_are_held;
+use vm_memory_guest::typed_laws::copies_are_by_bytes;
+use vm_memory_guest::{
+    BlockId, GuestMemoryRegion, GuestRegionMmap, HostMemory, MmapRegion, VolatileSlice,
+};
+
+impl<R: GuestMemoryRegion, B: ExactBitmap> Machine<R, B> {
+    pub(super) fn copy(&mut self, from: BlockRange, to: BlockRange) -> Reply
+        ensures { let before = state_of R.region B.pages self.old in
+            Step before (command.Copy from to) result (state_of R.region B.pages self.new) }
+    {
+        copy_in(&mut self.host, from, to)
+    }
+}
+
+// Copies a window of a host to another.
+fn copy_in<B: ExactBitmap>(host: &mut HostMemory<B>, from: BlockRange, to: BlockRange) -> Reply
+    ensures copied { (result, with_pages B.pages host.new) ≡ copies (with_pages B.pages host.old) from to }
+    ensures shape { shape_of host.new ≡ shape_of host.old }
+{
+    if !has_block(host, from.block) || !has_block(host, to.block) {
+        return Reply::NoSuch;
+    }
+    let (Some(from), Some(to)) = (window(host, from), window(host, to)) else {
+        return Reply::BadRange;
+    };
+    copies_are_by_bytes::<B>();
+    from.copy_to_volatile_slice(host, to);
+    Reply::Done
+}
+
+// Whether there is a block of this number.
+fn has_block<B>(host: &HostMemory<B>, block: usize) -> bool
+    ensures { result ≡ nat_lt block (length host.now.blocks) }
+{
+    host.shape().block_len(BlockId(block)).is_some()
+}
+
+// A window of a block, if it ends in its block.
+fn window<B>(host: &HostMemory<B>, range: BlockRange) -> Option<VolatileSlice>
+    requires { range.block < length host.now.blocks }
+    ensures value { result ≡ (if ends_inside host.now range then Some (window_of range) else None) }
+    ensures held { IfSome result (λ w. Holds (shape_of host.now) (window_names w)) }
+    ensures short { IfSome result (λ w. w.offset + w.size ≤ 2 ^ 64) }
+{
+    parts_of_a_block_are_held::<B>();
+    let mapping = MmapRegion::of_block(host, BlockId(range.block));
+    let region = GuestRegionMmap::new(mapping, GuestAddress(0))?;
+    let offset = MemoryRegionAddress(range.offset as u64);
+    region.get_slice(offset, range.len).ok()
+}

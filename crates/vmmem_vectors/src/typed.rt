@@ -1,0 +1,255 @@
+//! Values of a type in windows and in guest memory: loads, stores, copies and arrays.
+
+use crate::regions::TestRegion;
+use crate::support::{Place, expect_text, memory_of};
+use std::alloc::Global;
+use std::num::NonZeroUsize;
+use std::sync::atomic::Ordering;
+use std::test::Fail;
+use vm_memory::{
+    ByteValued, Bytes, ExactBitmap, ExclusiveBitmap, GuestAddress, GuestMemoryRegion,
+    GuestMemoryResult, GuestRegionCollection, GuestRegionMmap, HostMemory, MemoryRegionAddress,
+    MmapRegion, VolatileSlice,
+};
+use vm_memory_guest::{VolatileArrayRef, VolatileMemory};
+
+// A window at 0x10 of a new block, part of a window that begins before it, that holds these bytes.
+fn window_of(host: &mut HostMemory<()>, bytes: &[u8]) -> Result<VolatileSlice, Fail> {
+    let mapping = MmapRegion::new(host, 0x100)?;
+    let region = GuestRegionMmap::new(mapping, GuestAddress(0)).ok_or("the region fits")?;
+    let outer = region.get_slice(MemoryRegionAddress(0xc), 0x40)?;
+    let window = outer.subslice(4, bytes.len())?;
+    if !host.holds(&window) {
+        return Err(Fail::new("the host holds the window"));
+    }
+    window.write_slice(host, bytes, 0)?;
+    Ok(window)
+}
+
+const ERRORS: &str = "Err(OutOfBounds { addr: 25 })
+Err(TooBig { nelements: 4611686018427387904, size: 2 })
+Err(Misaligned { addr: 17, alignment: 2 })
+Err(Misaligned { addr: 17, alignment: 2 })
+";
+
+#[test]
+fn an_error_tells_the_place(rt: HostRuntime) -> Result<(), Fail> {
+    let mut host: HostMemory<()> = HostMemory::new(rt.alloc());
+    let window = window_of(&mut host, &[1, 2, 3, 4, 5, 6, 7, 8])?;
+    assert!(rt; host.holds(&window));
+    let rest = window.offset(9);
+    let many = window.get_array_ref::<u16>(0, 0x4000_0000_0000_0000);
+    let stored = window.store(&mut host, 0x0908u16, 1, Ordering::SeqCst);
+    let loaded = window.load::<u16, ()>(&host, 1, Ordering::SeqCst);
+    let text = format!(in rt.alloc(); "{rest:?}\n{many:?}\n{stored:?}\n{loaded:?}\n")?;
+    expect_text(0, text.as_str(), ERRORS)?;
+    window.store(&mut host, 0x0b0au16, 6, Ordering::SeqCst)?;
+    let mut bytes = [0; 8];
+    window.read_slice(&host, &mut bytes, 0)?;
+    assert!(rt; bytes == [1, 2, 3, 4, 5, 6, 10, 11]);
+    Ok(())
+}
+
+#[test]
+fn a_copy_moves_bytes_as_they_were(rt: HostRuntime) -> Result<(), Fail> {
+    let mut host: HostMemory<()> = HostMemory::new(rt.alloc());
+    let window = window_of(&mut host, &[1, 2, 3, 4, 5, 6])?;
+    let from = window.subslice(0, 4)?;
+    let to = window.subslice(2, 4)?;
+    assert!(rt; host.holds(&window));
+    assert!(rt; host.holds(&from));
+    assert!(rt; host.holds(&to));
+    from.copy_to_volatile_slice(&mut host, to);
+    let mut bytes = [0; 6];
+    window.read_slice(&host, &mut bytes, 0)?;
+    assert!(rt; bytes == [1, 2, 1, 2, 3, 4]);
+    Ok(())
+}
+
+#[test]
+fn a_copy_moves_whole_values(rt: HostRuntime) -> Result<(), Fail> {
+    let mut host: HostMemory<()> = HostMemory::new(rt.alloc());
+    let window = window_of(&mut host, &[1, 2, 3, 4, 5])?;
+    assert!(rt; host.holds(&window));
+    let mut values = [9u16; 3];
+    let count = window.copy_to(&host, &mut values);
+    assert!(rt; count == 2);
+    assert!(rt; values == [0x0201, 0x0403, 9]);
+    window.copy_from(&mut host, &[0x0c0bu16, 0x0e0d, 0x100f]);
+    let mut bytes = [0; 5];
+    window.read_slice(&host, &mut bytes, 0)?;
+    assert!(rt; bytes == [11, 12, 13, 14, 5]);
+    Ok(())
+}
+
+const TWO_BLOCKS: [Place; 2] = [Place::Block(0, 0x400), Place::Block(0x400, 0x400)];
+
+// An address, what a store and a load of 0x01020304 there answer, and then the 12 bytes from 0x3fc on.
+const STORES: [(u64, &str, [u8; 12]); 3] = [
+    (
+        0x3fe,
+        "Err(InvalidBackendAddress) Err(InvalidBackendAddress)",
+        [9; 12],
+    ),
+    (
+        0x402,
+        "Err(InvalidBackendAddress) Err(InvalidBackendAddress)",
+        [9; 12],
+    ),
+    (
+        0x404,
+        "Ok(()) Ok(16909060)",
+        [9, 9, 9, 9, 9, 9, 9, 9, 4, 3, 2, 1],
+    ),
+];
+
+fn expect_store(
+    alloc: Global,
+    host: &mut HostMemory<()>,
+    memory: &GuestRegionCollection<TestRegion>,
+    case: usize,
+) -> Result<(), Fail> {
+    let (addr, wanted, left) = STORES.get(case).ok_or("there is such a case")?;
+    if !host.holds(memory) {
+        return Err(Fail::new("the host holds the memory"));
+    }
+    memory.write_slice(host, &[9; 12], GuestAddress(0x3fc))?;
+    let stored = memory.store(host, 0x0102_0304u32, GuestAddress(*addr), Ordering::SeqCst);
+    let loaded = memory.load::<u32, ()>(host, GuestAddress(*addr), Ordering::SeqCst);
+    let text = format!(in alloc; "{stored:?} {loaded:?}")?;
+    expect_text(case, text.as_str(), wanted)?;
+    let mut bytes = [0; 12];
+    memory.read_slice(host, &mut bytes, GuestAddress(0x3fc))?;
+    if bytes != *left {
+        return Err(Fail::new(format_args!("case {case}: {bytes:?}")));
+    }
+    Ok(())
+}
+
+#[test]
+fn a_store_takes_one_window(rt: HostRuntime) -> Result<(), Fail> {
+    let mut host = HostMemory::new(rt.alloc());
+    let memory = memory_of(rt.alloc(), &mut host, &TWO_BLOCKS)?;
+    for case in 0..STORES.len() {
+        expect_store(rt.alloc(), &mut host, &memory, case)?;
+    }
+    Ok(())
+}
+
+// Gives each byte another value than those near it.
+fn number(bytes: &mut [u8]) {
+    let mut next = 0u8;
+    for byte in bytes {
+        *byte = next;
+        next = if next == 250 { 0 } else { next.wrapping_add(1) };
+    }
+}
+
+// Whether a value that is written at an address is read back there.
+fn comes_back<T: ByteValued + PartialEq>(
+    host: &mut HostMemory<()>,
+    memory: &GuestRegionCollection<TestRegion>,
+    value: T,
+    addr: u64,
+) -> GuestMemoryResult<bool> {
+    if !host.holds(memory) {
+        return Ok(false);
+    }
+    memory.write_obj(host, value, GuestAddress(addr))?;
+    let back = memory.read_obj::<T, ()>(host, GuestAddress(addr))?;
+    Ok(back == value)
+}
+
+// What is told of a value that fills a block, and of one that ends past the memory, written and read.
+const LONG_VALUES: &str = "Ok(true)
+Err(PartialBuffer { expected: 1024, completed: 256 })
+Err(PartialBuffer { expected: 1024, completed: 256 })
+";
+
+#[test]
+fn a_value_lies_over_two_blocks(rt: HostRuntime) -> Result<(), Fail> {
+    let mut host = HostMemory::new(rt.alloc());
+    let memory = memory_of(rt.alloc(), &mut host, &TWO_BLOCKS)?;
+    let mut hundred = [0u8; 100];
+    number(&mut hundred);
+    let around = comes_back(&mut host, &memory, hundred, 0x3d0)?;
+    let inner = comes_back(&mut host, &memory, 0x0807_0605_0403_0201u64, 0x3fc)?;
+    assert!(rt; around && inner);
+    assert!(rt; host.holds(&memory));
+    let mut bytes = [0; 10];
+    memory.read_slice(&host, &mut bytes, GuestAddress(0x3fb))?;
+    assert!(rt; bytes == [43, 1, 2, 3, 4, 5, 6, 7, 8, 52]);
+    Ok(())
+}
+
+#[test]
+fn a_long_value_is_whole_or_refused(rt: HostRuntime) -> Result<(), Fail> {
+    let mut host = HostMemory::new(rt.alloc());
+    let memory = memory_of(rt.alloc(), &mut host, &TWO_BLOCKS)?;
+    let mut long = [0u8; 1024];
+    number(&mut long);
+    let whole = comes_back(&mut host, &memory, long, 0);
+    let wrote = comes_back(&mut host, &memory, long, 0x700);
+    assert!(rt; host.holds(&memory));
+    let had = memory.read_obj::<[u8; 1024], ()>(&host, GuestAddress(0x700));
+    let text = format!(in rt.alloc(); "{whole:?}\n{wrote:?}\n{had:?}\n")?;
+    expect_text(0, text.as_str(), LONG_VALUES)?;
+    let last = memory.read_obj::<[u8; 2], ()>(&host, GuestAddress(0x7fe))?;
+    assert!(rt; last == [3, 4]);
+    Ok(())
+}
+
+#[test]
+fn a_value_in_a_window(rt: HostRuntime) -> Result<(), Fail> {
+    let mut host: HostMemory<()> = HostMemory::new(rt.alloc());
+    let window = window_of(&mut host, &[1, 2, 3, 4, 5, 6, 7, 8])?;
+    let value = window.get_ref::<u32>(3)?;
+    assert!(rt; host.holds(&value));
+    let before = value.load(&host);
+    value.store(&mut host, 0x0e0d_0c0b);
+    assert!(rt; [before, value.load(&host)] == [0x0706_0504, 0x0e0d_0c0b]);
+    let bytes = VolatileArrayRef::from(window);
+    assert!(rt; host.holds(&bytes));
+    let mut left = [0u8; 9];
+    let count = bytes.copy_to(&host, &mut left);
+    assert!(rt; [value.len(), bytes.element_size(), count] == [4, 1, 8]);
+    assert!(rt; left == [1, 2, 3, 11, 12, 13, 14, 8, 0]);
+    Ok(())
+}
+
+#[test]
+fn an_array_in_a_window(rt: HostRuntime) -> Result<(), Fail> {
+    let mut host: HostMemory<()> = HostMemory::new(rt.alloc());
+    let window = window_of(&mut host, &[1, 2, 3, 4, 5, 6, 7, 8])?;
+    let array = window.get_array_ref::<u16>(1, 3)?;
+    assert!(rt; host.holds(&array));
+    assert!(rt; array.len() == 3);
+    let last = array.ref_at(2);
+    assert!(rt; host.holds(&last));
+    array.store(&mut host, 1, 0x0c0b);
+    assert!(rt; [last.load(&host), array.load(&host, 1)] == [0x0706, 0x0c0b]);
+    array.copy_from(&mut host, &[0x1615, 0x1817, 0x1a19, 0x1c1b]);
+    let mut values = [9; 4];
+    let count = array.copy_to(&host, &mut values);
+    assert!(rt; [array.element_size(), count] == [2, 3]);
+    assert!(rt; values == [0x1615, 0x1817, 0x1a19, 9]);
+    Ok(())
+}
+
+#[test]
+fn a_store_marks_its_bytes(rt: HostRuntime) -> Result<(), Fail> {
+    let mut host: HostMemory<ExclusiveBitmap> = HostMemory::new(rt.alloc());
+    let page = NonZeroUsize::new(1).ok_or("a page has a byte")?;
+    let block = host.new_block_with(0x20, ExclusiveBitmap::new(rt.alloc(), 0x20, page)?)?;
+    assert!(rt; host.shape().block_len(block).is_some());
+    let mapping = MmapRegion::of_block(&host, block);
+    let region = GuestRegionMmap::new(mapping, GuestAddress(0)).ok_or("the region fits")?;
+    let window = region.get_slice(MemoryRegionAddress(2), 0x1e)?;
+    assert!(rt; host.holds(&window));
+    let refused = window.store(&mut host, 7u32, 8, Ordering::SeqCst);
+    window.store(&mut host, 7u32, 2, Ordering::SeqCst)?;
+    let dirty = host.bitmap_mut(window.bitmap().id).harvest(rt.alloc())?;
+    assert!(rt; refused.is_err());
+    assert!(rt; dirty.as_slice() == [4, 5, 6, 7].as_slice());
+    Ok(())
+}
