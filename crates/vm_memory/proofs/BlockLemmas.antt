@@ -4,7 +4,7 @@ use Rattle.std.proofs.lemmas.Bool.{cond-true, lt-ltb, le-leb}
 use Rattle.std.proofs.lemmas.List.{drop_more, take_all}
 use Rattle.vm_memory_base.specs.declared.io.VolatileMemoryError.TheVariants.{OutOfBounds, Overflow}
 use Rattle.vm_memory_guest.specs.Host.{block_at, bytes_at, cells_from}
-use Rattle.vm_memory_guest.specs.Mmap.{WholeBlock, block_window}
+use Rattle.vm_memory_guest.specs.Mmap.{WholeBlock, whole_window}
 use Rattle.vm_memory_guest.specs.Window.{Window, part, subslice_of, cells_of}
 
 -- n bytes of a block from an offset on
@@ -19,10 +19,10 @@ bytes_at-cells_from blocks block offset (suc n) within =
     ∙ ap (λ (xs : List ℕ). take (suc n) xs) (sym (drop_more bytes offset 0 (omega arith)))
 
 -- all bytes of a block are a window of it
-window_is : (b : WholeBlock) (w : Window) → subslice_of (block_window b) 0 b.size ≡ Ok w
-    → w ≡ part (block_window b) 0 b.size
+window_is : (b : WholeBlock) (w : Window) → subslice_of (whole_window b) 0 b.size ≡ Ok w
+    → w ≡ part (whole_window b) 0 b.size
 window_is b w given =
-    let whole = part (block_window b) 0 b.size in
+    let whole = part (whole_window b) 0 b.size in
     let bound = b.bound in
     let inner = cond-true (nat_le (0 + b.size) b.size) (Ok whole) (Err (OutOfBounds (0 + b.size))) (le-leb (0 + b.size) b.size (omega arith)) in
     let outer = cond-true (nat_lt (0 + b.size) (2 ^ 64))
@@ -31,7 +31,7 @@ window_is b w given =
     let e = sym given ∙ outer ∙ inner in
     cc
 
-pub whole_bytes : (blocks : List (List ℕ)) (b : WholeBlock) (w : Window) → subslice_of (block_window b) 0 b.size ≡ Ok w
+pub whole_bytes : (blocks : List (List ℕ)) (b : WholeBlock) (w : Window) → subslice_of (whole_window b) 0 b.size ≡ Ok w
     → b.size ≡ length (block_at blocks b.block) → bytes_at blocks (cells_of w) ≡ block_at blocks b.block
 whole_bytes blocks b w given size =
     let bytes = block_at blocks b.block in

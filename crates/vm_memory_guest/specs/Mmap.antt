@@ -12,8 +12,8 @@ pub record WholeBlock : Type 0 where
   pub bound : size < 2 ^ 63
 
 -- the window of its bytes
-abbrev pub block_window : WholeBlock → Window
-block_window b = window_at (record { block = b.block; offset = 0 }) 0 b.size
+abbrev pub whole_window : WholeBlock → Window
+whole_window b = window_at (record { block = b.block; offset = 0 }) 0 b.size
 
 -- a block at a guest address, which ends at the greatest address but one, or below
 pub record PlacedBlock : Type 0 where

@@ -107,13 +107,13 @@ impl MmapRegion {
 
 /// The bytes of the block, writes to which mark the block's bitmap.
 impl VolatileMemory for MmapRegion {
-    ghost use Rattle.vm_memory_guest.specs.Mmap.{block_window};
+    ghost use Rattle.vm_memory_guest.specs.Mmap.{whole_window};
     ghost use Rattle.vm_memory_guest.specs.TypedFacts.{subslice-sized, subslice-whole};
     ghost use Rattle.vm_memory_guest.specs.Window.{subslice_of};
 
     ghost size = { λ r. r.size };
 
-    ghost slice = { λ r. subslice_of (block_window r) };
+    ghost slice = { λ r. subslice_of (whole_window r) };
 
     #[inline]
     fn len(&self) -> usize {
@@ -129,9 +129,9 @@ impl VolatileMemory for MmapRegion {
         VolatileSlice::new(self.block, 0, self.size, bitmap).subslice(offset, count)
     }
 
-    ghost gives_all = { λ r. subslice-sized (block_window r) };
+    ghost gives_all = { λ r. subslice-sized (whole_window r) };
 
-    ghost gives_whole = { λ r. subslice-whole (block_window r) };
+    ghost gives_whole = { λ r. subslice-whole (whole_window r) };
 }
 
 /// A block of a host at a guest address. One block may lie at several.

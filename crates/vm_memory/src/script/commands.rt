@@ -39,6 +39,8 @@ pub(super) fn parse(
             from: words.block_range()?,
             to: words.block_range()?,
         },
+        "dirty" => Command::Dirty(words.bitmap()?),
+        "harvest" => Command::Harvest(words.bitmap()?),
         _ => return Err(LineError::Bad),
     })
 }

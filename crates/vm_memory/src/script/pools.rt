@@ -1,4 +1,4 @@
-//! What setup lines make: the blocks of a host, and the regions of a machine.
+//! What setup lines make: the blocks and spaces of a host, and the regions of a machine.
 ghost use Rattle.std.specs.Prelude.{◌≡◌, ◌++◌, ◌∷◌, [], OnOk, OnErr};
 ghost use Rattle.vm_memory_guest.specs.Collection.{regions_of};
 
@@ -7,19 +7,20 @@ use super::setup::Setup;
 use crate::machine::Machine;
 use std::alloc::{AllocError, Global};
 use std::marker::Model;
+use std::num::NonZeroUsize;
 use std::sync::Arc;
-use vm_memory_base::GuestAddress;
+use vm_memory_base::{ExclusiveBitmap, GuestAddress};
 use vm_memory_guest::host_laws::{names_are_held_one_by_one, parts_of_a_block_are_held};
 use vm_memory_guest::{BlockId, GuestRegionMmap, HostMemory, MmapRegion, MmapRegionError};
 
 /// The machine that a script commands.
-pub(super) type ScriptMachine = Machine<GuestRegionMmap, ()>;
+pub(super) type ScriptMachine = Machine<GuestRegionMmap, ExclusiveBitmap>;
 
 /// A host, and regions of its blocks, which it holds.
 #[derive(Drop)]
 pub(super) struct Pools {
     alloc: Global,
-    host: HostMemory<()>,
+    host: HostMemory<ExclusiveBitmap>,
     regions: Vec<Arc<GuestRegionMmap>>,
 }
 
@@ -50,7 +51,8 @@ impl Pools {
     /// Makes what a setup line asks for, or changes nothing and says why.
     pub(super) fn make(&mut self, setup: Setup) -> SetupReply {
         match setup {
-            Setup::Block { size } => self.make_block(size),
+            Setup::Block { size, page_size } => self.make_block(size, page_size),
+            Setup::Space { size, page_size } => self.make_space(size, page_size),
             Setup::Region { block, addr } => self.make_region(block, addr),
         }
     }
@@ -60,17 +62,34 @@ impl Pools {
         Machine::new(self.alloc, self.host, self.regions)
     }
 
-    fn make_block(&mut self, size: usize) -> SetupReply {
-        match self.host.new_block(size) {
+    // The size comes before the bitmap, which may find no memory.
+    fn make_block(&mut self, size: usize, page_size: NonZeroUsize) -> SetupReply {
+        if size == 0 || size > MAX_BLOCK {
+            return SetupReply::InvalidSize;
+        }
+        let Ok(bitmap) = ExclusiveBitmap::new(self.alloc, size, page_size) else {
+            return SetupReply::Memory;
+        };
+        match self.host.new_block_with(size, bitmap) {
             Ok(block) => SetupReply::BlockMade(block.0),
             Err(MmapRegionError::InvalidSize) => SetupReply::InvalidSize,
             Err(MmapRegionError::Memory) => SetupReply::Memory,
         }
     }
 
+    fn make_space(&mut self, size: usize, page_size: NonZeroUsize) -> SetupReply {
+        let Ok(bitmap) = ExclusiveBitmap::new(self.alloc, size, page_size) else {
+            return SetupReply::Memory;
+        };
+        match self.host.new_space(bitmap) {
+            Ok(space) => SetupReply::SpaceMade(space.0),
+            Err(_) => SetupReply::Memory,
+        }
+    }
+
     fn make_region(&mut self, block: BlockId, addr: GuestAddress) -> SetupReply {
         names_are_held_one_by_one();
-        parts_of_a_block_are_held::<()>();
+        parts_of_a_block_are_held::<ExclusiveBitmap>();
         if self.host.shape().block_len(block).is_none() {
             return SetupReply::NoSuch;
         }
@@ -85,6 +104,8 @@ impl Pools {
         }
     }
 }
+
+const MAX_BLOCK: usize = 0x7fff_ffff_ffff_ffff;
 
 fn add(
     alloc: Global,

@@ -9,6 +9,8 @@ use vm_memory_base::{IommuError, IovaRange, Reason};
 pub(super) enum SetupReply {
     /// The number of the block that was made.
     BlockMade(usize),
+    /// The number of the space that was made.
+    SpaceMade(usize),
     /// The number of the region that was made.
     RegionMade(usize),
     /// A block has 1 to 2^63 - 1 bytes.
@@ -25,6 +27,7 @@ impl fmt::Display for SetupReply {
     fn fmt<W: fmt::Write>(&self, f: &mut fmt::Formatter<W>) -> fmt::Result {
         match self {
             SetupReply::BlockMade(number) => write!(f, "block {number}"),
+            SetupReply::SpaceMade(number) => write!(f, "space {number}"),
             SetupReply::RegionMade(number) => write!(f, "region {number}"),
             SetupReply::InvalidSize => write!(f, "error M1"),
             SetupReply::InvalidRegion => write!(f, "error F3"),

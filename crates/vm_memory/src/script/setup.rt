@@ -1,14 +1,23 @@
 //! Lines that may come before the first command only.
 
 use super::words::{LineError, Words};
+use std::num::NonZeroUsize;
 use vm_memory_base::GuestAddress;
 use vm_memory_guest::BlockId;
 
 /// What is made before the machine.
 #[derive(Drop)]
 pub(super) enum Setup {
-    /// A block of so many bytes.
-    Block { size: usize },
+    /// A block of so many bytes, tracked in pages of so many.
+    Block {
+        size: usize,
+        page_size: NonZeroUsize,
+    },
+    /// A space of so many addresses, tracked in pages of so many.
+    Space {
+        size: usize,
+        page_size: NonZeroUsize,
+    },
     /// A region of a whole block at an address.
     Region { block: BlockId, addr: GuestAddress },
 }
@@ -16,21 +25,18 @@ pub(super) enum Setup {
 /// The setup line that begins with a word, if there is one.
 pub(super) fn parse(word: &str, words: &mut Words<'_>) -> Result<Option<Setup>, LineError> {
     Ok(match word {
-        "block" => Some(block(words)?),
+        "block" => Some(Setup::Block {
+            size: words.index()?,
+            page_size: words.page_size()?,
+        }),
+        "space" => Some(Setup::Space {
+            size: words.index()?,
+            page_size: words.page_size()?,
+        }),
         "region" => Some(Setup::Region {
             block: BlockId(words.index()?),
             addr: words.address()?,
         }),
         _ => None,
     })
-}
-
-// The page size has to be one, above 0, and nothing tracks pages yet.
-fn block(words: &mut Words<'_>) -> Result<Setup, LineError> {
-    let size = words.index()?;
-    let page = words.number()?;
-    if page == 0 {
-        return Err(LineError::Bad);
-    }
-    Ok(Setup::Block { size })
 }

@@ -5,7 +5,8 @@ ghost use Rattle.vm_memory.specs.declared.script.words.LineError.TheVariants as 
 use crate::machine::command::{BlockRange, Width};
 use crate::machine::list::ByteList;
 use std::alloc::{AllocError, AllocFailed, Global};
-use vm_memory_base::GuestAddress;
+use std::num::NonZeroUsize;
+use vm_memory_base::{BitmapId, GuestAddress};
 
 /// Why there is no line.
 #[derive(Clone, Copy)]
@@ -74,6 +75,20 @@ impl<'a> Words<'a> {
     /// The next word as a number of a pool, or as a length.
     pub(super) fn index(&mut self) -> Result<usize, LineError> {
         Ok(self.number()? as usize)
+    }
+
+    /// The next word as a page size, which is above 0.
+    pub(super) fn page_size(&mut self) -> Result<NonZeroUsize, LineError> {
+        NonZeroUsize::new(self.index()?).ok_or(LineError::Bad)
+    }
+
+    /// The next two words as the name of a bitmap: that of a block, or a space.
+    pub(super) fn bitmap(&mut self) -> Result<BitmapId, LineError> {
+        match self.word()? {
+            "block" => Ok(BitmapId::Block(self.index()?)),
+            "space" => Ok(BitmapId::Space(self.index()?)),
+            _ => Err(LineError::Bad),
+        }
     }
 
     /// The next three words as a window of a block: its block, its offset and its length.
