@@ -1,17 +1,23 @@
 -- Steps and runs of the model.
-use Rattle.std.proofs.Common.{◌≡◌, ℕ, List, [], ◌∷◌, ◌++◌, length, Bool, true, false, ◌&&◌, ◌==◌, nat_lt, cond, Option, Some, None, Ok, Err, subst, ap, ◌∙◌, refl, inl, inr, arith, slice_get, option_map}
+use Rattle.std.proofs.Common.{◌≡◌, ℕ, List, [], ◌∷◌, ◌++◌, length, Bool, true, false, ◌&&◌, ◌==◌, nat_lt, cond, Option, Some, None, Result, Ok, Err, subst, ap, ◌∙◌, refl, inl, inr, arith, slice_get, option_map}
 use Rattle.std.proofs.lemmas.Bool.{eqb-true}
+use Rattle.vm_memory_base.specs.Pages.{dirty_pages, cleaned}
+use Rattle.std.specs.Int as int
+use Rattle.std.specs.Int.{to_le_bytes}
 use Rattle.vm_memory_base.specs.declared.iotlb.Permissions.TheVariants as permissions
 use Rattle.vm_memory_guest.specs.Access.{Reached}
 use Rattle.vm_memory_guest.specs.Answer.{counted}
 use Rattle.vm_memory_guest.specs.Dirt.{after_write}
 use Rattle.vm_memory_guest.specs.Error.{error_of}
 use Rattle.vm_memory_guest.specs.Region.{Region, layout_error}
+use Rattle.vm_memory_guest.specs.Window.{bitmap_of, with_bitmap}
+use Rattle.vm_memory_guest.specs.Typed.{path_given}
 use Rattle.vm_memory_guest.specs.declared.region.GuestMemoryError.{GuestMemoryError}
 use Rattle.vm_memory_guest.specs.declared.region.GuestRegionCollectionError.{GuestRegionCollectionError}
 use Rattle.vm_memory.specs.State.{State, MachineMemory, named, plain, meaning}
 use Rattle.vm_memory.specs.Machine.{Step, Run, if_there, new_layout, new_memory, with_host, outcome}
 use Rattle.vm_memory.specs.Reply.{reply_of, reached_by, writes}
+use Rattle.vm_memory.specs.Typed.{fits_width, integer_of, stores, stores_bytes, taken_by}
 use Rattle.vm_memory.specs.declared.machine.command.Command.{Command}
 use Rattle.vm_memory.specs.declared.machine.command.Command.TheVariants as command
 use Rattle.vm_memory.specs.declared.machine.command.Reply.{Reply}
@@ -29,7 +35,9 @@ Run-step old (d ∷ cs) (q ∷ rs) mid c r new ran step = (ran.0, ran.1, Run-ste
 abbrev pub IsStill : Reply → Type 0
 IsStill (reply.LayoutMade n) = ⊥
 IsStill (reply.MemoryMade n) = ⊥
+IsStill reply.Done = ⊥
 IsStill (reply.Count n) = ⊥
+IsStill (reply.Pages pages) = ⊥
 IsStill r = Unit {0}
 
 there : {X : Type 0} (old new : State) (o : Option X) (answer : X → Reply × State) (r : Reply)
@@ -49,6 +57,12 @@ reached_none (x ∷ xs) (Some f) n r still e = go (nat_lt 0 n) (length (x ∷ xs
     go b true h e = absurd (omega (arith, eqb-true (length (x ∷ xs)) 0 h))
     go true false h e = absurd (subst IsStill e still)
     go false false h e = absurd (subst IsStill e still)
+
+-- a store that does not reply that it is done took nothing
+not_stored : (t : Result (List Reached) GuestMemoryError) (r : Reply) → IsStill r
+    → r ≡ reply_of (λ xs. reply.Done) t → path_given t ≡ []
+not_stored (Ok xs) r still e = absurd (subst IsStill e still)
+not_stored (Err d) r still e = refl
 
 -- and a step that tells of no change makes none
 pub still-step : (old new : State) (c : Command) (r : Reply) → IsStill r → Step old c r new → new ≡ old
@@ -73,6 +87,21 @@ still-step old new c r still step = elim step [ inl e ↦ go c e | inr want ↦ 
         after (with_host old (writes (meaning m) old.host a bytes)) e
         ∙ ap (λ (xs : List Reached). record old { host = after_write xs bytes old.host }) none
 
+    stored : (m : MachineMemory) (a : ℕ) (w : int.Width) (value : ℕ)
+        → (r, new) ≡ with_host old (stores (meaning m) old.host a w value) → new ≡ old
+    stored m a w value e = by_range (fits_width w value) e
+      where
+        by_range : (fits : Bool)
+            → (r, new) ≡ with_host old (cond fits (stores_bytes (meaning m) old.host a (to_le_bytes w value)) (reply.BadRange, old.host))
+            → new ≡ old
+        by_range false e = after (reply.BadRange, old) e
+        by_range true e =
+            let bytes = to_le_bytes w value in
+            let taken = taken_by (meaning m) old.host.tables a (length bytes) permissions.Write in
+            let none = not_stored taken r still (ap (λ (p : Reply × State). p.0) e) in
+            after (with_host old (stores_bytes (meaning m) old.host a bytes)) e
+            ∙ ap (λ (xs : List Reached). record old { host = after_write xs bytes old.host }) none
+
     go : (c : Command) → (r, new) ≡ outcome old c → new ≡ old
     go (command.FromRegions ns) e = there old new (named old.regions ns) _ r (λ rs. made rs (layout_error rs)) e
     go (command.Plain layout) e =
@@ -81,3 +110,13 @@ still-step old new c r still step = elim step [ inl e ↦ go c e | inr want ↦ 
         there old new (slice_get old.memories memory) _ r (λ m f. ap (λ (p : Reply × State). p.1) f) e
     go (command.Write memory addr bytes) e =
         there old new (slice_get old.memories memory) _ r (λ m. wrote m addr.0 bytes) e
+    go (command.Dirty id) e =
+        there old new (bitmap_of old.host id) _ r (λ set f. ap (λ (p : Reply × State). p.1) f) e
+    go (command.Harvest id) e =
+        there old new (bitmap_of old.host id) _ r
+        (λ set f. absurd (no_change (with_host old (reply.Pages (dirty_pages set), with_bitmap old.host id (cleaned set))) f))
+        e
+    go (command.Store memory width addr value) e =
+        there old new (slice_get old.memories memory) _ r (λ m. stored m addr.0 (integer_of width) value) e
+    go (command.Load memory width addr) e =
+        there old new (slice_get old.memories memory) _ r (λ m f. ap (λ (p : Reply × State). p.1) f) e

@@ -70,6 +70,16 @@ machine = record {
   host = host;
 }
 
+-- the same host with dirty pages, and its machine
+abbrev pub marked_host : Host PageSet
+marked_host = record host {
+  bitmaps = block_pages false true ∷ block_pages true true ∷ [];
+  spaces = space_pages true false ∷ [];
+}
+
+abbrev pub marked : State
+marked = record machine { host = marked_host }
+
 -- the faults of an address in no region, and of a range whose translation is refused
 abbrev pub no_region_at : ℕ → Fault
 no_region_at a = InvalidGuestAddress (at a)

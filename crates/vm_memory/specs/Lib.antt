@@ -3,5 +3,7 @@ pub mod Inside
 pub mod Machine
 pub mod Parts
 pub mod Reply
+pub mod Rounds
 pub mod Script
 pub mod State
+pub mod Typed

@@ -1,16 +1,20 @@
 -- A machine as a model: what a command answers and leaves, a step of it, and a run of steps.
-use Rattle.std.specs.Prelude.{◌≡◌, ◌⊎◌, ◌<◌, List, [], ◌∷◌, ◌++◌, length, slice_get}
+use Rattle.std.specs.Prelude.{◌≡◌, ◌⊎◌, ◌<◌, IsTrue, List, [], ◌∷◌, ◌++◌, length, slice_get}
 use Rattle.std.specs.Prelude.{Option, Some, None, IsSome, IsSomeAnd}
-use Rattle.vm_memory_base.specs.Pages.{PageSet}
+use Rattle.vm_memory_base.specs.Pages.{PageSet, dirty_pages, cleaned}
 use Rattle.vm_memory_guest.specs.Host.{Host}
 use Rattle.vm_memory_guest.specs.Region.{Region, layout_error}
+use Rattle.vm_memory_guest.specs.Window.{bitmap_of, with_bitmap}
 use Rattle.vm_memory_guest.specs.declared.region.GuestRegionCollectionError.{GuestRegionCollectionError}
 use Rattle.vm_memory.specs.State.{State, MachineMemory, plain, meaning, named, IsOn}
 use Rattle.vm_memory.specs.Reply.{reads, writes, reply_of_layout_error}
+use Rattle.vm_memory.specs.Typed.{integer_of, fits_width, loads, stores}
 use Rattle.vm_memory.specs.declared.machine.command.Command.{Command}
 use Rattle.vm_memory.specs.declared.machine.command.Command.TheVariants.{FromRegions, Plain, Read, Write}
+use Rattle.vm_memory.specs.declared.machine.command.Command.TheVariants.{Store, Load, Dirty, Harvest}
 use Rattle.vm_memory.specs.declared.machine.command.Reply.{Reply}
-use Rattle.vm_memory.specs.declared.machine.command.Reply.TheVariants.{LayoutMade, MemoryMade, NoSuch, Memory}
+use Rattle.vm_memory.specs.declared.machine.command.Reply.TheVariants.{LayoutMade, MemoryMade, Pages}
+use Rattle.vm_memory.specs.declared.machine.command.Reply.TheVariants.{NoSuch, Memory}
 
 -- a number that names nothing is told, and changes nothing
 abbrev pub if_there : {X : Type 0} → State → Option X → (X → Reply × State) → Reply × State
@@ -26,7 +30,7 @@ new_layout old rs (Some e) = (reply_of_layout_error e, old)
 abbrev pub new_memory : State → MachineMemory → Reply × State
 new_memory old m = (MemoryMade (length old.memories), record old { memories = old.memories ++ m ∷ [] })
 
--- an access leaves a host, and all else stays
+-- the reply and the host that a command leaves: all else stays
 abbrev pub with_host : State → Reply × Host PageSet → Reply × State
 with_host old (r, host) = (r, record old { host = host })
 
@@ -41,13 +45,29 @@ outcome old (Read memory addr count) =
 outcome old (Write memory addr bytes) =
     if_there old (slice_get old.memories memory)
     (λ m. with_host old (writes (meaning m) old.host addr.0 bytes))
+outcome old (Store memory width addr value) =
+    if_there old (slice_get old.memories memory)
+    (λ m. with_host old (stores (meaning m) old.host addr.0 (integer_of width) value))
+outcome old (Load memory width addr) =
+    if_there old (slice_get old.memories memory)
+    (λ m. (loads (meaning m) old.host addr.0 (integer_of width), old))
+outcome old (Dirty id) = if_there old (bitmap_of old.host id) (λ set. (Pages (dirty_pages set), old))
+outcome old (Harvest id) =
+    if_there old (bitmap_of old.host id)
+    (λ set. with_host old (Pages (dirty_pages set), with_bitmap old.host id (cleaned set)))
 
--- where memory may be wanting: for what is made, for the bytes that a read reserves, and for a translation
+-- where memory may be wanting: for what is made, for the bytes and the pages that a reply lists, and for a
+-- translation
 abbrev pub MayWant : State → Command → Type 0
 MayWant old (FromRegions numbers) = IsSome (named old.regions numbers)
 MayWant old (Plain layout) = IsSome (slice_get old.layouts layout)
 MayWant old (Read memory addr n) = IsSomeAnd (slice_get old.memories memory) (λ m. IsOn m ⊎ (0 < n))
 MayWant old (Write memory addr bytes) = IsSomeAnd (slice_get old.memories memory) IsOn
+MayWant old (Store memory width addr value) =
+    IsSomeAnd (slice_get old.memories memory) (λ m. IsOn m × IsTrue (fits_width (integer_of width) value))
+MayWant old (Load memory width addr) = IsSomeAnd (slice_get old.memories memory) IsOn
+MayWant old (Dirty id) = IsSome (bitmap_of old.host id)
+MayWant old (Harvest id) = IsSome (bitmap_of old.host id)
 
 -- from old, a machine may answer a command so and be in new then
 abbrev pub Step : State → Command → Reply → State → Type 0

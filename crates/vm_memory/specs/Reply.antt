@@ -35,9 +35,9 @@ reply_of_layout_error layouts.MemoryRegionOverlap = Fault fault.MemoryRegionOver
 reply_of_layout_error layouts.UnsortedMemoryRegions = Fault fault.UnsortedMemoryRegions
 reply_of_layout_error layouts.Memory = reply.Memory
 
--- the answer of an access: what is told of the count of its bytes, or its error
-abbrev pub reply_of : (ℕ → Reply) → Result ℕ GuestMemoryError → Reply
-reply_of told (Ok count) = told count
+-- the answer of an access: what is told of what it gave, or its error
+abbrev pub reply_of : {T : Type 0} → (T → Reply) → Result T GuestMemoryError → Reply
+reply_of told (Ok given) = told given
 reply_of told (Err e) = reply_of_error e
 
 -- what an access of n bytes at a reaches in a host with these tables

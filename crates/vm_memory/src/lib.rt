@@ -9,9 +9,9 @@ pub mod script;
 pub use script::{DriveFault, drive};
 pub use vm_memory_base::{
     Address, AddressValue, AddressWord, AtomicAccess, AtomicInteger, Be16, Be32, Be64, BeSize,
-    BigEndian, Bitmap, BitmapId, BitmapRef, ByteValued, ExactBitmap, FixedInteger, GuestAddress,
-    GuestUsize, IommuError, IovaRange, Le16, Le32, Le64, LeSize, LittleEndian, MemoryRegionAddress,
-    NewBitmap, Permissions, Reason, VolatileMemoryError, VolatileMemoryResult,
+    BigEndian, Bitmap, BitmapId, BitmapRef, ByteValued, ExactBitmap, ExclusiveBitmap, FixedInteger,
+    GuestAddress, GuestUsize, IommuError, IovaRange, Le16, Le32, Le64, LeSize, LittleEndian,
+    MemoryRegionAddress, NewBitmap, Permissions, Reason, VolatileMemoryError, VolatileMemoryResult,
 };
 pub use vm_memory_guest::{
     BlockId, Bytes, GuestMemory, GuestMemoryBackend, GuestMemoryBackendSliceIterator,

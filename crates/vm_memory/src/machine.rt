@@ -1,20 +1,25 @@
 //! A machine: a host, a pool of regions, the layouts and memories that commands make, and the run of a
 //! list of commands.
-ghost use Rattle.std.specs.Prelude.{◌≡◌, List, ◌++◌, [], OnOk, OnErr};
+ghost use Rattle.std.specs.Prelude.{◌≡◌, ℕ, List, ◌++◌, [], OnOk, OnErr};
 ghost use Rattle.vm_memory_guest.specs.Collection.{regions_of};
 ghost use Rattle.vm_memory.specs.Machine.{Step, Run};
 ghost use Rattle.vm_memory.specs.Parts.{HoldsRegions, state_of};
+ghost use Rattle.vm_memory.specs.Rounds.{IsTracked, RunsDirectly, KeepsImage, bytes_of};
 
 mod accesses;
 pub mod command;
 mod layouts;
 pub mod list;
+mod rounds;
+mod typed;
 
+use crate::machine_laws::runs_keep_images;
 use command::{Command, Reply};
 use std::alloc::{AllocError, Global};
 use std::marker::Model;
 use std::sync::Arc;
 use vm_memory_base::ExactBitmap;
+use vm_memory_guest::host_laws::blocks_are_short;
 use vm_memory_guest::{GuestMemoryRegion, GuestRegionCollection, HostMemory};
 
 /// A host, a pool of regions, and the layouts and memories that commands made, each kind by number from 0.
@@ -89,6 +94,19 @@ impl<R: GuestMemoryRegion, B: ExactBitmap> Machine<R, B> {
                 addr,
                 bytes,
             } => self.write(*memory, *addr, bytes.as_slice()),
+            Command::Store {
+                memory,
+                width,
+                addr,
+                value,
+            } => self.store(*memory, *width, *addr, *value),
+            Command::Load {
+                memory,
+                width,
+                addr,
+            } => self.load(*memory, *width, *addr),
+            Command::Dirty(bitmap) => self.dirty(*bitmap),
+            Command::Harvest(bitmap) => self.harvest(*bitmap),
         }
     }
 }
@@ -101,10 +119,15 @@ pub fn run<R: GuestMemoryRegion, B: ExactBitmap>(
     replies: &mut Vec<Reply>,
 ) -> Result<(), AllocError>
     ensures ran { let before = state_of R.region B.pages machine.old in
+        let after = state_of R.region B.pages machine.new in
         OnOk result ((new : List Reply) × (replies.new.items ≡ replies.old.items ++ new)
-        × Run before commands.now new (state_of R.region B.pages machine.new)) }
+        × (run : Run before commands.now new after)
+        × ((block : ℕ) → IsTracked block before.host → RunsDirectly before commands.now new after run
+        → KeepsImage block (bytes_of block before.host) before commands.now new after run)) }
     ensures refused { OnErr result ((machine.new ≡ machine.old) × (replies.new.items ≡ replies.old.items)) }
 {
+    blocks_are_short(&machine.host);
+    runs_keep_images();
     replies.reserve(commands.len())?;
     for command in commands {
         let reply = machine.step(command);

@@ -1,21 +1,27 @@
 //! What a machine answers and leaves in small cases: each function here is a theorem, and does nothing.
 #![tactic(auto, unfolding(vm_memory_base::specs::Table::each, vm_memory_guest::specs::Access::path, vm_memory_guest::specs::Access::first_fault))]
 
-ghost use Rattle.std.specs.Prelude.{◌≡◌, [], ◌∷◌, ◌++◌, true, false};
+ghost use Rattle.std.specs.Prelude.{◌≡◌, [], ◌∷◌, ◌++◌, None, true, false};
 ghost use Rattle.vm_memory_base.specs.Pages.{PageSet};
+ghost use Rattle.vm_memory_base.specs.declared.bitmap.BitmapId.TheVariants.{Block, Space};
 ghost use Rattle.vm_memory_base.specs.declared.iotlb.Reason.TheVariants.{MissingMapping, AccessNotAllowed};
 ghost use Rattle.vm_memory_guest.specs.Region.{Region};
 ghost use Rattle.vm_memory_guest.specs.declared.region.GuestMemoryError.TheVariants as errors;
 ghost use Rattle.vm_memory_guest.specs.declared.region.GuestRegionCollectionError.TheVariants as layouts;
 ghost use Rattle.vm_memory.specs.Examples.{at, low, high, bare, block_pages, space_pages, host, machine};
+ghost use Rattle.vm_memory.specs.Examples.{marked_host, marked};
 ghost use Rattle.vm_memory.specs.Examples.{no_region_at, not_translated};
 ghost use Rattle.vm_memory.specs.Machine.{outcome, MayWant, Step, Run};
 ghost use Rattle.vm_memory.specs.Parts.{Parts, AreHeld, state_of};
 ghost use Rattle.vm_memory.specs.Reply.{reply_of_error, reply_of_layout_error};
+ghost use Rattle.vm_memory.specs.Rounds.{patched, image_after, MirrorsBlock, IsTracked, IsDirect};
 ghost use Rattle.vm_memory.specs.State.{State, plain};
 ghost use Rattle.vm_memory.specs.declared.machine.command.Command.TheVariants.{FromRegions, Plain, Read, Write};
-ghost use Rattle.vm_memory.specs.declared.machine.command.Reply.TheVariants.{LayoutMade, MemoryMade, Count, Bytes};
+ghost use Rattle.vm_memory.specs.declared.machine.command.Command.TheVariants.{Store, Load, Dirty, Harvest};
+ghost use Rattle.vm_memory.specs.declared.machine.command.Reply.TheVariants.{LayoutMade, MemoryMade, Count, Bytes, Pages};
 ghost use Rattle.vm_memory.specs.declared.machine.command.Reply.TheVariants.{Fault, NoSuch, Memory};
+ghost use Rattle.vm_memory.specs.declared.machine.command.Reply.TheVariants.{Done, Value, BadRange};
+ghost use Rattle.vm_memory.specs.declared.machine.command.Width.TheVariants.{One, Two, Four, Eight};
 ghost use Rattle.vm_memory.specs.declared.machine.command.Fault.TheVariants as fault;
 
 /// The layout of regions of the pool is the next. No region at all, a region that reaches the next and a
@@ -41,6 +47,8 @@ pub fn numbers_that_name_nothing()
     ensures layout { outcome machine (Plain 1) ≡ (NoSuch, machine) }
     ensures read { outcome machine (Read 3 (at 0) 1) ≡ (NoSuch, machine) }
     ensures write { outcome machine (Write 3 (at 0) (9 ∷ [])) ≡ (NoSuch, machine) }
+    ensures dirty { outcome machine (Dirty (Block 2)) ≡ (NoSuch, machine) }
+    ensures harvest { outcome machine (Harvest (Space 1)) ≡ (NoSuch, machine) }
 {}
 
 /// A read goes over touching regions, and stops at a hole and at a region without host bytes.
@@ -113,7 +121,110 @@ pub fn accesses_of_a_memory_that_is_off()
         ) }
 {}
 
-/// Memory may be wanting for what is made, for the bytes of a read, and for a translation.
+/// A store leaves the bytes of its value, the lowest first, and marks their pages. It is refused where its
+/// place in the block is no multiple of its width, and where it lies in two regions. What it left is loaded.
+pub fn stores_are_answered()
+    ensures aligned { outcome machine (Store 0 Two (at 2) 2569)
+        ≡ (
+          Done,
+          record machine {
+            host = record host {
+              blocks = (1 ∷ 2 ∷ 9 ∷ 10 ∷ []) ∷ (5 ∷ 6 ∷ 7 ∷ 8 ∷ []) ∷ [];
+              bitmaps = block_pages false true ∷ block_pages false false ∷ [];
+            };
+          },
+        ) }
+    ensures misaligned { outcome machine (Store 0 Two (at 1) 9) ≡ (Fault fault.InvalidBackendAddress, machine) }
+    ensures over_two_regions { outcome machine (Store 0 Eight (at 0) 9)
+        ≡ (Fault fault.InvalidBackendAddress, machine) }
+    ensures in_a_hole { outcome machine (Store 0 One (at 8) 9) ≡ (Fault (no_region_at 8), machine) }
+    ensures too_great { outcome machine (Store 0 One (at 8) 256) ≡ (BadRange, machine) }
+    ensures no_memory { outcome machine (Store 3 One (at 0) 256) ≡ (NoSuch, machine) }
+    ensures translated { outcome machine (Store 1 Two (at 16) 2569)
+        ≡ (
+          Done,
+          record machine {
+            host = record host {
+              blocks = (1 ∷ 2 ∷ 9 ∷ 10 ∷ []) ∷ (5 ∷ 6 ∷ 7 ∷ 8 ∷ []) ∷ [];
+              spaces = space_pages false true ∷ [];
+            };
+          },
+        ) }
+    ensures not_allowed { outcome machine (Store 1 One (at 20) 9)
+        ≡ (Fault (not_translated 20 1 AccessNotAllowed), machine) }
+    ensures loaded { (outcome (outcome machine (Store 0 Two (at 2) 2569)).1 (Load 0 Two (at 2))).0 ≡ Value 2569 }
+{}
+
+/// A load replies the value of its bytes, and is refused where a store would be.
+pub fn loads_are_answered()
+    ensures word { outcome machine (Load 0 Four (at 4)) ≡ (Value 134678021, machine) }
+    ensures byte { outcome machine (Load 0 One (at 3)) ≡ (Value 4, machine) }
+    ensures misaligned { outcome machine (Load 0 Four (at 2)) ≡ (Fault fault.InvalidBackendAddress, machine) }
+    ensures bare_region { outcome machine (Load 0 Two (at 12))
+        ≡ (Fault fault.HostAddressNotAvailable, machine) }
+    ensures no_memory { outcome machine (Load 3 One (at 0)) ≡ (NoSuch, machine) }
+    ensures readable { outcome machine (Load 1 Four (at 20)) ≡ (Value 134678021, machine) }
+    ensures two_mappings { outcome machine (Load 1 Two (at 19)) ≡ (Fault fault.InvalidBackendAddress, machine) }
+{}
+
+/// Dirty pages are answered ascending, and stay dirty.
+pub fn dirty_pages_are_answered()
+    ensures block { outcome marked (Dirty (Block 1)) ≡ (Pages (0 ∷ 1 ∷ []), marked) }
+    ensures space { outcome marked (Dirty (Space 0)) ≡ (Pages (0 ∷ []), marked) }
+    ensures clean { outcome machine (Dirty (Block 0)) ≡ (Pages [], machine) }
+{}
+
+/// A harvest answers them, and then none of them is dirty. It leaves all other bitmaps.
+pub fn harvests_are_answered()
+    ensures block { outcome marked (Harvest (Block 0))
+        ≡ (
+          Pages (1 ∷ []),
+          record marked {
+            host = record marked_host { bitmaps = block_pages false false ∷ block_pages true true ∷ [] };
+          },
+        ) }
+    ensures space { outcome marked (Harvest (Space 0))
+        ≡ (
+          Pages (0 ∷ []),
+          record marked { host = record marked_host { spaces = space_pages false false ∷ [] } },
+        ) }
+    ensures clean { outcome machine (Harvest (Block 1)) ≡ (Pages [], machine) }
+{}
+
+/// A patch takes the bytes of the listed pages, and no others. The last page may be cut, and pages past it
+/// have no bytes.
+pub fn patches_of_an_image()
+    ensures second { patched 2 (1 ∷ []) (6 ∷ 7 ∷ 8 ∷ 9 ∷ []) (1 ∷ 2 ∷ 3 ∷ 4 ∷ []) ≡ 1 ∷ 2 ∷ 8 ∷ 9 ∷ [] }
+    ensures cut { patched 2 (1 ∷ 7 ∷ []) (6 ∷ 7 ∷ 8 ∷ []) (1 ∷ 2 ∷ 3 ∷ []) ≡ 1 ∷ 2 ∷ 8 ∷ [] }
+    ensures no_page { patched 2 [] (6 ∷ 7 ∷ []) (1 ∷ 2 ∷ []) ≡ 1 ∷ 2 ∷ [] }
+    ensures harvest { image_after 0 marked_host (Harvest (Block 0)) (Pages (1 ∷ [])) (9 ∷ 9 ∷ 9 ∷ 9 ∷ [])
+        ≡ 9 ∷ 9 ∷ 3 ∷ 4 ∷ [] }
+    ensures other { image_after 0 marked_host (Harvest (Block 1)) (Pages (1 ∷ [])) (9 ∷ 9 ∷ 9 ∷ 9 ∷ [])
+        ≡ 9 ∷ 9 ∷ 9 ∷ 9 ∷ [] }
+    ensures refused { image_after 0 marked_host (Harvest (Block 0)) Memory (9 ∷ []) ≡ 9 ∷ [] }
+{}
+
+/// An image mirrors a block where only bytes of dirty pages differ, and pages cover it that reach its end.
+pub fn images_that_mirror_a_block()
+    ensures dirty_page { MirrorsBlock 0 marked_host (1 ∷ 2 ∷ 9 ∷ 9 ∷ []) }
+    ensures clean_page { MirrorsBlock 0 marked_host (1 ∷ 9 ∷ 3 ∷ 4 ∷ []) → ⊥ }
+    ensures shorter { MirrorsBlock 0 marked_host (1 ∷ 2 ∷ 3 ∷ []) → ⊥ }
+    ensures covered { IsTracked 0 host }
+    ensures past_the_pages { IsTracked 0 (record host { blocks = (1 ∷ 2 ∷ 3 ∷ 4 ∷ 5 ∷ []) ∷ [] }) → ⊥ }
+    ensures no_pages { IsTracked 0 (record host { bitmaps = None ∷ [] }) → ⊥ }
+{}
+
+/// A write to a memory whose IOMMU is on is not direct, and all else is.
+pub fn direct_commands()
+    ensures plain { IsDirect machine (Write 0 (at 0) (9 ∷ [])) }
+    ensures off { IsDirect machine (Write 2 (at 0) (9 ∷ [])) }
+    ensures on { IsDirect machine (Write 1 (at 0) (9 ∷ [])) → ⊥ }
+    ensures read { IsDirect machine (Read 1 (at 16) 1) }
+    ensures no_memory { IsDirect machine (Write 3 (at 0) (9 ∷ [])) }
+{}
+
+/// Memory may be wanting for what is made, for the bytes and the pages that are replied, and for a
+/// translation.
 pub fn who_may_want_memory()
     ensures layout { MayWant machine (FromRegions (0 ∷ [])) }
     ensures memory { MayWant machine (Plain 0) }
@@ -123,9 +234,17 @@ pub fn who_may_want_memory()
     ensures translated_read { MayWant machine (Read 1 (at 0) 0) }
     ensures translated_write { MayWant machine (Write 1 (at 0) (9 ∷ [])) }
     ensures write_that_is_off { MayWant machine (Write 2 (at 0) (9 ∷ [])) → ⊥ }
+    ensures store { MayWant machine (Store 0 One (at 0) 9) → ⊥ }
+    ensures translated_store { MayWant machine (Store 1 One (at 0) 9) }
+    ensures store_too_great { MayWant machine (Store 1 One (at 0) 256) → ⊥ }
+    ensures translated_load { MayWant machine (Load 1 One (at 0)) }
+    ensures load_that_is_off { MayWant machine (Load 2 One (at 0)) → ⊥ }
     ensures no_region { MayWant machine (FromRegions (0 ∷ 3 ∷ [])) → ⊥ }
     ensures no_layout { MayWant machine (Plain 1) → ⊥ }
     ensures no_memory { MayWant machine (Read 3 (at 0) 1) → ⊥ }
+    ensures dirty { MayWant machine (Dirty (Block 0)) }
+    ensures harvest { MayWant machine (Harvest (Space 0)) }
+    ensures no_bitmap { MayWant machine (Harvest (Block 2)) → ⊥ }
 {}
 
 /// A step has its one answer, and no other but want of memory, which leaves the machine.

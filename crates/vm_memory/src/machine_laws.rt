@@ -1,16 +1,69 @@
-//! What holds of every step of a machine: each function here is a theorem, and does nothing.
-ghost use Rattle.std.specs.Prelude.{◌≡◌, List, ℕ};
-ghost use Rattle.vm_memory.specs.Machine.{Step};
-ghost use Rattle.vm_memory.specs.State.{State};
+//! What holds of every step and every run of a machine: each function here is a theorem, and does nothing.
+//! It calls the theorems that it follows from.
+ghost use Rattle.std.specs.Prelude.{◌≡◌, ◌≢◌, ℕ, ◌^◌, ◌<◌, List, length, slice_get, slice_index, All, Some};
+ghost use Rattle.vm_memory_base.specs.Pages.{PageSet};
+ghost use Rattle.vm_memory_base.specs.declared.address.GuestAddress.{GuestAddress};
+ghost use Rattle.vm_memory_base.specs.declared.bitmap.BitmapId.TheVariants.{Block};
+ghost use Rattle.vm_memory_base.specs.declared.iotlb.Permissions.TheVariants as permissions;
+ghost use Rattle.vm_memory_guest.specs.Access.{Reached};
+ghost use Rattle.vm_memory_guest.specs.Host.{Host};
+ghost use Rattle.vm_memory.specs.Machine.{Step, Run};
+ghost use Rattle.vm_memory.specs.Reply.{reached_by};
+ghost use Rattle.vm_memory.specs.Rounds.{MirrorsBlock, IsTracked, RunsDirectly, KeepsImage};
+ghost use Rattle.vm_memory.specs.Rounds.{image_now, bytes_of};
+ghost use Rattle.vm_memory.specs.State.{State, MachineMemory, meaning};
 ghost use Rattle.vm_memory.specs.declared.machine.command.Command.{Command};
-ghost use Rattle.vm_memory.specs.declared.machine.command.Reply.TheVariants.{Bytes, NoSuch, Memory};
+ghost use Rattle.vm_memory.specs.declared.machine.command.Command.TheVariants as command;
+ghost use Rattle.vm_memory.specs.declared.machine.command.Command.TheVariants.{Harvest};
+ghost use Rattle.vm_memory.specs.declared.machine.command.Reply.{Reply};
+ghost use Rattle.vm_memory.specs.declared.machine.command.Reply.TheVariants.{Bytes, Value, NoSuch, BadRange, Memory};
 ghost use Rattle.vm_memory.specs.declared.machine.command.Reply.TheVariants as reply;
 ghost use Rattle.vm_memory.specs.declared.machine.command.Fault.{Fault};
 
-/// A command that is refused, or finds no memory, changes nothing, and neither does a read.
+use vm_memory_base::laws::pages::{cleaned_is_clean, dirty_pages_are_listed};
+use vm_memory_guest::effect_laws::{
+    dirt_stays, named_pages_are_dirty, other_bytes_stay, path_writes_keep_shapes,
+};
+
+/// A command that is refused, or finds no memory, changes nothing, and neither does a read or a load.
 pub fn refusals_change_nothing()
     ensures fault { (old new : State) (c : Command) (f : Fault) → Step old c (reply.Fault f) new → new ≡ old }
     ensures no_such { (old new : State) (c : Command) → Step old c NoSuch new → new ≡ old }
     ensures memory { (old new : State) (c : Command) → Step old c Memory new → new ≡ old }
     ensures read { (old new : State) (c : Command) (bytes : List ℕ) → Step old c (Bytes bytes) new → new ≡ old }
+    ensures load { (old new : State) (c : Command) (value : ℕ) → Step old c (Value value) new → new ≡ old }
+    ensures bad_range { (old new : State) (c : Command) → Step old c BadRange new → new ≡ old }
+{}
+
+/// An image that mirrors a block which its bitmap covers is kept by every run: at each state of it, patched
+/// by the harvests before, it mirrors the block. A copy of the block is such an image.
+pub fn runs_keep_images()
+    ensures copy { (block : ℕ) (host : Host PageSet) → MirrorsBlock block host (bytes_of block host) }
+    ensures kept { (block : ℕ) (image : List ℕ) (old : State) (cs : List Command) (rs : List Reply) (new : State)
+        (run : Run old cs rs new) → IsTracked block old.host → length (bytes_of block old.host) < 2 ^ 64
+        → RunsDirectly old cs rs new run → MirrorsBlock block old.host image
+        → KeepsImage block image old cs rs new run }
+    ensures unharvested { (block : ℕ) (image : List ℕ) (old : State) (cs : List Command) (rs : List Reply)
+        (new : State) (run : Run old cs rs new) → IsTracked block old.host
+        → length (bytes_of block old.host) < 2 ^ 64 → RunsDirectly old cs rs new run
+        → All (λ (c : Command). c ≢ Harvest (Block block)) cs
+        → MirrorsBlock block old.host image → MirrorsBlock block new.host image }
+{
+    dirty_pages_are_listed();
+    cleaned_is_clean();
+    other_bytes_stay();
+    named_pages_are_dirty();
+    dirt_stays();
+    path_writes_keep_shapes();
+}
+
+/// Where an image mirrors a block, a read replies the bytes of the image for those of the block that it
+/// reaches, patched with the pages that are dirty then.
+pub fn reads_are_of_the_image()
+    ensures { (block : ℕ) (image : List ℕ) (old new : State) (memory : ℕ) (addr : GuestAddress) (n : ℕ)
+        (bytes : List ℕ) (m : MachineMemory) (k : ℕ) (x : Reached) → MirrorsBlock block old.host image
+        → Step old (command.Read memory addr n) (Bytes bytes) new → slice_get old.memories memory ≡ Some m
+        → slice_get (reached_by (meaning m) old.host.tables addr.0 n permissions.Read).path k ≡ Some x
+        → x.cell.block ≡ block
+        → slice_get bytes k ≡ Some (slice_index (image_now block old.host image) x.cell.offset) }
 {}

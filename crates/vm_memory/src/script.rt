@@ -3,7 +3,8 @@
 //! A line is a word and its arguments, with one space between any two, and ends with a line feed, which
 //! the last line may lack. An empty line and a line that begins with `#` do nothing. `block SIZE PAGE`
 //! and `region B A` come first and fill the pools; the first command makes the machine. The commands are
-//! `layout R`, `plain L`, `read M A N` and `write M A BYTES`.
+//! `layout R`, `plain L`, `read M A N`, `write M A BYTES`, `store M W A VALUE` and `load M W A`, where `W`
+//! is 1, 2, 4 or 8 bytes.
 
 ghost use Rattle.std.specs.Prelude.{◌≡◌};
 ghost use Rattle.vm_memory.specs.Script.{status_of};

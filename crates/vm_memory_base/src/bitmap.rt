@@ -126,12 +126,14 @@ impl<B: Bitmap> Bitmap for Option<B> {
 
     ghost tells = { TellsOption B.tells };
 
+    #[inline]
     fn mark_dirty(&mut self, offset: usize, len: usize) {
         if let Some(bitmap) = self {
             bitmap.mark_dirty(offset, len);
         }
     }
 
+    #[inline]
     fn dirty_at(&self, offset: usize) -> bool {
         match self {
             Some(bitmap) => bitmap.dirty_at(offset),
@@ -154,6 +156,7 @@ impl<B: ExactBitmap> ExactBitmap for Option<B> {
 
     ghost made_clean = { λ len b none. absurd none };
 
+    #[inline]
     fn shape(&self) -> Option<(usize, usize)> {
         match self {
             Some(bitmap) => bitmap.shape(),

@@ -62,7 +62,7 @@ changed-map {X} {Y} p f (z ∷ xs) (suc i) x y h e =
 -- ---- marks of a host's bitmaps
 
 -- a mark of one byte at each of these offsets of bitmaps, in order
-abbrev each_marked : List (BitmapId × ℕ) → Host PageSet → Host PageSet
+abbrev pub each_marked : List (BitmapId × ℕ) → Host PageSet → Host PageSet
 each_marked [] host = host
 each_marked (m ∷ ms) host = each_marked ms (marks_pages m.0 m.1 1 host)
 
@@ -101,19 +101,19 @@ dirtied-each [] host = refl
 dirtied-each (x ∷ xs) host = dirtied-each xs (marks_pages x.bitmap x.mark 1 host)
 
 -- the dirt of windows, one after the other
-abbrev windows_dirtied : List Window → Host PageSet → Host PageSet
+abbrev pub windows_dirtied : List Window → Host PageSet → Host PageSet
 windows_dirtied [] host = host
 windows_dirtied (w ∷ ws) host = windows_dirtied ws (marks_pages w.bitmap.id w.bitmap.base w.size host)
 
-abbrev Fits : Window → Type 0
+abbrev pub Fits : Window → Type 0
 Fits w = w.bitmap.base + w.size ≤ 2 ^ 64
 
 -- what is taken from the laws of page sets: a mark is a mark of each of its bytes, and a mark of no bytes changes nothing
-abbrev MarkIsByBytes : Type 0
+abbrev pub MarkIsByBytes : Type 0
 MarkIsByBytes = (start len : ℕ) (set : PageSet) → start + len ≤ 2 ^ 64
     → marked_each (numbers start len) set ≡ marked start len set
 
-abbrev EmptyMark : Type 0
+abbrev pub EmptyMark : Type 0
 EmptyMark = (start : ℕ) (set : PageSet) → marked start 0 set ≡ set
 
 module _ (by_bytes : MarkIsByBytes) where
@@ -132,7 +132,7 @@ module _ (by_bytes : MarkIsByBytes) where
       ∙ sym (each_marked-space space (numbers base len) host)
 
   -- the dirt of windows is the marks of their bytes
-  windows_dirtied-each : (ws : List Window) (host : Host PageSet) → All Fits ws
+  pub windows_dirtied-each : (ws : List Window) (host : Host PageSet) → All Fits ws
       → windows_dirtied ws host ≡ each_marked (flat_map window_marks ws) host
   windows_dirtied-each [] host fit = refl
   windows_dirtied-each (w ∷ ws) host fit =
@@ -194,7 +194,7 @@ module _ {B : Type 0} (marks : B → ℕ → ℕ → B → Type 0) (pages : B �
             (subst (λ (b : Bool). MatchBool b (Marks marks w.bitmap.id w.bitmap.base (suc size) old new) (new ≡ old)) some k)
 
     -- marks of windows of exact bitmaps leave the dirt of the windows
-    with_pages-MarksAll : (ws : List Window) (old new : Host B) → MarksAll marks ws old new
+    pub with_pages-MarksAll : (ws : List Window) (old new : Host B) → MarksAll marks ws old new
         → with_pages pages new ≡ windows_dirtied ws (with_pages pages old)
     with_pages-MarksAll [] old new h = ap (λ (host : Host B). with_pages pages host) h
     with_pages-MarksAll (w ∷ ws) old new h =

@@ -155,7 +155,7 @@ abbrev PagesStay : Type 0
 PagesStay = (start len : ℕ) (p : Pages) → (q : Pages) × (marked start len (Some p) ≡ Some q)
     × (q.page_size ≡ p.page_size) × (length q.flags ≡ length p.flags)
 
-module _ (own : OwnPageIsDirty) (stays : DirtyPagesStay) (as_many : PagesStay) where
+module _ (stays : DirtyPagesStay) where
   is_dirty_at-marks_stays : (other id : BitmapId) (x offset : ℕ) (host : Host PageSet)
       → is_dirty_at (pages_at id host) offset ≡ true
       → is_dirty_at (pages_at id (marks_pages other x 1 host)) offset ≡ true
@@ -171,6 +171,14 @@ module _ (own : OwnPageIsDirty) (stays : DirtyPagesStay) (as_many : PagesStay) w
       is_dirty_at-dirtied_stays xs id offset (marks_pages x.bitmap x.mark 1 host)
       (is_dirty_at-marks_stays x.bitmap id x.mark offset host h)
 
+  -- a write makes no page clean
+  pub is_dirty_at-after_write_stays : (xs : List Reached) (bytes : List ℕ) (id : BitmapId) (offset : ℕ) (host : Host PageSet)
+      → is_dirty_at (pages_at id host) offset ≡ true → is_dirty_at (pages_at id (after_write xs bytes host)) offset ≡ true
+  is_dirty_at-after_write_stays xs bytes id offset host h =
+      let blocks = written (path_cells xs) bytes host.blocks in
+      is_dirty_at-dirtied_stays xs id offset (record host { blocks = blocks }) (rw (pages_at-with_blocks id host blocks) h)
+
+module _ (own : OwnPageIsDirty) (stays : DirtyPagesStay) (as_many : PagesStay) where
   -- the pages of a bitmap are of one size, and as many, after any mark
   same_pages : (other id : BitmapId) (offset len : ℕ) (host : Host PageSet) (p : Pages) → pages_at id host ≡ Some p
       → (q : Pages) × (pages_at id (marks_pages other offset len host) ≡ Some q) × (q.page_size ≡ p.page_size)
@@ -188,7 +196,7 @@ module _ (own : OwnPageIsDirty) (stays : DirtyPagesStay) (as_many : PagesStay) w
       let now : pages_at x.bitmap (marks_pages x.bitmap x.mark 1 host) ≡ marked x.mark 1 (Some p) = pages_at-marks x.bitmap x.mark 1 host ∙ ap (marked x.mark 1) tracked in
       let dirty : is_dirty_at (pages_at x.bitmap (marks_pages x.bitmap x.mark 1 host)) x.mark ≡ true = ap (λ (s : PageSet). is_dirty_at s x.mark) now ∙ own x.mark x.mark p fits refl within in
       let first : is_dirty_at (pages_at x.bitmap (marks_pages y.bitmap y.mark 1 host)) x.mark ≡ true = subst (λ (z : Reached). is_dirty_at (pages_at x.bitmap (marks_pages z.bitmap z.mark 1 host)) x.mark ≡ true) (sym e) dirty in
-      is_dirty_at-dirtied_stays ys x.bitmap x.mark (marks_pages y.bitmap y.mark 1 host) first
+      is_dirty_at-dirtied_stays stays ys x.bitmap x.mark (marks_pages y.bitmap y.mark 1 host) first
   dirtied_at (y ∷ ys) (suc k) x host p l e fits tracked within =
       let q = same_pages y.bitmap x.bitmap y.mark 1 host p tracked in
       dirtied_at ys k x (marks_pages y.bitmap y.mark 1 host) q.0 (omega arith) e fits q.1 (rw (q.2, q.3) within)
@@ -212,6 +220,11 @@ blocks-marks_pages (Space space) offset len host = refl
 blocks-dirtied : (xs : List Reached) (host : Host PageSet) → (dirtied xs host).blocks ≡ host.blocks
 blocks-dirtied [] host = refl
 blocks-dirtied (x ∷ xs) host = blocks-dirtied xs (marks_pages x.bitmap x.mark 1 host) ∙ blocks-marks_pages x.bitmap x.mark 1 host
+
+-- what a write leaves of the bytes
+pub blocks-after_write : (xs : List Reached) (bytes : List ℕ) (host : Host PageSet)
+    → (after_write xs bytes host).blocks ≡ written (path_cells xs) bytes host.blocks
+blocks-after_write xs bytes host = blocks-dirtied xs (record host { blocks = written (path_cells xs) bytes host.blocks })
 
 -- what is written to a path and read back from it, where each cell is met once
 pub bytes_read-after_write : (xs : List Reached) (bytes : List ℕ) (host : Host PageSet)

@@ -23,8 +23,8 @@ module _ {E : Type 0} where
   given (Ok w) = w ∷ []
   given (Err e) = []
 
--- the window of a load or a store at an offset of a window: so many bytes from there on, where their place
--- in the block is a multiple of their number
+-- the window of a load or a store at an offset of a window: so many bytes from there on, where their place in
+-- the block is a multiple of their number
 abbrev pub if_aligned : Result Window VolatileMemoryError → Result Window VolatileMemoryError
 if_aligned (Err e) = Err e
 if_aligned (Ok w) = if w.offset % w.size == 0 then Ok w else Err (Misaligned w.offset w.size)
@@ -49,13 +49,13 @@ is_uncut [] = true
 is_uncut (x ∷ []) = true
 is_uncut (x ∷ y ∷ xs) = not (is_cut x y) && is_uncut (y ∷ xs)
 
--- the bytes of a load or a store in guest memory: all that are reached, where none is missing, there is no
--- cut between them, and the first one's place in its block is a multiple of their number
+-- the bytes of a load or a store in guest memory: all that are reached, where none is missing, there is no cut
+-- between them, and the first one's place in its block is a multiple of their number
 abbrev pub whole_path : ℕ → List Reached → Option GuestMemoryError → Result (List Reached) GuestMemoryError
 whole_path size [] None = Err InvalidBackendAddress
 whole_path size [] (Some e) = Err e
-whole_path size (x ∷ xs) fault =
-    if length (x ∷ xs) == size && is_uncut (x ∷ xs) && x.cell.offset % size == 0 then Ok (x ∷ xs)
+whole_path size (x ∷ xs) fault = if length (x ∷ xs) == size && is_uncut (x ∷ xs) && x.cell.offset % size == 0
+    then Ok (x ∷ xs)
     else Err InvalidBackendAddress
 
 abbrev pub typed_path : ℕ → Access → Result (List Reached) GuestMemoryError

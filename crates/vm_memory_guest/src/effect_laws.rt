@@ -102,6 +102,17 @@ pub fn named_pages_are_dirty()
     marked_bytes_are_dirty();
 }
 
+/// A write to a path leaves its bytes, whatever it marks, and no write makes a page clean.
+pub fn dirt_stays()
+    ensures bytes { (xs : List Reached) (bytes : List ℕ) (host : Host PageSet)
+        → (after_write xs bytes host).blocks ≡ written (path_cells xs) bytes host.blocks }
+    ensures pages { (xs : List Reached) (bytes : List ℕ) (id : BitmapId) (offset : ℕ) (host : Host PageSet)
+        → is_dirty_at (pages_at id host) offset ≡ true
+        → is_dirty_at (pages_at id (after_write xs bytes host)) offset ≡ true }
+{
+    marked_bytes_are_dirty();
+}
+
 /// A write to a path keeps the tables, and the page size and the number of pages of each bitmap.
 pub fn path_writes_keep_shapes()
     ensures tables { (xs : List Reached) (bytes : List ℕ) (host : Host PageSet)

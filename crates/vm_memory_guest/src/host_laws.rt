@@ -1,9 +1,18 @@
 //! What holds of what a host holds, whatever the code does: each function here is a theorem, and does
 //! nothing.
-ghost use Rattle.std.specs.Prelude.{◌↔◌, ℕ, ◌+◌, ◌≤◌, List, ◌++◌, length, flat_map, All, Contains};
+ghost use Rattle.std.specs.Prelude.{◌↔◌, ℕ, ◌+◌, ◌^◌, ◌<◌, ◌≤◌, List, ◌++◌, length, flat_map, All, Contains};
 ghost use Rattle.vm_memory_guest.specs.Host as names;
 ghost use Rattle.vm_memory_guest.specs.Host.{Host, Name, Shape, Holds, IsHeld, block_at, shape_of};
 ghost use Rattle.vm_memory_guest.specs.Region.{Region, region_names};
+
+use crate::volatile_memory::host::HostMemory;
+
+/// Each block of a host is shorter than 2^63 bytes.
+pub fn blocks_are_short<B>(host: &HostMemory<B>)
+    ensures { (block : ℕ) → length (block_at host.now.blocks block) < 2 ^ 63 }
+{
+    let _shape = host.shape();
+}
 
 /// Names are held where each of them is, and two lists one after the other where both are.
 pub fn names_are_held_one_by_one()

@@ -1,39 +1,17 @@
-//! Access to guest memory of several regions, by guest address.
+//! Access to guest memory by guest address, where it ends before all bytes are moved.
 
 use crate::regions::TestRegion;
-use crate::support::{memory_of, read, read_slice, region_at, write, write_slice};
+use crate::support::{Place, expect_text, memory_of};
 use std::alloc::Global;
-use std::sync::Arc;
 use std::test::Fail;
-use vm_memory_base::GuestAddress;
-use vm_memory_guest::{
-    GuestMemoryResult, GuestRegionCollection, GuestRegionMmap, HostMemory, MmapRegion,
-};
+use vm_memory::{Bytes, GuestAddress, GuestRegionCollection, HostMemory};
 
-fn count_text(alloc: Global, outcome: GuestMemoryResult<usize>) -> Result<String, Fail> {
-    Ok(format!(in alloc; "{outcome:?}")?)
-}
+// An address, a count, and what an access answers and one that is to move all.
+type Access = (u64, usize, &'static str, &'static str);
 
-fn done_text(alloc: Global, outcome: GuestMemoryResult<()>) -> Result<String, Fail> {
-    Ok(format!(in alloc; "{outcome:?}")?)
-}
+const AROUND_A_HOLE: [Place; 2] = [Place::Block(0, 0x400), Place::Block(0x1000, 0x400)];
 
-#[test]
-fn an_access_goes_on_in_the_next_region(rt: HostRuntime) -> Result<(), Fail> {
-    let mut host = HostMemory::new(rt.alloc());
-    let ranges = [(0, 0x1000), (0x1000, 0x1000)];
-    let memory = memory_of(rt.alloc(), &mut host, &ranges)?;
-    let count = write(&rt, &mut host, &memory, &[1, 2, 3, 4, 5], 0xffc)?;
-    assert_eq!(rt; count, 5);
-    let mut buffer = [9; 7];
-    let count = read(&rt, &host, &memory, &mut buffer, 0xffb)?;
-    assert_eq!(rt; count, 7);
-    assert_eq!(rt; buffer, [0, 1, 2, 3, 4, 5, 0]);
-    Ok(())
-}
-
-// Regions of 0x400 bytes at 0 and 0x1000: an address, a count, and what reads and writes answer.
-const AT_A_HOLE: [(u64, usize, &str, &str); 8] = [
+const AT_A_HOLE: [Access; 8] = [
     (0x3fc, 4, "Ok(4)", "Ok(())"),
     (
         0x3fc,
@@ -64,138 +42,63 @@ const AT_A_HOLE: [(u64, usize, &str, &str); 8] = [
     ),
 ];
 
-#[test]
-fn a_hole_ends_an_access(rt: HostRuntime) -> Result<(), Fail> {
-    let alloc = rt.alloc();
-    let mut host = HostMemory::new(alloc);
-    let memory = memory_of(alloc, &mut host, &[(0, 0x400), (0x1000, 0x400)])?;
-    for (addr, count, any, all) in AT_A_HOLE {
-        let bytes = vec![in alloc; 5u8; count]?;
-        let mut buffer = vec![in alloc; 0u8; count]?;
-        let told = count_text(
-            alloc,
-            write(&rt, &mut host, &memory, bytes.as_slice(), addr),
-        )?;
-        assert_eq!(rt; told.as_str(), any, "write at {addr}");
-        let told = count_text(
-            alloc,
-            read(&rt, &host, &memory, buffer.as_mut_slice(), addr),
-        )?;
-        assert_eq!(rt; told.as_str(), any, "read at {addr}");
-        let told = done_text(
-            alloc,
-            write_slice(&rt, &mut host, &memory, bytes.as_slice(), addr),
-        )?;
-        assert_eq!(rt; told.as_str(), all, "write all at {addr}");
-        let told = done_text(
-            alloc,
-            read_slice(&rt, &host, &memory, buffer.as_mut_slice(), addr),
-        )?;
-        assert_eq!(rt; told.as_str(), all, "read all at {addr}");
-    }
-    Ok(())
-}
+const BEFORE_A_BARE_REGION: [Place; 2] = [Place::Block(0, 0x1000), Place::Bare(0x1000, 0x1000)];
 
-#[test]
-fn one_block_may_lie_at_two_addresses(rt: HostRuntime) -> Result<(), Fail> {
-    let alloc = rt.alloc();
-    let mut host = HostMemory::new(alloc);
-    let block = MmapRegion::new(&mut host, 0x1000)?;
-    let mut regions = Vec::new(alloc);
-    for start in [0, 0x1000] {
-        let region = GuestRegionMmap::new(block, GuestAddress(start)).ok_or("it fits")?;
-        regions.push(Arc::new(alloc, region)?)?;
-    }
-    let memory = GuestRegionCollection::from_arc_regions(regions)?;
-    let mut bytes = vec![in alloc; 1u8; 0x1000]?;
-    bytes.push(9)?;
-    let count = write(&rt, &mut host, &memory, bytes.as_slice(), 0)?;
-    assert_eq!(rt; count, 0x1001);
-    for start in [0, 0x1000] {
-        let mut buffer = vec![in alloc; 0u8; 0x1000]?;
-        read_slice(&rt, &host, &memory, buffer.as_mut_slice(), start)?;
-        let (first, others) = buffer.as_slice().split_first().ok_or("bytes")?;
-        assert_eq!(rt; *first, 9);
-        assert!(rt; others.iter().all(|byte| *byte == 1));
-    }
-    Ok(())
-}
+const AT_A_BARE_REGION: [Access; 4] = [
+    (
+        0xffe,
+        4,
+        "Ok(2)",
+        "Err(PartialBuffer { expected: 4, completed: 2 })",
+    ),
+    (
+        0x1000,
+        1,
+        "Err(HostAddressNotAvailable)",
+        "Err(HostAddressNotAvailable)",
+    ),
+    (0x1800, 0, "Ok(0)", "Ok(())"),
+    (
+        0x2000,
+        1,
+        "Err(InvalidGuestAddress(GuestAddress(8192)))",
+        "Err(InvalidGuestAddress(GuestAddress(8192)))",
+    ),
+];
 
-// A block of four bytes at 0, and one of 0x1000 that ends at the greatest address.
-fn memory_to_the_end(
+// What each access of so many bytes at an address answers, a line each.
+fn accesses_of(
     alloc: Global,
     host: &mut HostMemory<()>,
-) -> Result<GuestRegionCollection<TestRegion>, Fail> {
-    let mut regions = Vec::new(alloc);
-    for (start, size) in [(0, 4), (0xffff_ffff_ffff_f000, 0x1000)] {
-        let bytes = region_at(host, 0, size)?;
-        let region = TestRegion::moved(bytes, GuestAddress(start)).ok_or("it fits")?;
-        regions.push(Arc::new(alloc, region)?)?;
+    memory: &GuestRegionCollection<TestRegion>,
+    addr: GuestAddress,
+    count: usize,
+) -> Result<String, Fail> {
+    if !host.holds(memory) {
+        return Err(Fail::new("the host holds the memory"));
     }
-    Ok(GuestRegionCollection::from_arc_regions(regions)?)
+    let bytes = vec![in alloc; 5u8; count]?;
+    let mut buffer = vec![in alloc; 0u8; count]?;
+    let wrote = memory.write(host, bytes.as_slice(), addr);
+    let wrote_all = memory.write_slice(host, bytes.as_slice(), addr);
+    let had = memory.read(host, buffer.as_mut_slice(), addr);
+    let had_all = memory.read_slice(host, buffer.as_mut_slice(), addr);
+    Ok(format!(in alloc; "{wrote:?}\n{had:?}\n{wrote_all:?}\n{had_all:?}\n")?)
 }
 
-#[test]
-fn address_0_follows_the_greatest(rt: HostRuntime) -> Result<(), Fail> {
-    let mut host = HostMemory::new(rt.alloc());
-    let memory = memory_to_the_end(rt.alloc(), &mut host)?;
-    let greatest = 0xffff_ffff_ffff_ffff;
-    let count = write(&rt, &mut host, &memory, &[7, 8], greatest)?;
-    assert_eq!(rt; count, 2);
-    let mut buffer = [0; 2];
-    let count = read(&rt, &host, &memory, &mut buffer, greatest)?;
-    assert_eq!(rt; (count, buffer), (2, [7, 8]));
-    let count = read(&rt, &host, &memory, &mut buffer[..1], 0)?;
-    assert_eq!(rt; (count, buffer[0]), (1, 8));
-    // It ends where the region at 0 ends.
-    let count = write(&rt, &mut host, &memory, &[1; 9], greatest - 1)?;
-    assert_eq!(rt; count, 6);
-    Ok(())
-}
-
-#[test]
-fn a_region_without_host_bytes_ends_an_access(rt: HostRuntime) -> Result<(), Fail> {
-    let alloc = rt.alloc();
+fn expect_accesses(alloc: Global, places: &[Place], cases: &[Access]) -> Result<(), Fail> {
     let mut host = HostMemory::new(alloc);
-    let bytes = region_at(&mut host, 0, 0x1000)?;
-    let moved = TestRegion::moved(bytes, GuestAddress(0)).ok_or("it fits")?;
-    let bare = TestRegion::bare(GuestAddress(0x1000), 0x1000).ok_or("it fits")?;
-    let mut regions = Vec::new(alloc);
-    regions.push(Arc::new(alloc, moved)?)?;
-    regions.push(Arc::new(alloc, bare)?)?;
-    let memory = GuestRegionCollection::from_arc_regions(regions)?;
-    for (addr, count, any, all) in [
-        (
-            0xffe,
-            4,
-            "Ok(2)",
-            "Err(PartialBuffer { expected: 4, completed: 2 })",
-        ),
-        (
-            0x1000,
-            1,
-            "Err(HostAddressNotAvailable)",
-            "Err(HostAddressNotAvailable)",
-        ),
-        (0x1800, 0, "Ok(0)", "Ok(())"),
-        (
-            0x2000,
-            1,
-            "Err(InvalidGuestAddress(GuestAddress(8192)))",
-            "Err(InvalidGuestAddress(GuestAddress(8192)))",
-        ),
-    ] {
-        let bytes = vec![in alloc; 3u8; count]?;
-        let told = count_text(
-            alloc,
-            write(&rt, &mut host, &memory, bytes.as_slice(), addr),
-        )?;
-        assert_eq!(rt; told.as_str(), any, "write at {addr}");
-        let told = done_text(
-            alloc,
-            write_slice(&rt, &mut host, &memory, bytes.as_slice(), addr),
-        )?;
-        assert_eq!(rt; told.as_str(), all, "write all at {addr}");
+    let memory = memory_of(alloc, &mut host, places)?;
+    for (case, (addr, count, any, all)) in cases.iter().enumerate() {
+        let text = accesses_of(alloc, &mut host, &memory, GuestAddress(*addr), *count)?;
+        let wanted = format!(in alloc; "{any}\n{any}\n{all}\n{all}\n")?;
+        expect_text(case, text.as_str(), wanted.as_str())?;
     }
     Ok(())
+}
+
+#[test]
+fn an_access_ends_where_no_byte_is(rt: HostRuntime) -> Result<(), Fail> {
+    expect_accesses(rt.alloc(), &AROUND_A_HOLE, &AT_A_HOLE)?;
+    expect_accesses(rt.alloc(), &BEFORE_A_BARE_REGION, &AT_A_BARE_REGION)
 }

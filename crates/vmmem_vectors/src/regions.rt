@@ -1,18 +1,19 @@
 //! Regions of other kinds than a whole block below the greatest address.
-ghost use Rattle.std.specs.Prelude.{◌≡◌, ◌+◌, ◌^◌, ◌<◌, ◌≤◌};
+ghost use Rattle.std.specs.Prelude.{◌+◌, ◌^◌, ◌<◌, ◌≤◌};
+ghost use Rattle.vm_memory_guest.specs.Mmap.{mmap_region};
 
 use vm_memory_base::{GuestAddress, GuestUsize, MemoryRegionAddress};
 use vm_memory_guest::{
-    GuestMemoryError, GuestMemoryRegion, GuestMemoryResult, GuestRegionMmap, HostShape, Named,
-    VolatileSlice,
+    GuestMemoryError, GuestMemoryRegion, GuestMemoryResult, GuestRegionMmap, HostShape, MmapRegion,
+    Named, VolatileSlice,
 };
 
-/// The bytes of a region at another address, so that it may end at the greatest one.
+/// A whole block at an address, which may end at the greatest one.
 #[derive(Clone, Copy, Debug)]
 pub struct MovedRegion {
     bytes: GuestRegionMmap,
     start: GuestAddress,
-    ghost fits: { start.0 + bytes.mapping.size ≤ 2 ^ 64 },
+    ghost fits: { start.0 + (mmap_region bytes).len ≤ 2 ^ 64 },
 }
 
 /// Addresses without host bytes.
@@ -33,8 +34,9 @@ pub enum TestRegion {
 }
 
 impl TestRegion {
-    /// The bytes of a region at another address, if they end at the greatest one or before.
-    pub fn moved(bytes: GuestRegionMmap, start: GuestAddress) -> Option<TestRegion> {
+    /// A whole block at an address, if it ends at the greatest one or before.
+    pub fn moved(mapping: MmapRegion, start: GuestAddress) -> Option<TestRegion> {
+        let bytes = GuestRegionMmap::new(mapping, GuestAddress(0))?;
         start.0.checked_add(bytes.len() - 1)?;
         Some(TestRegion::Moved(MovedRegion { bytes, start }))
     }

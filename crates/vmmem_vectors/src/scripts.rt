@@ -1,21 +1,14 @@
 //! Scripts: their replies, and how they end.
 
-use std::alloc::{AllocError, Global};
+use crate::support::expect_text;
+use std::alloc::Global;
 use std::io;
 use std::io::{Read, Write};
 use std::test::Fail;
 use vm_memory::{DriveFault, drive};
 
-// How a script ended: the status and the text of a fault, or 0 and nothing.
-fn ending(alloc: Global, outcome: Result<(), DriveFault>) -> Result<(u8, String), AllocError> {
-    match outcome {
-        Ok(()) => Ok((0, String::new(alloc))),
-        Err(fault) => Ok((fault.status(), fault.to_string(alloc)?)),
-    }
-}
-
-// Scripts that run to their end, with their replies.
-const SCRIPTS: [(&[u8], &str); 12] = [
+// Scripts, and what they tell: their replies, and then the status and the text of a fault.
+const SCRIPTS: [(&[u8], &str); 14] = [
     (b"", ""),
     (b"\n\n# nothing\n#\xff\x00\r  \n", ""),
     (
@@ -61,17 +54,39 @@ const SCRIPTS: [(&[u8], &str); 12] = [
         "block 0\nregion 0\nerror NoSuch\nlayout 0\nerror NoSuch\nmemory 0\nbytes -\nerror G1 0x4\n\
          bytes 00000000\n",
     ),
+    // A line that sets up comes before the first command, also before one that was refused.
+    (
+        b"block 1 1\nplain 0\nblock 1 1\n",
+        "block 0\nerror NoSuch\n1 line 3: bad line",
+    ),
+    (
+        b"block 1 1\nplain 0\nregion 0 0\n",
+        "block 0\nerror NoSuch\n1 line 3: bad line",
+    ),
 ];
+
+// The replies, and after them the status and the text of a fault.
+fn told(alloc: Global, script: &[u8]) -> Result<String, Fail> {
+    let mut input = script;
+    let mut output = Vec::new(alloc);
+    let outcome = drive(alloc, &mut input, &mut output);
+    text_of(output, outcome)
+}
+
+fn text_of(replies: Vec<u8>, outcome: Result<(), DriveFault>) -> Result<String, Fail> {
+    let mut text = String::from_utf8(replies)?;
+    if let Err(fault) = outcome {
+        let status = fault.status();
+        write!(text, "{status} {fault}")?;
+    }
+    Ok(text)
+}
 
 #[test]
 fn each_line_has_its_reply(rt: HostRuntime) -> Result<(), Fail> {
-    for (number, (script, replies)) in SCRIPTS.iter().enumerate() {
-        let mut input = *script;
-        let mut output = Vec::new(rt.alloc());
-        let outcome = drive(rt.alloc(), &mut input, &mut output);
-        let (status, text) = ending(rt.alloc(), outcome)?;
-        assert_eq!(rt; output.as_slice(), replies.as_bytes(), "script {number}");
-        assert_eq!(rt; status, 0, "script {number}: {text}");
+    for (number, (script, wanted)) in SCRIPTS.iter().enumerate() {
+        let text = told(rt.alloc(), script)?;
+        expect_text(number, text.as_str(), wanted)?;
     }
     Ok(())
 }
@@ -153,61 +168,49 @@ const BAD_LINES: [&[u8]; 66] = [
     b"write 0 0 ",
 ];
 
-// Drives a line between a beginning and one more line, and looks for the fault of its number.
-fn is_bad_after(
-    alloc: Global,
-    beginning: &[u8],
-    line: &[u8],
-    replies: &[u8],
-    text: &str,
-) -> Result<bool, AllocError> {
+// The replies before a bad line, and the line's number, in a script that begins so.
+const BEGINNINGS: [(&[u8], &str); 2] = [
+    (b"block 1 1\n", "block 0\n1 line 2: bad line"),
+    (
+        b"# one\n\nblock 1 1\nregion 0 0\nlayout 0\n",
+        "block 0\nregion 0\nlayout 0\n1 line 6: bad line",
+    ),
+];
+
+// What a script tells that has a line between a beginning and one more line.
+fn told_of_line(alloc: Global, beginning: &[u8], line: &[u8]) -> Result<String, Fail> {
     let mut script = Vec::from_slice(alloc, beginning)?;
     script.extend_from_slice(line)?;
     script.extend_from_slice(b"\nplain 0\n")?;
-    let mut input = script.as_slice();
-    let mut output = Vec::new(alloc);
-    let outcome = drive(alloc, &mut input, &mut output);
-    let (status, told) = ending(alloc, outcome)?;
-    Ok(output.as_slice() == replies && status == 1 && told.as_str() == text)
+    told(alloc, script.as_slice())
 }
 
 #[test]
 fn a_bad_line_ends_a_script_after_its_replies(rt: HostRuntime) -> Result<(), Fail> {
-    for line in BAD_LINES {
-        let before = is_bad_after(
-            rt.alloc(),
-            b"block 1 1\n",
-            line,
-            b"block 0\n",
-            "line 2: bad line",
-        )?;
-        assert!(rt; before, "before a command: {line:?}");
-        let after = is_bad_after(
-            rt.alloc(),
-            b"# one\n\nblock 1 1\nregion 0 0\nlayout 0\n",
-            line,
-            b"block 0\nregion 0\nlayout 0\n",
-            "line 6: bad line",
-        )?;
-        assert!(rt; after, "after a command: {line:?}");
+    for (beginning, wanted) in BEGINNINGS {
+        for (number, line) in BAD_LINES.iter().enumerate() {
+            let text = told_of_line(rt.alloc(), beginning, line)?;
+            expect_text(number, text.as_str(), wanted)?;
+        }
     }
     Ok(())
 }
 
+// A block of 1 MiB is written whole and read whole: each 16 bytes are a number, from 0 on.
 #[test]
-fn a_setup_line_comes_before_the_first_command(rt: HostRuntime) -> Result<(), Fail> {
-    for line in [b"block 1 1".as_slice(), b"region 0 0".as_slice()] {
-        // Also where the command was refused.
-        let bad = is_bad_after(
-            rt.alloc(),
-            b"block 1 1\nplain 0\n",
-            line,
-            b"block 0\nerror NoSuch\n",
-            "line 3: bad line",
-        )?;
-        assert!(rt; bad, "{line:?}");
+fn a_mebibyte_goes_through_a_script(rt: HostRuntime) -> Result<(), Fail> {
+    let mut digits = String::new(rt.alloc());
+    for number in 0..0x1_0000u32 {
+        write!(digits, "{number:032x}")?;
     }
-    Ok(())
+    let script = format!(in rt.alloc();
+        "block 0x100000 0x1000\nregion 0 0\nlayout 0\nplain 0\nwrite 0 0 {digits}\nread 0 0 0x100000\n"
+    )?;
+    let wanted = format!(in rt.alloc();
+        "block 0\nregion 0\nlayout 0\nmemory 0\ncount 1048576\nbytes {digits}\n"
+    )?;
+    let text = told(rt.alloc(), script.as_bytes())?;
+    expect_text(0, text.as_str(), wanted.as_str())
 }
 
 // Gives its text a byte at a time, and fails once, after `cut` bytes.
@@ -242,14 +245,13 @@ struct FailingWriter {
     taken: Vec<u8>,
     cut: Option<usize>,
     fails_flush: bool,
-    kind: io::ErrorKind,
 }
 
 impl Write for FailingWriter {
     fn write(&mut self, buf: &[u8]) -> io::Result<usize> {
         if self.cut.is_some_and(|cut| self.taken.len() >= cut) {
             self.cut = None;
-            return Err(io::Error::from(self.kind));
+            return Err(io::Error::from(io::ErrorKind::Other));
         }
         let most = buf.len().min(3);
         self.taken.extend_from_slice(&buf[..most])?;
@@ -258,7 +260,7 @@ impl Write for FailingWriter {
 
     fn flush(&mut self) -> io::Result<()> {
         if self.fails_flush {
-            return Err(io::Error::from(self.kind));
+            return Err(io::Error::from(io::ErrorKind::Other));
         }
         Ok(())
     }
@@ -266,81 +268,83 @@ impl Write for FailingWriter {
 
 const TWO_BLOCKS: &[u8] = b"block 1 1\nblock 1 1\n";
 
+// Where a read fails, how, and what the script tells.
+const FAILED_READS: [(usize, io::ErrorKind, &str); 4] = [
+    (0, io::ErrorKind::Other, "2 read failed"),
+    (13, io::ErrorKind::Other, "2 read failed"),
+    (20, io::ErrorKind::BrokenPipe, "2 read failed"),
+    // A read that was interrupted is tried again.
+    (13, io::ErrorKind::Interrupted, "block 0\nblock 1\n"),
+];
+
 #[test]
 fn a_failed_read_comes_before_any_reply(rt: HostRuntime) -> Result<(), Fail> {
-    for (cut, kind, end, taken, told) in [
-        (0, io::ErrorKind::Other, 2, b"".as_slice(), "read failed"),
-        (13, io::ErrorKind::Other, 2, b"".as_slice(), "read failed"),
-        (
-            20,
-            io::ErrorKind::BrokenPipe,
-            2,
-            b"".as_slice(),
-            "read failed",
-        ),
-        // A read that was interrupted is tried again.
-        (
-            13,
-            io::ErrorKind::Interrupted,
-            0,
-            b"block 0\nblock 1\n".as_slice(),
-            "",
-        ),
-    ] {
+    for (number, (cut, kind, wanted)) in FAILED_READS.iter().enumerate() {
         let mut input = FailingReader {
             text: TWO_BLOCKS,
             at: 0,
-            cut: Some(cut),
-            kind,
+            cut: Some(*cut),
+            kind: *kind,
         };
         let mut output = Vec::new(rt.alloc());
         let outcome = drive(rt.alloc(), &mut input, &mut output);
-        let (status, text) = ending(rt.alloc(), outcome)?;
-        assert_eq!(rt; output.as_slice(), taken, "cut {cut}");
-        assert_eq!(rt; status, end, "cut {cut}");
-        assert_eq!(rt; text.as_str(), told, "cut {cut}");
+        let text = text_of(output, outcome)?;
+        expect_text(number, text.as_str(), wanted)?;
     }
     Ok(())
 }
 
+// Where a write or the flush fails, and what the script tells. Where a bad line follows, the write of the
+// replies before it comes first.
+const FAILED_WRITES: [(&[u8], Option<usize>, bool, &str); 6] = [
+    (TWO_BLOCKS, Some(0), false, "2 write failed"),
+    (TWO_BLOCKS, Some(9), false, "block 0\nb2 write failed"),
+    (TWO_BLOCKS, None, true, "block 0\nblock 1\n2 write failed"),
+    (AND_A_BAD_LINE, Some(0), false, "2 write failed"),
+    (AND_A_BAD_LINE, Some(9), false, "block 0\nb2 write failed"),
+    (
+        AND_A_BAD_LINE,
+        None,
+        true,
+        "block 0\nblock 1\n2 write failed",
+    ),
+];
+
+const AND_A_BAD_LINE: &[u8] = b"block 1 1\nblock 1 1\nblock 1\n";
+
 #[test]
 fn a_failed_write_is_told(rt: HostRuntime) -> Result<(), Fail> {
-    // Where a bad line follows, the write of the replies before it comes first.
-    for script in [TWO_BLOCKS, b"block 1 1\nblock 1 1\nblock 1\n".as_slice()] {
-        for (cut, fails_flush, taken) in [
-            (Some(0), false, b"".as_slice()),
-            (Some(9), false, b"block 0\nb".as_slice()),
-            (None, true, b"block 0\nblock 1\n".as_slice()),
-        ] {
-            let mut input = script;
-            let mut output = FailingWriter {
-                taken: Vec::new(rt.alloc()),
-                cut,
-                fails_flush,
-                kind: io::ErrorKind::Other,
-            };
-            let outcome = drive(rt.alloc(), &mut input, &mut output);
-            let (status, text) = ending(rt.alloc(), outcome)?;
-            assert_eq!(rt; output.taken.as_slice(), taken, "cut {cut:?}");
-            assert_eq!(rt; status, 2, "cut {cut:?}");
-            assert_eq!(rt; text.as_str(), "write failed", "cut {cut:?}");
-        }
+    for (number, (script, cut, fails_flush, wanted)) in FAILED_WRITES.iter().enumerate() {
+        let mut input = *script;
+        let mut output = FailingWriter {
+            taken: Vec::new(rt.alloc()),
+            cut: *cut,
+            fails_flush: *fails_flush,
+        };
+        let outcome = drive(rt.alloc(), &mut input, &mut output);
+        let FailingWriter { taken, .. } = output;
+        let text = text_of(taken, outcome)?;
+        expect_text(number, text.as_str(), wanted)?;
     }
     Ok(())
 }
 
 #[test]
 fn a_fault_has_its_status_and_its_text(rt: HostRuntime) -> Result<(), Fail> {
-    for (fault, end, told) in [
-        (DriveFault::BadLine(1), 1, "line 1: bad line"),
-        (DriveFault::BadLine(1204), 1, "line 1204: bad line"),
-        (DriveFault::Read, 2, "read failed"),
-        (DriveFault::Write, 2, "write failed"),
-        (DriveFault::Memory, 3, "out of memory"),
+    let mut text = String::new(rt.alloc());
+    for fault in [
+        DriveFault::BadLine(1),
+        DriveFault::BadLine(1204),
+        DriveFault::Read,
+        DriveFault::Write,
+        DriveFault::Memory,
     ] {
-        let (status, text) = ending(rt.alloc(), Err(fault))?;
-        assert_eq!(rt; status, end);
-        assert_eq!(rt; text.as_str(), told);
+        let status = fault.status();
+        writeln!(text, "{status} {fault}")?;
     }
-    Ok(())
+    expect_text(
+        0,
+        text.as_str(),
+        "1 line 1: bad line\n1 line 1204: bad line\n2 read failed\n2 write failed\n3 out of memory\n",
+    )
 }

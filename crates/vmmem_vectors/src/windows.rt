@@ -1,152 +1,134 @@
 //! Windows: parts of them, and access to their bytes.
 
-use crate::support::{region_at, window_of};
+use crate::support::expect_text;
 use std::alloc::Global;
-use std::process::Abort;
 use std::test::Fail;
-use vm_memory_base::VolatileMemoryResult;
-use vm_memory_guest::{Bytes, HostMemory, VolatileSlice};
+use vm_memory::{
+    Bytes, GuestAddress, GuestMemoryRegion, GuestRegionMmap, HostMemory, MemoryRegionAddress,
+    MmapRegion, VolatileMemoryResult, VolatileSlice,
+};
 
-fn len_text(alloc: Global, part: VolatileMemoryResult<VolatileSlice>) -> Result<String, Fail> {
-    let len = part.map(|part| part.len());
-    Ok(format!(in alloc; "{len:?}")?)
+// A region of so many bytes, at 0.
+fn region_of(host: &mut HostMemory<()>, size: usize) -> Result<GuestRegionMmap, Fail> {
+    let mapping = MmapRegion::new(host, size)?;
+    Ok(GuestRegionMmap::new(mapping, GuestAddress(0)).ok_or("the region fits")?)
 }
+
+fn expect_len(
+    alloc: Global,
+    case: usize,
+    part: VolatileMemoryResult<VolatileSlice>,
+    wanted: &str,
+) -> Result<(), Fail> {
+    let text = match part {
+        Ok(part) => format!(in alloc; "{}", part.len())?,
+        Err(error) => format!(in alloc; "{error:?}")?,
+    };
+    expect_text(case, text.as_str(), wanted)
+}
+
+// Of a window of 8 bytes at offset 0x10: the length from an offset on.
+const OFFSETS: [(usize, &str); 4] = [
+    (3, "5"),
+    (8, "0"),
+    (9, "OutOfBounds { addr: 25 }"),
+    (
+        usize::MAX,
+        "Overflow { base: 16, offset: 18446744073709551615 }",
+    ),
+];
+
+// And the length of a part, by its offset and its length.
+const PARTS: [(usize, usize, &str); 5] = [
+    (4, 4, "4"),
+    (8, 0, "0"),
+    (4, 5, "OutOfBounds { addr: 9 }"),
+    (9, 0, "OutOfBounds { addr: 9 }"),
+    (
+        usize::MAX,
+        2,
+        "Overflow { base: 18446744073709551615, offset: 2 }",
+    ),
+];
 
 #[test]
 fn a_part_lies_in_its_window(rt: HostRuntime) -> Result<(), Fail> {
-    let alloc = rt.alloc();
-    let mut host = HostMemory::new(alloc);
-    let region = region_at(&mut host, 0, 0x1000)?;
-    let window = window_of(&region, 0x10, 8)?;
-    for (count, told) in [
-        (3, "Ok(5)"),
-        (8, "Ok(0)"),
-        (9, "Err(OutOfBounds { addr: 25 })"),
-        (
-            usize::MAX,
-            "Err(Overflow { base: 16, offset: 18446744073709551615 })",
-        ),
-    ] {
-        let text = len_text(alloc, window.offset(count))?;
-        assert_eq!(rt; text.as_str(), told, "from {count} on");
+    let mut host: HostMemory<()> = HostMemory::new(rt.alloc());
+    let region = region_of(&mut host, 0x1000)?;
+    let window = region.get_slice(MemoryRegionAddress(0x10), 8)?;
+    for (case, (count, wanted)) in OFFSETS.iter().enumerate() {
+        expect_len(rt.alloc(), case, window.offset(*count), wanted)?;
     }
-    for (offset, count, told) in [
-        (4, 4, "Ok(4)"),
-        (8, 0, "Ok(0)"),
-        (4, 5, "Err(OutOfBounds { addr: 9 })"),
-        (9, 0, "Err(OutOfBounds { addr: 9 })"),
-        (
-            usize::MAX,
-            2,
-            "Err(Overflow { base: 18446744073709551615, offset: 2 })",
-        ),
-    ] {
-        let text = len_text(alloc, window.subslice(offset, count))?;
-        assert_eq!(rt; text.as_str(), told, "{count} from {offset} on");
+    for (case, (offset, count, wanted)) in PARTS.iter().enumerate() {
+        expect_len(rt.alloc(), case, window.subslice(*offset, *count), wanted)?;
     }
     Ok(())
 }
 
-// Each access once it is sure that the host holds the window.
-fn write(
-    rt: &impl Abort,
+// Of a window of 8 bytes: an offset, a count, and what an access answers and one that is to move all.
+const ACCESSES: [(usize, usize, &str, &str); 6] = [
+    (0, 8, "Ok(8)", "Ok(())"),
+    (6, 2, "Ok(2)", "Ok(())"),
+    (
+        6,
+        4,
+        "Ok(2)",
+        "Err(PartialBuffer { expected: 4, completed: 2 })",
+    ),
+    (
+        8,
+        1,
+        "Err(OutOfBounds { addr: 8 })",
+        "Err(OutOfBounds { addr: 8 })",
+    ),
+    (8, 0, "Ok(0)", "Ok(())"),
+    (usize::MAX, 0, "Ok(0)", "Ok(())"),
+];
+
+// What each access of so many bytes at an offset answers, a line each.
+fn accesses_of(
+    alloc: Global,
     host: &mut HostMemory<()>,
     window: &VolatileSlice,
-    bytes: &[u8],
     offset: usize,
-) -> VolatileMemoryResult<usize> {
-    assert!(rt; host.holds(window));
-    window.write(host, bytes, offset)
-}
-
-fn write_slice(
-    rt: &impl Abort,
-    host: &mut HostMemory<()>,
-    window: &VolatileSlice,
-    bytes: &[u8],
-    offset: usize,
-) -> VolatileMemoryResult<()> {
-    assert!(rt; host.holds(window));
-    window.write_slice(host, bytes, offset)
-}
-
-fn read(
-    rt: &impl Abort,
-    host: &HostMemory<()>,
-    window: &VolatileSlice,
-    buffer: &mut [u8],
-    offset: usize,
-) -> VolatileMemoryResult<usize> {
-    assert!(rt; host.holds(window));
-    window.read(host, buffer, offset)
-}
-
-fn read_slice(
-    rt: &impl Abort,
-    host: &HostMemory<()>,
-    window: &VolatileSlice,
-    buffer: &mut [u8],
-    offset: usize,
-) -> VolatileMemoryResult<()> {
-    assert!(rt; host.holds(window));
-    window.read_slice(host, buffer, offset)
+    count: usize,
+) -> Result<String, Fail> {
+    if !host.holds(window) {
+        return Err(Fail::new("the host holds the window"));
+    }
+    let bytes = vec![in alloc; 7u8; count]?;
+    let mut buffer = vec![in alloc; 0u8; count]?;
+    let wrote = window.write(host, bytes.as_slice(), offset);
+    let wrote_all = window.write_slice(host, bytes.as_slice(), offset);
+    let had = window.read(host, buffer.as_mut_slice(), offset);
+    let had_all = window.read_slice(host, buffer.as_mut_slice(), offset);
+    Ok(format!(in alloc; "{wrote:?}\n{had:?}\n{wrote_all:?}\n{had_all:?}\n")?)
 }
 
 #[test]
 fn an_access_reaches_to_the_end_of_its_window(rt: HostRuntime) -> Result<(), Fail> {
-    let alloc = rt.alloc();
-    for (offset, count, any, all) in [
-        (0, 8, "Ok(8)", "Ok(())"),
-        (6, 2, "Ok(2)", "Ok(())"),
-        (
-            6,
-            4,
-            "Ok(2)",
-            "Err(PartialBuffer { expected: 4, completed: 2 })",
-        ),
-        (
-            8,
-            1,
-            "Err(OutOfBounds { addr: 8 })",
-            "Err(OutOfBounds { addr: 8 })",
-        ),
-        (8, 0, "Ok(0)", "Ok(())"),
-        (usize::MAX, 0, "Ok(0)", "Ok(())"),
-    ] {
-        let mut host = HostMemory::new(alloc);
-        let region = region_at(&mut host, 0, 0x1000)?;
-        let window = window_of(&region, 0x10, 8)?;
-        let bytes = vec![in alloc; 7u8; count]?;
-        let mut buffer = vec![in alloc; 0u8; count]?;
-        let wrote = write(&rt, &mut host, &window, bytes.as_slice(), offset);
-        let wrote_all = write_slice(&rt, &mut host, &window, bytes.as_slice(), offset);
-        let had = read(&rt, &host, &window, buffer.as_mut_slice(), offset);
-        let had_all = read_slice(&rt, &host, &window, buffer.as_mut_slice(), offset);
-        for told in [
-            format!(in alloc; "{wrote:?}")?,
-            format!(in alloc; "{had:?}")?,
-        ] {
-            assert_eq!(rt; told.as_str(), any);
-        }
-        for told in [
-            format!(in alloc; "{wrote_all:?}")?,
-            format!(in alloc; "{had_all:?}")?,
-        ] {
-            assert_eq!(rt; told.as_str(), all);
-        }
+    let mut host: HostMemory<()> = HostMemory::new(rt.alloc());
+    let region = region_of(&mut host, 0x1000)?;
+    let window = region.get_slice(MemoryRegionAddress(0x10), 8)?;
+    for (case, (offset, count, any, all)) in ACCESSES.iter().enumerate() {
+        let text = accesses_of(rt.alloc(), &mut host, &window, *offset, *count)?;
+        let wanted = format!(in rt.alloc(); "{any}\n{any}\n{all}\n{all}\n")?;
+        expect_text(case, text.as_str(), wanted.as_str())?;
     }
     Ok(())
 }
 
 #[test]
 fn a_write_stays_in_its_window(rt: HostRuntime) -> Result<(), Fail> {
-    let mut host = HostMemory::new(rt.alloc());
-    let region = region_at(&mut host, 0, 0x20)?;
-    let window = window_of(&region, 0x10, 4)?;
-    let all = window_of(&region, 0, 0x20)?;
-    write(&rt, &mut host, &window, &[1, 2, 3, 4, 5, 6], 1)?;
+    let mut host: HostMemory<()> = HostMemory::new(rt.alloc());
+    let region = region_of(&mut host, 0x20)?;
+    let window = region.get_slice(MemoryRegionAddress(0x10), 4)?;
+    let all = region.get_slice(MemoryRegionAddress(0), 0x20)?;
+    assert!(rt; host.holds(&window));
+    assert!(rt; host.holds(&all));
+    window.write(&mut host, &[1, 2, 3, 4, 5, 6], 1)?;
     let mut buffer = [9; 8];
-    read_slice(&rt, &host, &all, &mut buffer, 0xe)?;
-    assert_eq!(rt; buffer, [0, 0, 0, 1, 2, 3, 0, 0]);
+    all.read_slice(&host, &mut buffer, 0xe)?;
+    assert!(rt; buffer == [0, 0, 0, 1, 2, 3, 0, 0]);
     Ok(())
 }

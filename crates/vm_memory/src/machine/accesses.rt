@@ -93,7 +93,7 @@ fn zeroed(alloc: Global, count: usize) -> Result<Vec<u8>, AllocError>
 }
 
 // The reply to an access that was refused.
-fn refused(error: GuestMemoryError) -> Reply
+pub(super) fn refused(error: GuestMemoryError) -> Reply
     ensures { result ≡ reply_of_error error }
 {
     Reply::Fault(match error {

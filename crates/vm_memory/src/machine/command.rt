@@ -1,7 +1,9 @@
 //! Commands of a machine, and its replies.
+ghost use Rattle.std.specs.Prelude.{◌≡◌};
+ghost use Rattle.vm_memory.specs.Typed.{fits_width, integer_of};
 
 use super::list::{ByteList, NumberList};
-use vm_memory_base::{GuestAddress, IommuError};
+use vm_memory_base::{BitmapId, GuestAddress, IommuError};
 
 /// A call that a machine makes. Regions, layouts and memories go by number, from 0 in the order of making.
 #[derive(Debug, Drop)]
@@ -22,6 +24,47 @@ pub enum Command {
         addr: GuestAddress,
         bytes: ByteList,
     },
+    /// Stores a value in a memory, its lowest byte first, as one integer of this width.
+    Store {
+        memory: usize,
+        width: Width,
+        addr: GuestAddress,
+        value: u64,
+    },
+    /// Loads a value of a memory, its lowest byte first, as one integer of this width.
+    Load {
+        memory: usize,
+        width: Width,
+        addr: GuestAddress,
+    },
+    /// Asks for the dirty pages of a block's bitmap or of a space.
+    Dirty(BitmapId),
+    /// Takes the dirty pages of a block's bitmap or of a space: none of them is dirty then.
+    Harvest(BitmapId),
+}
+
+/// How many bytes a value that is stored or loaded takes.
+#[derive(Clone, Copy, Debug, PartialEq, Eq)]
+pub enum Width {
+    One,
+    Two,
+    Four,
+    Eight,
+}
+
+impl Width {
+    /// Whether a value has no more bytes.
+    pub fn fits(self, value: u64) -> bool
+        ensures { result ≡ fits_width (integer_of self) value }
+    {
+        let greatest = match self {
+            Width::One => 0xff,
+            Width::Two => 0xffff,
+            Width::Four => 0xffff_ffff,
+            Width::Eight => 0xffff_ffff_ffff_ffff,
+        };
+        value <= greatest
+    }
 }
 
 /// Why a call was refused: the error that it answered, by its name.
@@ -52,10 +95,16 @@ pub enum Reply {
     LayoutMade(usize),
     /// The number of the memory that was made.
     MemoryMade(usize),
+    /// All was done.
+    Done,
     /// How many bytes were moved.
     Count(usize),
+    /// The value that was loaded.
+    Value(u64),
     /// The bytes that were read.
     Bytes(ByteList),
+    /// The numbers of the dirty pages, ascending.
+    Pages(NumberList),
     /// The call was refused.
     Fault(Fault),
     /// A number names nothing.

@@ -24,6 +24,17 @@ pub(super) fn parse(
             addr: words.address()?,
             bytes: words.bytes(alloc)?,
         },
+        "store" => Command::Store {
+            memory: words.index()?,
+            width: words.width()?,
+            addr: words.address()?,
+            value: words.number()?,
+        },
+        "load" => Command::Load {
+            memory: words.index()?,
+            width: words.width()?,
+            addr: words.address()?,
+        },
         _ => return Err(LineError::Bad),
     })
 }

@@ -39,8 +39,11 @@ impl fmt::Display for Reply {
         match self {
             Reply::LayoutMade(number) => write!(f, "layout {number}"),
             Reply::MemoryMade(number) => write!(f, "memory {number}"),
+            Reply::Done => write!(f, "ok"),
             Reply::Count(count) => write!(f, "count {count}"),
+            Reply::Value(value) => write!(f, "value {value}"),
             Reply::Bytes(bytes) => write!(f, "bytes {}", Hex(bytes.as_slice())),
+            Reply::Pages(pages) => write!(f, "pages {}", Numbers(pages.as_slice())),
             Reply::Fault(fault) => write!(f, "error {fault}"),
             Reply::NoSuch => write!(f, "error NoSuch"),
             Reply::BadRange => write!(f, "error BadRange"),
@@ -116,6 +119,23 @@ impl fmt::Display for Hex<'_> {
         }
         for byte in self.0 {
             write!(f, "{byte:02x}")?;
+        }
+        Ok(())
+    }
+}
+
+// Numbers with one space between any two, or a dash where there is none.
+#[derive(Drop)]
+struct Numbers<'a>(&'a [usize]);
+
+impl fmt::Display for Numbers<'_> {
+    fn fmt<W: fmt::Write>(&self, f: &mut fmt::Formatter<W>) -> fmt::Result {
+        let Some((first, others)) = self.0.split_first() else {
+            return write!(f, "-");
+        };
+        write!(f, "{first}")?;
+        for number in others {
+            write!(f, " {number}")?;
         }
         Ok(())
     }

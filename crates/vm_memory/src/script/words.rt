@@ -2,6 +2,7 @@
 ghost use Rattle.std.specs.Prelude.{◌≡◌};
 ghost use Rattle.vm_memory.specs.declared.script.words.LineError.TheVariants as error;
 
+use crate::machine::command::Width;
 use crate::machine::list::ByteList;
 use std::alloc::{AllocError, AllocFailed, Global};
 use vm_memory_base::GuestAddress;
@@ -73,6 +74,17 @@ impl<'a> Words<'a> {
     /// The next word as a number of a pool, or as a length.
     pub(super) fn index(&mut self) -> Result<usize, LineError> {
         Ok(self.number()? as usize)
+    }
+
+    /// The next word as the width of a value: 1, 2, 4 or 8 bytes.
+    pub(super) fn width(&mut self) -> Result<Width, LineError> {
+        match self.number()? {
+            1 => Ok(Width::One),
+            2 => Ok(Width::Two),
+            4 => Ok(Width::Four),
+            8 => Ok(Width::Eight),
+            _ => Err(LineError::Bad),
+        }
     }
 
     /// The next word as bytes: two hexadecimal digits each, one or more, or a dash for none.

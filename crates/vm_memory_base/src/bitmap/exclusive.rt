@@ -175,11 +175,13 @@ impl Bitmap for ExclusiveBitmap {
 
     ghost made = { λ len b. (Some (pages_of b) ≡ page_set.new_pages 0x1000 len) × (bytes_of b ≡ len) };
 
+    #[inline]
     fn mark_dirty(&mut self, offset: usize, len: usize) {
         let (first, end) = self.taken(offset, len);
         set_flags(&mut self.flags, first, end, true);
     }
 
+    #[inline]
     fn dirty_at(&self, offset: usize) -> bool {
         let page = offset / self.page_size.get();
         page < self.flags.len() && self.flags[page]
@@ -203,6 +205,7 @@ impl ExactBitmap for ExclusiveBitmap {
     ghost made_clean = { λ len b h.
         subst (IsCleanFor len) (sym h.0) (new_pages_are_clean 0x1000 len (omega arith)) };
 
+    #[inline]
     fn shape(&self) -> Option<(usize, usize)> {
         Some((self.page_size.get(), self.flags.len()))
     }

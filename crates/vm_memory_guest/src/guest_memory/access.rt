@@ -149,8 +149,8 @@ fn write_windows<M: GuestMemoryBackend, B: Bitmap>(
     requires held { AllByRecursion (λ w. Holds (shape_of host.old) (window_names w)) walk.windows }
     requires fits { span walk.windows ≤ length buf.now }
     requires asked { OnSome walk.fault (0 < length buf.now) }
-    ensures answer { let fault = option_map error_of walk.entry.fault in
-        result ≡ counted (span walk.entry.windows) fault (length buf.now) }
+    ensures answer { let walk = walk.entry in
+        result ≡ counted (span walk.windows) (option_map error_of walk.fault) (length buf.now) }
     ensures bytes { Writes B.marks walk.entry.windows buf.now host.old host.new }
 {
     let mut total = 0;
@@ -182,8 +182,8 @@ fn read_windows<M: GuestMemoryBackend, B: Bitmap>(
     requires held { AllByRecursion (λ w. Holds (shape_of host.now) (window_names w)) walk.windows }
     requires fits { span walk.windows ≤ length buf.old }
     requires asked { OnSome walk.fault (0 < length buf.old) }
-    ensures answer { let fault = option_map error_of walk.entry.fault in
-        result ≡ counted (span walk.entry.windows) fault (length buf.old) }
+    ensures answer { let walk = walk.entry in
+        result ≡ counted (span walk.windows) (option_map error_of walk.fault) (length buf.old) }
     ensures bytes { buf.new ≡ filled host.now.blocks (cells walk.entry.windows) buf.old }
 {
     let mut total = 0;
@@ -215,8 +215,8 @@ fn write_value<M: GuestMemoryBackend, V: ByteValued, B: Bitmap>(
     requires held { AllByRecursion (λ w. Holds (shape_of host.old) (window_names w)) walk.windows }
     requires fits { span walk.windows ≤ min V.width (2 ^ 64 - 1) }
     requires asked { OnSome walk.fault (0 < V.width) }
-    ensures answer { let fault = option_map error_of walk.entry.fault in
-        result ≡ counted (span walk.entry.windows) fault V.width }
+    ensures answer { let walk = walk.entry in
+        result ≡ counted (span walk.windows) (option_map error_of walk.fault) V.width }
     ensures bytes { Writes B.marks walk.entry.windows (V.bytes value.now) host.old host.new }
 {
     value.known();
@@ -248,8 +248,8 @@ fn read_value<M: GuestMemoryBackend, V: ByteValued, B: Bitmap>(
     requires held { AllByRecursion (λ w. Holds (shape_of host.now) (window_names w)) walk.windows }
     requires fits { span walk.windows ≤ min V.width (2 ^ 64 - 1) }
     requires asked { OnSome walk.fault (0 < V.width) }
-    ensures answer { let fault = option_map error_of walk.entry.fault in
-        result ≡ counted (span walk.entry.windows) fault V.width }
+    ensures answer { let walk = walk.entry in
+        result ≡ counted (span walk.windows) (option_map error_of walk.fault) V.width }
     ensures bytes { let cells = cells walk.entry.windows in
         V.bytes value.new ≡ filled host.now.blocks cells (V.bytes value.old) }
 {
@@ -293,8 +293,8 @@ fn first_window<M: GuestMemoryBackend>(
 // Whether all that was expected was completed.
 #[inline]
 fn whole(expected: usize, completed: usize) -> GuestMemoryResult<()>
-    ensures { result ≡ (if completed == expected then Ok tt
-        else Err (GuestMemoryError.PartialBuffer expected completed)) }
+    ensures { let short = GuestMemoryError.PartialBuffer expected completed in
+        result ≡ (if completed == expected then Ok tt else Err short) }
 {
     if completed != expected {
         return Err(GuestMemoryError::PartialBuffer {

@@ -51,8 +51,9 @@ pub trait Bytes<A>: Named {
     ) -> Result<usize, Self::E>
         requires { Holds (shape_of host.old) (Self.names self.now) }
         ensures answer { let r = reach self.now host.old.tables addr (length buf.now) Write in
-            Outcome no_memory (may_want self.now) (counted (span r.windows) r.fault (length buf.now))
-            (host.new ≡ host.old) (Writes B.marks r.windows buf.now host.old host.new) result }
+            Outcome no_memory (may_want self.now)
+            (counted (span r.windows) r.fault (length buf.now)) (host.new ≡ host.old)
+            (Writes B.marks r.windows buf.now host.old host.new) result }
         ensures at_most { IfOk result (λ count. count ≤ length buf.now) }
         ensures shape { shape_of host.new ≡ shape_of host.old };
 
@@ -65,8 +66,9 @@ pub trait Bytes<A>: Named {
     ) -> Result<usize, Self::E>
         requires { Holds (shape_of host.now) (Self.names self.now) }
         ensures answer { let r = reach self.now host.now.tables addr (length buf.old) Read in
-            Outcome no_memory (may_want self.now) (counted (span r.windows) r.fault (length buf.old))
-            (buf.new ≡ buf.old) (buf.new ≡ filled host.now.blocks (cells r.windows) buf.old) result }
+            Outcome no_memory (may_want self.now)
+            (counted (span r.windows) r.fault (length buf.old)) (buf.new ≡ buf.old)
+            (buf.new ≡ filled host.now.blocks (cells r.windows) buf.old) result }
         ensures at_most { IfOk result (λ count. count ≤ length buf.old) };
 
     /// Writes the whole buffer. Where that is not possible, its beginning that fits is written, and the error
@@ -79,8 +81,9 @@ pub trait Bytes<A>: Named {
     ) -> Result<(), Self::E>
         requires { Holds (shape_of host.old) (Self.names self.now) }
         ensures answer { let r = reach self.now host.old.tables addr (length buf.now) Write in
-            Outcome no_memory (may_want self.now) (exactly partial (span r.windows) r.fault (length buf.now))
-            (host.new ≡ host.old) (Writes B.marks r.windows buf.now host.old host.new) result }
+            Outcome no_memory (may_want self.now)
+            (exactly partial (span r.windows) r.fault (length buf.now)) (host.new ≡ host.old)
+            (Writes B.marks r.windows buf.now host.old host.new) result }
         ensures shape { shape_of host.new ≡ shape_of host.old };
 
     /// Fills the whole buffer. Where that is not possible, its beginning is filled, and the error says how
@@ -93,8 +96,9 @@ pub trait Bytes<A>: Named {
     ) -> Result<(), Self::E>
         requires { Holds (shape_of host.now) (Self.names self.now) }
         ensures answer { let r = reach self.now host.now.tables addr (length buf.old) Read in
-            Outcome no_memory (may_want self.now) (exactly partial (span r.windows) r.fault (length buf.old))
-            (buf.new ≡ buf.old) (buf.new ≡ filled host.now.blocks (cells r.windows) buf.old) result };
+            Outcome no_memory (may_want self.now)
+            (exactly partial (span r.windows) r.fault (length buf.old)) (buf.new ≡ buf.old)
+            (buf.new ≡ filled host.now.blocks (cells r.windows) buf.old) result };
 
     /// Writes a value, as `write_slice` writes its bytes.
     fn write_obj<T: ByteValued, B: Bitmap>(
@@ -105,8 +109,9 @@ pub trait Bytes<A>: Named {
     ) -> Result<(), Self::E>
         requires { Holds (shape_of host.old) (Self.names self.now) }
         ensures answer { T.width < 2 ^ 64 → let r = reach self.now host.old.tables addr T.width Write in
-            Outcome no_memory (may_want self.now) (exactly partial (span r.windows) r.fault T.width)
-            (host.new ≡ host.old) (Writes B.marks r.windows (T.bytes val) host.old host.new) result }
+            Outcome no_memory (may_want self.now)
+            (exactly partial (span r.windows) r.fault T.width) (host.new ≡ host.old)
+            (Writes B.marks r.windows (T.bytes val) host.old host.new) result }
         ensures shape { shape_of host.new ≡ shape_of host.old };
 
     /// Reads a value, as `read_slice` reads its bytes.
@@ -117,9 +122,10 @@ pub trait Bytes<A>: Named {
     ) -> Result<T, Self::E>
         requires { Holds (shape_of host.now) (Self.names self.now) }
         ensures { T.width < 2 ^ 64 → let r = reach self.now host.now.tables addr T.width Read in
-            let value = answered (λ _. T.value_of (bytes_at host.now.blocks (cells r.windows)))
-            (exactly partial (span r.windows) r.fault T.width) in
-            Outcome no_memory (may_want self.now) value (Unit {0}) (Unit {0}) result };
+            Outcome no_memory (may_want self.now)
+            (answered (λ _. T.value_of (bytes_at host.now.blocks (cells r.windows)))
+            (exactly partial (span r.windows) r.fault T.width))
+            (Unit {0}) (Unit {0}) result };
 
     /// Stores a value as one atomic integer, in one window at a place that is a multiple of the value's
     /// size. Every store is sequentially consistent, whichever order is asked for.
@@ -146,8 +152,9 @@ pub trait Bytes<A>: Named {
     ) -> Result<T, Self::E>
         requires { Holds (shape_of host.now) (Self.names self.now) }
         ensures { let w = place self.now host.now.tables addr T.width Read in
-            let value = answered (λ v. T.value_of (bytes_at host.now.blocks (cells_of v))) w in
-            Outcome no_memory (may_want self.now) value (Unit {0}) (Unit {0}) result };
+            Outcome no_memory (may_want self.now)
+            (answered (λ v. T.value_of (bytes_at host.now.blocks (cells_of v))) w)
+            (Unit {0}) (Unit {0}) result };
 
     /// A load or a store of so many bytes takes as many.
     ghost place_has_all: { (m : Self) (tables : List Table) (addr : A) (n : ℕ) (access : Permissions)

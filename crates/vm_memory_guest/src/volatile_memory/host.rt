@@ -1,7 +1,7 @@
 //! Host memory: every block, bitmap and space, which each access is lent.
-ghost use Rattle.std.specs.Prelude.{◌≡◌, ◌≢◌, ℕ, ◌+◌, ◌-◌, ◌*◌, ◌^◌, ◌<◌, ◌≤◌, ◌↔◌, ◌⊎◌, [], ◌∷◌, ◌++◌, List, length, take, drop, map, replicate, slice_get, slice_set, nat_lt, IsTrue, Some, IfOk, IfSome, OnOk, OnErr, IsErrOf};
+ghost use Rattle.std.specs.Prelude.{◌≡◌, ◌≢◌, ℕ, ◌+◌, ◌-◌, ◌*◌, ◌^◌, ◌<◌, ◌≤◌, ◌↔◌, ◌⊎◌, [], ◌∷◌, ◌++◌, List, length, take, drop, map, replicate, slice_get, slice_set, nat_lt, All, IsTrue, Some, IfOk, IfSome, OnOk, OnErr, IsErrOf};
 ghost use Rattle.vm_memory_guest.specs.Host as names;
-ghost use Rattle.vm_memory_guest.specs.Host.{Host, Shape, shape_of, Name, IsHeld, Holds, block_at, bytes_at, cells_from, written};
+ghost use Rattle.vm_memory_guest.specs.Host.{Host, Shape, with_block, with_space, shape_of, Name, IsHeld, Holds, block_at, bytes_at, cells_from, written};
 ghost use Rattle.std.specs.List.{flat_map};
 ghost use Rattle.vm_memory_base.specs.Bytes.{values_of};
 ghost use Rattle.vm_memory_guest.specs.Inside.{blocks_of};
@@ -168,9 +168,11 @@ impl<B> HostMemory<B> {
         }
     }
 
-    /// What the host holds.
+    /// What the host holds. Each block has 1 to 2^63 - 1 bytes, and a bitmap.
     pub fn shape(&self) -> &HostShape
-        ensures { result.now ≡ shape_of self.now }
+        ensures value { result.now ≡ shape_of self.now }
+        ensures tracked { length self.now.bitmaps ≡ length self.now.blocks }
+        ensures sized { All (λ len. (0 < len) × (len < 2 ^ 63)) (shape_of self.now).blocks }
     {
         &self.shape
     }
@@ -198,10 +200,7 @@ impl<B> HostMemory<B> {
     where
         B: Drop,
         ensures number { IfOk result (λ block. block.0 ≡ length self.old.blocks) }
-        ensures ok { OnOk result (self.new ≡ record self.old {
-          blocks = self.old.blocks ++ replicate size 0 ∷ [];
-          bitmaps = self.old.bitmaps ++ bitmap ∷ [];
-        }) }
+        ensures ok { OnOk result (self.new ≡ with_block self.old size bitmap) }
         ensures invalid { IsErrOf result MmapRegionError.InvalidSize ↔ ((size ≡ 0) ⊎ (2 ^ 63 ≤ size)) }
         ensures sized { OnOk result ((0 < size) × (size < 2 ^ 63)) }
         ensures err { OnErr result (self.new ≡ self.old) }
@@ -222,10 +221,7 @@ impl<B> HostMemory<B> {
         requires some { 0 < size }
         requires bound { size < 2 ^ 63 }
         ensures number { IfOk result (λ block. block.0 ≡ length self.old.blocks) }
-        ensures ok { OnOk result (self.new ≡ record self.old {
-          blocks = self.old.blocks ++ replicate size 0 ∷ [];
-          bitmaps = self.old.bitmaps ++ bitmap ∷ [];
-        }) }
+        ensures ok { OnOk result (self.new ≡ with_block self.old size bitmap) }
         ensures err { OnErr result (self.new ≡ self.old) }
     {
         let bytes = zeroed(self.alloc, size)?;
@@ -243,7 +239,7 @@ impl<B> HostMemory<B> {
     where
         B: Drop,
         ensures number { IfOk result (λ space. space.0 ≡ length self.old.spaces) }
-        ensures ok { OnOk result (self.new ≡ record self.old { spaces = self.old.spaces ++ bitmap ∷ [] }) }
+        ensures ok { OnOk result (self.new ≡ with_space self.old bitmap) }
         ensures err { OnErr result (self.new ≡ self.old) }
         ensures kept { (names : List Name) → Holds (shape_of self.old) names
             → Holds (shape_of self.new) names }
@@ -255,7 +251,7 @@ impl<B> HostMemory<B> {
     where
         B: Drop,
         ensures number { IfOk result (λ space. space.0 ≡ length self.old.spaces) }
-        ensures ok { OnOk result (self.new ≡ record self.old { spaces = self.old.spaces ++ bitmap ∷ [] }) }
+        ensures ok { OnOk result (self.new ≡ with_space self.old bitmap) }
         ensures err { OnErr result (self.new ≡ self.old) }
     {
         let space = SpaceId(self.spaces.len());
@@ -306,9 +302,8 @@ impl<B> HostMemory<B> {
     #[inline]
     fn put(&mut self, block: usize, offset: usize, bytes: &[u8])
         requires { Holds (shape_of self.old) (names.Place block offset (length bytes.now) ∷ []) }
-        ensures put { self.new ≡ record self.old {
-          blocks = written (cells_from block offset (length bytes.now)) bytes.now self.old.blocks;
-        } }
+        ensures put { let cells = cells_from block offset (length bytes.now) in
+            self.new ≡ record self.old { blocks = written cells bytes.now self.old.blocks } }
         ensures shape { shape_of self.new ≡ shape_of self.old }
     {
         put_in(&mut self.blocks, block, offset, bytes);
@@ -365,8 +360,8 @@ impl<B> HostMemory<B> {
     // Moves the bytes of a value, from byte `from` on, to a place of a block.
     #[inline]
     fn put_value<T: ByteValued>(&mut self, window: &VolatileSlice, value: &T, from: usize)
-        requires held { Holds (shape_of self.old)
-            (names.Place window.now.block.0 window.now.offset window.now.size ∷ []) }
+        requires held { let w = window.now in
+            Holds (shape_of self.old) (names.Place w.block.0 w.offset w.size ∷ []) }
         requires inside { from + window.now.size ≤ T.width }
         requires fits { from + window.now.size < 2 ^ 64 }
         ensures put { let bytes = take window.now.size (drop from (T.bytes value.now)) in
@@ -405,8 +400,8 @@ impl<B> HostMemory<B> {
 
     // Moves the bytes of values, one after the other, to a place of a block.
     fn put_values<T: ByteValued>(&mut self, window: &VolatileSlice, values: &[T])
-        requires held { Holds (shape_of self.old)
-            (names.Place window.now.block.0 window.now.offset window.now.size ∷ []) }
+        requires held { let w = window.now in
+            Holds (shape_of self.old) (names.Place w.block.0 w.offset w.size ∷ []) }
         requires size { window.now.size ≡ length values.now * size_of T.width }
         ensures put { T.width < 2 ^ 64 → self.new ≡ record self.old {
           blocks = written (cells_of window.now) (flat_map T.bytes values.now) self.old.blocks;
@@ -447,10 +442,9 @@ impl<B> HostMemory<B> {
 
     // Moves the bytes of a window to another of as many, as they were.
     fn move_bytes(&mut self, from: &VolatileSlice, to: &VolatileSlice)
-        requires from { Holds (shape_of self.old)
-            (names.Place from.now.block.0 from.now.offset from.now.size ∷ []) }
-        requires to { Holds (shape_of self.old)
-            (names.Place to.now.block.0 to.now.offset to.now.size ∷ []) }
+        requires from { let w = from.now in
+            Holds (shape_of self.old) (names.Place w.block.0 w.offset w.size ∷ []) }
+        requires to { Holds (shape_of self.old) (names.Place to.now.block.0 to.now.offset to.now.size ∷ []) }
         requires size { from.now.size ≡ to.now.size }
         ensures put { self.new ≡ record self.old {
           blocks = written (cells_of to.now) (bytes_at self.old.blocks (cells_of from.now)) self.old.blocks;
@@ -503,10 +497,7 @@ impl<B: NewBitmap + Drop> HostMemory<B> {
     /// Makes a block of `size` zeroed bytes, tracked by a new bitmap for as many, as `new_block_with` does.
     pub fn new_block(&mut self, size: usize) -> Result<BlockId, MmapRegionError>
         ensures number { IfOk result (λ block. block.0 ≡ length self.old.blocks) }
-        ensures ok { OnOk result ((bitmap : B) × B.made size bitmap × (self.new ≡ record self.old {
-          blocks = self.old.blocks ++ replicate size 0 ∷ [];
-          bitmaps = self.old.bitmaps ++ bitmap ∷ [];
-        })) }
+        ensures ok { OnOk result ((bitmap : B) × B.made size bitmap × (self.new ≡ with_block self.old size bitmap)) }
         ensures invalid { IsErrOf result MmapRegionError.InvalidSize ↔ ((size ≡ 0) ⊎ (2 ^ 63 ≤ size)) }
         ensures sized { OnOk result ((0 < size) × (size < 2 ^ 63)) }
         ensures err { OnErr result (self.new ≡ self.old) }

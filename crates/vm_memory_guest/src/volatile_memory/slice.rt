@@ -167,8 +167,8 @@ impl VolatileSlice {
     #[inline]
     fn reached(&self, offset: usize, count: usize) -> VolatileMemoryResult<VolatileSlice>
         requires { 0 < count }
-        ensures reach { let reach = window_reach self.now offset count in MatchResult result
-            (λ w. reach ≡ record { windows = w ∷ []; fault = None })
+        ensures reach { let reach = window_reach self.now offset count in
+            MatchResult result (λ w. reach ≡ record { windows = w ∷ []; fault = None })
             (λ e. reach ≡ record { windows = []; fault = Some e }) }
         ensures at_most { IfOk result (λ w. w.size ≤ count) }
     {
@@ -337,8 +337,8 @@ impl Bytes<usize> for VolatileSlice {
 // Whether all that was expected was completed.
 #[inline]
 fn whole(expected: usize, completed: usize) -> VolatileMemoryResult<()>
-    ensures { result ≡ cond (completed == expected) (Ok tt)
-        (Err (VolatileMemoryError.PartialBuffer expected completed)) }
+    ensures { let short = VolatileMemoryError.PartialBuffer expected completed in
+        result ≡ cond (completed == expected) (Ok tt) (Err short) }
 {
     if completed != expected {
         return Err(VolatileMemoryError::PartialBuffer {
@@ -370,8 +370,9 @@ impl VolatileSlice {
         requires held { Holds (shape_of host.now) (window_names self.now) }
         requires some { 0 < T.width }
         ensures count { result ≡ min (length buf.old) (self.now.size / size_of T.width) }
-        ensures values { T.width < 2 ^ 64 → let bytes = bytes_at host.now.blocks (cells_of self.now) in
-            buf.new ≡ values_of T.value_of T.width result bytes ++ drop result buf.old }
+        ensures values { T.width < 2 ^ 64 → buf.new
+            ≡ values_of T.value_of T.width result (bytes_at host.now.blocks (cells_of self.now))
+            ++ drop result buf.old }
     {
         let count = buf.len().min(self.size / T::size());
         host.read_values(self, &mut buf[..count]);

@@ -1,6 +1,8 @@
-use Rattle.std.proofs.Common.{◌++◌, ◌∷◌, [], take, arith}
-use Rattle.std.proofs.lemmas.List.{take_more, append_assoc}
+use Rattle.std.proofs.Common.{◌≡◌, ◌++◌, ◌∷◌, [], ◌^◌, ◌<◌, length, take, arith}
+use Rattle.std.proofs.lemmas.List.{take_all, take_more, append_assoc}
+use Rattle.vm_memory.specs.Machine.{Run}
 use Rattle.vm_memory.specs.Parts.{state_of}
+use Rattle.vm_memory.specs.Rounds.{bytes_of}
 use Rattle.vm_memory.proofs.StepLemmas.{Run-step}
 use Rattle.vm_memory.proofs.machine.run.Goals as goal
 
@@ -23,3 +25,23 @@ loop-command-preserved g c =
             (state c.step-reply.new.self) ran.2 c.step-reply.ensures),
       );
     }
+
+pub returns-clause-ran : goal.returns-clause-ran
+returns-clause-ran g c =
+    let state = state_of g.R.GuestMemoryRegion.region g.B.ExactBitmap.pages in
+    let before = state c.args.machine.now in
+    let after = state c.loop-command.machine in
+    let commands = c.args.commands.now in
+    let ran = c.loop-command.invariant.ran in
+    let all : take c.loop-command.command-index commands ≡ commands =
+    take_all c.loop-command.command-index commands (omega arith) in
+    let run : Run before commands ran.0 after = rw all at ran.2 in
+    let laws = c.runs_keep_images.ensures in (
+      ran.0,
+      ran.1,
+      run,
+      λ block tracked direct.
+          let short : length (bytes_of block before.host) < 2 ^ 63 = rw (← c.machine.view_is) (c.blocks_are_short.ensures block) in
+          laws.kept block (bytes_of block before.host) before commands ran.0 after run tracked (omega arith) direct
+          (laws.copy block before.host),
+    )

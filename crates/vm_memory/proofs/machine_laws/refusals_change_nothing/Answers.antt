@@ -8,4 +8,6 @@ returns c = record {
   no_such = λ old new c step. still-step old new c reply.NoSuch tt step;
   memory = λ old new c step. still-step old new c reply.Memory tt step;
   read = λ old new c bytes step. still-step old new c (reply.Bytes bytes) tt step;
+  load = λ old new c value step. still-step old new c (reply.Value value) tt step;
+  bad_range = λ old new c step. still-step old new c reply.BadRange tt step;
 }

@@ -1,0 +1,118 @@
+-- Bitmaps of a host by their names, and their dirty pages one after the other.
+use Rattle.std.proofs.Common.{◌≡◌, ℕ, ◌+◌, ◌-◌, ◌*◌, ◌^◌, ◌<◌, ◌≤◌, Bool, true, false, cond, List, [], ◌∷◌, ◌++◌, set, take, length, get_or, slice_get, Some, None, option_map, refl, sym, ap, ◌∙◌, inl, inr, arith, add-zero, zero-add, mul-div_cancel, mul-le-mul_right}
+use Rattle.std.proofs.lemmas.List.{map-set, set-get_or, take_more, take_all, length-take-le}
+use Rattle.std.proofs.lemmas.Option.{slice_get-map, get_or_from_slice_get, none-some, same_Some}
+use Rattle.vm_memory_base.specs.Pages.{PageSet, IsPageSet, shape, is_dirty_at, dirty_from, dirty_pages, cleaned}
+use Rattle.vm_memory_base.specs.declared.bitmap.BitmapId.{BitmapId}
+use Rattle.vm_memory_base.specs.declared.bitmap.BitmapId.TheVariants.{Block, Space}
+use Rattle.vm_memory_guest.specs.Dirt.{with_pages}
+use Rattle.vm_memory_guest.specs.Host.{Host}
+use Rattle.vm_memory_guest.specs.Region.{Region}
+use Rattle.vm_memory_guest.specs.Window.{bitmap_of, with_bitmap}
+use Rattle.vm_memory.specs.Machine.{Step}
+use Rattle.vm_memory.specs.Parts.{Parts, state_of}
+use Rattle.vm_memory.specs.declared.machine.command.Command.TheVariants as command
+use Rattle.vm_memory.specs.declared.machine.command.Reply.TheVariants as reply
+
+-- ---- named bitmaps
+
+module _ {B : Type 0} (pages : B → PageSet) (host : Host B) where
+  pub bitmap_of-with_pages : (id : BitmapId) → bitmap_of (with_pages pages host) id ≡ option_map pages (bitmap_of host id)
+  bitmap_of-with_pages (Block block) = slice_get-map pages host.bitmaps block
+  bitmap_of-with_pages (Space space) = slice_get-map pages host.spaces space
+
+  pub with_pages-with_bitmap : (id : BitmapId) (b : B)
+      → with_pages pages (with_bitmap host id b) ≡ with_bitmap (with_pages pages host) id (pages b)
+  with_pages-with_bitmap (Block block) b =
+      ap (λ (bs : List PageSet). record (with_pages pages host) { bitmaps = bs }) (map-set pages host.bitmaps block b)
+  with_pages-with_bitmap (Space space) b =
+      ap (λ (bs : List PageSet). record (with_pages pages host) { spaces = bs }) (map-set pages host.spaces space b)
+
+-- the bitmap that is there, put there again
+set-same : {X : Type 0} (xs : List X) (i : ℕ) (x : X) → slice_get xs i ≡ Some x → set xs i x ≡ xs
+set-same xs i x there =
+    ap (λ (y : _). set xs i y) (sym (get_or_from_slice_get xs i x x there)) ∙ set-get_or xs i x
+
+pub with_bitmap-same : {B : Type 0} (host : Host B) (id : BitmapId) (b : B) → bitmap_of host id ≡ Some b
+    → with_bitmap host id b ≡ host
+with_bitmap-same host (Block block) b there =
+    ap (λ (bs : List _). record host { bitmaps = bs }) (set-same host.bitmaps block b there)
+with_bitmap-same host (Space space) b there =
+    ap (λ (bs : List _). record host { spaces = bs }) (set-same host.spaces space b there)
+
+-- ---- a harvest is a step
+
+module _ {R B : Type 0} (region : R → Region) (pages : B → PageSet) (m : Parts R B) (id : BitmapId) (b : B)
+    (there : bitmap_of m.host id ≡ Some b)
+  where
+    seen : bitmap_of (with_pages pages m.host) id ≡ Some (pages b)
+    seen = bitmap_of-with_pages pages m.host id ∙ ap (option_map pages) there
+
+    pub harvest_is_step : (dirty : List ℕ) (after : B) → dirty ≡ dirty_pages (pages b) → pages after ≡ cleaned (pages b)
+        → Step (state_of region pages m) (command.Harvest id) (reply.Pages dirty)
+        (state_of region pages (record m { host = with_bitmap m.host id after }))
+    unfolding seen
+    harvest_is_step dirty after listed clean =
+        rw (seen, with_pages-with_bitmap pages m.host id after, listed, clean) (inl refl)
+
+    pub refusal_is_step : Step (state_of region pages m) (command.Harvest id) reply.Memory
+        (state_of region pages (record m { host = with_bitmap m.host id b }))
+    refusal_is_step = rw (seen, with_bitmap-same m.host id b there) (inr (refl, refl, refl))
+
+-- ---- dirty pages one after the other
+
+dirty_from-append : (page : ℕ) (xs ys : List Bool)
+    → dirty_from page (xs ++ ys) ≡ dirty_from page xs ++ dirty_from (page + length xs) ys
+dirty_from-append page [] ys = ap (λ (n : ℕ). dirty_from n ys) (sym (add-zero page))
+dirty_from-append page (true ∷ xs) ys =
+    let next : page + 1 + length xs ≡ page + length (true ∷ xs) = omega arith in
+    ap (λ (ps : List ℕ). page ∷ ps)
+    (dirty_from-append (page + 1) xs ys ∙ ap (λ (n : ℕ). dirty_from (page + 1) xs ++ dirty_from n ys) next)
+dirty_from-append page (false ∷ xs) ys =
+    let next : page + 1 + length xs ≡ page + length (false ∷ xs) = omega arith in
+    dirty_from-append (page + 1) xs ys ∙ ap (λ (n : ℕ). dirty_from (page + 1) xs ++ dirty_from n ys) next
+
+-- the dirty ones of the first pages
+abbrev pub dirty_below : PageSet → ℕ → List ℕ
+dirty_below None count = []
+dirty_below (Some p) count = dirty_from 0 (take count p.flags)
+
+-- pages of this size and number, whose offsets are of 64 bits
+module _ (size count : ℕ) where
+  pub dirty_below-none : (set : PageSet) → dirty_below set 0 ≡ []
+  dirty_below-none None = refl
+  dirty_below-none (Some p) = refl
+
+  pub dirty_below-all : (set : PageSet) → shape set ≡ Some (size, count) → dirty_below set count ≡ dirty_pages set
+  dirty_below-all None is = refl
+  dirty_below-all (Some p) is =
+      let s = same_Some (p.page_size, length p.flags) (size, count) is in
+      let n : length p.flags ≡ count = ap (λ (t : ℕ × ℕ). t.1) s in
+      ap (dirty_from 0) (take_all count p.flags (omega arith))
+
+  -- the offset of a page's first byte
+  pub page_fits : (set : PageSet) (page : ℕ) → IsPageSet set → shape set ≡ Some (size, count) → page < count
+      → page * size < 2 ^ 64
+  page_fits None page fits is below = absurd (none-some (size, count) is)
+  page_fits (Some p) page fits is below =
+      let s = same_Some (p.page_size, length p.flags) (size, count) is in
+      let n : length p.flags ≡ count = ap (λ (t : ℕ × ℕ). t.1) s in
+      let z : p.page_size ≡ size = ap (λ (t : ℕ × ℕ). t.0) s in
+      let last : page ≤ length p.flags - 1 = omega arith in
+      rw (← z) (omega (arith, mul-le-mul_right p.page_size last, fits.1))
+
+  -- one page more
+  pub dirty_below-more : (set : PageSet) (page : ℕ) → IsPageSet set → shape set ≡ Some (size, count) → page < count
+      → dirty_below set (page + 1) ≡ dirty_below set page ++ cond (is_dirty_at set (page * size)) (page ∷ []) []
+  dirty_below-more None page fits is below = absurd (none-some (size, count) is)
+  dirty_below-more (Some p) page fits is below =
+      let s = same_Some (p.page_size, length p.flags) (size, count) is in
+      let n : length p.flags ≡ count = ap (λ (t : ℕ × ℕ). t.1) s in
+      let z : p.page_size ≡ size = ap (λ (t : ℕ × ℕ). t.0) s in
+      let within : page < length p.flags = omega arith in
+      let at : is_dirty_at (Some p) (page * size) ≡ get_or p.flags page false =
+      ap (λ (k : ℕ). get_or p.flags k false) (rw (← z) (mul-div_cancel page fits.0)) in
+      let first : length (take page p.flags) ≡ page = length-take-le page p.flags (omega arith) in
+      ap (dirty_from 0) (take_more p.flags page false within)
+      ∙ dirty_from-append 0 (take page p.flags) (get_or p.flags page false ∷ [])
+      ∙ rw (zero-add, first, at) refl

@@ -1,0 +1,491 @@
+-- An image that is patched in rounds, and the block that it mirrors.
+use Rattle.std.proofs.Common.{◌≡◌, ◌↔◌, Bool, ◌&&◌, ◌%◌, ℕ, zero, suc, ◌+◌, ◌*◌, ◌/◌, ◌^◌, ◌<◌, ◌==◌, ◌≢◌, true, false, cond, List, [], ◌∷◌, map, length, get_or, Option, Some, None, option_map, Result, Ok, Err, IsSome, All, IfSome, Contains, refl, sym, ap, subst, ◌∙◌, inl, inr, arith, zero-add}
+use Rattle.std.proofs.lemmas.Bool.{eqb-true, eqb-false, cases_Bool, true≢false, cond-true, cond-false, false_from_ne_true}
+use Rattle.std.proofs.lemmas.Cmp.{nat_eq_equiv}
+use Rattle.std.proofs.lemmas.List.{length-map, get_or-map, get_or-set_same, get_or-set_other, ext_get_or}
+use Rattle.std.proofs.lemmas.List.Elements.{All-nil, All-cons, All-head, All-tail, All-contains}
+use Rattle.std.proofs.lemmas.List.FromFn.{length-range_with_len, get_or-range_with_len}
+use Rattle.std.proofs.lemmas.Map.Views.{list_any-from_Contains, Contains-from_any}
+use Rattle.std.proofs.lemmas.Nat.{div_below}
+use Rattle.std.proofs.lemmas.Option.{slice_get_cases, slice_get_within, slice_get-map, get_or_from_slice_get}
+use Rattle.std.specs.Cmp.{both_ways}
+use Rattle.std.specs.Int as int
+use Rattle.std.specs.Int.{to_le_bytes}
+use Rattle.std.specs.List.{list_any, range_with_len, slice_get}
+use Rattle.vm_memory_base.specs.Address.{numbers}
+use Rattle.vm_memory_base.specs.Pages.{Pages, PageSet, shape, is_dirty_at, dirty_pages, cleaned}
+use Rattle.vm_memory_base.specs.Table.{Table}
+use Rattle.vm_memory_base.specs.declared.address.GuestAddress.{GuestAddress}
+use Rattle.vm_memory_base.specs.declared.bitmap.BitmapId.{BitmapId}
+use Rattle.vm_memory_base.specs.declared.bitmap.BitmapId.TheVariants.{Block, Space}
+use Rattle.vm_memory_base.specs.declared.iotlb.Permissions.{Permissions}
+use Rattle.vm_memory_base.specs.declared.iotlb.Permissions.TheVariants as permissions
+use Rattle.vm_memory_guest.specs.Access.{Reached, onto, meets, meets_at, path, access_of}
+use Rattle.vm_memory_guest.specs.Dirt.{pages_at, path_cells, after_write, bytes_read}
+use Rattle.vm_memory_guest.specs.Error.{error_of}
+use Rattle.vm_memory_guest.specs.Host.{Host, Cell, block_at, byte_at, written}
+use Rattle.vm_memory_guest.specs.Memory.{Behind, Direct, physical, route_behind}
+use Rattle.vm_memory_guest.specs.Region.{Region, Lies, Byte, Bare, Hole, cell, layout_error}
+use Rattle.vm_memory_guest.specs.Typed.{is_uncut, path_given, whole_path}
+use Rattle.vm_memory_guest.specs.Window.{bitmap_of, with_bitmap}
+use Rattle.vm_memory_guest.specs.declared.region.GuestMemoryError.{GuestMemoryError}
+use Rattle.vm_memory_guest.specs.declared.region.GuestMemoryError.TheVariants as errors
+use Rattle.vm_memory_guest.specs.declared.region.GuestMemoryError.TheVariants.{InvalidBackendAddress}
+use Rattle.vm_memory_guest.specs.declared.region.GuestRegionCollectionError.{GuestRegionCollectionError}
+use Rattle.vm_memory.specs.Machine.{Step, Run, if_there, new_layout, with_host, outcome}
+use Rattle.vm_memory.specs.Reply.{reached_by, answer_of, reply_of, writes}
+use Rattle.vm_memory.specs.Rounds.{patched, patched_by, patched_with, bytes_of, pages_of, image_now, image_after, MirrorsBlock, Cover, IsTracked, IsDirect, RunsDirectly, KeepsImage}
+use Rattle.vm_memory.specs.State.{State, MachineMemory, named, meaning, IsOn}
+use Rattle.vm_memory.specs.Typed.{integer_of, fits_width, taken_by, stores_bytes, stores}
+use Rattle.vm_memory.specs.declared.machine.command.Command.{Command}
+use Rattle.vm_memory.specs.declared.machine.command.Command.TheVariants as command
+use Rattle.vm_memory.specs.declared.machine.command.Reply.{Reply}
+use Rattle.vm_memory.specs.declared.machine.command.Reply.TheVariants as reply
+
+-- ---- a patched image, byte by byte
+
+numbers-is_range : (a n : ℕ) → numbers a n ≡ range_with_len a n
+numbers-is_range a zero = refl
+numbers-is_range a (suc n) = ap (λ (xs : List ℕ). a ∷ xs) (numbers-is_range (a + 1) n)
+
+length-numbers : (a n : ℕ) → length (numbers a n) ≡ n
+length-numbers a n = rw (numbers-is_range a n) (length-range_with_len a n)
+
+get_or-numbers : (a n i d : ℕ) → i < n → get_or (numbers a n) i d ≡ a + i
+get_or-numbers a n i d l = rw (numbers-is_range a n) (get_or-range_with_len a n i d l)
+
+pub length-patched : (size : ℕ) (pages now image : List ℕ) → length (patched size pages now image) ≡ length image
+length-patched size pages now image = simp (length-map, length-numbers)
+
+pub get_or-patched : (size : ℕ) (pages now image : List ℕ) (k : ℕ) → k < length image
+    → get_or (patched size pages now image) k 0
+    ≡ cond (list_any (λ (page : ℕ). k / size == page) pages) (get_or now k 0) (get_or image k 0)
+get_or-patched size pages now image k l =
+    let byte : ℕ → ℕ = λ x. cond (list_any (λ (page : ℕ). x / size == page) pages) (get_or now x 0) (get_or image x 0) in
+    let count : length (numbers 0 (length image)) ≡ length image = length-numbers 0 (length image) in
+    get_or-map byte (numbers 0 (length image)) k 0 0 (omega arith)
+    ∙ ap byte (get_or-numbers 0 (length image) k 0 l ∙ zero-add k)
+
+-- ---- what is taken from the laws of page sets and of writes
+
+abbrev AreListed : Type 0
+AreListed = (p : Pages) (page : ℕ) → Contains (dirty_pages (Some p)) page ↔ (get_or p.flags page false ≡ true)
+
+-- an image has the bytes of the block outside the dirty pages
+pub record IsClean (set : PageSet) (now image : List ℕ) : Type 0 where
+  pub len : length image ≡ length now
+  pub bytes : (k : ℕ) → k < length now → is_dirty_at set k ≡ false → get_or image k 0 ≡ get_or now k 0
+
+module _ (are_listed : AreListed) where
+  -- the test of a page among the dirty ones
+  any-dirty : (p : Pages) (page : ℕ) → list_any (λ (q : ℕ). page == q) (dirty_pages (Some p)) ≡ get_or p.flags page false
+  any-dirty p page =
+      let dirty = dirty_pages (Some p) in
+      both_ways (list_any (λ (q : ℕ). page == q) dirty) (get_or p.flags page false)
+      (λ t. (are_listed p page).0 (Contains-from_any (λ x y h. eqb-true x y h) page dirty t))
+      (λ t. list_any-from_Contains nat_eq_equiv page dirty ((are_listed p page).1 t))
+
+  pub mirrors_from_clean : (set : PageSet) (now image : List ℕ) → IsClean set now image
+      → patched_by set (dirty_pages set) now image ≡ now
+  mirrors_from_clean None now image clean =
+      ext_get_or 0 image now clean.len (λ k l. clean.bytes k (omega (arith, clean.len)) refl)
+  mirrors_from_clean (Some p) now image clean =
+      let dirty = dirty_pages (Some p) in
+      let len = length-patched p.page_size dirty now image in
+      ext_get_or 0 (patched p.page_size dirty now image) now (len ∙ clean.len)
+      (λ k l. get_or-patched p.page_size dirty now image k (omega (arith, len)) ∙ at k (omega (arith, len, clean.len)))
+    where
+      at : (k : ℕ) → k < length now
+          → cond (list_any (λ (page : ℕ). k / p.page_size == page) (dirty_pages (Some p))) (get_or now k 0) (get_or image k 0)
+          ≡ get_or now k 0
+      at k l = elim (cases_Bool (is_dirty_at (Some p) k)) [
+        | inl e ↦ cond-true _ _ _ (any-dirty p (k / p.page_size) ∙ e)
+        | inr e ↦ cond-false _ _ _ (any-dirty p (k / p.page_size) ∙ e) ∙ clean.bytes k l e
+      ]
+
+  pub clean_from_mirrors : (set : PageSet) (now image : List ℕ) → patched_by set (dirty_pages set) now image ≡ now
+      → IsClean set now image
+  clean_from_mirrors None now image e = record {
+    len = ap (λ (xs : List ℕ). length xs) e;
+    bytes = λ k l h. ap (λ (xs : List ℕ). get_or xs k 0) e;
+  }
+  clean_from_mirrors (Some p) now image e =
+      let dirty = dirty_pages (Some p) in
+      let len : length image ≡ length now = sym (length-patched p.page_size dirty now image) ∙ ap (λ (xs : List ℕ). length xs) e in
+      record {
+        len = len;
+        bytes = λ k l h.
+            sym (cond-false _ _ _ (any-dirty p (k / p.page_size) ∙ h))
+            ∙ sym (get_or-patched p.page_size dirty now image k (omega (arith, len)))
+            ∙ ap (λ (xs : List ℕ). get_or xs k 0) e;
+      }
+
+-- ---- writes without translation
+
+-- a byte that marks its own place in its block's bitmap
+abbrev MarksItsCell : Reached → Type 0
+MarksItsCell x = (x.bitmap ≡ Block x.cell.block) × (x.mark ≡ x.cell.offset)
+
+marks_first : (x p : ℕ) (l : Lies) (rest : List Reached) → All MarksItsCell rest
+    → All MarksItsCell (onto (meets_at Direct x None p l) rest)
+marks_first x p (Byte r c) rest own = All-cons MarksItsCell _ rest (refl, refl) own
+marks_first x p Bare rest own = All-nil MarksItsCell
+marks_first x p Hole rest own = All-nil MarksItsCell
+
+marks_own : (regions : List Region) (a i n : ℕ) → All MarksItsCell (path (meets regions Direct a) i n)
+unfolding path
+marks_own regions a i zero = All-nil MarksItsCell
+marks_own regions a i (suc n) =
+    marks_first (a + i) (physical Direct a i) (cell regions (physical Direct a i)) (path (meets regions Direct a) (i + 1) n)
+    (marks_own regions a (i + 1) n)
+
+pub direct_marks : (o : Option Behind) → (IsSome o → ⊥) → (regions : List Region) (tables : List Table) (a n : ℕ) (access : Permissions)
+    → All MarksItsCell (access_of regions (route_behind o tables) a n access).path
+direct_marks None off regions tables a n access = marks_own regions a 0 n
+direct_marks (Some b) off regions tables a n access = absurd (off refl)
+
+-- the bytes of a load or a store are those of the path
+whole_given : (size : ℕ) (xs : List Reached) (fault : Option GuestMemoryError) → All MarksItsCell xs
+    → All MarksItsCell (path_given (whole_path size xs fault))
+whole_given size [] None own = All-nil MarksItsCell
+whole_given size [] (Some e) own = All-nil MarksItsCell
+whole_given size (x ∷ xs) fault own = go (length (x ∷ xs) == size && is_uncut (x ∷ xs) && x.cell.offset % size == 0)
+  where
+    go : (b : Bool) → All MarksItsCell (path_given (cond b (Ok (x ∷ xs)) (Err InvalidBackendAddress)))
+    go true = own
+    go false = All-nil MarksItsCell
+
+-- ---- what a write keeps
+
+map-get_or : {X Y : Type 0} (f : X → Y) (d : X) (xs : List X) (i : ℕ) → get_or (map f xs) i (f d) ≡ f (get_or xs i d)
+map-get_or f d [] i = refl
+map-get_or f d (x ∷ xs) zero = refl
+map-get_or f d (x ∷ xs) (suc i) = map-get_or f d xs i
+
+-- what is seen of the elements of two lists is seen of each
+same_at : {X Y : Type 0} (f : X → Y) (d : X) (xs ys : List X) (i : ℕ) → map f xs ≡ map f ys
+    → f (get_or xs i d) ≡ f (get_or ys i d)
+same_at {X} {Y} f d xs ys i e =
+    sym (map-get_or f d xs i) ∙ ap (λ (zs : List Y). get_or zs i (f d)) e ∙ map-get_or f d ys i
+
+page_below : (n k m : ℕ) → n < m * k → n / k < m
+page_below n zero m h = absurd (omega arith)
+page_below n (suc k) m h = div_below n (suc k) m (omega arith) h
+
+-- pages that cover a block, and an image that has its bytes outside those that are dirty
+pub record IsKept (set : PageSet) (now image : List ℕ) : Type 0 where
+  pub cover : Cover (shape set) (length now)
+  pub short : length now < 2 ^ 64
+  pub clean : IsClean set now image
+
+-- the same of a block in a host
+abbrev pub KeepsBlock : ℕ → List ℕ → Host PageSet → Type 0
+KeepsBlock block image host = IsKept (pages_of block host) (bytes_of block host) image
+
+-- what is taken from the laws of writes
+pub record WriteLaws : Type 0 where
+  pub bytes_stay : (cells : List Cell) (bytes : List ℕ) (blocks : List (List ℕ)) (c : Cell)
+      → (Contains cells c → ⊥) → byte_at (written cells bytes blocks) c ≡ byte_at blocks c
+  pub lengths_stay : (cells : List Cell) (bytes : List ℕ) (blocks : List (List ℕ))
+      → map (λ (b : List ℕ). length b) (written cells bytes blocks) ≡ map (λ (b : List ℕ). length b) blocks
+  pub named_are_dirty : (xs : List Reached) (bytes : List ℕ) (x : Reached) (host : Host PageSet) (p : Pages)
+      → Contains xs x → x.mark < 2 ^ 64 → pages_at x.bitmap host ≡ Some p → x.mark / p.page_size < length p.flags
+      → is_dirty_at (pages_at x.bitmap (after_write xs bytes host)) x.mark ≡ true
+  pub blocks_are : (xs : List Reached) (bytes : List ℕ) (host : Host PageSet)
+      → (after_write xs bytes host).blocks ≡ written (path_cells xs) bytes host.blocks
+  pub dirty_stay : (xs : List Reached) (bytes : List ℕ) (id : BitmapId) (offset : ℕ) (host : Host PageSet)
+      → is_dirty_at (pages_at id host) offset ≡ true → is_dirty_at (pages_at id (after_write xs bytes host)) offset ≡ true
+  pub shapes_stay : (xs : List Reached) (bytes : List ℕ) (host : Host PageSet)
+      → map shape (after_write xs bytes host).bitmaps ≡ map shape host.bitmaps
+
+module _ (laws : WriteLaws) (xs : List Reached) (own : All MarksItsCell xs) (bytes : List ℕ) (host : Host PageSet) where
+  -- a byte of a path makes its page dirty, where the block's bitmap covers the byte
+  reached_is_dirty : (block k : ℕ) (p : Pages) → k < 2 ^ 64 → pages_of block host ≡ Some p → k < length p.flags * p.page_size
+      → Contains (path_cells xs) (record { block = block; offset = k })
+      → is_dirty_at (pages_of block (after_write xs bytes host)) k ≡ true
+  reached_is_dirty block k p short is within found = elim (slice_get_cases xs found.0).1 [
+    | inl at ↦
+        (let x = at.0 in
+        let c : Cell = record { block = block; offset = k } in
+        let here : x.cell ≡ c =
+        sym (get_or-map (λ (y : Reached). y.cell) xs found.0 x c at.1 ∙ ap (λ (y : Reached). y.cell) at.3) ∙ found.2 in
+        let marks = All-contains MarksItsCell xs x own (found.0, at.1, at.3) in
+        let id : x.bitmap ≡ Block block = marks.0 ∙ ap (λ (d : Cell). Block d.block) here in
+        let mark : x.mark ≡ k = marks.1 ∙ ap (λ (d : Cell). d.offset) here in
+        let pages : pages_at x.bitmap host ≡ Some p = ap (λ (i : BitmapId). pages_at i host) id ∙ is in
+        let dirty = laws.named_are_dirty xs bytes x host p (found.0, at.1, at.3) (omega arith) pages
+        (rw mark (page_below k p.page_size (length p.flags) within)) in
+        let after = after_write xs bytes host in
+        subst (λ (i : BitmapId). is_dirty_at (pages_at i after) k ≡ true) id
+        (subst (λ (m : ℕ). is_dirty_at (pages_at x.bitmap after) m ≡ true) mark dirty))
+    | inr past ↦ absurd (omega (arith, past.0, length-map xs (λ (y : Reached). y.cell)))
+  ]
+
+  pub write_keeps : (block : ℕ) (image : List ℕ) → KeepsBlock block image host → KeepsBlock block image (after_write xs bytes host)
+  write_keeps block image kept = record {
+    cover = subst (λ (s : Option (ℕ × ℕ)). Cover s (length (bytes_of block after))) (sym shapes) (rw len kept.cover);
+    short = rw len kept.short;
+    clean = record { len = kept.clean.len ∙ sym len; bytes = λ k l e. same k (rw (← len) l) e };
+  }
+    where
+      after : Host PageSet
+      after = after_write xs bytes host
+
+      len : length (bytes_of block (after_write xs bytes host)) ≡ length (bytes_of block host)
+      len =
+          rw (laws.blocks_are xs bytes host)
+          (same_at (λ (b : List ℕ). length b) [] (written (path_cells xs) bytes host.blocks) host.blocks block
+          (laws.lengths_stay (path_cells xs) bytes host.blocks))
+
+      shapes : shape (pages_of block (after_write xs bytes host)) ≡ shape (pages_of block host)
+      shapes = same_at shape None (after_write xs bytes host).bitmaps host.bitmaps block (laws.shapes_stay xs bytes host)
+
+      untouched : (k : ℕ) → k < length (bytes_of block host)
+          → is_dirty_at (pages_of block (after_write xs bytes host)) k ≡ false
+          → (set : PageSet) → pages_of block host ≡ set → Cover (shape set) (length (bytes_of block host))
+          → Contains (path_cells xs) (record { block = block; offset = k }) → ⊥
+      untouched k l e None is cover found = omega (arith, cover)
+      untouched k l e (Some p) is cover found =
+          true≢false (sym (reached_is_dirty block k p (omega (arith, kept.short)) is (omega (arith, cover)) found) ∙ e)
+
+      same : (k : ℕ) → k < length (bytes_of block host)
+          → is_dirty_at (pages_of block (after_write xs bytes host)) k ≡ false
+          → get_or image k 0 ≡ get_or (bytes_of block (after_write xs bytes host)) k 0
+      same k l e = elim (cases_Bool (is_dirty_at (pages_of block host) k)) [
+        | inl dirty ↦ absurd (true≢false (sym (laws.dirty_stay xs bytes (Block block) k host dirty) ∙ e))
+        | inr before ↦
+            kept.clean.bytes k l before
+            ∙ sym (laws.bytes_stay (path_cells xs) bytes host.blocks (record { block = block; offset = k })
+            (untouched k l e (pages_of block host) refl kept.cover))
+            ∙ ap (λ (bs : List (List ℕ)). get_or (get_or bs block []) k 0) (sym (laws.blocks_are xs bytes host))
+      ]
+
+-- ---- what a harvest keeps
+
+-- what is taken from the laws of page sets: clean pages are as large and as many
+abbrev CleanedStay : Type 0
+CleanedStay = (set : PageSet) → shape (cleaned set) ≡ shape set
+
+module _ (are_listed : AreListed) (cleaned_stay : CleanedStay) (block : ℕ) (image : List ℕ) (host : Host PageSet) (kept : KeepsBlock block image host)
+  where
+    -- patched with its dirty pages, the image is the block
+    harvest_keeps_own : (b : ℕ) (set : PageSet) → slice_get host.bitmaps b ≡ Some set → b ≡ block
+        → KeepsBlock block (patched_with block host (dirty_pages set) image) (with_bitmap host (Block b) (cleaned set))
+    harvest_keeps_own b set there same =
+        let now = bytes_of block host in
+        let is : pages_of block host ≡ set = rw (← same) (get_or_from_slice_get host.bitmaps b set None there) in
+        let mirrors : patched_with block host (dirty_pages set) image ≡ now =
+        rw (← is) (mirrors_from_clean are_listed (pages_of block host) now image kept.clean) in
+        let within = slice_get_within host.bitmaps b set there in
+        let after : pages_of block (with_bitmap host (Block b) (cleaned set)) ≡ cleaned set =
+        rw (← same) (get_or-set_same host.bitmaps b (cleaned set) None within) in
+        record {
+          cover = rw (after, cleaned_stay set, ← is) kept.cover;
+          short = kept.short;
+          clean = record {
+            len = ap (λ (xs : List ℕ). length xs) mirrors;
+            bytes = λ k l e. ap (λ (xs : List ℕ). get_or xs k 0) mirrors;
+          };
+        }
+
+    pub harvest_keeps : (b : ℕ) (set : PageSet) → slice_get host.bitmaps b ≡ Some set
+        → KeepsBlock block
+        (image_after block host (command.Harvest (Block b)) (reply.Pages (dirty_pages set)) image)
+        (with_bitmap host (Block b) (cleaned set))
+    harvest_keeps b set there = elim (cases_Bool (b == block)) [
+      | inl t ↦
+          rw (cond-true (b == block) (patched_with block host (dirty_pages set) image) image t)
+          (harvest_keeps_own b set there (eqb-true b block t))
+      | inr f ↦
+          (let other : block ≢ b = λ e. eqb-false b block f (sym e) in
+          let after : pages_of block (with_bitmap host (Block b) (cleaned set)) ≡ pages_of block host =
+          get_or-set_other host.bitmaps b block (cleaned set) None other in
+          rw (cond-false (b == block) (patched_with block host (dirty_pages set) image) image f, after) kept)
+    ]
+
+-- ---- what a step keeps
+
+-- want of memory patches nothing
+image_after-memory : (block : ℕ) (host : Host PageSet) (c : Command) (image : List ℕ)
+    → image_after block host c reply.Memory image ≡ image
+image_after-memory block host (command.Harvest (Block b)) image = refl
+image_after-memory block host c image = refl
+
+same_host : {X : Type 0} (old : State) (o : Option X) (answer : X → Reply × State)
+    → ((x : X) → (answer x).1.host ≡ old.host) → (if_there old o answer).1.host ≡ old.host
+same_host old None answer same = refl
+same_host old (Some x) answer same = same x
+
+layout_keeps_host : (old : State) (rs : List Region) (e : Option GuestRegionCollectionError)
+    → (new_layout old rs e).1.host ≡ old.host
+layout_keeps_host old rs None = refl
+layout_keeps_host old rs (Some e) = refl
+
+module _ (are_listed : AreListed) (cleaned_stay : CleanedStay) (laws : WriteLaws) (block : ℕ) where
+  module _ (image : List ℕ) (old new : State) (kept : KeepsBlock block image old.host) where
+    stays : (r : Reply) (a : Reply × State) → (r, new) ≡ a → a.1.host ≡ old.host → KeepsBlock block image new.host
+    stays r a e same =
+        subst (KeepsBlock block image) (sym (ap (λ (p : Reply × State). p.1.host) e ∙ same)) kept
+
+    wrote : (a : ℕ) (bytes : List ℕ) (r : Reply) (o : Option MachineMemory) → IfSome o (λ m. IsOn m → ⊥)
+        → (r, new) ≡ if_there old o (λ m. with_host old (writes (meaning m) old.host a bytes))
+        → KeepsBlock block image new.host
+    wrote a bytes r None off e = stays r (reply.NoSuch, old) e refl
+    wrote a bytes r (Some m) off e =
+        let n = length bytes in
+        let reached = reached_by (meaning m) old.host.tables a n permissions.Write in
+        let own = direct_marks (meaning m).iommu off (meaning m).regions old.host.tables a n permissions.Write in
+        subst (KeepsBlock block image) (sym (ap (λ (p : Reply × State). p.1.host) e))
+        (write_keeps laws reached.path own bytes old.host block image kept)
+
+    stored : (a : ℕ) (w : int.Width) (value : ℕ) (r : Reply) (o : Option MachineMemory) → IfSome o (λ m. IsOn m → ⊥)
+        → (r, new) ≡ if_there old o (λ m. with_host old (stores (meaning m) old.host a w value))
+        → KeepsBlock block image new.host
+    stored a w value r None off e = stays r (reply.NoSuch, old) e refl
+    stored a w value r (Some m) off e = go (fits_width w value) e
+      where
+        go : (b : Bool)
+            → (r, new) ≡ with_host old (cond b (stores_bytes (meaning m) old.host a (to_le_bytes w value)) (reply.BadRange, old.host))
+            → KeepsBlock block image new.host
+        go true e =
+            let bytes = to_le_bytes w value in
+            let n = length bytes in
+            let reached = reached_by (meaning m) old.host.tables a n permissions.Write in
+            let own = direct_marks (meaning m).iommu off (meaning m).regions old.host.tables a n permissions.Write in
+            subst (KeepsBlock block image) (sym (ap (λ (p : Reply × State). p.1.host) e))
+            (write_keeps laws (path_given (taken_by (meaning m) old.host.tables a n permissions.Write))
+            (whole_given n reached.path (option_map error_of reached.fault) own) bytes old.host block image kept)
+        go false e = subst (KeepsBlock block image) (sym (ap (λ (p : Reply × State). p.1.host) e)) kept
+
+    harvested : (b : ℕ) (r : Reply) (o : Option PageSet) → slice_get old.host.bitmaps b ≡ o
+        → (r, new) ≡ if_there old o
+        (λ set. with_host old (reply.Pages (dirty_pages set), with_bitmap old.host (Block b) (cleaned set)))
+        → KeepsBlock block (image_after block old.host (command.Harvest (Block b)) r image) new.host
+    harvested b r None there e =
+        subst
+        (λ (p : Reply × State). KeepsBlock block (image_after block old.host (command.Harvest (Block b)) p.0 image) p.1.host)
+        (sym e) kept
+    harvested b r (Some set) there e =
+        subst
+        (λ (p : Reply × State). KeepsBlock block (image_after block old.host (command.Harvest (Block b)) p.0 image) p.1.host)
+        (sym e) (harvest_keeps are_listed cleaned_stay block image old.host kept b set there)
+
+    answered : (c : Command) (r : Reply) → IsDirect old c → (r, new) ≡ outcome old c
+        → KeepsBlock block (image_after block old.host c r image) new.host
+    answered (command.FromRegions ns) r direct e =
+        stays r _ e (same_host old (named old.regions ns) _ (λ rs. layout_keeps_host old rs (layout_error rs)))
+    answered (command.Plain layout) r direct e =
+        stays r _ e (same_host old (slice_get old.layouts layout) _ (λ rs. refl))
+    answered (command.Read memory addr n) r direct e =
+        stays r _ e (same_host old (slice_get old.memories memory) _ (λ m. refl))
+    answered (command.Write memory addr bytes) r direct e =
+        wrote addr.0 bytes r (slice_get old.memories memory) direct e
+    answered (command.Store memory width addr value) r direct e =
+        stored addr.0 (integer_of width) value r (slice_get old.memories memory) direct e
+    answered (command.Load memory width addr) r direct e =
+        stays r _ e (same_host old (slice_get old.memories memory) _ (λ m. refl))
+    answered (command.Dirty id) r direct e = stays r _ e (same_host old (bitmap_of old.host id) _ (λ set. refl))
+    answered (command.Harvest (Block b)) r direct e = harvested b r (slice_get old.host.bitmaps b) refl e
+    answered (command.Harvest (Space s)) r direct e = spaced s r (slice_get old.host.spaces s) e
+      where
+        spaced : (s : ℕ) (r : Reply) (o : Option PageSet)
+            → (r, new) ≡ if_there old o
+            (λ set. with_host old (reply.Pages (dirty_pages set), with_bitmap old.host (Space s) (cleaned set)))
+            → KeepsBlock block image new.host
+        spaced s r None e = stays r _ e refl
+        spaced s r (Some set) e =
+            subst (KeepsBlock block image) (sym (ap (λ (p : Reply × State). p.1.host) e)) kept
+
+    pub step_keeps : (c : Command) (r : Reply) → IsDirect old c → Step old c r new
+        → KeepsBlock block (image_after block old.host c r image) new.host
+    step_keeps c r direct step = elim step [
+      | inl e ↦ answered c r direct e
+      | inr want ↦
+          rw (want.0, image_after-memory block old.host c image)
+          (subst (λ (s : State). KeepsBlock block image s.host) (sym want.2) kept)
+    ]
+
+  -- at every state of a run
+  pub run_keeps : (image : List ℕ) (old : State) (cs : List Command) (rs : List Reply) (new : State) (run : Run old cs rs new)
+      → KeepsBlock block image old.host → RunsDirectly old cs rs new run → KeepsImage block image old cs rs new run
+  run_keeps image old [] [] new run kept direct =
+      let last = subst (λ (s : State). KeepsBlock block image s.host) (sym run) kept in
+      mirrors_from_clean are_listed (pages_of block new.host) (bytes_of block new.host) image last.clean
+  run_keeps image old [] (r ∷ rs) new run kept direct = absurd run
+  run_keeps image old (c ∷ cs) [] new run kept direct = absurd run
+  run_keeps image old (c ∷ cs) (r ∷ rs) new run kept direct =
+      let next = step_keeps image old run.0 kept c r direct.0 run.1 in (
+        mirrors_from_clean are_listed (pages_of block old.host) (bytes_of block old.host) image kept.clean,
+        run_keeps (image_after block old.host c r image) run.0 cs rs new run.2 next direct.1,
+      )
+
+  -- no harvest of the block's bitmap, no patch
+  unpatched : (image : List ℕ) (host : Host PageSet) (c : Command) (r : Reply) → c ≢ command.Harvest (Block block)
+      → image_after block host c r image ≡ image
+  unpatched image host (command.Harvest (Block b)) (reply.Pages pages) other =
+      cond-false (b == block) (patched_with block host pages image) image
+      (false_from_ne_true (b == block) (λ t. other (ap (λ (i : ℕ). command.Harvest (Block i)) (eqb-true b block t))))
+  unpatched image host c r other = refl
+
+  -- and the image still mirrors the block at the end
+  pub unharvested_run_keeps : (image : List ℕ) (old : State) (cs : List Command) (rs : List Reply) (new : State) (run : Run old cs rs new)
+      → KeepsBlock block image old.host → RunsDirectly old cs rs new run
+      → All (λ (c : Command). c ≢ command.Harvest (Block block)) cs → KeepsBlock block image new.host
+  unharvested_run_keeps image old [] [] new run kept direct none =
+      subst (λ (s : State). KeepsBlock block image s.host) (sym run) kept
+  unharvested_run_keeps image old [] (r ∷ rs) new run kept direct none = absurd run
+  unharvested_run_keeps image old (c ∷ cs) [] new run kept direct none = absurd run
+  unharvested_run_keeps image old (c ∷ cs) (r ∷ rs) new run kept direct none =
+      let Other : Command → Type 0 = λ d. d ≢ command.Harvest (Block block) in
+      let same = unpatched image old.host c r (All-head Other c cs none) in
+      let next = step_keeps image old run.0 kept c r direct.0 run.1 in
+      unharvested_run_keeps image run.0 cs rs new run.2
+      (subst (λ (a : List ℕ). KeepsBlock block a run.0.host) same next) direct.1 (All-tail Other c cs none)
+
+-- ---- copies and reads
+
+module _ (are_listed : AreListed) where
+  -- a copy of a block mirrors it
+  pub copy_mirrors : (block : ℕ) (host : Host PageSet) → MirrorsBlock block host (bytes_of block host)
+  copy_mirrors block host =
+      mirrors_from_clean are_listed (pages_of block host) (bytes_of block host) (bytes_of block host)
+      (record { len = refl; bytes = λ k l e. refl })
+
+  -- an image that mirrors a covered block
+  pub kept_from_mirrors : (block : ℕ) (image : List ℕ) (host : Host PageSet) → IsTracked block host
+      → length (bytes_of block host) < 2 ^ 64 → MirrorsBlock block host image → KeepsBlock block image host
+  kept_from_mirrors block image host tracked short mirrors = record {
+    cover = tracked;
+    short = short;
+    clean = clean_from_mirrors are_listed (pages_of block host) (bytes_of block host) image mirrors;
+  }
+
+-- the bytes that a read replies
+pub read_bytes : (xs : List Reached) (host : Host PageSet) (bytes : List ℕ) (answer : Result ℕ GuestMemoryError)
+    → reply.Bytes bytes ≡ reply_of (λ (count : ℕ). reply.Bytes (bytes_read xs host)) answer → bytes ≡ bytes_read xs host
+read_bytes xs host bytes (Ok count) e = cc
+read_bytes xs host bytes (Err (errors.InvalidGuestAddress addr)) e = cc
+read_bytes xs host bytes (Err (errors.PartialBuffer expected completed)) e = cc
+read_bytes xs host bytes (Err errors.InvalidBackendAddress) e = cc
+read_bytes xs host bytes (Err errors.HostAddressNotAvailable) e = cc
+read_bytes xs host bytes (Err (errors.IommuError fault)) e = cc
+read_bytes xs host bytes (Err errors.Memory) e = cc
+
+-- byte k of a read, where it is of the block
+pub read_of_image : (block : ℕ) (image : List ℕ) (old new : State) (memory : ℕ) (addr : GuestAddress) (n : ℕ)
+    (bytes : List ℕ) (m : MachineMemory) (k : ℕ) (x : Reached) → MirrorsBlock block old.host image
+    → Step old (command.Read memory addr n) (reply.Bytes bytes) new → slice_get old.memories memory ≡ Some m
+    → slice_get (reached_by (meaning m) old.host.tables addr.0 n permissions.Read).path k ≡ Some x
+    → x.cell.block ≡ block → slice_get bytes k ≡ Some (get_or (image_now block old.host image) x.cell.offset 0)
+read_of_image block image old new memory addr n bytes m k x mirrors step there reached here = elim step [
+  | inl e ↦
+      (let xs = (reached_by (meaning m) old.host.tables addr.0 n permissions.Read).path in
+      let told = rw there at (ap (λ (p : Reply × State). p.0) e) in
+      let is = read_bytes xs old.host bytes (answer_of (reached_by (meaning m) old.host.tables addr.0 n permissions.Read) n) told in
+      let cells : slice_get (path_cells xs) k ≡ Some x.cell =
+      slice_get-map (λ (y : Reached). y.cell) xs k ∙ ap (option_map (λ (y : Reached). y.cell)) reached in
+      let read : slice_get (bytes_read xs old.host) k ≡ Some (byte_at old.host.blocks x.cell) =
+      slice_get-map (byte_at old.host.blocks) (path_cells xs) k ∙ ap (option_map (byte_at old.host.blocks)) cells in
+      rw (is, mirrors) (read ∙ ap (λ (b : ℕ). Some (get_or (block_at old.host.blocks b) x.cell.offset 0)) here))
+  | inr want ↦ absurd (let e : reply.Bytes bytes ≡ reply.Memory = want.0 in cc)
+]

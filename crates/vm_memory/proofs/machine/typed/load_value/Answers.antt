@@ -1,0 +1,29 @@
+use Rattle.std.proofs.Common.{◌≡◌, ◌∙◌, ap, sym, subst, IsSome, Result}
+use Rattle.vm_memory_base.specs.declared.iotlb.Permissions.TheVariants as permissions
+use Rattle.vm_memory_guest.specs.Access.{access_of}
+use Rattle.vm_memory_guest.specs.Answer.{Outcome}
+use Rattle.vm_memory_guest.specs.Dirt.{path_cells}
+use Rattle.vm_memory_guest.specs.Host.{bytes_at}
+use Rattle.vm_memory_guest.specs.Memory.{route}
+use Rattle.vm_memory_guest.specs.Typed.{answered, place_of, typed_path}
+use Rattle.vm_memory_guest.specs.Window.{cells_of}
+use Rattle.vm_memory_guest.specs.declared.region.GuestMemoryError.TheVariants as errors
+use Rattle.vm_memory.proofs.TypedLemmas.{answered_then}
+use Rattle.vm_memory.proofs.machine.typed.load_value.Goals as goal
+
+pub returns : goal.returns
+returns g c =
+    let m = g.M.GuestMemory.memory c.args.memory.now in
+    let host = c.args.host.now in
+    let way = route m host.tables in
+    let a = c.args.addr.0 in
+    let n = g.T.ByteValued.width in
+    let value = g.T.ByteValued.value_of in
+    let each = g.met.M.GuestMemory.each_fits c.args.memory.now in
+    let access = access_of m.regions way a n permissions.Read in
+    let bytes = c.loads_and_stores_are_by_bytes.ensures.loads m.regions way a n permissions.Read host.blocks each in
+    let same =
+    answered_then (λ w. bytes_at host.blocks (cells_of w)) value (place_of n access)
+    ∙ ap (answered value) bytes
+    ∙ sym (answered_then (λ xs. bytes_at host.blocks (path_cells xs)) value (typed_path n access)) in
+    subst (λ r. Outcome errors.Memory (IsSome m.iommu) r (Unit {0}) (Unit {0}) c.load.result) same c.load.ensures

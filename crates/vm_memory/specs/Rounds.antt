@@ -1,0 +1,81 @@
+-- An image of a block that is kept in rounds: each harvest of the block's bitmap patches it with the pages
+-- that the harvest takes.
+use Rattle.std.specs.Prelude.{◌≡◌, ℕ, ◌*◌, ◌/◌, ◌≤◌, ◌==◌, if◌then◌else◌, List, ◌∷◌, length, map}
+use Rattle.std.specs.Prelude.{slice_get, slice_index, Option, Some, None, IfSome}
+use Rattle.std.specs.List.{list_any}
+use Rattle.vm_memory_base.specs.Address.{numbers}
+use Rattle.vm_memory_base.specs.Pages.{PageSet, shape, dirty_pages}
+use Rattle.vm_memory_base.specs.declared.bitmap.BitmapId.TheVariants as bitmap
+use Rattle.vm_memory_guest.specs.Dirt.{pages_at}
+use Rattle.vm_memory_guest.specs.Host.{Host, block_at}
+use Rattle.vm_memory.specs.Machine.{Run}
+use Rattle.vm_memory.specs.State.{State, IsOn}
+use Rattle.vm_memory.specs.declared.machine.command.Command.{Command}
+use Rattle.vm_memory.specs.declared.machine.command.Command.TheVariants.{Write, Store, Harvest}
+use Rattle.vm_memory.specs.declared.machine.command.Reply.{Reply}
+use Rattle.vm_memory.specs.declared.machine.command.Reply.TheVariants.{Pages}
+
+-- an image in which each byte of a listed page was replaced by that byte of now
+abbrev pub patched : ℕ → List ℕ → List ℕ → List ℕ → List ℕ
+patched size pages now image =
+    map (λ x. if list_any (λ page. x / size == page) pages then slice_index now x else slice_index image x)
+    (numbers 0 (length image))
+
+-- the same by the pages of a bitmap: where it tracks nothing, there is nothing to replace
+abbrev pub patched_by : PageSet → List ℕ → List ℕ → List ℕ → List ℕ
+patched_by None pages now image = image
+patched_by (Some p) pages now image = patched p.page_size pages now image
+
+-- the bytes of a block, and the pages of its bitmap
+abbrev pub bytes_of : ℕ → Host PageSet → List ℕ
+bytes_of block host = block_at host.blocks block
+
+abbrev pub pages_of : ℕ → Host PageSet → PageSet
+pages_of block host = pages_at (bitmap.Block block) host
+
+-- an image patched with these pages of a block, as its bytes are in this host
+abbrev pub patched_with : ℕ → Host PageSet → List ℕ → List ℕ → List ℕ
+patched_with block host pages image = patched_by (pages_of block host) pages (bytes_of block host) image
+
+-- an image, patched with the pages that are dirty now
+abbrev pub image_now : ℕ → Host PageSet → List ℕ → List ℕ
+image_now block host image = patched_with block host (dirty_pages (pages_of block host)) image
+
+-- so patched, it is the block
+abbrev pub MirrorsBlock : ℕ → Host PageSet → List ℕ → Type 0
+MirrorsBlock block host image = image_now block host image ≡ bytes_of block host
+
+-- the image after a command and its reply: a harvest of the block's bitmap patches it with the pages that are
+-- replied
+abbrev pub image_after : ℕ → Host PageSet → Command → Reply → List ℕ → List ℕ
+image_after block host (Harvest (bitmap.Block b)) (Pages pages) image =
+    if b == block then patched_with block host pages image else image
+image_after block host c r image = image
+
+-- pages of this size and number cover so many bytes
+abbrev pub Cover : Option (ℕ × ℕ) → ℕ → Type 0
+Cover None len = len ≡ 0
+Cover (Some s) len = len ≤ s.1 * s.0
+
+-- the pages of a block's bitmap cover the block
+abbrev pub IsTracked : ℕ → Host PageSet → Type 0
+IsTracked block host = Cover (shape (pages_of block host)) (length (bytes_of block host))
+
+-- a command does not write through an IOMMU that is on
+abbrev pub IsDirect : State → Command → Type 0
+IsDirect old (Write memory addr bytes) = IfSome (slice_get old.memories memory) (λ m. IsOn m → ⊥)
+IsDirect old (Store memory width addr value) = IfSome (slice_get old.memories memory) (λ m. IsOn m → ⊥)
+IsDirect old c = Unit {0}
+
+-- no command of a run does
+abbrev pub RunsDirectly : (old : State) (cs : List Command) (rs : List Reply) (new : State)
+    → Run old cs rs new → Type 0
+RunsDirectly old (c ∷ cs) (r ∷ rs) new run = IsDirect old c × RunsDirectly run.0 cs rs new run.2
+RunsDirectly old cs rs new run = Unit {0}
+
+-- at every state of a run the image, patched by the harvests before it, mirrors the block
+abbrev pub KeepsImage : ℕ → List ℕ → (old : State) (cs : List Command) (rs : List Reply) (new : State)
+    → Run old cs rs new → Type 0
+KeepsImage block image old (c ∷ cs) (r ∷ rs) new run = MirrorsBlock block old.host image
+    × KeepsImage block (image_after block old.host c r image) run.0 cs rs new run.2
+KeepsImage block image old cs rs new run = MirrorsBlock block new.host image
