@@ -17,5 +17,6 @@ pub use vm_memory_guest::{
     BlockId, Bytes, GuestMemory, GuestMemoryBackend, GuestMemoryBackendSliceIterator,
     GuestMemoryError, GuestMemoryMmap, GuestMemoryRegion, GuestMemoryResult, GuestRegionCollection,
     GuestRegionCollectionError, GuestRegionMmap, HostMemory, HostShape, IommuMemorySliceIterator,
-    MmapRegion, MmapRegionError, Named, SpaceId, TlbId, VolatileSlice,
+    MmapRegion, MmapRegionError, Named, SpaceId, TlbId, VolatileArrayRef, VolatileMemory, VolatileRef,
+    VolatileSlice, compute_offset,
 };

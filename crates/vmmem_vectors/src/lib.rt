@@ -17,4 +17,6 @@ mod support;
 #[cfg(test)]
 mod texts;
 #[cfg(test)]
+mod values;
+#[cfg(test)]
 mod windows;
