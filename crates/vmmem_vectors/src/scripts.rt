@@ -8,7 +8,7 @@ use std::test::Fail;
 use vm_memory::{DriveFault, drive};
 
 // Scripts, and what they tell: their replies, and then the status and the text of a fault.
-const SCRIPTS: [(&[u8], &str); 16] = [
+const SCRIPTS: [(&[u8], &str); 18] = [
     (b"", ""),
     (b"\n\n# nothing\n#\xff\x00\r  \n", ""),
     (
@@ -72,6 +72,23 @@ const SCRIPTS: [(&[u8], &str); 16] = [
          value 18446744073709551615\nvalue 255\nerror NoSuch\nerror NoSuch\nerror BadRange\n\
          error BadRange\nok\nerror BadRange\n",
     ),
+    // Writes, stores and copies mark the pages of the block that they reach, and no others. Asked for, they
+    // stay dirty, and a harvest leaves none.
+    (
+        b"block 0x2800 0x1000\nblock 8 2\nspace 0x10000 0x1000\nregion 0 0\nlayout 0\nplain 0\n\
+          write 0 0x1fff 0102\nread 0 0 4\ndirty block 0\ndirty block 0\ndirty block 1\ndirty space 0\n\
+          harvest block 0\ndirty block 0\nharvest block 0\nstore 0 8 0 1\ncopy 0 0 8 1 3 2\n\
+          dirty block 0\nharvest block 1\nharvest space 0\n",
+        "block 0\nblock 1\nspace 0\nregion 0\nlayout 0\nmemory 0\ncount 2\nbytes 00000000\n\
+         pages 1 2\npages 1 2\npages -\npages -\npages 1 2\npages -\npages -\nok\nok\npages 0\n\
+         pages 1 2\npages -\n",
+    ),
+    // A space may have no pages, a page may pass the end, and what is named has to be there.
+    (
+        b"space 0 1\nspace 1 0xffffffffffffffff\nblock 0 1\ndirty space 0\nharvest space 1\n\
+          dirty space 2\nharvest block 0\n",
+        "space 0\nspace 1\nerror M1\npages -\npages -\nerror NoSuch\nerror NoSuch\n",
+    ),
     // A line that sets up comes before the first command, also before one that was refused.
     (
         b"block 1 1\nplain 0\nblock 1 1\n",
@@ -110,7 +127,7 @@ fn each_line_has_its_reply(rt: HostRuntime) -> Result<(), Fail> {
 }
 
 // Lines that are bad before the first command and after it.
-const BAD_LINES: [&[u8]; 78] = [
+const BAD_LINES: [&[u8]; 88] = [
     // between words there is one space, and no other byte
     b" ",
     b"\r",
@@ -162,6 +179,15 @@ const BAD_LINES: [&[u8]; 78] = [
     b"load 0 4 0 0",
     b"copy 0 0 0 0 0",
     b"copy 0 0 0 0 0 0 0",
+    b"space",
+    b"space 1",
+    b"space 1 1 1",
+    b"dirty",
+    b"dirty 0",
+    b"dirty block",
+    b"dirty block 0 0",
+    b"harvest space",
+    b"harvest table 0",
     // widths other than 1, 2, 4 and 8
     b"store 0 0 0 0",
     b"store 0 3 0 0",
@@ -172,6 +198,7 @@ const BAD_LINES: [&[u8]; 78] = [
     b"block 1 0",
     b"block 1 0x0",
     b"block 0 0",
+    b"space 1 0",
     // numbers
     b"plain x",
     b"plain -1",
