@@ -11,6 +11,8 @@ mod machines;
 mod memories;
 pub mod regions;
 #[cfg(test)]
+mod rounds;
+#[cfg(test)]
 mod scripts;
 #[cfg(test)]
 mod support;

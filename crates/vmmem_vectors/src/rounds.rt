@@ -1,0 +1,120 @@
+//! The image of a block that is brought up to date in rounds.
+use std::alloc::Global;
+use std::num::NonZeroUsize;
+use std::sync::Arc;
+use std::test::Fail;
+use vm_memory::machine::command::{Command, Reply};
+use vm_memory::machine::list::{ByteList, NumberList};
+use vm_memory::machine::{Machine, run};
+use vm_memory::{
+    BitmapId, BlockId, ExclusiveBitmap, GuestAddress, GuestRegionMmap, HostMemory, MmapRegion,
+};
+
+type TestMachine = Machine<GuestRegionMmap, ExclusiveBitmap>;
+
+// A machine over a block of so many bytes in pages of two, with a memory that begins with the block.
+fn machine_of(alloc: Global, size: usize) -> Result<TestMachine, Fail> {
+    let mut host = HostMemory::new(alloc);
+    let page_size = NonZeroUsize::new(2).ok_or("a page has bytes")?;
+    let bitmap = ExclusiveBitmap::new(alloc, size, page_size)?;
+    let block = host.new_block_with(size, bitmap)?;
+    if host.shape().block_len(block).is_none() {
+        return Err(Fail::new("the host has the block"));
+    }
+    let mapping = MmapRegion::of_block(&host, block);
+    let region = GuestRegionMmap::new(mapping, GuestAddress(0)).ok_or("the region fits")?;
+    let regions = vec![in alloc; Arc::new(alloc, region)?]?;
+    Ok(Machine::new(alloc, host, regions))
+}
+
+// What a step of a test does.
+#[derive(Clone, Copy)]
+enum Step {
+    /// Writes bytes at an address.
+    Write(u64, &'static [u8]),
+    /// Takes the dirty pages, without the image.
+    Harvest,
+    /// Changes a byte of the image alone.
+    Tear(usize, u8),
+    /// Brings the image up to date. These are its bytes then.
+    Sync(&'static [u8]),
+}
+
+const STEPS: [Step; 12] = [
+    Step::Sync(&[0, 0, 0, 0, 0]),
+    Step::Write(0, &[1, 2, 3, 4, 5]),
+    Step::Sync(&[1, 2, 3, 4, 5]),
+    // page 1 alone
+    Step::Write(3, &[9]),
+    Step::Sync(&[1, 2, 3, 9, 5]),
+    // nothing of a page that is clean is copied, and all of one that is dirty
+    Step::Tear(0, 7),
+    Step::Tear(2, 7),
+    Step::Write(3, &[8]),
+    Step::Sync(&[7, 2, 3, 8, 5]),
+    // what another took is missing
+    Step::Write(4, &[6]),
+    Step::Harvest,
+    Step::Sync(&[7, 2, 3, 8, 5]),
+];
+
+// Runs one command.
+fn run_one(machine: &mut TestMachine, alloc: Global, command: Command) -> Result<Reply, Fail> {
+    let mut replies = Vec::new(alloc);
+    run(machine, &[command], &mut replies)?;
+    Ok(replies.pop().ok_or("there is a reply")?)
+}
+
+// Makes the step, and says whether the image is as wanted.
+fn is_as_wanted(
+    machine: &mut TestMachine,
+    alloc: Global,
+    image: &mut [u8],
+    step: Step,
+) -> Result<bool, Fail> {
+    match step {
+        Step::Write(addr, bytes) => {
+            let bytes = ByteList::from_vec(Vec::from_slice(alloc, bytes)?);
+            let addr = GuestAddress(addr);
+            let _ = run_one(
+                machine,
+                alloc,
+                Command::Write {
+                    memory: 0,
+                    addr,
+                    bytes,
+                },
+            )?;
+        }
+        Step::Harvest => {
+            let _ = run_one(machine, alloc, Command::Harvest(BitmapId::Block(0)))?;
+        }
+        Step::Tear(at, byte) => {
+            if at < image.len() {
+                image[at] = byte;
+            }
+        }
+        Step::Sync(wanted) => {
+            if machine.host().shape().block_len(BlockId(0)) != Some(image.len()) {
+                return Err(Fail::new("the image is as long as the block"));
+            }
+            machine.sync(BlockId(0), image)?;
+            return Ok(&*image == wanted);
+        }
+    }
+    Ok(true)
+}
+
+#[test]
+fn an_image_follows_its_block(rt: HostRuntime) -> Result<(), Fail> {
+    let mut machine = machine_of(rt.alloc(), 5)?;
+    let layout = NumberList::from_vec(vec![in rt.alloc(); 0usize]?);
+    let _ = run_one(&mut machine, rt.alloc(), Command::FromRegions(layout))?;
+    let _ = run_one(&mut machine, rt.alloc(), Command::Plain(0))?;
+    let mut image = [0u8; 5];
+    for (number, step) in STEPS.iter().enumerate() {
+        let good = is_as_wanted(&mut machine, rt.alloc(), &mut image, *step)?;
+        assert!(rt; good, "step {number}");
+    }
+    Ok(())
+}
