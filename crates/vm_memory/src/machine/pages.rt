@@ -36,7 +36,8 @@ impl<R: GuestMemoryRegion, B: ExactBitmap> Machine<R, B> {
         if !has_bitmap(&self.host, bitmap) {
             return Reply::NoSuch;
         }
-        match self.host.bitmap_mut(bitmap).harvest(self.alloc) {
+        let taken = self.host.bitmap_mut(bitmap).harvest(self.alloc);
+        match taken {
             Ok(pages) => Reply::Pages(NumberList::from_vec(pages)),
             Err(_) => Reply::Memory,
         }

@@ -10,10 +10,10 @@ returns g c =
     let parts = parts_of c.self.inside in
     let bitmap = c.bitmap_mut.result.now in
     let there = c.bitmap_mut.ensures.value in
-    elim c.match-harvest.branch [
+    elim c.match-taken.branch [
       | in-Ok w ↦
           rw (w.result-is, w.from_vec.ensures, ← c.self.view_is)
-          (harvest_is_step region pages parts c.args.bitmap bitmap there w.in-Ok.pages.items c.harvest.new.self
+          (harvest_is_step region pages parts c.args.bitmap bitmap there w.in-Ok.pages.items c.harvest-taken.new.self
           w.in-Ok.ensures.dirty w.in-Ok.ensures.clean)
       | in-Err w ↦
           rw (w.result-is, w.in-Err.ensures.refused, ← c.self.view_is)
