@@ -8,7 +8,7 @@ use std::test::Fail;
 use vm_memory::{DriveFault, drive};
 
 // Scripts, and what they tell: their replies, and then the status and the text of a fault.
-const SCRIPTS: [(&[u8], &str); 18] = [
+const SCRIPTS: [(&[u8], &str); 19] = [
     (b"", ""),
     (b"\n\n# nothing\n#\xff\x00\r  \n", ""),
     (
@@ -72,22 +72,25 @@ const SCRIPTS: [(&[u8], &str); 18] = [
          value 18446744073709551615\nvalue 255\nerror NoSuch\nerror NoSuch\nerror BadRange\n\
          error BadRange\nok\nerror BadRange\n",
     ),
-    // Writes, stores and copies mark the pages of the block that they reach, and no others. Asked for, they
-    // stay dirty, and a harvest leaves none.
+    // Pages that were written are dirty until a harvest takes them. Nothing written is nothing marked.
     (
-        b"block 0x2800 0x1000\nblock 8 2\nspace 0x10000 0x1000\nregion 0 0\nlayout 0\nplain 0\n\
-          write 0 0x1fff 0102\nread 0 0 4\ndirty block 0\ndirty block 0\ndirty block 1\ndirty space 0\n\
-          harvest block 0\ndirty block 0\nharvest block 0\nstore 0 8 0 1\ncopy 0 0 8 1 3 2\n\
-          dirty block 0\nharvest block 1\nharvest space 0\n",
-        "block 0\nblock 1\nspace 0\nregion 0\nlayout 0\nmemory 0\ncount 2\nbytes 00000000\n\
-         pages 1 2\npages 1 2\npages -\npages -\npages 1 2\npages -\npages -\nok\nok\npages 0\n\
-         pages 1 2\npages -\n",
+        b"block 0x2001 0x1000\nregion 0 0\nlayout 0\nplain 0\ndirty block 0\nwrite 0 0xfff 0102\n\
+          harvest block 0\nstore 0 1 0x2000 7\ndirty block 0\nwrite 0 0x1000 -\ndirty block 0\n",
+        "block 0\nregion 0\nlayout 0\nmemory 0\npages -\ncount 2\npages 0 1\nok\npages 2\ncount 0\n\
+         pages 2\n",
     ),
-    // A space may have no pages, a page may pass the end, and what is named has to be there.
+    // A copy marks where it goes, and no other block. A refused write marks nothing.
     (
-        b"space 0 1\nspace 1 0xffffffffffffffff\nblock 0 1\ndirty space 0\nharvest space 1\n\
-          dirty space 2\nharvest block 0\n",
-        "space 0\nspace 1\nerror M1\npages -\npages -\nerror NoSuch\nerror NoSuch\n",
+        b"block 8 2\nblock 9 4\nregion 0 0\nlayout 0\nplain 0\ncopy 0 0 8 1 3 6\ndirty block 0\n\
+          dirty block 1\nwrite 0 8 01\nwrite 0 7 0102\nharvest block 0\nharvest block 0\nharvest block 1\n",
+        "block 0\nblock 1\nregion 0\nlayout 0\nmemory 0\nok\npages -\npages 0 1 2\nerror G1 0x8\ncount 1\n\
+         pages 3\npages -\npages 0 1 2\n",
+    ),
+    // Spaces have pages of their own. A number that names nothing is told.
+    (
+        b"space 0x3000 0x1000\nspace 0 1\nblock 1 1\ndirty space 0\nharvest space 1\ndirty space 2\n\
+          harvest block 1\n",
+        "space 0\nspace 1\nblock 0\npages -\npages -\nerror NoSuch\nerror NoSuch\n",
     ),
     // A line that sets up comes before the first command, also before one that was refused.
     (
@@ -127,7 +130,7 @@ fn each_line_has_its_reply(rt: HostRuntime) -> Result<(), Fail> {
 }
 
 // Lines that are bad before the first command and after it.
-const BAD_LINES: [&[u8]; 88] = [
+const BAD_LINES: [&[u8]; 87] = [
     // between words there is one space, and no other byte
     b" ",
     b"\r",
@@ -179,26 +182,25 @@ const BAD_LINES: [&[u8]; 88] = [
     b"load 0 4 0 0",
     b"copy 0 0 0 0 0",
     b"copy 0 0 0 0 0 0 0",
-    b"space",
-    b"space 1",
-    b"space 1 1 1",
-    b"dirty",
-    b"dirty 0",
-    b"dirty block",
-    b"dirty block 0 0",
-    b"harvest space",
-    b"harvest table 0",
     // widths other than 1, 2, 4 and 8
     b"store 0 0 0 0",
     b"store 0 3 0 0",
     b"load 0 5 0",
     b"load 0 16 0",
     b"store 0 x 0 0",
+    b"space",
+    b"space 1",
+    b"space 1 1 1",
+    b"dirty block",
+    b"dirty 0",
+    b"dirty region 0",
+    b"harvest space 0 0",
     // a page of no bytes
+    b"space 1 0",
+    b"space 0 0x0",
     b"block 1 0",
     b"block 1 0x0",
     b"block 0 0",
-    b"space 1 0",
     // numbers
     b"plain x",
     b"plain -1",

@@ -19,7 +19,10 @@ pub(super) enum Setup {
         page_size: NonZeroUsize,
     },
     /// A region of a whole block at an address.
-    Region { block: BlockId, addr: GuestAddress },
+    Region {
+        block: BlockId,
+        addr: GuestAddress,
+    },
 }
 
 /// The setup line that begins with a word, if there is one.
