@@ -1,5 +1,5 @@
 -- Pieces of the bytes of a value that are replaced.
-use Rattle.std.proofs.Common.{◌≡◌, ℕ, ◌+◌, ◌≤◌, List, ◌++◌, ◌<◌, take, drop, set, get_or, length, refl, sym, ◌∙◌, ap, arith}
+use Rattle.std.proofs.Common.{◌≡◌, ℕ, ◌+◌, List, ◌++◌, ◌<◌, take, drop, set, get_or, length, refl, sym, ◌∙◌, ap, arith}
 use Rattle.std.proofs.lemmas.List.{take-append-drop, drop-drop, append_assoc, drop-set-lt, drop-set-add, take_more, take_more_set, length-drop}
 
 -- a list whose front and back are those of another, with a piece in between

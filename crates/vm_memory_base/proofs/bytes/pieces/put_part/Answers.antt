@@ -1,4 +1,3 @@
-use Rattle.std.proofs.Common.{rules}
 use Rattle.vm_memory_base.proofs.PieceLemmas.{piece_put}
 use Rattle.vm_memory_base.proofs.bytes.pieces.put_part.Goals as goal
 
