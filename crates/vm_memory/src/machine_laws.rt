@@ -41,8 +41,9 @@ pub fn refusals_change_nothing()
 pub fn runs_keep_images()
     ensures copy { (block : ℕ) (host : Host PageSet) → MirrorsBlock block host (bytes_of block host) }
     ensures kept { (block : ℕ) (image : List ℕ) (old : State) (cs : List Command) (rs : List Reply)
-        (new : State) (run : Run old cs rs new) → IsTracked block old.host → length (bytes_of block old.host) < 2 ^ 64
-        → RunsDirectly old cs rs new run → MirrorsBlock block old.host image
+        (new : State) (run : Run old cs rs new) → IsTracked block old.host
+        → length (bytes_of block old.host) < 2 ^ 64 → RunsDirectly old cs rs new run
+        → MirrorsBlock block old.host image
         → KeepsImage block image old cs rs new run }
     ensures unharvested { (block : ℕ) (image : List ℕ) (old : State) (cs : List Command) (rs : List Reply)
         (new : State) (run : Run old cs rs new) → IsTracked block old.host
