@@ -7,23 +7,25 @@ use vm_memory::machine::command::{Command, Reply};
 use vm_memory::machine::list::{ByteList, NumberList};
 use vm_memory::machine::{Machine, run};
 use vm_memory::{
-    BitmapId, BlockId, ExclusiveBitmap, GuestAddress, GuestRegionMmap, HostMemory, MmapRegion,
+    BitmapId, BlockId, Bytes, ExactBitmap, ExclusiveBitmap, GuestAddress, GuestMemoryRegion,
+    GuestRegionMmap, HostMemory, MemoryRegionAddress, MmapRegion,
 };
 
 type TestMachine = Machine<GuestRegionMmap, ExclusiveBitmap>;
 
-// A machine over a block of so many bytes in pages of two, with a memory that begins with the block.
-fn machine_of(alloc: Global, size: usize) -> Result<TestMachine, Fail> {
+// A machine over a block of so many bytes in pages of so many, which lies at 0 and again at 0x10000.
+fn machine_of(alloc: Global, size: usize, page_size: usize) -> Result<TestMachine, Fail> {
     let mut host = HostMemory::new(alloc);
-    let page_size = NonZeroUsize::new(2).ok_or("a page has bytes")?;
+    let page_size = NonZeroUsize::new(page_size).ok_or("a page has bytes")?;
     let bitmap = ExclusiveBitmap::new(alloc, size, page_size)?;
     let block = host.new_block_with(size, bitmap)?;
     if host.shape().block_len(block).is_none() {
         return Err(Fail::new("the host has the block"));
     }
     let mapping = MmapRegion::of_block(&host, block);
-    let region = GuestRegionMmap::new(mapping, GuestAddress(0)).ok_or("the region fits")?;
-    let regions = vec![in alloc; Arc::new(alloc, region)?]?;
+    let low = GuestRegionMmap::new(mapping, GuestAddress(0)).ok_or("the region fits")?;
+    let high = GuestRegionMmap::new(mapping, GuestAddress(0x10000)).ok_or("the region fits")?;
+    let regions = vec![in alloc; Arc::new(alloc, low)?, Arc::new(alloc, high)?]?;
     Ok(Machine::new(alloc, host, regions))
 }
 
@@ -40,22 +42,25 @@ enum Step {
     Sync(&'static [u8]),
 }
 
-const STEPS: [Step; 12] = [
+const STEPS: [Step; 14] = [
     Step::Sync(&[0, 0, 0, 0, 0]),
     Step::Write(0, &[1, 2, 3, 4, 5]),
     Step::Sync(&[1, 2, 3, 4, 5]),
     // page 1 alone
     Step::Write(3, &[9]),
     Step::Sync(&[1, 2, 3, 9, 5]),
+    // the same block at its other address
+    Step::Write(0x10002, &[6, 9]),
+    Step::Sync(&[1, 2, 6, 9, 5]),
     // nothing of a page that is clean is copied, and all of one that is dirty
     Step::Tear(0, 7),
     Step::Tear(2, 7),
     Step::Write(3, &[8]),
-    Step::Sync(&[7, 2, 3, 8, 5]),
+    Step::Sync(&[7, 2, 6, 8, 5]),
     // what another took is missing
     Step::Write(4, &[6]),
     Step::Harvest,
-    Step::Sync(&[7, 2, 3, 8, 5]),
+    Step::Sync(&[7, 2, 6, 8, 5]),
 ];
 
 // Runs one command.
@@ -107,8 +112,8 @@ fn is_as_wanted(
 
 #[test]
 fn an_image_follows_its_block(rt: HostRuntime) -> Result<(), Fail> {
-    let mut machine = machine_of(rt.alloc(), 5)?;
-    let layout = NumberList::from_vec(vec![in rt.alloc(); 0usize]?);
+    let mut machine = machine_of(rt.alloc(), 5, 2)?;
+    let layout = NumberList::from_vec(vec![in rt.alloc(); 0usize, 1]?);
     let _ = run_one(&mut machine, rt.alloc(), Command::FromRegions(layout))?;
     let _ = run_one(&mut machine, rt.alloc(), Command::Plain(0))?;
     let mut image = [0u8; 5];
@@ -116,5 +121,45 @@ fn an_image_follows_its_block(rt: HostRuntime) -> Result<(), Fail> {
         let good = is_as_wanted(&mut machine, rt.alloc(), &mut image, *step)?;
         assert!(rt; good, "step {number}");
     }
+    Ok(())
+}
+
+// A page that a harvest took stays as it was in the image, and the last page is cut by the block's end.
+#[test]
+fn a_round_copies_the_pages_that_are_left(rt: HostRuntime) -> Result<(), Fail> {
+    let alloc = rt.alloc();
+    let mut machine = machine_of(alloc, 0x2001, 0x1000)?;
+    let layout = NumberList::from_vec(vec![in alloc; 0usize]?);
+    let _ = run_one(&mut machine, alloc, Command::FromRegions(layout))?;
+    let _ = run_one(&mut machine, alloc, Command::Plain(0))?;
+    let mut image = Vec::new(alloc);
+    image.resize(0x2001, 0u8)?;
+    for step in [
+        Step::Write(0xfff, &[1, 2]),
+        Step::Harvest,
+        Step::Write(0x2000, &[7]),
+    ] {
+        let _ = is_as_wanted(&mut machine, alloc, image.as_mut_slice(), step)?;
+    }
+    let _ = is_as_wanted(&mut machine, alloc, image.as_mut_slice(), Step::Sync(&[]))?;
+    assert!(rt; image.pop() == Some(7));
+    assert!(rt; image.iter().all(|byte| *byte == 0));
+    Ok(())
+}
+
+#[test]
+fn a_bitmap_may_end_before_its_block(rt: HostRuntime) -> Result<(), Fail> {
+    let mut host: HostMemory<ExclusiveBitmap> = HostMemory::new(rt.alloc());
+    let page = NonZeroUsize::new(0x1000).ok_or("a page has bytes")?;
+    let block = host.new_block_with(0x2000, ExclusiveBitmap::new(rt.alloc(), 0x1000, page)?)?;
+    assert!(rt; host.shape().block_len(block).is_some());
+    let mapping = MmapRegion::of_block(&host, block);
+    let region = GuestRegionMmap::new(mapping, GuestAddress(0)).ok_or("the region fits")?;
+    let window = region.get_slice(MemoryRegionAddress(0x1000), 1)?;
+    assert!(rt; host.holds(&window));
+    let count = window.write(&mut host, &[1], 0)?;
+    let dirty = host.bitmap_mut(window.bitmap().id).harvest(rt.alloc())?;
+    assert!(rt; count == 1);
+    assert!(rt; dirty.as_slice().is_empty());
     Ok(())
 }
