@@ -116,6 +116,9 @@ impl<R: GuestMemoryRegion, B: ExactBitmap> Machine<R, B> {
 
 /// Runs commands in order, and appends a reply for each. Room for the replies is reserved first: refused,
 /// nothing ran and nothing was appended.
+///
+/// A copy of a block that its bitmap covers, patched with the pages of each harvest and with those that are
+/// dirty, is the block at every moment of the run: docs/DEFINITIONS.md, "Images kept in rounds".
 pub fn run<R: GuestMemoryRegion, B: ExactBitmap>(
     machine: &mut Machine<R, B>,
     commands: &[Command],

@@ -30,7 +30,8 @@ pub fn refusals_change_nothing()
     ensures fault { (old new : State) (c : Command) (f : Fault) → Step old c (reply.Fault f) new → new ≡ old }
     ensures no_such { (old new : State) (c : Command) → Step old c NoSuch new → new ≡ old }
     ensures memory { (old new : State) (c : Command) → Step old c Memory new → new ≡ old }
-    ensures read { (old new : State) (c : Command) (bytes : List ℕ) → Step old c (Bytes bytes) new → new ≡ old }
+    ensures read { (old new : State) (c : Command) (bytes : List ℕ) → Step old c (Bytes bytes) new
+        → new ≡ old }
     ensures load { (old new : State) (c : Command) (value : ℕ) → Step old c (Value value) new → new ≡ old }
     ensures bad_range { (old new : State) (c : Command) → Step old c BadRange new → new ≡ old }
 {}
@@ -39,9 +40,10 @@ pub fn refusals_change_nothing()
 /// by the harvests before, it mirrors the block. A copy of the block is such an image.
 pub fn runs_keep_images()
     ensures copy { (block : ℕ) (host : Host PageSet) → MirrorsBlock block host (bytes_of block host) }
-    ensures kept { (block : ℕ) (image : List ℕ) (old : State) (cs : List Command) (rs : List Reply) (new : State)
-        (run : Run old cs rs new) → IsTracked block old.host → length (bytes_of block old.host) < 2 ^ 64
-        → RunsDirectly old cs rs new run → MirrorsBlock block old.host image
+    ensures kept { (block : ℕ) (image : List ℕ) (old : State) (cs : List Command) (rs : List Reply)
+        (new : State) (run : Run old cs rs new) → IsTracked block old.host
+        → length (bytes_of block old.host) < 2 ^ 64 → RunsDirectly old cs rs new run
+        → MirrorsBlock block old.host image
         → KeepsImage block image old cs rs new run }
     ensures unharvested { (block : ℕ) (image : List ℕ) (old : State) (cs : List Command) (rs : List Reply)
         (new : State) (run : Run old cs rs new) → IsTracked block old.host

@@ -18,8 +18,8 @@ impl<R: GuestMemoryRegion, B: ExactBitmap> Machine<R, B> {
     /// dirty, and copies the bytes of these pages from the block. `AllocError` where there is no memory for
     /// the list of pages: then nothing is changed.
     ///
-    /// An image that was a copy of the block at some time, and that got the pages of each harvest since, is
-    /// the block then: docs/DEFINITIONS.md, "Rounds".
+    /// An image that was a copy of the block at some time, and was patched with the pages of each harvest
+    /// since, is the block then: docs/DEFINITIONS.md, "Images kept in rounds".
     pub fn sync(&mut self, block: BlockId, image: &mut [u8]) -> Result<(), AllocError>
         requires there { Holds (shape_of self.old.host) (names.Block block.0 ∷ []) }
         requires len { length image.old ≡ length (block_at self.old.host.blocks block.0) }
