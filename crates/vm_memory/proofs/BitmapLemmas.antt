@@ -1,5 +1,5 @@
 -- Bitmaps of a host by their names, and their dirty pages one after the other.
-use Rattle.std.proofs.Common.{◌≡◌, ℕ, ◌+◌, ◌-◌, ◌*◌, ◌^◌, ◌<◌, ◌≤◌, Bool, true, false, cond, List, [], ◌∷◌, ◌++◌, set, take, map, length, get_or, slice_get, Some, None, option_map, refl, sym, ap, ◌∙◌, inl, inr, arith, add-zero, zero-add, mul-div_cancel, mul-le-mul_right}
+use Rattle.std.proofs.Common.{◌≡◌, ℕ, ◌+◌, ◌-◌, ◌*◌, ◌^◌, ◌<◌, ◌≤◌, Bool, true, false, cond, List, [], ◌∷◌, ◌++◌, set, take, map, length, get_or, slice_get, Some, None, option_map, Result, Ok, Err, OnOk, refl, sym, ap, ◌∙◌, inl, inr, arith, add-zero, zero-add, mul-div_cancel, mul-le-mul_right}
 use Rattle.std.proofs.lemmas.List.{map-set, set-get_or, take_more, take_all, length-take-le}
 use Rattle.std.proofs.lemmas.Option.{slice_get-map, get_or_from_slice_get, none-some, same_Some}
 use Rattle.vm_memory_base.specs.Pages.{PageSet, IsPageSet, shape, is_dirty_at, dirty_from, dirty_pages, cleaned}
@@ -11,7 +11,7 @@ use Rattle.vm_memory_guest.specs.Region.{Region}
 use Rattle.vm_memory_guest.specs.Window.{bitmap_of, with_bitmap}
 use Rattle.vm_memory.specs.Machine.{Step}
 use Rattle.vm_memory.specs.Parts.{Parts, state_of}
-use Rattle.vm_memory.specs.Rounds.{pages_of}
+use Rattle.vm_memory.specs.Rounds.{pages_of, image_now, IsSynced}
 use Rattle.vm_memory.specs.declared.machine.command.Command.TheVariants as command
 use Rattle.vm_memory.specs.declared.machine.command.Reply.TheVariants as reply
 
@@ -37,7 +37,7 @@ module _ {B : Type 0} (pages : B → PageSet) (host : Host B) where
       (slice_get-map pages host.bitmaps block ∙ ap (option_map pages) there)
 
 -- the bitmap that is there, put there again
-set-same : {X : Type 0} (xs : List X) (i : ℕ) (x : X) → slice_get xs i ≡ Some x → set xs i x ≡ xs
+pub set-same : {X : Type 0} (xs : List X) (i : ℕ) (x : X) → slice_get xs i ≡ Some x → set xs i x ≡ xs
 set-same xs i x there =
     ap (λ (y : _). set xs i y) (sym (get_or_from_slice_get xs i x x there)) ∙ set-get_or xs i x
 
@@ -66,6 +66,25 @@ module _ {R B : Type 0} (region : R → Region) (pages : B → PageSet) (m : Par
     pub refusal_is_step : Step (state_of region pages m) (command.Harvest id) reply.Memory
         (state_of region pages (record m { host = with_bitmap m.host id b }))
     refusal_is_step = rw (seen, with_bitmap-same m.host id b there) (inr (refl, refl, refl))
+
+-- ---- a sync
+
+module _ {R B E : Type 0} (region : R → Region) (pages : B → PageSet) (m : Parts R B) (block : ℕ)
+    (image synced : List ℕ) (host : Host B)
+  where
+    pub sync_is_synced : (r : Result (Unit {0}) E)
+        → OnOk r (synced ≡ image_now block (with_pages pages m.host) image)
+        → OnOk r ((after : B) × (pages after ≡ cleaned (pages_of block (with_pages pages m.host)))
+        × (host ≡ with_bitmap m.host (Block block) after))
+        → OnOk r (IsSynced block (state_of region pages m) image
+        (state_of region pages (record m { host = host })) synced)
+    sync_is_synced (Err e) patched cleans = tt
+    sync_is_synced (Ok done) patched (after, clean, left) = (
+      patched,
+      ap (λ (h : Host PageSet). record (state_of region pages m) { host = h })
+          (ap (with_pages pages) left ∙ with_pages-with_bitmap pages m.host (Block block) after
+          ∙ ap (with_bitmap (with_pages pages m.host) (Block block)) clean),
+    )
 
 -- ---- dirty pages one after the other
 

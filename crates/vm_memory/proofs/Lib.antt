@@ -2,6 +2,8 @@ pub mod AccessLemmas
 pub mod BitmapLemmas
 pub mod BlockLemmas
 pub mod CopyLemmas
+pub mod LayoutLemmas
+pub mod TableLemmas
 pub mod ListLemmas
 pub mod NamedLemmas
 pub mod PatchLemmas

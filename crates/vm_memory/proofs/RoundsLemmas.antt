@@ -25,6 +25,7 @@ use Rattle.vm_memory_guest.specs.Copy.{after_copy, dirtied_cells}
 use Rattle.vm_memory_guest.specs.Dirt.{pages_at, path_cells, after_write, bytes_read, dirtied, marks_pages}
 use Rattle.vm_memory_guest.specs.Error.{error_of}
 use Rattle.vm_memory_guest.specs.Host.{Host, Cell, block_at, byte_at, bytes_at, cells_from, written}
+use Rattle.vm_memory_guest.specs.Layout.{inserted, removed}
 use Rattle.vm_memory_guest.specs.Memory.{Behind, Direct, physical, route_behind}
 use Rattle.vm_memory_guest.specs.Region.{Region, Lies, Byte, Bare, Hole, cell, layout_error}
 use Rattle.vm_memory_guest.specs.Typed.{path_given, typed_path, whole_path}
@@ -32,8 +33,10 @@ use Rattle.vm_memory_guest.specs.Window.{bitmap_of, with_bitmap}
 use Rattle.vm_memory_guest.specs.declared.region.GuestMemoryError.{GuestMemoryError}
 use Rattle.vm_memory_guest.specs.declared.region.GuestMemoryError.TheVariants as errors
 use Rattle.vm_memory_guest.specs.declared.region.GuestRegionCollectionError.{GuestRegionCollectionError}
+use Rattle.vm_memory_base.specs.Table as table
 use Rattle.vm_memory.specs.Copy.{copied, has_block, ends_inside}
-use Rattle.vm_memory.specs.Machine.{Step, Run, if_there, new_layout, with_host, outcome}
+use Rattle.vm_memory.specs.Machine.{Step, Run, if_there, new_layout, rest_layout, with_host, outcome}
+use Rattle.vm_memory.specs.Tables.{changed_table}
 use Rattle.vm_memory.specs.Reply.{reached_by, answer_of, reply_of, writes}
 use Rattle.vm_memory.specs.Rounds.{patched, patched_by, patched_with, bytes_of, pages_of, image_now, image_after, MirrorsBlock, Cover, IsTracked, IsDirect, RunsDirectly, KeepsImage}
 use Rattle.vm_memory.specs.State.{State, MachineMemory, named, meaning, IsOn}
@@ -352,6 +355,10 @@ layout_keeps_host : (old : State) (rs : List Region) (e : Option GuestRegionColl
 layout_keeps_host old rs None = refl
 layout_keeps_host old rs (Some e) = refl
 
+rest_keeps_host : (old : State) (o : Option (List Region × Region)) → (rest_layout old o).1.host ≡ old.host
+rest_keeps_host old None = refl
+rest_keeps_host old (Some p) = refl
+
 module _ (are_listed : AreListed) (cleaned_stay : CleanedStay) (laws : WriteLaws) (block : ℕ) where
   module _ (image : List ℕ) (old new : State) (kept : KeepsBlock block image old.host) where
     stays : (r : Reply) (a : Reply × State) → (r, new) ≡ a → a.1.host ≡ old.host → KeepsBlock block image new.host
@@ -420,10 +427,25 @@ module _ (are_listed : AreListed) (cleaned_stay : CleanedStay) (laws : WriteLaws
         (λ (p : Reply × State). KeepsBlock block (image_after block old.host (command.Harvest (Block b)) p.0 image) p.1.host)
         (sym e) (harvest_keeps are_listed cleaned_stay block image old.host kept b set there)
 
+    tabled : (number : ℕ) (call : table.TableCall) (r : Reply) (o : Option table.Table) (over : Bool)
+        → (r, new) ≡ with_host old (changed_table old.host number o over call) → KeepsBlock block image new.host
+    tabled number call r None over e = stays r _ e refl
+    tabled number call r (Some t) true e = stays r _ e refl
+    tabled number call r (Some t) false e =
+        subst (KeepsBlock block image) (sym (ap (λ (p : Reply × State). p.1.host) e)) kept
+
     answered : (c : Command) (r : Reply) → IsDirect old c → (r, new) ≡ outcome old c
         → KeepsBlock block (image_after block old.host c r image) new.host
     answered (command.FromRegions ns) r direct e =
         stays r _ e (same_host old (named old.regions ns) _ (λ rs. layout_keeps_host old rs (layout_error rs)))
+    answered (command.Insert place number) r direct e =
+        stays r _ e
+        (same_host old (slice_get old.layouts place) _
+        (λ rs. same_host old (slice_get old.regions number) _
+        (λ q. layout_keeps_host old (inserted (λ x. x) rs q) (layout_error (inserted (λ x. x) rs q)))))
+    answered (command.Remove place base size) r direct e =
+        stays r _ e
+        (same_host old (slice_get old.layouts place) _ (λ rs. rest_keeps_host old (removed (λ q. q) rs base.0 size)))
     answered (command.Plain layout) r direct e =
         stays r _ e (same_host old (slice_get old.layouts layout) _ (λ rs. refl))
     answered (command.Read memory addr n) r direct e =
@@ -434,9 +456,19 @@ module _ (are_listed : AreListed) (cleaned_stay : CleanedStay) (laws : WriteLaws
         stored addr.0 (integer_of width) value r (slice_get old.memories memory) direct e
     answered (command.Load memory width addr) r direct e =
         stays r _ e (same_host old (slice_get old.memories memory) _ (λ m. refl))
+    answered (command.CheckRange memory addr n access) r direct e =
+        stays r _ e (same_host old (slice_get old.memories memory) _ (λ m. refl))
     answered (command.Copy from to) r direct e =
         copied_keeps from to r (has_block old.host from && has_block old.host to)
         (ends_inside old.host from && ends_inside old.host to) e
+    answered (command.Set number iova to len perm) r direct e =
+        tabled number (table.Set iova.0 to.0 len perm) r (slice_get old.host.tables number) (table.overruns iova.0 len) e
+    answered (command.Invalidate number iova len) r direct e =
+        tabled number (table.Invalidate iova.0 len) r (slice_get old.host.tables number) (table.overruns iova.0 len) e
+    answered (command.InvalidateAll number) r direct e =
+        tabled number table.InvalidateAll r (slice_get old.host.tables number) (table.overruns 0 0) e
+    answered (command.Lookup number iova len access) r direct e =
+        stays r _ e (same_host old (slice_get old.host.tables number) _ (λ t. refl))
     answered (command.Dirty id) r direct e = stays r _ e (same_host old (bitmap_of old.host id) _ (λ set. refl))
     answered (command.Harvest (Block b)) r direct e = harvested b r (slice_get old.host.bitmaps b) refl e
     answered (command.Harvest (Space s)) r direct e = spaced s r (slice_get old.host.spaces s) e
@@ -518,9 +550,12 @@ pub read_bytes : (xs : List Reached) (host : Host PageSet) (bytes : List ℕ) (a
     → reply.Bytes bytes ≡ reply_of (λ (count : ℕ). reply.Bytes (bytes_read xs host)) answer → bytes ≡ bytes_read xs host
 read_bytes xs host bytes (Ok count) e = cc
 read_bytes xs host bytes (Err (errors.InvalidGuestAddress addr)) e = cc
+read_bytes xs host bytes (Err (errors.IOError kind)) e = cc
 read_bytes xs host bytes (Err (errors.PartialBuffer expected completed)) e = cc
 read_bytes xs host bytes (Err errors.InvalidBackendAddress) e = cc
 read_bytes xs host bytes (Err errors.HostAddressNotAvailable) e = cc
+read_bytes xs host bytes (Err errors.CallbackOutOfRange) e = cc
+read_bytes xs host bytes (Err errors.GuestAddressOverflow) e = cc
 read_bytes xs host bytes (Err (errors.IommuError fault)) e = cc
 read_bytes xs host bytes (Err errors.Memory) e = cc
 

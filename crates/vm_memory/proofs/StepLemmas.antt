@@ -11,15 +11,19 @@ use Rattle.vm_memory_guest.specs.Answer.{counted}
 use Rattle.vm_memory_guest.specs.Dirt.{after_write}
 use Rattle.vm_memory_guest.specs.Error.{error_of}
 use Rattle.vm_memory_guest.specs.Host.{Host}
+use Rattle.vm_memory_guest.specs.Layout.{inserted, removed}
 use Rattle.vm_memory_guest.specs.Region.{Region, layout_error}
 use Rattle.vm_memory_guest.specs.Window.{bitmap_of, with_bitmap}
 use Rattle.vm_memory_guest.specs.Typed.{path_given}
 use Rattle.vm_memory_guest.specs.declared.region.GuestMemoryError.{GuestMemoryError}
 use Rattle.vm_memory_guest.specs.declared.region.GuestRegionCollectionError.{GuestRegionCollectionError}
 use Rattle.vm_memory.specs.State.{State, MachineMemory, named, plain, meaning}
-use Rattle.vm_memory.specs.Machine.{Step, Run, if_there, new_layout, new_memory, with_host, outcome}
+use Rattle.vm_memory.specs.Machine.{Step, Run, if_there, new_layout, rest_layout, new_memory, with_host, outcome}
 use Rattle.vm_memory.specs.Reply.{reply_of, reached_by, writes}
+use Rattle.vm_memory_base.specs.Table as table
+use Rattle.vm_memory_guest.specs.Host.{with_table_at}
 use Rattle.vm_memory.specs.Copy as copy
+use Rattle.vm_memory.specs.Tables.{changed_table}
 use Rattle.vm_memory.specs.Copy.{has_block, ends_inside}
 use Rattle.vm_memory.specs.Typed.{fits_width, integer_of, stores, stores_bytes, taken_by}
 use Rattle.vm_memory.specs.declared.machine.command.Command.{Command}
@@ -82,6 +86,10 @@ still-step old new c r still step = elim step [ inl e ↦ go c e | inr want ↦ 
     made rs None e = absurd (no_change (new_layout old rs None) e)
     made rs (Some fault) e = after (new_layout old rs (Some fault)) e
 
+    left : (o : Option (List Region × Region)) → (r, new) ≡ rest_layout old o → new ≡ old
+    left None e = after (rest_layout old None) e
+    left (Some p) e = made p.0 None e
+
     wrote : (m : MachineMemory) (a : ℕ) (bytes : List ℕ)
         → (r, new) ≡ with_host old (writes (meaning m) old.host a bytes) → new ≡ old
     wrote m a bytes e =
@@ -114,8 +122,20 @@ still-step old new c r still step = elim step [ inl e ↦ go c e | inr want ↦ 
     copied true false host e = after (reply.BadRange, old) e
     copied true true host e = absurd (no_change (with_host old (reply.Done, host)) e)
 
+    tabled : (number : ℕ) (call : table.TableCall) (o : Option table.Table) (over : Bool)
+        → (r, new) ≡ with_host old (changed_table old.host number o over call) → new ≡ old
+    tabled number call None over e = after (reply.NoSuch, old) e
+    tabled number call (Some t) true e = after (reply.BadRange, old) e
+    tabled number call (Some t) false e =
+        absurd (no_change (with_host old (reply.Done, with_table_at old.host number (table.changed call t))) e)
+
     go : (c : Command) → (r, new) ≡ outcome old c → new ≡ old
     go (command.FromRegions ns) e = there old new (named old.regions ns) _ r (λ rs. made rs (layout_error rs)) e
+    go (command.Insert layout region) e =
+        there old new (slice_get old.layouts layout) _ r
+        (λ rs. there old new (slice_get old.regions region) _ r (λ q. made (inserted (λ x. x) rs q) (layout_error (inserted (λ x. x) rs q)))) e
+    go (command.Remove layout base size) e =
+        there old new (slice_get old.layouts layout) _ r (λ rs. left (removed (λ q. q) rs base.0 size)) e
     go (command.Plain layout) e =
         there old new (slice_get old.layouts layout) _ r (λ rs f. absurd (no_change (new_memory old (plain rs)) f)) e
     go (command.Read memory addr n) e =
@@ -132,6 +152,16 @@ still-step old new c r still step = elim step [ inl e ↦ go c e | inr want ↦ 
         there old new (slice_get old.memories memory) _ r (λ m. stored m addr.0 (integer_of width) value) e
     go (command.Load memory width addr) e =
         there old new (slice_get old.memories memory) _ r (λ m f. ap (λ (p : Reply × State). p.1) f) e
+    go (command.CheckRange memory addr n access) e =
+        there old new (slice_get old.memories memory) _ r (λ m f. ap (λ (p : Reply × State). p.1) f) e
+    go (command.Set number iova to len perm) e =
+        tabled number (table.Set iova.0 to.0 len perm) (slice_get old.host.tables number) (table.overruns iova.0 len) e
+    go (command.Invalidate number iova len) e =
+        tabled number (table.Invalidate iova.0 len) (slice_get old.host.tables number) (table.overruns iova.0 len) e
+    go (command.InvalidateAll number) e =
+        tabled number table.InvalidateAll (slice_get old.host.tables number) (table.overruns 0 0) e
+    go (command.Lookup number iova len access) e =
+        there old new (slice_get old.host.tables number) _ r (λ t f. ap (λ (p : Reply × State). p.1) f) e
     go (command.Copy from to) e =
         copied (has_block old.host from && has_block old.host to)
         (ends_inside old.host from && ends_inside old.host to) (copy.copied old.host from to) e

@@ -1,17 +1,19 @@
 -- Replies to stores and loads of values.
-use Rattle.std.proofs.Common.{◌≡◌, ℕ, List, length, Result, Ok, Err, refl, ap}
+use Rattle.std.proofs.Common.{◌≡◌, ◌⊎◌, ℕ, List, length, Result, Ok, Err, refl, ap, ◌∙◌, inl, inr}
 use Rattle.vm_memory_base.specs.Pages.{PageSet}
 use Rattle.vm_memory_base.specs.declared.iotlb.Permissions.TheVariants as permissions
 use Rattle.vm_memory_guest.specs.Access.{Reached}
+use Rattle.vm_memory_guest.specs.Answer.{Outcome}
 use Rattle.vm_memory_guest.specs.Dirt.{after_write}
 use Rattle.vm_memory_guest.specs.Host.{Host}
-use Rattle.vm_memory_guest.specs.Memory.{Memory}
+use Rattle.vm_memory_guest.specs.Memory as memories
 use Rattle.vm_memory_guest.specs.Typed.{answered, path_given}
 use Rattle.vm_memory_guest.specs.declared.region.GuestMemoryError.{GuestMemoryError}
+use Rattle.vm_memory_guest.specs.declared.region.GuestMemoryError.TheVariants as errors
 use Rattle.vm_memory.specs.Reply.{reply_of, reply_of_error}
 use Rattle.vm_memory.specs.Typed.{stores_bytes, taken_by}
 use Rattle.vm_memory.specs.declared.machine.command.Reply.{Reply}
-use Rattle.vm_memory.specs.declared.machine.command.Reply.TheVariants.{Done, Value}
+use Rattle.vm_memory.specs.declared.machine.command.Reply.TheVariants.{Done, Value, Memory}
 
 -- one function after another
 pub answered_then : {X Y Z E : Type 0} (f : X → Y) (g : Y → Z) (r : Result X E)
@@ -34,15 +36,28 @@ pub done_told : {X : Type 0} (u : Unit {0}) (r : Result X GuestMemoryError) → 
 done_told u (Ok x) e = refl
 done_told u (Err d) e = absurd (cc)
 
--- what is left of a store that is done, and of one that is refused
-module _ (m : Memory) (host new : Host PageSet) (a n : ℕ) (bytes : List ℕ) (len : length bytes ≡ n)
-    (left : new ≡ after_write (path_given (taken_by m host.tables a n permissions.Write)) bytes host) where
+-- the reply to a store, and what is left of it
+module _ (m : memories.Memory) (host new : Host PageSet) (a n : ℕ) (bytes : List ℕ) (len : length bytes ≡ n) where
   abbrev taken : Result (List Reached) GuestMemoryError
   taken = taken_by m host.tables a n permissions.Write
 
-  pub stored : (u : Unit {0}) → Ok u ≡ answered (λ xs. tt {0}) taken → (Done, new) ≡ stores_bytes m host a bytes
-  stored u e = rw (len, left, ← done_told u taken e) refl
+  abbrev left : Type 0
+  left = new ≡ after_write (path_given taken) bytes host
 
-  pub not_stored : (e : GuestMemoryError) → Err e ≡ answered (λ xs. tt {0}) taken
+  stored : left → (u : Unit {0}) → Ok u ≡ answered (λ xs. tt {0}) taken → (Done, new) ≡ stores_bytes m host a bytes
+  stored is u e = rw (len, is, ← done_told u taken e) refl
+
+  not_stored : left → (e : GuestMemoryError) → Err e ≡ answered (λ xs. tt {0}) taken
       → (reply_of_error e, new) ≡ stores_bytes m host a bytes
-  not_stored e h = rw (len, left, ← error_told (λ xs. tt {0}) (λ xs. Done) taken e h) refl
+  not_stored is e h = rw (len, is, ← error_told (λ xs. tt {0}) (λ xs. Done) taken e h) refl
+
+  pub store_is_replied : {Wants Stays Writes : Type 0} {expected : Result (Unit {0}) GuestMemoryError}
+      → expected ≡ answered (λ xs. tt {0}) taken → (Writes → left) → (Stays → new ≡ host)
+      → (r : Result (Unit {0}) GuestMemoryError) → Outcome errors.Memory Wants expected Stays Writes r
+      → ((reply_of (λ _. Done) r, new) ≡ stores_bytes m host a bytes)
+      ⊎ ((reply_of (λ _. Done) r ≡ Memory) × Wants × (new ≡ host))
+  store_is_replied told writes stays (Ok u) (is, effect) = inl (stored (writes effect) u (is ∙ told))
+  store_is_replied told writes stays (Err e) (inl (is, wants, same)) =
+      inr (ap reply_of_error is, wants, stays same)
+  store_is_replied told writes stays (Err e) (inr (is, effect)) =
+      inl (not_stored (writes effect) e (is ∙ told))

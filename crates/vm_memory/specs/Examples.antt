@@ -1,13 +1,14 @@
 -- A small machine, in the words of the model. The examples alone cite it.
-use Rattle.std.specs.Prelude.{ℕ, ◌-◌, ◌^◌, [], ◌∷◌, Some, None, Bool, true, false}
+use Rattle.std.specs.Prelude.{ℕ, ◌-◌, ◌^◌, List, [], ◌∷◌, Some, None, Bool, true, false}
 use Rattle.vm_memory_base.specs.Pages.{PageSet}
 use Rattle.vm_memory_base.specs.Runs.{Run}
-use Rattle.vm_memory_base.specs.Table.{Table, Mapping}
+use Rattle.vm_memory_base.specs.Table.{Table, Mapping, Range}
 use Rattle.vm_memory_base.specs.declared.address.GuestAddress.{GuestAddress}
 use Rattle.vm_memory_base.specs.declared.iotlb.IommuError.TheVariants.{CannotResolve}
 use Rattle.vm_memory_base.specs.declared.iotlb.Permissions.{Permissions}
 use Rattle.vm_memory_base.specs.declared.iotlb.Permissions.TheVariants.{Read, ReadWrite}
 use Rattle.vm_memory_base.specs.declared.iotlb.Reason.{Reason}
+use Rattle.vm_memory_base.specs.declared.iotlb.lookup.IotlbFails.{IotlbFails}
 use Rattle.vm_memory_guest.specs.Host.{Host}
 use Rattle.vm_memory_guest.specs.Region.{Region}
 use Rattle.vm_memory.specs.State.{State, MachineMemory, plain}
@@ -91,3 +92,10 @@ not_translated a n reason = IommuError (CannotResolve (record { base = at a; len
 -- a window of a block
 abbrev pub in_block : ℕ → ℕ → ℕ → BlockRange
 in_block block offset len = record { block = block; offset = offset; len = len }
+
+-- a range of addresses, and what a look-up replies that misses some and may not access others
+abbrev pub range : ℕ → ℕ → Range
+range base len = record { base = base; len = len }
+
+abbrev pub failed : List Range → List Range → IotlbFails
+failed misses access_fails = record { misses = misses; access_fails = access_fails }

@@ -1,4 +1,6 @@
 pub mod Copy
+pub mod Tables
+pub mod Pieces
 pub mod Examples
 pub mod Inside
 pub mod Machine

@@ -1,21 +1,28 @@
 -- A machine as a model: what a command answers and leaves, a step of it, and a run of steps.
-use Rattle.std.specs.Prelude.{◌≡◌, ◌⊎◌, ◌<◌, IsTrue, List, [], ◌∷◌, ◌++◌, length, slice_get}
+use Rattle.std.specs.Prelude.{◌≡◌, ◌⊎◌, ◌<◌, false, IsTrue, List, [], ◌∷◌, ◌++◌, length, slice_get}
 use Rattle.std.specs.Prelude.{Option, Some, None, IsSome, IsSomeAnd}
 use Rattle.vm_memory_base.specs.Pages.{PageSet, dirty_pages, cleaned}
+use Rattle.vm_memory_base.specs.Table as table
+use Rattle.vm_memory_base.specs.Table.{says, overruns}
 use Rattle.vm_memory_guest.specs.Host.{Host}
+use Rattle.vm_memory_guest.specs.Layout.{inserted, removed}
 use Rattle.vm_memory_guest.specs.Region.{Region, layout_error}
 use Rattle.vm_memory_guest.specs.Window.{bitmap_of, with_bitmap}
 use Rattle.vm_memory_guest.specs.declared.region.GuestRegionCollectionError.{GuestRegionCollectionError}
 use Rattle.vm_memory.specs.State.{State, MachineMemory, plain, meaning, named, IsOn}
 use Rattle.vm_memory.specs.Copy.{copies}
-use Rattle.vm_memory.specs.Reply.{reads, writes, reply_of_layout_error}
+use Rattle.vm_memory.specs.Reply.{reads, writes, checks, reply_of_layout_error}
 use Rattle.vm_memory.specs.Typed.{integer_of, fits_width, loads, stores}
 use Rattle.vm_memory.specs.declared.machine.command.Command.{Command}
-use Rattle.vm_memory.specs.declared.machine.command.Command.TheVariants.{FromRegions, Plain, Read, Write}
-use Rattle.vm_memory.specs.declared.machine.command.Command.TheVariants.{Store, Load, Copy, Dirty, Harvest}
+use Rattle.vm_memory.specs.declared.machine.command.Command.TheVariants.{FromRegions, Insert, Remove, Plain}
+use Rattle.vm_memory.specs.declared.machine.command.Command.TheVariants.{Read, Write, Store, Load, Copy, Dirty}
+use Rattle.vm_memory.specs.declared.machine.command.Command.TheVariants.{Harvest, CheckRange, Set, Invalidate}
+use Rattle.vm_memory.specs.declared.machine.command.Command.TheVariants.{InvalidateAll, Lookup}
+use Rattle.vm_memory.specs.Tables.{changes, looks_up}
 use Rattle.vm_memory.specs.declared.machine.command.Reply.{Reply}
 use Rattle.vm_memory.specs.declared.machine.command.Reply.TheVariants.{LayoutMade, MemoryMade, Pages}
-use Rattle.vm_memory.specs.declared.machine.command.Reply.TheVariants.{NoSuch, Memory}
+use Rattle.vm_memory.specs.declared.machine.command.Reply.TheVariants.{Fault, NoSuch, Memory}
+use Rattle.vm_memory.specs.declared.machine.command.Fault.TheVariants.{NoMemoryRegion}
 
 -- a number that names nothing is told, and changes nothing
 abbrev pub if_there : {X : Type 0} → State → Option X → (X → Reply × State) → Reply × State
@@ -26,6 +33,11 @@ if_there old (Some x) answer = answer x
 abbrev pub new_layout : State → List Region → Option GuestRegionCollectionError → Reply × State
 new_layout old rs None = (LayoutMade (length old.layouts), record old { layouts = old.layouts ++ rs ∷ [] })
 new_layout old rs (Some e) = (reply_of_layout_error e, old)
+
+-- a layout of the regions that are left when one is taken out is the next, unless none is
+abbrev pub rest_layout : State → Option (List Region × Region) → Reply × State
+rest_layout old None = (Fault NoMemoryRegion, old)
+rest_layout old (Some p) = new_layout old p.0 None
 
 -- a memory is the next
 abbrev pub new_memory : State → MachineMemory → Reply × State
@@ -39,6 +51,13 @@ with_host old (r, host) = (r, record old { host = host })
 abbrev pub outcome : State → Command → Reply × State
 outcome old (FromRegions numbers) =
     if_there old (named old.regions numbers) (λ rs. new_layout old rs (layout_error rs))
+outcome old (Insert layout region) =
+    if_there old (slice_get old.layouts layout)
+    (λ rs. if_there old (slice_get old.regions region)
+    (λ r. let more = inserted (λ q. q) rs r in new_layout old more (layout_error more)))
+outcome old (Remove layout base size) =
+    if_there old (slice_get old.layouts layout)
+    (λ rs. rest_layout old (removed (λ r. r) rs base.0 size))
 outcome old (Plain layout) = if_there old (slice_get old.layouts layout) (λ rs. new_memory old (plain rs))
 outcome old (Read memory addr count) =
     if_there old (slice_get old.memories memory)
@@ -52,25 +71,46 @@ outcome old (Store memory width addr value) =
 outcome old (Load memory width addr) =
     if_there old (slice_get old.memories memory)
     (λ m. (loads (meaning m) old.host addr.0 (integer_of width), old))
+outcome old (CheckRange memory addr count access) =
+    if_there old (slice_get old.memories memory)
+    (λ m. (checks (meaning m) old.host addr.0 count access, old))
 outcome old (Dirty id) = if_there old (bitmap_of old.host id) (λ set. (Pages (dirty_pages set), old))
 outcome old (Harvest id) =
     if_there old (bitmap_of old.host id)
     (λ set. with_host old (Pages (dirty_pages set), with_bitmap old.host id (cleaned set)))
 outcome old (Copy from to) = with_host old (copies old.host from to)
+outcome old (Set number iova to len perm) =
+    with_host old (changes old.host number iova.0 len (table.Set iova.0 to.0 len perm))
+outcome old (Invalidate number iova len) =
+    with_host old (changes old.host number iova.0 len (table.Invalidate iova.0 len))
+outcome old (InvalidateAll number) = with_host old (changes old.host number 0 0 table.InvalidateAll)
+outcome old (Lookup number iova len access) =
+    if_there old (slice_get old.host.tables number) (λ t. (looks_up (says t) iova.0 len access, old))
 
--- where memory may be wanting: for what is made, for the bytes and the pages that a reply lists, and for a
--- translation
+-- where memory may be wanting: for what is made or mapped, for the bytes, the pages and the ranges that a reply
+-- lists, and for a translation
 abbrev pub MayWant : State → Command → Type 0
 MayWant old (FromRegions numbers) = IsSome (named old.regions numbers)
+MayWant old (Insert layout region) =
+    IsSome (slice_get old.layouts layout) × IsSome (slice_get old.regions region)
+MayWant old (Remove layout base size) =
+    IsSomeAnd (slice_get old.layouts layout) (λ rs. IsSome (removed (λ r. r) rs base.0 size))
 MayWant old (Plain layout) = IsSome (slice_get old.layouts layout)
 MayWant old (Read memory addr n) = IsSomeAnd (slice_get old.memories memory) (λ m. IsOn m ⊎ (0 < n))
 MayWant old (Write memory addr bytes) = IsSomeAnd (slice_get old.memories memory) IsOn
 MayWant old (Store memory width addr value) =
     IsSomeAnd (slice_get old.memories memory) (λ m. IsOn m × IsTrue (fits_width (integer_of width) value))
 MayWant old (Load memory width addr) = IsSomeAnd (slice_get old.memories memory) IsOn
+MayWant old (CheckRange memory addr count access) = IsSomeAnd (slice_get old.memories memory) IsOn
 MayWant old (Dirty id) = IsSome (bitmap_of old.host id)
 MayWant old (Harvest id) = IsSome (bitmap_of old.host id)
 MayWant old (Copy from to) = ⊥
+MayWant old (Set number iova to len perm) =
+    IsSome (slice_get old.host.tables number) × (overruns iova.0 len ≡ false)
+MayWant old (Invalidate number iova len) =
+    IsSome (slice_get old.host.tables number) × (overruns iova.0 len ≡ false)
+MayWant old (InvalidateAll number) = ⊥
+MayWant old (Lookup number iova len access) = IsSome (slice_get old.host.tables number)
 
 -- from old, a machine may answer a command so and be in new then
 abbrev pub Step : State → Command → Reply → State → Type 0

@@ -10,21 +10,25 @@ use Rattle.vm_memory_guest.specs.Access.{Access, access_of}
 use Rattle.vm_memory_guest.specs.Answer.{counted}
 use Rattle.vm_memory_guest.specs.Dirt.{after_write, bytes_read}
 use Rattle.vm_memory_guest.specs.Error.{error_of}
+use Rattle.vm_memory_guest.specs.Queries.{is_whole}
 use Rattle.vm_memory_guest.specs.declared.region.GuestMemoryError.{GuestMemoryError}
 use Rattle.vm_memory_guest.specs.declared.region.GuestMemoryError.TheVariants as errors
 use Rattle.vm_memory_guest.specs.declared.region.GuestRegionCollectionError.{GuestRegionCollectionError}
 use Rattle.vm_memory_guest.specs.declared.region.GuestRegionCollectionError.TheVariants as layouts
 use Rattle.vm_memory.specs.declared.machine.command.Reply.{Reply}
 use Rattle.vm_memory.specs.declared.machine.command.Reply.TheVariants as reply
-use Rattle.vm_memory.specs.declared.machine.command.Reply.TheVariants.{Count, Bytes, Fault}
+use Rattle.vm_memory.specs.declared.machine.command.Reply.TheVariants.{Count, Bytes, Truth, Fault}
 use Rattle.vm_memory.specs.declared.machine.command.Fault.TheVariants as fault
 
 -- an error of an access: want of memory is told as such, and every other error as the fault of its name
 abbrev pub reply_of_error : GuestMemoryError → Reply
 reply_of_error (errors.InvalidGuestAddress addr) = Fault (fault.InvalidGuestAddress addr)
+reply_of_error (errors.IOError kind) = Fault (fault.IOError kind)
 reply_of_error (errors.PartialBuffer expected completed) = Fault (fault.PartialBuffer expected completed)
 reply_of_error errors.InvalidBackendAddress = Fault fault.InvalidBackendAddress
 reply_of_error errors.HostAddressNotAvailable = Fault fault.HostAddressNotAvailable
+reply_of_error errors.CallbackOutOfRange = Fault fault.CallbackOutOfRange
+reply_of_error errors.GuestAddressOverflow = Fault fault.GuestAddressOverflow
 reply_of_error (errors.IommuError e) = Fault (fault.IommuError e)
 reply_of_error errors.Memory = reply.Memory
 
@@ -53,6 +57,10 @@ abbrev pub reads : Memory → Host PageSet → ℕ → ℕ → Reply
 reads m host a n =
     let reached = reached_by m host.tables a n permissions.Read in
     reply_of (λ count. Bytes (bytes_read reached.path host)) (answer_of reached n)
+
+-- a check replies whether an access would reach all of its n bytes
+abbrev pub checks : Memory → Host PageSet → ℕ → ℕ → Permissions → Reply
+checks m host a n access = Truth (is_whole (reached_by m host.tables a n access).path n)
 
 -- a write replies the count, and leaves the bytes and their dirt in its path: it is empty where it was refused
 abbrev pub writes : Memory → Host PageSet → ℕ → List ℕ → Reply × Host PageSet

@@ -4,10 +4,11 @@ use Rattle.std.specs.Prelude.{◌≡◌, ℕ, ◌*◌, ◌/◌, ◌≤◌, ◌==
 use Rattle.std.specs.Prelude.{slice_get, slice_index, Option, Some, None, IfSome, option_and_then}
 use Rattle.std.specs.List.{list_any}
 use Rattle.vm_memory_base.specs.Address.{numbers}
-use Rattle.vm_memory_base.specs.Pages.{PageSet, shape, dirty_pages}
+use Rattle.vm_memory_base.specs.Pages.{PageSet, shape, dirty_pages, cleaned}
 use Rattle.vm_memory_base.specs.declared.bitmap.BitmapId.TheVariants as bitmap
 use Rattle.vm_memory_guest.specs.Dirt.{pages_at}
 use Rattle.vm_memory_guest.specs.Host.{Host, block_at}
+use Rattle.vm_memory_guest.specs.Window.{with_bitmap}
 use Rattle.vm_memory.specs.Machine.{Run}
 use Rattle.vm_memory.specs.State.{State, IsOn}
 use Rattle.vm_memory.specs.declared.machine.command.Command.{Command}
@@ -83,3 +84,9 @@ abbrev pub KeepsImage : ℕ → List ℕ → (old : State) (cs : List Command) (
 KeepsImage block image old (c ∷ cs) (r ∷ rs) new run = MirrorsBlock block old.host image
     × KeepsImage block (image_after block old.host c r image) run.0 cs rs new run.2
 KeepsImage block image old cs rs new run = MirrorsBlock block new.host image
+
+-- an image is brought up to date: patched with the pages that are dirty, of which none is dirty then. All
+-- else stays
+abbrev pub IsSynced : ℕ → State → List ℕ → State → List ℕ → Type 0
+IsSynced block old image new synced = (synced ≡ image_now block old.host image)
+    × (new ≡ record old { host = with_bitmap old.host (bitmap.Block block) (cleaned (pages_of block old.host)) })

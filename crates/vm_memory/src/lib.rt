@@ -9,14 +9,18 @@ pub mod script;
 pub use script::{DriveFault, drive};
 pub use vm_memory_base::{
     Address, AddressValue, AddressWord, AtomicAccess, AtomicInteger, Be16, Be32, Be64, BeSize,
-    BigEndian, Bitmap, BitmapId, BitmapRef, ByteValued, ExactBitmap, ExclusiveBitmap, FixedInteger,
-    GuestAddress, GuestUsize, IommuError, IovaRange, Le16, Le32, Le64, LeSize, LittleEndian,
-    MemoryRegionAddress, NewBitmap, Permissions, Reason, VolatileMemoryError, VolatileMemoryResult,
+    BigEndian, Bitmap, BitmapId, BitmapRef, ByteList, ByteSized, ByteValued, ExactBitmap,
+    ExclusiveBitmap, FixedInteger, GuestAddress, GuestUsize, IoError, IommuError, Iotlb,
+    IotlbFails, IotlbIterator, IovaRange, IovaRangeList, Le16, Le32, Le64, LeSize, LittleEndian,
+    LookupError, MappedRange, MemoryRegionAddress, NewBitmap, Permissions, ReadExactFault,
+    ReadVolatile, Reason, ScriptSink, ScriptSource, SinkStep, SourceStep, VolatileMemoryError,
+    VolatileMemoryResult, WriteVolatile,
 };
 pub use vm_memory_guest::{
-    BlockId, Bytes, GuestMemory, GuestMemoryBackend, GuestMemoryBackendSliceIterator,
-    GuestMemoryError, GuestMemoryMmap, GuestMemoryRegion, GuestMemoryResult, GuestRegionCollection,
-    GuestRegionCollectionError, GuestRegionMmap, HostMemory, HostShape, IommuMemorySliceIterator,
-    MmapRegion, MmapRegionError, Named, SpaceId, TlbId, VolatileArrayRef, VolatileMemory,
-    VolatileRef, VolatileSlice, compute_offset,
+    BlockId, Bytes, FromRangesError, GuestMemory, GuestMemoryBackend,
+    GuestMemoryBackendSliceIterator, GuestMemoryError, GuestMemoryMmap, GuestMemoryRegion,
+    GuestMemoryRegionBytes, GuestMemoryResult, GuestMemorySliceIterator, GuestRegionCollection,
+    GuestRegionCollectionError, GuestRegionMmap, HostAddress, HostMemory, HostShape,
+    IommuMemorySliceIterator, MmapRegion, MmapRegionError, Named, RegionIter, SpaceId, StopOnError,
+    TlbId, VolatileArrayRef, VolatileMemory, VolatileRef, VolatileSlice, compute_offset,
 };

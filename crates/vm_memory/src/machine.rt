@@ -7,12 +7,14 @@ ghost use Rattle.vm_memory.specs.Parts.{HoldsRegions, state_of};
 ghost use Rattle.vm_memory.specs.Rounds.{IsTracked, RunsDirectly, KeepsImage, bytes_of};
 
 mod accesses;
+mod checks;
 pub mod command;
 mod copies;
 mod layouts;
 pub mod list;
 mod pages;
 mod rounds;
+mod tables;
 mod typed;
 
 use crate::machine_laws::runs_keep_images;
@@ -85,6 +87,8 @@ impl<R: GuestMemoryRegion, B: ExactBitmap> Machine<R, B> {
     {
         match command {
             Command::FromRegions(numbers) => self.from_regions(numbers.as_slice()),
+            Command::Insert { layout, region } => self.insert(*layout, *region),
+            Command::Remove { layout, base, size } => self.remove(*layout, *base, *size),
             Command::Plain(layout) => self.plain(*layout),
             Command::Read {
                 memory,
@@ -107,9 +111,34 @@ impl<R: GuestMemoryRegion, B: ExactBitmap> Machine<R, B> {
                 width,
                 addr,
             } => self.load(*memory, *width, *addr),
+            Command::CheckRange {
+                memory,
+                addr,
+                count,
+                access,
+            } => self.check_range(*memory, *addr, *count, *access),
             Command::Dirty(bitmap) => self.dirty(*bitmap),
             Command::Harvest(bitmap) => self.harvest(*bitmap),
             Command::Copy { from, to } => self.copy(*from, *to),
+            Command::Set {
+                table,
+                iova,
+                map_to,
+                length,
+                perm,
+            } => self.set(*table, *iova, *map_to, *length, *perm),
+            Command::Invalidate {
+                table,
+                iova,
+                length,
+            } => self.invalidate(*table, *iova, *length),
+            Command::InvalidateAll(table) => self.invalidate_all(*table),
+            Command::Lookup {
+                table,
+                iova,
+                length,
+                access,
+            } => self.look_up(*table, *iova, *length, *access),
         }
     }
 }

@@ -1,28 +1,64 @@
 //! What a machine answers and leaves in small cases: each function here is a theorem, and does nothing.
-#![tactic(auto, unfolding(vm_memory_base::specs::Table::each, vm_memory_guest::specs::Access::path, vm_memory_guest::specs::Access::first_fault))]
+#![tactic(auto, unfolding(vm_memory_base::specs::Runs::runs, vm_memory_base::specs::Table::each, vm_memory_guest::specs::Access::path, vm_memory_guest::specs::Access::first_fault))]
 
-ghost use Rattle.std.specs.Prelude.{◌≡◌, [], ◌∷◌, ◌++◌, None, true, false};
+ghost use Rattle.std.specs.Prelude.{◌≡◌, ◌-◌, ◌^◌, [], ◌∷◌, ◌++◌, None, true, false};
 ghost use Rattle.vm_memory_base.specs.Pages.{PageSet};
 ghost use Rattle.vm_memory_base.specs.declared.bitmap.BitmapId.TheVariants.{Block, Space};
+ghost use Rattle.vm_memory_base.specs.declared.iotlb.Permissions.TheVariants.{No};
+ghost use Rattle.vm_memory_base.specs.declared.iotlb.Permissions.TheVariants as permissions;
 ghost use Rattle.vm_memory_base.specs.declared.iotlb.Reason.TheVariants.{MissingMapping, AccessNotAllowed};
 ghost use Rattle.vm_memory_guest.specs.Region.{Region};
 ghost use Rattle.vm_memory_guest.specs.declared.region.GuestMemoryError.TheVariants as errors;
 ghost use Rattle.vm_memory_guest.specs.declared.region.GuestRegionCollectionError.TheVariants as layouts;
 ghost use Rattle.vm_memory.specs.Examples.{at, low, high, bare, block_pages, space_pages, host, machine};
-ghost use Rattle.vm_memory.specs.Examples.{marked_host, marked};
+ghost use Rattle.vm_memory.specs.Examples.{marked_host, marked, range, failed};
 ghost use Rattle.vm_memory.specs.Examples.{no_region_at, not_translated, in_block};
 ghost use Rattle.vm_memory.specs.Machine.{outcome, MayWant, Step, Run};
 ghost use Rattle.vm_memory.specs.Parts.{Parts, AreHeld, state_of};
 ghost use Rattle.vm_memory.specs.Reply.{reply_of_error, reply_of_layout_error};
 ghost use Rattle.vm_memory.specs.Rounds.{patched, image_after, MirrorsBlock, IsTracked, IsDirect};
 ghost use Rattle.vm_memory.specs.State.{State, plain};
-ghost use Rattle.vm_memory.specs.declared.machine.command.Command.TheVariants.{FromRegions, Plain, Read, Write};
-ghost use Rattle.vm_memory.specs.declared.machine.command.Command.TheVariants.{Store, Load, Copy, Dirty, Harvest};
+ghost use Rattle.vm_memory.specs.declared.machine.command.Command.TheVariants.{FromRegions, Insert, Remove};
+ghost use Rattle.vm_memory.specs.declared.machine.command.Command.TheVariants.{Plain, Read, Write, Store, Load};
+ghost use Rattle.vm_memory.specs.declared.machine.command.Command.TheVariants.{Copy, Dirty, Harvest};
+ghost use Rattle.vm_memory.specs.declared.machine.command.Command.TheVariants.{CheckRange, Set, InvalidateAll};
+ghost use Rattle.vm_memory.specs.declared.machine.command.Command.TheVariants.{Lookup};
 ghost use Rattle.vm_memory.specs.declared.machine.command.Reply.TheVariants.{LayoutMade, MemoryMade, Count, Bytes, Pages};
-ghost use Rattle.vm_memory.specs.declared.machine.command.Reply.TheVariants.{Fault, NoSuch, Memory};
-ghost use Rattle.vm_memory.specs.declared.machine.command.Reply.TheVariants.{Done, Value, BadRange};
+ghost use Rattle.vm_memory.specs.declared.machine.command.Reply.TheVariants.{Fault, NoSuch, Memory, Truth};
+ghost use Rattle.vm_memory.specs.declared.machine.command.Reply.TheVariants.{Done, Value, BadRange, Pieces, Fails};
 ghost use Rattle.vm_memory.specs.declared.machine.command.Width.TheVariants.{One, Two, Four, Eight};
 ghost use Rattle.vm_memory.specs.declared.machine.command.Fault.TheVariants as fault;
+
+/// A check replies whether each byte of a range may be accessed so and is there, and changes nothing. Only an
+/// IOMMU that is on may want memory for it.
+pub fn checks_are_answered()
+    ensures whole { outcome machine (CheckRange 0 (at 2) 4 permissions.Write) ≡ (Truth true, machine) }
+    ensures into_a_hole { outcome machine (CheckRange 0 (at 6) 4 permissions.Read) ≡ (Truth false, machine) }
+    ensures bare_region { outcome machine (CheckRange 0 (at 12) 1 No) ≡ (Truth false, machine) }
+    ensures empty_in_a_hole { outcome machine (CheckRange 0 (at 8) 0 permissions.Read) ≡ (Truth true, machine) }
+    ensures translated { outcome machine (CheckRange 1 (at 16) 8 permissions.Read) ≡ (Truth true, machine) }
+    ensures not_allowed { outcome machine (CheckRange 1 (at 19) 2 permissions.Write) ≡ (Truth false, machine) }
+    ensures not_mapped { outcome machine (CheckRange 1 (at 2) 1 No) ≡ (Truth false, machine) }
+    ensures no_such { outcome machine (CheckRange 3 (at 0) 0 No) ≡ (NoSuch, machine) }
+    ensures never_wants { MayWant machine (CheckRange 0 (at 2) 4 permissions.Write) → ⊥ }
+    ensures may_want { MayWant machine (CheckRange 1 (at 16) 8 permissions.Read) }
+{}
+
+/// A look-up replies its pieces, or what is not mapped and what is mapped without the access, and changes
+/// nothing. A change of a table goes no further than the last address.
+pub fn tables_are_commanded()
+    ensures pieces { outcome machine (Lookup 0 (at 18) 4 permissions.Read)
+        ≡ (Pieces (range 4 2 ∷ range 4 2 ∷ []), machine) }
+    ensures no_piece { outcome machine (Lookup 0 (at 2) 0 permissions.Write) ≡ (Pieces [], machine) }
+    ensures fails { outcome machine (Lookup 0 (at 15) 6 permissions.Write)
+        ≡ (Fails (failed (range 15 1 ∷ []) (range 20 1 ∷ [])), machine) }
+    ensures past_the_end { outcome machine (Lookup 0 (at (2 ^ 64 - 1)) 1 No)
+        ≡ (Fails (failed (range (2 ^ 64 - 1) 1 ∷ []) []), machine) }
+    ensures no_such { outcome machine (Set 1 (at 0) (at 0) 1 permissions.Read) ≡ (NoSuch, machine) }
+    ensures bad_range { outcome machine (Set 0 (at (2 ^ 64 - 1)) (at 0) 1 permissions.Read) ≡ (BadRange, machine) }
+    ensures clear { (outcome machine (InvalidateAll 0)).0 ≡ Done }
+    ensures clear_never_wants { MayWant machine (InvalidateAll 0) → ⊥ }
+{}
 
 /// The layout of regions of the pool is the next. No region at all, a region that reaches the next and a
 /// region above the next make none.
@@ -35,6 +71,21 @@ pub fn layouts_are_made()
         ≡ (Fault fault.UnsortedMemoryRegions, machine) }
 {}
 
+/// A layout with a region more, or with one less, is the next, and the one before it stays.
+pub fn layouts_are_changed()
+    ensures inserted { outcome machine (Insert 0 2)
+        ≡ (LayoutMade 1, record machine { layouts = (low ∷ high ∷ []) ∷ (low ∷ high ∷ bare ∷ []) ∷ [] }) }
+    ensures overlap { outcome machine (Insert 0 1) ≡ (Fault fault.MemoryRegionOverlap, machine) }
+    ensures removed { outcome machine (Remove 0 (at 0) 4)
+        ≡ (LayoutMade 1, record machine { layouts = (low ∷ high ∷ []) ∷ (high ∷ []) ∷ [] }) }
+    ensures other_length { outcome machine (Remove 0 (at 0) 2) ≡ (Fault fault.NoMemoryRegion, machine) }
+    ensures other_start { outcome machine (Remove 0 (at 1) 4) ≡ (Fault fault.NoMemoryRegion, machine) }
+    ensures none_left { outcome (record machine { layouts = (low ∷ []) ∷ [] }) (Remove 0 (at 0) 4)
+        ≡ (LayoutMade 1, record machine { layouts = (low ∷ []) ∷ [] ∷ [] }) }
+    ensures into_none { outcome (record machine { layouts = [] ∷ [] }) (Insert 0 1)
+        ≡ (LayoutMade 1, record machine { layouts = [] ∷ (high ∷ []) ∷ [] }) }
+{}
+
 /// A plain memory has the regions of its layout, and is the next.
 pub fn memories_are_made()
     ensures { outcome machine (Plain 0)
@@ -44,6 +95,9 @@ pub fn memories_are_made()
 /// A number that names nothing is told, and changes nothing.
 pub fn numbers_that_name_nothing()
     ensures region { outcome machine (FromRegions (0 ∷ 3 ∷ [])) ≡ (NoSuch, machine) }
+    ensures insert_into { outcome machine (Insert 1 0) ≡ (NoSuch, machine) }
+    ensures insert { outcome machine (Insert 0 3) ≡ (NoSuch, machine) }
+    ensures remove { outcome machine (Remove 1 (at 0) 4) ≡ (NoSuch, machine) }
     ensures layout { outcome machine (Plain 1) ≡ (NoSuch, machine) }
     ensures read { outcome machine (Read 3 (at 0) 1) ≡ (NoSuch, machine) }
     ensures write { outcome machine (Write 3 (at 0) (9 ∷ [])) ≡ (NoSuch, machine) }
@@ -258,6 +312,8 @@ pub fn direct_commands()
 /// translation.
 pub fn who_may_want_memory()
     ensures layout { MayWant machine (FromRegions (0 ∷ [])) }
+    ensures insert { MayWant machine (Insert 0 0) }
+    ensures remove { MayWant machine (Remove 0 (at 0) 4) }
     ensures memory { MayWant machine (Plain 0) }
     ensures read { MayWant machine (Read 0 (at 0) 1) }
     ensures read_of_nothing { MayWant machine (Read 0 (at 0) 0) → ⊥ }
@@ -273,6 +329,8 @@ pub fn who_may_want_memory()
     ensures load_that_is_off { MayWant machine (Load 2 One (at 0)) → ⊥ }
     ensures no_region { MayWant machine (FromRegions (0 ∷ 3 ∷ [])) → ⊥ }
     ensures no_layout { MayWant machine (Plain 1) → ⊥ }
+    ensures no_insert { MayWant machine (Insert 0 3) → ⊥ }
+    ensures no_remove { MayWant machine (Remove 0 (at 0) 2) → ⊥ }
     ensures no_memory { MayWant machine (Read 3 (at 0) 1) → ⊥ }
     ensures dirty { MayWant machine (Dirty (Block 0)) }
     ensures harvest { MayWant machine (Harvest (Space 0)) }

@@ -1,22 +1,25 @@
 //! What holds of every step and every run of a machine: each function here is a theorem, and does nothing.
 //! It calls the theorems that it follows from.
-ghost use Rattle.std.specs.Prelude.{◌≡◌, ◌≢◌, ℕ, ◌^◌, ◌<◌, List, length, slice_get, slice_index, All, Some};
+ghost use Rattle.std.specs.Prelude.{◌≡◌, ◌≢◌, Bool, ℕ, ◌^◌, ◌<◌, List, length, slice_get, slice_index, All, Some};
 ghost use Rattle.vm_memory_base.specs.Pages.{PageSet};
+ghost use Rattle.vm_memory_base.specs.Table.{Range};
 ghost use Rattle.vm_memory_base.specs.declared.address.GuestAddress.{GuestAddress};
 ghost use Rattle.vm_memory_base.specs.declared.bitmap.BitmapId.TheVariants.{Block};
 ghost use Rattle.vm_memory_base.specs.declared.iotlb.Permissions.TheVariants as permissions;
+ghost use Rattle.vm_memory_base.specs.declared.iotlb.lookup.IotlbFails.{IotlbFails};
 ghost use Rattle.vm_memory_guest.specs.Access.{Reached};
 ghost use Rattle.vm_memory_guest.specs.Host.{Host};
 ghost use Rattle.vm_memory.specs.Machine.{Step, Run};
 ghost use Rattle.vm_memory.specs.Reply.{reached_by};
 ghost use Rattle.vm_memory.specs.Rounds.{MirrorsBlock, IsTracked, RunsDirectly, KeepsImage};
-ghost use Rattle.vm_memory.specs.Rounds.{image_now, bytes_of};
+ghost use Rattle.vm_memory.specs.Rounds.{image_now, bytes_of, IsSynced};
 ghost use Rattle.vm_memory.specs.State.{State, MachineMemory, meaning};
 ghost use Rattle.vm_memory.specs.declared.machine.command.Command.{Command};
 ghost use Rattle.vm_memory.specs.declared.machine.command.Command.TheVariants as command;
 ghost use Rattle.vm_memory.specs.declared.machine.command.Command.TheVariants.{Harvest};
 ghost use Rattle.vm_memory.specs.declared.machine.command.Reply.{Reply};
-ghost use Rattle.vm_memory.specs.declared.machine.command.Reply.TheVariants.{Bytes, Value, NoSuch, BadRange, Memory};
+ghost use Rattle.vm_memory.specs.declared.machine.command.Reply.TheVariants.{Bytes, Value, Truth, NoSuch};
+ghost use Rattle.vm_memory.specs.declared.machine.command.Reply.TheVariants.{BadRange, Memory, Pieces, Fails};
 ghost use Rattle.vm_memory.specs.declared.machine.command.Reply.TheVariants as reply;
 ghost use Rattle.vm_memory.specs.declared.machine.command.Fault.{Fault};
 
@@ -25,7 +28,8 @@ use vm_memory_guest::effect_laws::{
     dirt_stays, named_pages_are_dirty, other_bytes_stay, path_writes_keep_shapes,
 };
 
-/// A command that is refused, or finds no memory, changes nothing, and neither does a read or a load.
+/// A command that is refused, or finds no memory, changes nothing, and neither does a read, a load, a check or
+/// a look-up.
 pub fn refusals_change_nothing()
     ensures fault { (old new : State) (c : Command) (f : Fault) → Step old c (reply.Fault f) new → new ≡ old }
     ensures no_such { (old new : State) (c : Command) → Step old c NoSuch new → new ≡ old }
@@ -33,6 +37,11 @@ pub fn refusals_change_nothing()
     ensures read { (old new : State) (c : Command) (bytes : List ℕ) → Step old c (Bytes bytes) new
         → new ≡ old }
     ensures load { (old new : State) (c : Command) (value : ℕ) → Step old c (Value value) new → new ≡ old }
+    ensures check { (old new : State) (c : Command) (truth : Bool) → Step old c (Truth truth) new → new ≡ old }
+    ensures pieces { (old new : State) (c : Command) (pieces : List Range) → Step old c (Pieces pieces) new
+        → new ≡ old }
+    ensures fails { (old new : State) (c : Command) (fails : IotlbFails) → Step old c (Fails fails) new
+        → new ≡ old }
     ensures bad_range { (old new : State) (c : Command) → Step old c BadRange new → new ≡ old }
 {}
 
@@ -57,6 +66,19 @@ pub fn runs_keep_images()
     named_pages_are_dirty();
     dirt_stays();
     path_writes_keep_shapes();
+}
+
+/// An image that mirrors a block is the block after the next `sync`, if no harvest took the pages of the
+/// block's bitmap in between.
+pub fn synced_images_are_the_block()
+    ensures { (block : ℕ) (image synced : List ℕ) (old mid new : State) (cs : List Command) (rs : List Reply)
+        (run : Run old cs rs mid) → IsTracked block old.host
+        → length (bytes_of block old.host) < 2 ^ 64 → RunsDirectly old cs rs mid run
+        → All (λ (c : Command). c ≢ Harvest (Block block)) cs
+        → MirrorsBlock block old.host image → IsSynced block mid image new synced
+        → synced ≡ bytes_of block new.host }
+{
+    runs_keep_images();
 }
 
 /// Where an image mirrors a block, a read replies the bytes of the image for those of the block that it

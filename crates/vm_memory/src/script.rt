@@ -2,10 +2,12 @@
 //!
 //! A line is a word and its arguments, with one space between any two, and ends with a line feed, which
 //! the last line may lack. An empty line and a line that begins with `#` do nothing. `block SIZE PAGE`,
-//! `space SIZE PAGE` and `region B A` come first and fill the pools; the first command makes the machine.
-//! The commands are `layout R`, `plain L`, `read M A N`, `write M A BYTES`, `store M W A VALUE` and
-//! `load M W A`, where `W` is 1, 2, 4 or 8 bytes, `copy B A N B2 A2 N2` of windows of two blocks, and
-//! `dirty` and `harvest`, each of `block B` or `space S`.
+//! `space SIZE PAGE`, `table` and `region B A` come first and fill the pools; the first command makes the
+//! machine. The commands are `layout R ..` of none or more regions, `insert L R`, `remove L A N`, `plain L`,
+//! `read M A N`, `write M A BYTES`, `store M W A VALUE` and `load M W A`, where `W` is 1, 2, 4 or 8 bytes,
+//! `check M A N PERM`, `copy B A N B2 A2 N2` of windows of two blocks, `dirty` and `harvest`, each of
+//! `block B` or `space S`, and on a table `T` `set T A TARGET N PERM`, `invalidate T A N`, `clear T` and
+//! `lookup T A N PERM`, where `PERM` is `no`, `r`, `w` or `rw`.
 
 ghost use Rattle.std.specs.Prelude.{◌≡◌};
 ghost use Rattle.vm_memory.specs.Script.{status_of};

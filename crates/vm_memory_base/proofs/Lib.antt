@@ -1,9 +1,12 @@
 pub mod PagesLaws
 pub mod RunsLaws
 pub mod TableLaws
+pub mod ChangeLemmas
+pub mod LookupLemmas
 pub mod AlignUp
 pub mod KnownBytesJoined
 pub mod ByteLemmas
 pub mod ArrayLemmas
 pub mod BitmapLemmas
 pub mod PieceLemmas
+pub mod TransferLemmas

@@ -517,3 +517,7 @@ numbers-failures f a n access h =
     rw h (
     numbers-ranges (runs same_mapping (λ x. if_forbidden access (f x)) a n)
     ∙ numbers-runs same_mapping (λ x. if_forbidden access (f x)) a n)
+
+-- tables are one where their limits and their ranges are
+pub same_tables : (s t : Table) → s.limit ≡ t.limit → s.ranges ≡ t.ranges → s ≡ t
+same_tables s t l r = ap (λ (n : Option ℕ). record s { limit = n }) l ∙ ap (λ (rs : List (Run Mapping)). record t { ranges = rs }) r

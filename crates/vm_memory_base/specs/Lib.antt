@@ -6,7 +6,12 @@ pub mod NewPages
 pub mod Permissions
 pub mod Runs
 pub mod Table
+pub mod Change
+pub mod Walk
+pub mod Lookup
 pub mod PowerOfTwo
 pub mod Bytes
+pub mod Transfer
+pub mod Script
 pub mod ByteCodes
 pub mod ArrayCodes

@@ -1,6 +1,6 @@
 -- What an I/O table says of each address, what the calls that change it make of that, and what a look-up
 -- gives.
-use Rattle.std.specs.Prelude.{ℕ, zero, suc, ◌+◌, ◌-◌, ◌%◌, ◌^◌, Bool, true, false, not, ◌&&◌, ◌||◌, if◌then◌else◌, ◌==◌, nat_lt, List, [], ◌∷◌, map, Option, Some, None, is_some}
+use Rattle.std.specs.Prelude.{ℕ, zero, suc, ◌+◌, ◌-◌, ◌%◌, ◌^◌, Bool, true, false, not, ◌&&◌, ◌||◌, if◌then◌else◌, ◌==◌, nat_lt, List, [], ◌∷◌, length, map, Option, Some, None, is_some}
 use Rattle.vm_memory_base.specs.Address.{step, numbers, difference, is_within}
 use Rattle.vm_memory_base.specs.Permissions.{allow, same}
 use Rattle.vm_memory_base.specs.Runs.{Run, runs, value_at}
@@ -70,6 +70,13 @@ says table x = value_at table.ranges x
 -- the canonical list: the maximal runs of neighbouring addresses with one mapping, ascending
 abbrev pub canonical_list : Says → List (Run Mapping)
 canonical_list f = runs same_mapping f 0 (2 ^ 64)
+
+-- a kept table after a call: the canonical list of what is then said
+abbrev pub changed : TableCall → Table → Table
+changed call table = record table { ranges = canonical_list (λ x. says_after call x (says table x)) }
+
+abbrev pub range_count : Table → ℕ
+range_count table = length table.ranges
 
 -- whether what is said of an address grants the access
 abbrev pub grants : Permissions → Option Mapping → Bool

@@ -16,6 +16,12 @@ pub(crate) use self::integers::reversed;
 use self::pieces::{PIECE, copy_part, put_part, read_piece, write_piece};
 use std::io::{self, Read, Write};
 
+/// Types each of whose values takes the same number of bytes.
+pub trait ByteSized {
+    // How many bytes a value takes.
+    ghost width: { ℕ };
+}
+
 /// Types whose values stand one for one for the lists of a fixed number of bytes.
 ///
 /// The integers hold their lowest byte first. An array holds its elements one after the other.
@@ -25,10 +31,7 @@ use std::io::{self, Read, Write};
 ///
 /// assert_eq!(rt; u32::from_slice(&[1, 2, 0, 0]), Some(0x0201));
 /// ```
-pub trait ByteValued: Copy {
-    // How many bytes a value takes.
-    ghost width: { ℕ };
-
+pub trait ByteValued: ByteSized + Copy {
     // Holds of the values of the type.
     ghost is_value: { Self → Type 0 };
 
@@ -39,30 +42,30 @@ pub trait ByteValued: Copy {
 
     /// How many bytes a value takes, cut to 2^64 - 1.
     fn size() -> usize
-        ensures { result ≡ min width (2 ^ 64 - 1) };
+        ensures { result ≡ min Self.width (2 ^ 64 - 1) };
 
     /// Byte `i` of the value, which has to be one of its bytes.
     fn byte(&self, i: usize) -> u8
-        requires { i < width }
+        requires { i < Self.width }
         ensures { result ≡ slice_index (bytes self.now) i };
 
     /// Replaces byte `i` of the value, which has to be one of its bytes.
     fn set_byte(&mut self, i: usize, b: u8)
-        requires { i < width }
+        requires { i < Self.width }
         ensures { bytes self.new ≡ slice_set (bytes self.old) i b };
 
     /// The value whose bytes are all 0.
     fn zeroed() -> Self
-        ensures { bytes result ≡ replicate width 0 };
+        ensures { bytes result ≡ replicate Self.width 0 };
 
     /// The value with the bytes of `data`, or `None` where these are not `size()` bytes.
     fn from_slice(data: &[u8]) -> Option<Self>
-        ensures { SomeIff result (length «data».now ≡ width) (value_of «data».now) };
+        ensures { SomeIff result (length «data».now ≡ Self.width) (value_of «data».now) };
 
     /// Writes the bytes of the value over `out`. Where `out` has not `size()` bytes, it writes nothing
     /// and answers false.
     fn to_slice(&self, out: &mut [u8]) -> bool
-        ensures fits { IsTrue result ↔ (length out.old ≡ width) }
+        ensures fits { IsTrue result ↔ (length out.old ≡ Self.width) }
         ensures written { OnTrue result (out.new ≡ bytes self.now) }
         ensures unchanged { OnFalse result (out.new ≡ out.old) };
 
@@ -71,12 +74,12 @@ pub trait ByteValued: Copy {
         ensures { is_value self.now };
 
     // Values and lists of bytes stand for one another, so both round trips lead back.
-    ghost laws: { IsByteCode width is_value bytes value_of };
+    ghost laws: { IsByteCode Self.width is_value bytes value_of };
 
     /// Copies the bytes of the value, from byte `from` on, over `out`.
     #[inline]
     final fn copy_bytes(&self, from: usize, out: &mut [u8])
-        requires inside { from + length out.old ≤ width }
+        requires inside { from + length out.old ≤ Self.width }
         requires fits { from + length out.old < 2 ^ 64 }
         ensures { out.new ≡ take (length out.old) (drop from (bytes self.now)) }
     {
@@ -89,7 +92,7 @@ pub trait ByteValued: Copy {
     /// Replaces the bytes of the value, from byte `from` on, by those of `data`.
     #[inline]
     final fn set_bytes(&mut self, from: usize, data: &[u8])
-        requires inside { from + length «data».now ≤ width }
+        requires inside { from + length «data».now ≤ Self.width }
         requires fits { from + length «data».now < 2 ^ 64 }
         ensures { bytes self.new ≡ take from (bytes self.old) ++ «data».now
             ++ drop (from + length «data».now) (bytes self.old) }
@@ -108,7 +111,7 @@ pub trait ByteValued: Copy {
     ///
     /// An error is the writer's, and leaves open how many of the bytes it took.
     final fn write_all_to<W: Write>(&self, writer: &mut W) -> io::Result<()>
-        ensures { width < 2 ^ 64
+        ensures { Self.width < 2 ^ 64
             → OnOk result (Appends (W.contents writer.old) (W.contents writer.new) (bytes self.now)) }
     {
         self.known();
@@ -127,7 +130,7 @@ pub trait ByteValued: Copy {
     /// An error is the reader's, and leaves open how many bytes it gave. Where a reader ends too
     /// early, std's error is of the kind `UnexpectedEof`.
     final fn read_exact_from<R: Read>(reader: &mut R) -> io::Result<Self>
-        ensures { width < 2 ^ 64
+        ensures { Self.width < 2 ^ 64
             → IfOk result (λ x. Consumes (R.remaining reader.old) (R.remaining reader.new) (bytes x)) }
     {
         let size = Self::size();
@@ -144,8 +147,6 @@ pub trait ByteValued: Copy {
 }
 
 impl<T: FixedInteger> ByteValued for T {
-    ghost width = { T.width };
-
     ghost is_value = { T.is_value };
 
     ghost bytes = { T.bytes };

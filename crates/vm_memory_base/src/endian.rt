@@ -12,7 +12,7 @@ ghost use Rattle.std.specs.Int.{bytes_low_first};
 ghost use Rattle.std.proofs.Common.{ap, refl};
 ghost use Rattle.vm_memory_base.specs.ByteCodes.{wrapped_code, reversed_code, length-reversed, wrapped_equal};
 
-use crate::bytes::{FixedInteger, reversed};
+use crate::bytes::{ByteSized, FixedInteger, reversed};
 
 /// An integer whose bytes stand the lowest first. It holds the native value.
 #[derive(Clone, Copy, Debug, PartialEq, Eq, Default)]
@@ -110,9 +110,11 @@ impl From<LittleEndian<usize>> for usize {
     }
 }
 
-impl<T: FixedInteger> FixedInteger for LittleEndian<T> {
+impl<T: FixedInteger> ByteSized for LittleEndian<T> {
     ghost width = { T.width };
+}
 
+impl<T: FixedInteger> FixedInteger for LittleEndian<T> {
     ghost is_value = { λ x. T.is_value x.0 };
 
     ghost bytes = { λ x. T.bytes x.0 };
@@ -207,9 +209,11 @@ impl From<BigEndian<usize>> for usize {
     }
 }
 
-impl<T: FixedInteger> FixedInteger for BigEndian<T> {
+impl<T: FixedInteger> ByteSized for BigEndian<T> {
     ghost width = { T.width };
+}
 
+impl<T: FixedInteger> FixedInteger for BigEndian<T> {
     ghost is_value = { λ x. T.is_value x.0 };
 
     // The bytes of the native value in turned order.

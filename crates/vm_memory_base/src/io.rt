@@ -1,6 +1,80 @@
-//! What accesses of windows answer.
+//! Sources and sinks of bytes, and what accesses of windows answer.
+ghost use Rattle.std.specs.Prelude.{◌≡◌, ℕ, ◌≤◌, List, length, Option, IfOk, IfErr, OnOk, if◌then◌else◌};
+ghost use Rattle.std.specs.IoError.{error_kind};
+ghost use Rattle.vm_memory_base.specs.Transfer.{Next, ReadsAs, FillsAs, is_short};
+ghost use Rattle.vm_memory_base.specs.Transfer.{Sink, TakesAs, SendsAs, Keeps, count_of};
 
+mod memory;
+mod script;
+mod system;
+mod turns;
+
+pub use self::script::{ScriptSink, ScriptSource, SinkStep, SourceStep};
+use self::turns::{offer_again, read_again};
+use std::fmt;
+use std::io::{self, ErrorKind};
+use std::marker::Model;
 use thiserror::Error;
+
+/// An error of `std::io`, of which contracts see the kind.
+#[derive(Drop)]
+pub struct IoError {
+    error: io::Error,
+}
+
+impl Model for IoError {
+    ghost use Rattle.std.specs.IoError.{error_kind};
+    ghost use Rattle.std.specs.declared.io.ErrorKind.{ErrorKind};
+
+    ghost Value = { ErrorKind };
+
+    ghost view = { λ e. error_kind e.error };
+}
+
+impl IoError {
+    /// The error of a kind alone.
+    pub fn of_kind(kind: ErrorKind) -> IoError
+        ensures { result ≡ kind }
+    {
+        IoError {
+            error: io::Error::from(kind),
+        }
+    }
+
+    /// What sort of failure it is.
+    pub fn kind(&self) -> ErrorKind
+        ensures { result ≡ self.now }
+    {
+        self.error.kind()
+    }
+
+    /// The error as `std::io` has it.
+    pub fn into_inner(self) -> io::Error
+        ensures { error_kind result ≡ self }
+    {
+        self.error
+    }
+}
+
+impl From<io::Error> for IoError {
+    ghost from_gives = { λ e r. r ≡ error_kind e };
+
+    fn from(error: io::Error) -> IoError {
+        IoError { error }
+    }
+}
+
+impl fmt::Display for IoError {
+    fn fmt<W: fmt::Write>(&self, f: &mut fmt::Formatter<W>) -> fmt::Result {
+        fmt::Display::fmt(&self.error, f)
+    }
+}
+
+impl fmt::Debug for IoError {
+    fn fmt<W: fmt::Write>(&self, f: &mut fmt::Formatter<W>) -> fmt::Result {
+        fmt::Debug::fmt(&self.error, f)
+    }
+}
 
 /// Why an access of a window was refused.
 #[derive(Debug, Drop, Error)]
@@ -17,6 +91,9 @@ pub enum VolatileMemoryError {
     /// The address is no multiple of the alignment, in bytes.
     #[error("address 0x{addr:x} is not aligned to {alignment}")]
     Misaligned { addr: usize, alignment: usize },
+    /// A source or a sink failed.
+    #[error("{0}")]
+    IOError(IoError),
     /// Fewer bytes were moved than the buffer has.
     #[error("only used {completed} bytes in {expected} long buffer")]
     PartialBuffer { expected: usize, completed: usize },
@@ -27,3 +104,149 @@ pub enum VolatileMemoryError {
 
 /// The result of an access of a window.
 pub type VolatileMemoryResult<T> = Result<T, VolatileMemoryError>;
+
+/// Why a source did not fill what it was lent, and how much of it may have changed.
+#[derive(Debug, Drop)]
+pub struct ReadExactFault {
+    /// The length of the beginning that may have changed, in bytes, where the source tells what it does: what was
+    /// filled where it ended, all after an error or an interrupted try, and none where it refused at once.
+    pub touched: usize,
+    /// Why.
+    pub error: VolatileMemoryError,
+}
+
+/// A source of bytes, which fills memory that it is lent. It may answer fewer bytes than it was lent.
+///
+/// ```rust
+/// use vm_memory_base::ReadVolatile;
+///
+/// let mut source: &[u8] = &[1, 2, 3];
+/// let mut lent = [0u8; 2];
+/// assert_eq!(rt; source.read_volatile(&mut lent).ok(), Some(2));
+/// assert_eq!(rt; source, &[3]);
+/// ```
+pub trait ReadVolatile {
+    // What it does next, where it tells that.
+    ghost source: { Self → Option (List Next) };
+
+    // How many bytes it has left, where it looks before it fills a buffer.
+    ghost known_left: { Self → Option ℕ };
+
+    /// Fills the beginning of the buffer, and answers how many bytes that is. None is the end of the source,
+    /// where the buffer has some. An error may leave the buffer changed.
+    fn read_volatile(&mut self, buf: &mut [u8]) -> VolatileMemoryResult<usize>
+        ensures count { IfOk result (λ count. count ≤ length buf.old) }
+        ensures tells { ReadsAs (source self.old) buf.old result buf.new (source self.new) };
+
+    /// How many bytes it has left, where it looks before it fills a buffer: then a buffer that is longer is
+    /// refused at once. Most sources do not look.
+    fn known_left(&self) -> Option<usize>
+        ensures { result ≡ known_left self.now };
+
+    /// Fills the whole buffer, by as many reads as that takes. A read that is interrupted is made again, at
+    /// most 64 times in a row. `UnexpectedEof` where the source ends before.
+    final fn read_exact_volatile(&mut self, buf: &mut [u8]) -> Result<(), ReadExactFault>
+        ensures touched { IfErr result (λ fault. fault.touched ≤ length buf.old) }
+        ensures tells { FillsAs (known_left self.old) (source self.old) buf.old result buf.new
+            (source self.new) }
+    {
+        let all = buf.len();
+        if is_short(self.known_left(), all) {
+            return Err(ended(0));
+        }
+        let mut interrupted = false;
+        let mut done = 0;
+        while done < all {
+            match read_again(self, &mut buf[done..], &mut interrupted) {
+                Ok(0) => return Err(ended(touched(interrupted, all, done))),
+                Ok(count) => done += count,
+                Err(error) => {
+                    return Err(ReadExactFault {
+                        touched: all,
+                        error,
+                    });
+                }
+            }
+        }
+        Ok(())
+    }
+}
+
+// Whether a source that knows how many bytes it has left has too few.
+fn is_short(known: Option<usize>, wanted: usize) -> bool
+    ensures { result ≡ is_short known wanted }
+{
+    match known {
+        Some(left) => left < wanted,
+        None => false,
+    }
+}
+
+// How much of a buffer may have changed, where only so many bytes of it are filled.
+fn touched(interrupted: bool, all: usize, done: usize) -> usize
+    ensures { result ≡ (if interrupted then all else done) }
+{
+    if interrupted { all } else { done }
+}
+
+// A source ended, before it filled what it was lent.
+fn ended(touched: usize) -> ReadExactFault
+    ensures { result ≡ record { touched = touched; error = VolatileMemoryError.IOError ErrorKind.UnexpectedEof } }
+{
+    ReadExactFault {
+        touched,
+        error: refused(ErrorKind::UnexpectedEof),
+    }
+}
+
+/// A sink of bytes, which takes bytes out of memory that it is lent. It may take fewer than it was lent.
+///
+/// ```rust
+/// use vm_memory_base::WriteVolatile;
+///
+/// let mut sink = Vec::new(rt.alloc());
+/// assert!(rt; sink.write_all_volatile(&[1, 2, 3]).is_ok());
+/// assert_eq!(rt; sink.as_slice(), &[1, 2, 3]);
+/// ```
+pub trait WriteVolatile {
+    // What it does next, where it tells that.
+    ghost sink: { Self → Option Sink };
+
+    // The bytes that it took, where it keeps them.
+    ghost taken: { Self → Option (List ℕ) };
+
+    // When it may want memory.
+    ghost may_want: { Self → Type 0 };
+
+    /// Takes the first bytes of the buffer, and answers how many.
+    fn write_volatile(&mut self, buf: &[u8]) -> VolatileMemoryResult<usize>
+        ensures count { IfOk result (λ count. count ≤ length buf.now) }
+        ensures tells { TakesAs (may_want self.old) (sink self.old) (length buf.now) result (sink self.new) }
+        ensures keeps { Keeps (taken self.old) buf.now (count_of result) (taken self.new) }
+        ensures wants { may_want self.new → may_want self.old };
+
+    /// Takes the whole buffer, by as many writes as that takes. A write that is interrupted is made again, at
+    /// most 64 times in a row. `WriteZero` where the sink takes nothing of bytes that are left.
+    final fn write_all_volatile(&mut self, buf: &[u8]) -> VolatileMemoryResult<()>
+        ensures { (count : ℕ) × (count ≤ length buf.now) × OnOk result (count ≡ length buf.now)
+            × Keeps (taken self.old) buf.now count (taken self.new)
+            × SendsAs (may_want self.old) (sink self.old) (length buf.now) count result (sink self.new) }
+    {
+        let mut done = 0;
+        while done < buf.len() {
+            match offer_again(self, &buf[done..]) {
+                Ok(0) => return Err(refused(ErrorKind::WriteZero)),
+                Ok(count) => done += count,
+                Err(error) => return Err(error),
+            }
+        }
+        Ok(())
+    }
+}
+
+// A failure of this kind.
+fn refused(kind: ErrorKind) -> VolatileMemoryError
+    ensures { result ≡ VolatileMemoryError.IOError kind }
+{
+    VolatileMemoryError::IOError(IoError::of_kind(kind))
+}

@@ -1,10 +1,16 @@
-//! I/O address translation: permissions, and what a table says of an address.
-ghost use Rattle.std.specs.Prelude.{◌≡◌};
+//! I/O address translation: permissions, and the table of an IOMMU.
+ghost use Rattle.std.specs.Prelude.{◌≡◌, ◌-◌, ◌≤◌};
 ghost use Rattle.vm_memory_base.specs.Permissions as set;
 
+mod lookup;
+mod mapped_run;
+mod table;
+
 use crate::address::GuestAddress;
+pub use lookup::{IotlbFails, IotlbIterator, IovaRangeList, LookupError, MappedRange};
 use std::fmt;
-use std::ops::{BitAnd, BitOr};
+use std::ops::{BitAnd, BitOr, Range};
+pub use table::Iotlb;
 use thiserror::Error;
 
 /// The accesses that a mapping permits, or that are asked for: a set of two bits.
@@ -104,6 +110,19 @@ impl fmt::Display for Reason {
 pub struct IovaRange {
     pub base: GuestAddress,
     pub length: usize,
+}
+
+impl IovaRange {
+    /// The addresses of a range, which may not end before it starts.
+    pub fn from_range(range: Range<u64>) -> IovaRange
+        requires { range.start ≤ range.end }
+        ensures { result ≡ record { base = record { 0 = range.start }; length = range.end - range.start } }
+    {
+        IovaRange {
+            base: GuestAddress(range.start),
+            length: (range.end - range.start) as usize,
+        }
+    }
 }
 
 /// Why a translation was refused.

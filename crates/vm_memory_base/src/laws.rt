@@ -1,5 +1,5 @@
-//! What holds of the definitions of bytes, permissions, page sets, runs and tables, whatever the code
-//! does: each function here is a theorem, and does nothing.
+//! What holds of the definitions of bytes, permissions, page sets, runs, tables and transfers, whatever
+//! the code does: each function here is a theorem, and does nothing.
 
 pub mod bytes;
 pub mod examples;
@@ -7,3 +7,4 @@ pub mod pages;
 pub mod permissions;
 pub mod runs;
 pub mod table;
+pub mod transfers;

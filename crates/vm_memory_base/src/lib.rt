@@ -9,13 +9,21 @@ mod endian;
 mod io;
 mod iotlb;
 pub mod laws;
+mod list;
 
 pub use address::{
     Address, AddressValue, AddressWord, GuestAddress, GuestUsize, MemoryRegionAddress,
 };
 pub use atomic_integer::AtomicInteger;
 pub use bitmap::{Bitmap, BitmapId, BitmapRef, ExactBitmap, ExclusiveBitmap, NewBitmap};
-pub use bytes::{AtomicAccess, ByteValued, FixedInteger};
+pub use bytes::{AtomicAccess, ByteSized, ByteValued, FixedInteger};
 pub use endian::{Be16, Be32, Be64, BeSize, BigEndian, Le16, Le32, Le64, LeSize, LittleEndian};
-pub use io::{VolatileMemoryError, VolatileMemoryResult};
-pub use iotlb::{IommuError, IovaRange, Permissions, Reason};
+pub use io::{
+    IoError, ReadExactFault, ReadVolatile, ScriptSink, ScriptSource, SinkStep, SourceStep,
+    VolatileMemoryError, VolatileMemoryResult, WriteVolatile,
+};
+pub use iotlb::{
+    IommuError, Iotlb, IotlbFails, IotlbIterator, IovaRange, IovaRangeList, LookupError,
+    MappedRange, Permissions, Reason,
+};
+pub use list::ByteList;

@@ -1,6 +1,7 @@
 -- Moves between a buffer and the windows of a walk, one after the other, and what they answer.
 use Rattle.std.specs.List.{AllByRecursion}
-use Rattle.std.proofs.Common.{◌≡◌, ◌⊎◌, ℕ, ◌+◌, ◌-◌, ◌<◌, ◌≤◌, ◌≢◌, List, [], ◌∷◌, ◌++◌, map, take, drop, length, All, Option, Some, None, option_map, Result, Ok, Err, OnSome, MatchOption, IfOk, IsSome, refl, sym, ap, ap₂, subst, ◌∙◌, inl, inr, append_assoc, append-nil, take-append-drop, length-take-le, length-drop, arith}
+use Rattle.std.specs.Prelude.{is_none}
+use Rattle.std.proofs.Common.{◌≡◌, ◌⊎◌, ℕ, true, false, ◌+◌, ◌-◌, ◌<◌, ◌≤◌, ◌≢◌, List, [], ◌∷◌, ◌++◌, map, take, drop, length, All, Option, Some, None, option_map, Result, Ok, Err, OnSome, MatchOption, IfOk, IsSome, refl, sym, ap, ap₂, subst, ◌∙◌, inl, inr, append_assoc, append-nil, take-append-drop, length-take-le, length-drop, arith}
 use Rattle.std.proofs.lemmas.Bool.{cond_both}
 use Rattle.std.proofs.lemmas.Bool.Decides.{nat_tests}
 use borrow.Rule.Slice.PartMut.{put_mid}
@@ -9,7 +10,7 @@ use Rattle.vm_memory_base.specs.declared.iotlb.Permissions.{Permissions}
 use Rattle.vm_memory_guest.specs.Access.{Fault, Access, path, first_fault, meets, windows, stretches, allowed, refusal, access_of}
 use Rattle.vm_memory_guest.specs.Answer.{Reach, Outcome, counted, filled, told}
 use Rattle.vm_memory_guest.specs.Error.{error_of}
-use Rattle.vm_memory_guest.specs.Walk.{error_item, items_of, reached, GivesAccess, RefusesAccess, WantsMemory}
+use Rattle.vm_memory_guest.specs.Walk.{error_item, items_of, windows_before, reached, GivesAccess, RefusesAccess, WantsMemory}
 use Rattle.vm_memory_guest.specs.Host.{Host, Shape, Cell, Name, Holds, shape_of, bytes_at}
 use Rattle.vm_memory_guest.specs.Memory.{Memory, Behind, route, route_behind, behind_names, memory_names}
 use Rattle.vm_memory_guest.specs.Region.{IsRegion}
@@ -299,3 +300,33 @@ outcome-refused memory tables a n access unchanged Effect e why kept done = elim
       let some = asked_some (reached memory tables a n access).fault n e (reached-asked memory tables a n access) (ap (λ (r : Reach GuestMemoryError). r.fault) is) in
       inr (subst (λ (r : Reach GuestMemoryError). Err e ≡ counted (span r.windows) r.fault n) (sym is) (counted-none 0 n e refl some), subst (λ (y : Reach GuestMemoryError). Effect y.windows) (sym is) done)
 ]
+
+-- what a walk gave first
+pub gave-window : (walk next : Reach Fault) (w : Window) → items_of walk ≡ Ok w ∷ items_of next → walk.windows ≡ w ∷ next.windows
+gave-window walk next w gives = (gave walk next (Ok w) w gives refl).windows
+
+pub gave-error : (walk next : Reach Fault) (e : GuestMemoryError) → items_of walk ≡ Err e ∷ items_of next → walk.windows ≡ []
+gave-error walk next e gives = (ends_in walk (Err e) e (items_of next) gives refl).windows
+
+pub gave-none : (walk : Reach Fault) → items_of walk ≡ [] → walk.windows ≡ []
+gave-none walk gives = (ends_whole walk gives).windows
+
+-- the windows that come first are told without the error behind them
+pub windows_before-more : (walk next : Reach Fault) (w : Window) → items_of walk ≡ Ok w ∷ items_of next → Ok (w ∷ next.windows) ≡ windows_before walk.windows walk.fault
+windows_before-more walk next w gives = rw (gave-window walk next w gives) (before next.windows walk.fault)
+  where
+    before : (ws : List Window) (o : Option Fault) → Ok (w ∷ ws) ≡ windows_before (w ∷ ws) o
+    before ws None = refl
+    before ws (Some fault) = refl
+
+-- whether something stops a walk, told as its error
+abbrev pub told_fault : Reach Fault → Option GuestMemoryError
+told_fault walk = option_map error_of walk.fault
+
+pub stops-told : (o : Option Fault) (e : GuestMemoryError) → option_map error_of o ≡ Some e → false ≡ is_none o
+stops-told None e is = absurd (cc)
+stops-told (Some fault) e is = refl
+
+pub ends-told : (o : Option Fault) → option_map error_of o ≡ None → true ≡ is_none o
+ends-told None is = refl
+ends-told (Some fault) is = absurd (cc)

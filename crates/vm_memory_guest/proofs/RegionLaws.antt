@@ -141,7 +141,7 @@ IsLayout-from_apart (q ∷ r ∷ rs) h = (
 )
 
 -- the starts of a layout ascend
-layout-ascends : (rs : List Region) → All IsRegion rs → IsLayout rs → (i j : ℕ) (d : Region)
+pub layout-ascends : (rs : List Region) → All IsRegion rs → IsLayout rs → (i j : ℕ) (d : Region)
     → i ≤ j → j < length rs → (get_or rs i d).start ≤ (get_or rs j d).start
 layout-ascends rs each h i j d l k =
     elim (cases_lt i j) [
@@ -220,7 +220,7 @@ module _ {X : Type 0} (region : X → Region) where
   -- a search by the starts of values that mean regions
   module _ (fits : (x : X) → IsRegion (region x)) (xs : List X) (starts : List ℕ)
       (indexed : IsIndexed (map region xs) starts) where
-    apart : (i j : ℕ) (d : X) → i < j → j < length xs
+    pub apart : (i j : ℕ) (d : X) → i < j → j < length xs
         → last (region (get_or xs i d)) < (region (get_or xs j d)).start
     apart i j d l k =
         let e = length-map xs region in
@@ -234,7 +234,7 @@ module _ {X : Type 0} (region : X → Region) where
         ap (λ (ns : List ℕ). get_or ns k 0) indexed.starts
         ∙ get_or-map (λ (r : Region). r.start) (map region xs) k d 0 (omega arith)
 
-    start-at : (k : ℕ) (d : X) → k < length xs → get_or starts k 0 ≡ (region (get_or xs k d)).start
+    pub start-at : (k : ℕ) (d : X) → k < length xs → get_or starts k 0 ≡ (region (get_or xs k d)).start
     start-at k d l =
         start-of k (region d) l ∙ ap (λ (r : Region). r.start) (get_or-map region xs k d (region d) l)
 

@@ -3,8 +3,8 @@ use Rattle.std.proofs.Common.{◌≡◌, ℕ, ◌+◌, ◌-◌, ◌<◌, ◌≤�
 use Rattle.std.proofs.lemmas.List.{map-set, with_items_is}
 use Rattle.std.specs.Vec.{with_item, with_items}
 use Rattle.std.specs.declared.alloc.Global.{Global}
-use Rattle.vm_memory_base.specs.Table.{Table}
 use Rattle.vm_memory_base.specs.declared.io.VolatileMemoryError.TheVariants.{PartialBuffer}
+use Rattle.vm_memory_base.specs.Table.{Table}
 use Rattle.vm_memory_guest.specs.Answer.{exactly, window_reach}
 use Rattle.vm_memory_guest.specs.Typed.{answered}
 use Rattle.vm_memory_guest.specs.Host.{Cell, Host, Shape, shape_of, block_at, bytes_at, cells_from, written}
@@ -58,9 +58,9 @@ place-put blocks block offset len all old bytes there is same within kept =
     block-put blocks block offset len all old bytes there is same (kept ∙ place-long old offset len (omega arith)) within
 
 -- a host whose blocks are as long as before is as sound
-pub sound-put : {B : Type 0} (shape : Shape) (old new : List (List ℕ)) (bitmaps spaces : List B) → map length new ≡ map length old
-    → IsSound shape old bitmaps spaces → IsSound shape new bitmaps spaces
-sound-put shape old new bitmaps spaces same sound = record {
+pub sound-put : {B : Type 0} (shape : Shape) (old new : List (List ℕ)) (bitmaps spaces : List B) (tables : List Table) → map length new ≡ map length old
+    → IsSound shape old bitmaps spaces tables → IsSound shape new bitmaps spaces tables
+sound-put shape old new bitmaps spaces tables same sound = record {
   lengths = rw same sound.lengths;
   spaces_counted = sound.spaces_counted;
   tables_counted = sound.tables_counted;

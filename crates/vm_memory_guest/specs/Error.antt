@@ -5,7 +5,7 @@ use Rattle.vm_memory_base.specs.declared.io.VolatileMemoryError.TheVariants as w
 use Rattle.vm_memory_base.specs.declared.iotlb.IommuError.TheVariants.{CannotResolve}
 use Rattle.vm_memory_guest.specs.Access.{Fault, NoRegion, NoHostBytes, Refused, Partial}
 use Rattle.vm_memory_guest.specs.declared.region.GuestMemoryError.{GuestMemoryError}
-use Rattle.vm_memory_guest.specs.declared.region.GuestMemoryError.TheVariants.{InvalidBackendAddress, InvalidGuestAddress, HostAddressNotAvailable, IommuError, PartialBuffer, Memory}
+use Rattle.vm_memory_guest.specs.declared.region.GuestMemoryError.TheVariants.{IOError, InvalidBackendAddress, InvalidGuestAddress, HostAddressNotAvailable, IommuError, PartialBuffer, Memory}
 
 -- the error that a fault is told as
 abbrev pub error_of : Fault → GuestMemoryError
@@ -21,5 +21,6 @@ of_window (OutOfBounds addr) = InvalidBackendAddress
 of_window (Overflow base offset) = InvalidBackendAddress
 of_window (TooBig nelements size) = InvalidBackendAddress
 of_window (Misaligned addr alignment) = InvalidBackendAddress
+of_window (window.IOError kind) = IOError kind
 of_window (window.PartialBuffer expected completed) = PartialBuffer expected completed
 of_window window.Memory = Memory

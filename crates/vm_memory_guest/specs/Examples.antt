@@ -1,8 +1,9 @@
 -- Short names for the values that the small cases of module `examples` speak of.
-use Rattle.std.specs.Prelude.{◌≡◌, ℕ, Bool, false, List, [], ◌∷◌, length, replicate, Some, None, Result}
+use Rattle.std.specs.Prelude.{◌≡◌, ℕ, Bool, false, List, [], ◌∷◌, length, replicate, Some, None, Result, Ok}
 use Rattle.vm_memory_base.specs.Pages.{PageSet, marked}
 use Rattle.vm_memory_base.specs.Runs.{Run}
 use Rattle.vm_memory_base.specs.Table.{Table, Mapping}
+use Rattle.vm_memory_base.specs.declared.address.GuestAddress.{GuestAddress}
 use Rattle.vm_memory_base.specs.declared.bitmap.BitmapId.{BitmapId}
 use Rattle.vm_memory_base.specs.declared.bitmap.BitmapId.TheVariants.{Block}
 use Rattle.vm_memory_base.specs.declared.iotlb.IommuError.TheVariants.{CannotResolve}
@@ -16,6 +17,7 @@ use Rattle.vm_memory_guest.specs.Region.{Region}
 use Rattle.vm_memory_guest.specs.Window.{Window}
 use Rattle.vm_memory_guest.specs.declared.region.GuestMemoryError.{GuestMemoryError}
 use Rattle.vm_memory_guest.specs.declared.region.GuestMemoryError.TheVariants.{IommuError}
+use Rattle.vm_memory_guest.specs.declared.volatile_memory.host_address.HostAddress.{HostAddress}
 
 -- a byte of a block
 abbrev pub cell_of : ℕ → ℕ → Cell
@@ -48,6 +50,10 @@ touching_regions = two_regions 0 4
 -- two regions with a hole of four addresses between them
 abbrev pub regions_with_hole : List Region
 regions_with_hole = two_regions 0 8
+
+-- an address
+abbrev pub address_of : ℕ → GuestAddress
+address_of a = record { 0 = a }
 
 -- size bytes of a block from an offset on, whose writes mark a bitmap from base on
 abbrev pub window_marking : ℕ → ℕ → ℕ → BitmapId → ℕ → Window
@@ -128,3 +134,23 @@ cannot_resolve base len reason = IommuError (CannotResolve (record {
   base = record { 0 = base };
   length = len;
 }) reason)
+
+-- where a byte of a block is
+abbrev pub host_cell : ℕ → ℕ → HostAddress
+host_cell block offset = record { block = record { 0 = block }; offset = offset }
+
+-- regions as they are
+abbrev pub itself : Region → Region
+itself r = r
+
+-- a callback that handles all that it is given, one that always answers the same number, and one that is called
+-- with no byte, at the offset 2, and handles none
+abbrev pub AnswersLength : Unit {0} → ℕ → ℕ → ℕ → Region → Result ℕ GuestMemoryError → Unit {0} → Type 0
+AnswersLength f total len offset r given g = given ≡ Ok len
+
+abbrev pub AnswersNumber : ℕ → Unit {0} → ℕ → ℕ → ℕ → Region → Result ℕ GuestMemoryError → Unit {0} → Type 0
+AnswersNumber n f total len offset r given g = given ≡ Ok n
+
+abbrev pub CalledWithNothing : Unit {0} → ℕ → ℕ → ℕ → Region → Result ℕ GuestMemoryError → Unit {0} → Type 0
+CalledWithNothing f total len offset r given g =
+    (total ≡ 0) × (len ≡ 0) × (offset ≡ 2) × (given ≡ Ok 0)

@@ -1,5 +1,5 @@
 -- What a host holds: blocks of bytes, each with a bitmap, spaces and tables, each kind by number from 0.
-use Rattle.std.specs.Prelude.{ℕ, zero, suc, ◌+◌, ◌<◌, ◌≤◌, List, [], ◌∷◌, ◌++◌, length, map, replicate, slice_set, slice_index, slice_index_or}
+use Rattle.std.specs.Prelude.{ℕ, zero, suc, ◌+◌, ◌<◌, ◌≤◌, List, [], ◌∷◌, ◌++◌, length, map, None, replicate, slice_set, slice_index, slice_index_or}
 use Rattle.vm_memory_base.specs.Table.{Table}
 
 -- the bytes of each block, the bitmap of each block, the bitmap of each space, and each table
@@ -25,6 +25,14 @@ with_block host size bitmap = record host {
 -- the host with one more space
 abbrev pub with_space : {B : Type 0} → Host B → B → Host B
 with_space host bitmap = record host { spaces = host.spaces ++ bitmap ∷ [] }
+
+-- the host with one more table, which says nothing
+abbrev pub with_table : {B : Type 0} → Host B → Host B
+with_table host = record host { tables = host.tables ++ record { limit = None; ranges = [] } ∷ [] }
+
+-- the host with another table of this number
+abbrev pub with_table_at : {B : Type 0} → Host B → ℕ → Table → Host B
+with_table_at host number table = record host { tables = slice_set host.tables number table }
 
 abbrev pub shape_of : {B : Type 0} → Host B → Shape
 shape_of host = record {

@@ -1,14 +1,15 @@
 -- What is true of the parts of a host's memory. No public clause cites this module.
 use Rattle.std.specs.Prelude.{◌≡◌, ℕ, ◌^◌, ◌<◌, List, length, map, All, Vec}
 use Rattle.std.specs.declared.alloc.Global.{Global}
+use Rattle.vm_memory_base.specs.Table.{Table}
 use Rattle.vm_memory_guest.specs.Host.{Shape}
 
 -- the shape is that of the parts, each block has a bitmap, and 1 to 2 ^ 63 - 1 bytes
 pub record IsSound {B : Type 0} (shape : Shape) (blocks : List (List ℕ)) (bitmaps spaces : List B)
-    : Type 0 where
+    (tables : List Table) : Type 0 where
   pub lengths : shape.blocks ≡ map length blocks
   pub spaces_counted : shape.spaces ≡ length spaces
-  pub tables_counted : shape.tables ≡ 0
+  pub tables_counted : shape.tables ≡ length tables
   pub tracked : length bitmaps ≡ length (map length blocks)
   pub sized : All (λ len. (0 < len) × (len < 2 ^ 63)) (map length blocks)
 

@@ -7,9 +7,15 @@ pub mod Error
 pub mod Examples
 pub mod Host
 pub mod Inside
+pub mod Layout
 pub mod Memory
 pub mod Mmap
+pub mod Ranges
+pub mod Queries
 pub mod Region
+pub mod RegionBytes
+pub mod TryAccess
+pub mod Transfer
 pub mod Typed
 pub mod TypedFacts
 pub mod Volatile

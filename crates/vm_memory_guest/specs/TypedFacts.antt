@@ -4,6 +4,7 @@ use Rattle.std.proofs.Common.{refl, arith}
 use Rattle.std.proofs.lemmas.Bool.Decides.{nat_tests}
 use Rattle.vm_memory_base.specs.declared.io.VolatileMemoryError.{VolatileMemoryError}
 use Rattle.vm_memory_base.specs.declared.io.VolatileMemoryError.TheVariants.{OutOfBounds, Overflow, Misaligned}
+use Rattle.vm_memory_guest.specs.RegionBytes.{as_guest, place_in}
 use Rattle.vm_memory_guest.specs.Typed.{aligned_of, if_aligned, first_aligned}
 use Rattle.vm_memory_guest.specs.Window.{Window, part, subslice_of}
 use Rattle.vm_memory_guest.specs.declared.region.GuestMemoryError.{GuestMemoryError}
@@ -48,3 +49,13 @@ first-sized size (w ∷ ws) fault =
     let aligned = w.offset % size == 0 in
     chosen (λ v. v.size ≡ size) (w.size == size && aligned) (Ok w) (Err InvalidBackendAddress)
     (λ h. tested w.size size aligned h) (λ _. tt)
+
+told-sized : (r : Result Window VolatileMemoryError) (size : ℕ) → IfOk r (λ v. v.size ≡ size)
+    → IfOk (as_guest r) (λ v. v.size ≡ size)
+told-sized (Ok w) size h = h
+told-sized (Err e) size h = tt
+
+pub place-sized : (r : Result Window GuestMemoryError) (offset size : ℕ)
+    → IfOk (place_in r offset size) (λ v. v.size ≡ size)
+place-sized (Err e) offset size = tt
+place-sized (Ok w) offset size = told-sized (aligned_of w offset size) size (aligned-sized w offset size)

@@ -23,6 +23,16 @@ error_item (Some fault) = Err (error_of fault) ∷ []
 abbrev pub items_of : Reach Fault → List (Result Window GuestMemoryError)
 items_of walk = map (λ w. Ok w) walk.windows ++ error_item walk.fault
 
+-- the windows alone: its error is the answer where it comes first, and else is not told
+abbrev pub windows_before : List Window → Option Fault → Result (List Window) GuestMemoryError
+windows_before [] (Some fault) = Err (error_of fault)
+windows_before ws fault = Ok ws
+
+-- the windows that are left, where this one comes next: with none there are no others
+abbrev pub windows_from : Option Window → List Window → List Window
+windows_from None ws = []
+windows_from (Some w) ws = w ∷ ws
+
 -- the walk over n bytes from a on, without translation
 abbrev pub walk_of : List Region → ℕ → ℕ → Reach Fault
 walk_of regions a n = reach_of (record {

@@ -30,6 +30,11 @@ impl<R: GuestMemoryRegion> GuestMemoryBackend for GuestRegionCollection<R> {
     }
 
     #[inline]
+    fn region_at(&self, index: usize) -> Option<&R> {
+        GuestRegionCollection::region_at(self, index)
+    }
+
+    #[inline]
     fn find_region(&self, addr: GuestAddress) -> Option<&R> {
         GuestRegionCollection::find_region(self, addr)
     }

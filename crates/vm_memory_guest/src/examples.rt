@@ -11,7 +11,7 @@ ghost use Rattle.vm_memory_guest.specs.Access.{access_of, windows, NoRegion, NoH
 ghost use Rattle.vm_memory_guest.specs.Answer.{told, counted, exactly, filled, window_reach};
 ghost use Rattle.vm_memory_guest.specs.Dirt.{after_write, bytes_read, path_cells};
 ghost use Rattle.vm_memory_guest.specs.Error.{error_of};
-ghost use Rattle.vm_memory_guest.specs.Examples.{answer_of, exact_answer_of, cannot_resolve};
+ghost use Rattle.vm_memory_guest.specs.Examples.{address_of, answer_of, exact_answer_of, cannot_resolve};
 ghost use Rattle.vm_memory_guest.specs.Examples.{backed_region, bare_region, one_region};
 ghost use Rattle.vm_memory_guest.specs.Examples.{cell_of, block_window, window_marking};
 ghost use Rattle.vm_memory_guest.specs.Examples.{host_of, one_block_shape, zeros};
@@ -20,10 +20,14 @@ ghost use Rattle.vm_memory_guest.specs.Examples.{run_of, table_of, memory_with_i
 ghost use Rattle.vm_memory_guest.specs.Examples.{two_regions, touching_regions, regions_with_hole};
 ghost use Rattle.vm_memory_guest.specs.Host as names;
 ghost use Rattle.vm_memory_guest.specs.Host.{shape_of, IsHeld, Holds, Place, Tlb};
+ghost use Rattle.vm_memory_guest.specs.Layout.{inserted, removed, binary_digits};
 ghost use Rattle.vm_memory_guest.specs.Memory.{Direct, Through, memory_names, route};
+ghost use Rattle.vm_memory_guest.specs.Ranges.{HasBlocks, range_error, range_regions};
 ghost use Rattle.vm_memory_guest.specs.Region.{home, last, layout_error, slice_of, IsLayout, IsRegion};
 ghost use Rattle.vm_memory_guest.specs.Walk.{items_of, reach_of, walk_of, GivesAccess, RefusesAccess};
 ghost use Rattle.vm_memory_guest.specs.Window.{cells, offset_of, span, subslice_of, window_names, Writes};
+ghost use Rattle.vm_memory_guest.specs.declared.mmap.FromRangesError.TheVariants.{MmapRegion, InvalidGuestRegion};
+ghost use Rattle.vm_memory_guest.specs.declared.volatile_memory.host.MmapRegionError.TheVariants.{InvalidSize};
 ghost use Rattle.vm_memory_guest.specs.declared.region.GuestMemoryError.TheVariants.{
   HostAddressNotAvailable,
   InvalidBackendAddress,
@@ -107,6 +111,49 @@ pub fn layout_tests()
     ensures is_layout { IsLayout touching_regions }
     ensures found { home touching_regions 4 ≡ Some (backed_region 4 4 1 0) }
     ensures not_found { home touching_regions 8 ≡ None }
+{}
+
+/// A region is put behind each that starts no higher, and taken out by its start and its length.
+pub fn layout_changes()
+    ensures first { inserted (λ r. r) (two_regions 4 8) (backed_region 0 4 2 0)
+        ≡ backed_region 0 4 2 0 ∷ two_regions 4 8 }
+    ensures between { inserted (λ r. r) (two_regions 0 8) (backed_region 4 4 2 0)
+        ≡ backed_region 0 4 0 0 ∷ backed_region 4 4 2 0 ∷ backed_region 8 4 1 0 ∷ [] }
+    ensures same_start { inserted (λ r. r) (two_regions 0 8) (backed_region 0 2 2 0)
+        ≡ backed_region 0 4 0 0 ∷ backed_region 0 2 2 0 ∷ backed_region 8 4 1 0 ∷ [] }
+    ensures into_none { inserted (λ r. r) [] (bare_region 4 4) ≡ bare_region 4 4 ∷ [] }
+    ensures overlap { layout_error (inserted (λ r. r) (two_regions 0 8) (backed_region 3 1 2 0))
+        ≡ Some MemoryRegionOverlap }
+    ensures taken { removed (λ r. r) (two_regions 0 8) 8 4
+        ≡ Some (backed_region 0 4 0 0 ∷ [], backed_region 8 4 1 0) }
+    ensures only { removed (λ r. r) (one_region 4) 0 4 ≡ Some ([], backed_region 0 4 0 0) }
+    ensures other_length { removed (λ r. r) (one_region 4) 0 2 ≡ None }
+    ensures other_start { removed (λ r. r) (one_region 4) 1 4 ≡ None }
+{}
+
+/// Of a range the size is tested before the end. Ranges that fit are regions over the next blocks, which are
+/// zeroed.
+pub fn ranges_of_addresses()
+    ensures no_size { range_error (address_of 0) 0 ≡ Some (MmapRegion InvalidSize) }
+    ensures long { range_error (address_of 0) (2 ^ 63) ≡ Some (MmapRegion InvalidSize) }
+    ensures size_first { range_error (address_of (2 ^ 64 - 1)) (2 ^ 63) ≡ Some (MmapRegion InvalidSize) }
+    ensures past { range_error (address_of (2 ^ 64 - 4)) 4 ≡ Some InvalidGuestRegion }
+    ensures fits { range_error (address_of (2 ^ 64 - 5)) 4 ≡ None }
+    ensures regions { range_regions 3 ((address_of 0, 4) ∷ (address_of 8, 2) ∷ [])
+        ≡ backed_region 0 4 3 0 ∷ backed_region 8 2 4 0 ∷ [] }
+    ensures blocks { HasBlocks (λ size set. set ≡ clean_pages 1 size)
+        ((address_of 0, 1) ∷ (address_of 8, 2) ∷ []) (host_of [] [] [] [])
+        (host_of (zeros 1 ∷ zeros 2 ∷ []) (clean_pages 1 1 ∷ clean_pages 1 2 ∷ []) [] []) }
+{}
+
+/// How many binary digits a number has.
+pub fn digits_of_numbers()
+    ensures none { binary_digits 0 ≡ 0 }
+    ensures one { binary_digits 1 ≡ 1 }
+    ensures two { binary_digits 2 ≡ 2 }
+    ensures ones { binary_digits 7 ≡ 3 }
+    ensures thousand { binary_digits 1000 ≡ 10 }
+    ensures power { binary_digits 1024 ≡ 11 }
 {}
 
 /// A region may end at the greatest address, and not past it.

@@ -2,4 +2,6 @@
 //! address.
 pub mod access;
 pub mod backend;
+pub mod iter;
 pub mod memory;
+pub mod stop_on_error;

@@ -9,24 +9,30 @@ mod guest_memory;
 pub mod host_laws;
 mod mmap;
 pub mod path_laws;
+pub mod query_examples;
 mod region;
+mod region_bytes;
 pub mod region_laws;
 pub mod typed_examples;
 pub mod typed_laws;
 mod volatile_memory;
 
 pub use guest_memory::backend::{GuestMemoryBackend, GuestMemoryBackendSliceIterator};
+pub use guest_memory::iter::RegionIter;
 pub use guest_memory::memory::{GuestMemory, IommuMemorySliceIterator};
-pub use mmap::{GuestMemoryMmap, GuestRegionMmap, MmapRegion};
+pub use guest_memory::stop_on_error::{GuestMemorySliceIterator, StopOnError};
+pub use mmap::{FromRangesError, GuestMemoryMmap, GuestRegionMmap, MmapRegion};
 pub use region::{
     GuestMemoryError, GuestMemoryRegion, GuestMemoryResult, GuestRegionCollection,
     GuestRegionCollectionError,
 };
+pub use region_bytes::GuestMemoryRegionBytes;
 pub use volatile_memory::access::Bytes;
 pub use volatile_memory::array::VolatileArrayRef;
 pub use volatile_memory::host::{
     BlockId, HostMemory, HostShape, MmapRegionError, Named, SpaceId, TlbId,
 };
+pub use volatile_memory::host_address::HostAddress;
 pub use volatile_memory::memory::{VolatileMemory, compute_offset};
 pub use volatile_memory::reference::VolatileRef;
 pub use volatile_memory::slice::VolatileSlice;

@@ -1,18 +1,31 @@
 //! Regions over whole blocks of a host.
 ghost use Rattle.std.specs.Prelude.{◌≡◌, ◌+◌, ◌^◌, ◌<◌, ◌≤◌, ◌↔◌, ◌⊎◌, List, [], ◌∷◌, ◌++◌, length};
-ghost use Rattle.std.specs.Prelude.{replicate, Some, IsSome, IfSome, IfOk, OnOk, OnErr, IsErrOf};
+ghost use Rattle.std.specs.Prelude.{replicate, Some, None, IsSome, IfSome, IfOk, IfErr, OnOk, OnErr, IsErrOf};
+ghost use Rattle.std.specs.Prelude.{ℕ, MatchResult, map, flat_map, take, slice_get};
 ghost use Rattle.vm_memory_guest.specs.Host as names;
-ghost use Rattle.vm_memory_guest.specs.Host.{Name, shape_of, Holds, block_at};
-ghost use Rattle.vm_memory_guest.specs.Region.{slice_from};
+ghost use Rattle.vm_memory_guest.specs.Host.{Name, shape_of, with_block, Holds, block_at};
+ghost use Rattle.vm_memory_guest.specs.Collection.{regions_of};
+ghost use Rattle.vm_memory_guest.specs.Mmap.{mmap_region};
+ghost use Rattle.vm_memory_guest.specs.Ranges.{range_error, refusal_of, range_region, range_regions};
+ghost use Rattle.vm_memory_guest.specs.Ranges.{AllFit, HasBlocks, refused_at};
+ghost use Rattle.vm_memory_guest.specs.Region.{slice_from, layout_error, region_names};
+ghost use Rattle.vm_memory_guest.specs.declared.mmap.FromRangesError.TheVariants as error;
+ghost use Rattle.vm_memory_guest.specs.declared.mmap.GuestRegionMmap.{GuestRegionMmap};
 
 use crate::region::{
     GuestMemoryError, GuestMemoryRegion, GuestMemoryResult, GuestRegionCollection,
+    GuestRegionCollectionError,
 };
-use crate::volatile_memory::host::{BlockId, HostMemory, HostShape, MmapRegionError, Named};
+use crate::region_bytes::GuestMemoryRegionBytes;
+use crate::volatile_memory::host::{
+    BlockId, HostMemory, HostShape, MAX_BLOCK, MmapRegionError, Named,
+};
 use crate::volatile_memory::memory::VolatileMemory;
 use crate::volatile_memory::slice::VolatileSlice;
+use std::alloc::{AllocError, Global};
 use std::marker::Model;
 use std::sync::Arc;
+use thiserror::Error;
 use vm_memory_base::{
     BitmapId, BitmapRef, GuestAddress, GuestUsize, MemoryRegionAddress, NewBitmap,
     VolatileMemoryResult,
@@ -224,6 +237,14 @@ impl GuestMemoryRegion for GuestRegionMmap {
     }
 
     #[inline]
+    fn bitmap(&self) -> BitmapRef {
+        BitmapRef {
+            id: BitmapId::Block(self.mapping.block.0),
+            base: 0,
+        }
+    }
+
+    #[inline]
     fn get_slice(
         &self,
         offset: MemoryRegionAddress,
@@ -233,5 +254,167 @@ impl GuestMemoryRegion for GuestRegionMmap {
     }
 }
 
+/// Why ranges of addresses make no guest memory.
+#[derive(Debug, Drop, Error)]
+pub enum FromRangesError {
+    /// The regions make no layout.
+    #[error("Error constructing guest region collection: {0}")]
+    Collection(GuestRegionCollectionError),
+    /// The block of a range was not made.
+    #[error("Error setting up raw memory for guest region: {0}")]
+    MmapRegion(MmapRegionError),
+    /// The address plus the size passes 2^64 - 1.
+    #[error("Combination of guest address and region length invalid (would overflow)")]
+    InvalidGuestRegion,
+}
+
+impl From<GuestRegionCollectionError> for FromRangesError {
+    ghost from_gives = { λ e r. r ≡ error.Collection e };
+
+    fn from(e: GuestRegionCollectionError) -> FromRangesError {
+        FromRangesError::Collection(e)
+    }
+}
+
+impl From<MmapRegionError> for FromRangesError {
+    ghost from_gives = { λ e r. r ≡ error.MmapRegion e };
+
+    fn from(e: MmapRegionError) -> FromRangesError {
+        FromRangesError::MmapRegion(e)
+    }
+}
+
+impl GuestRegionMmap {
+    /// Makes a block of `size` zeroed bytes in the host, at a guest address. The size is tested first, as in
+    /// `MmapRegion::new`, and then that the address plus the size fits: `InvalidGuestRegion` where it does not.
+    /// A refusal, for want of memory too, adds no block.
+    pub fn from_range<B: NewBitmap + Drop>(
+        host: &mut HostMemory<B>,
+        addr: GuestAddress,
+        size: usize,
+    ) -> Result<Self, FromRangesError>
+        ensures region { MatchResult result
+            (λ r. (range_error addr size ≡ None)
+            × (mmap_region r ≡ range_region (length host.old.blocks) addr size))
+            (λ e. range_error addr size ≡ refusal_of e) }
+        ensures ok { OnOk result ((bitmap : B) × B.made size bitmap
+            × (host.new ≡ with_block host.old size bitmap)) }
+        ensures err { OnErr result (host.new ≡ host.old) }
+        ensures held { IfOk result (λ r. Holds (shape_of host.new) (region_names (mmap_region r))) }
+        ensures kept { (names : List Name) →
+            Holds (shape_of host.old) names → Holds (shape_of host.new) names }
+    {
+        if size == 0 || size > MAX_BLOCK {
+            return Err(FromRangesError::MmapRegion(MmapRegionError::InvalidSize));
+        }
+        if size as u64 > u64::MAX - addr.0 {
+            return Err(FromRangesError::InvalidGuestRegion);
+        }
+        let mapping = match MmapRegion::new(host, size) {
+            Ok(mapping) => mapping,
+            Err(error) => return Err(FromRangesError::from(error)),
+        };
+        Ok(GuestRegionMmap {
+            mapping,
+            guest_base: addr,
+        })
+    }
+}
+
+impl GuestMemoryRegionBytes for GuestRegionMmap {}
+
 /// Guest memory of blocks of a host.
 pub type GuestMemoryMmap = GuestRegionCollection<GuestRegionMmap>;
+
+impl GuestRegionCollection<GuestRegionMmap> {
+    /// Guest memory of new blocks of zeroed bytes: each range has the first address and the size of one. The
+    /// blocks are made in order, as `GuestRegionMmap::from_range` does, and then the regions are tested as
+    /// `from_regions` does. The blocks before a refusal stay in the host, and nothing names them.
+    pub fn from_ranges<B: NewBitmap + Drop>(
+        alloc: Global,
+        host: &mut HostMemory<B>,
+        ranges: &[(GuestAddress, usize)],
+    ) -> Result<Self, FromRangesError>
+        ensures answer { let regions = range_regions (length host.old.blocks) ranges.now in
+            (n : ℕ) × (n ≤ length ranges.now) × AllFit (take n ranges.now)
+            × HasBlocks B.made (take n ranges.now) host.old host.new × MatchResult result
+            (λ c. (n ≡ length ranges.now) × (layout_error regions ≡ None) × (map mmap_region c ≡ regions))
+            (λ e. (refusal_of e ≡ None) ⊎ (refused_at (slice_get ranges.now n) regions ≡ Some e)) }
+        ensures held { IfOk result (λ c.
+            Holds (shape_of host.new) (flat_map region_names (map mmap_region c))) }
+        ensures kept { (names : List Name) →
+            Holds (shape_of host.old) names → Holds (shape_of host.new) names }
+    {
+        let regions = match ranges_in(alloc, host, ranges) {
+            Ok(regions) => regions,
+            Err(error) => return Err(error),
+        };
+        match GuestRegionCollection::from_arc_regions(regions) {
+            Ok(memory) => Ok(memory),
+            Err(error) => Err(FromRangesError::from(error)),
+        }
+    }
+}
+
+// The regions of ranges, over new blocks.
+fn ranges_in<B: NewBitmap + Drop>(
+    alloc: Global,
+    host: &mut HostMemory<B>,
+    ranges: &[(GuestAddress, usize)],
+) -> Result<Vec<Arc<GuestRegionMmap>>, FromRangesError>
+    ensures answer { let regions = range_regions (length host.old.blocks) ranges.now in
+        (n : ℕ) × (n ≤ length ranges.now) × AllFit (take n ranges.now)
+        × HasBlocks B.made (take n ranges.now) host.old host.new × MatchResult result
+        (λ made. (n ≡ length ranges.now) × (map mmap_region (regions_of made) ≡ regions))
+        (λ e. (refusal_of e ≡ None) ⊎ ((n < length ranges.now)
+        × (refused_at (slice_get ranges.now n) regions ≡ Some e))) }
+    ensures held { IfOk result (λ made.
+        Holds (shape_of host.new) (flat_map region_names (map mmap_region (regions_of made)))) }
+    ensures kept { (names : List Name) →
+        Holds (shape_of host.old) names → Holds (shape_of host.new) names }
+{
+    let mut regions = Vec::new(alloc);
+    for range in ranges {
+        if let Err(error) = add_range(alloc, host, *range, &mut regions) {
+            return Err(error);
+        }
+    }
+    Ok(regions)
+}
+
+// One region more, over a new block.
+fn add_range<B: NewBitmap + Drop>(
+    alloc: Global,
+    host: &mut HostMemory<B>,
+    range: (GuestAddress, usize),
+    regions: &mut Vec<Arc<GuestRegionMmap>>,
+) -> Result<(), FromRangesError>
+    ensures ok { OnOk result ((range_error range.0 range.1 ≡ None)
+        × ((bitmap : B) × B.made range.1 bitmap × (host.new ≡ with_block host.old range.1 bitmap))
+        × ((r : GuestRegionMmap) × (regions_of regions.new ≡ regions_of regions.old ++ r ∷ [])
+        × (mmap_region r ≡ range_region (length host.old.blocks) range.0 range.1)
+        × Holds (shape_of host.new) (region_names (mmap_region r)))) }
+    ensures err { IfErr result (λ e.
+        ((host.new ≡ host.old) × (range_error range.0 range.1 ≡ refusal_of e))
+        ⊎ ((refusal_of e ≡ None) × (range_error range.0 range.1 ≡ None)
+        × ((bitmap : B) × B.made range.1 bitmap × (host.new ≡ with_block host.old range.1 bitmap)))) }
+    ensures kept { (names : List Name) →
+        Holds (shape_of host.old) names → Holds (shape_of host.new) names }
+{
+    let region = match GuestRegionMmap::from_range(host, range.0, range.1) {
+        Ok(region) => region,
+        Err(error) => return Err(error),
+    };
+    match share(alloc, region, regions) {
+        Ok(()) => Ok(()),
+        Err(_) => Err(FromRangesError::Collection(GuestRegionCollectionError::Memory)),
+    }
+}
+
+// One value more, to be shared.
+fn share<R: Drop>(alloc: Global, value: R, values: &mut Vec<Arc<R>>) -> Result<(), AllocError>
+    ensures ok { OnOk result (regions_of values.new ≡ regions_of values.old ++ value ∷ []) }
+{
+    values.push(Arc::new(alloc, value)?)?;
+    Ok(())
+}

@@ -1,12 +1,13 @@
 //! What paths and their windows have in common, for every list of regions and every route: each function
 //! here is a theorem, and does nothing.
-ghost use Rattle.std.specs.Prelude.{◌≡◌, ℕ, ◌+◌, ◌-◌, ◌<◌, ◌≤◌, List, [], ◌∷◌, Some, length, flat_map, All, MatchOption};
+ghost use Rattle.std.specs.Prelude.{◌≡◌, ℕ, ◌+◌, ◌-◌, ◌<◌, ◌≤◌, ◌↔◌, true, List, [], ◌∷◌, Some, length, flat_map, All, MatchOption};
 ghost use Rattle.vm_memory_base.specs.Table.{Says};
 ghost use Rattle.vm_memory_base.specs.declared.iotlb.Permissions.{Permissions};
-ghost use Rattle.vm_memory_guest.specs.Access.{meets, path, windows, access_of};
+ghost use Rattle.vm_memory_guest.specs.Access.{Reached, Reaches, allowed, meets, path, windows, access_of};
 ghost use Rattle.vm_memory_guest.specs.Dirt.{path_cells, path_marks, window_marks};
 ghost use Rattle.vm_memory_guest.specs.Host.{Cell, Shape, Space, Holds};
 ghost use Rattle.vm_memory_guest.specs.Memory.{Route, Direct, Through};
+ghost use Rattle.vm_memory_guest.specs.Queries.{is_whole};
 ghost use Rattle.vm_memory_guest.specs.Region.{Region, IsRegion, IsLayout, home, region_names, window_at};
 ghost use Rattle.vm_memory_guest.specs.Window.{cells, window_names};
 
@@ -32,6 +33,14 @@ pub fn accesses_reach_all_unless_stopped()
     ensures all { (regions : List Region) (route : Route) (a n : ℕ) (access : Permissions)
         → let reached = access_of regions route a n access in
         MatchOption reached.fault (length reached.path ≡ n) (λ fault. length reached.path < n) }
+{}
+
+/// A range is whole exactly where it is allowed and each byte of it has a byte of the host.
+pub fn ranges_are_whole_by_bytes()
+    ensures { (regions : List Region) (route : Route) (a n : ℕ) (access : Permissions)
+        → (is_whole (access_of regions route a n access).path n ≡ true)
+        ↔ ((allowed route a n access ≡ true)
+        × ((i : ℕ) → i < n → (x : Reached) × (meets regions route a i ≡ Reaches x))) }
 {}
 
 /// The windows of a memory that a host holds are held.

@@ -1,22 +1,27 @@
 //! Regions of guest physical memory, and collections of them.
-ghost use Rattle.std.specs.Prelude.{◌≡◌, ℕ, ◌-◌, ◌<◌, ◌≤◌, ◌↔◌, map, flat_map, length, slice_index};
-ghost use Rattle.std.specs.Prelude.{IsTrue, None, Some, IfOk, MatchResult};
+ghost use Rattle.std.specs.Prelude.{◌≡◌, ℕ, ◌-◌, ◌<◌, ◌≤◌, ◌↔◌, ◌⊎◌, [], map, flat_map, length, slice_index};
+ghost use Rattle.std.specs.Prelude.{slice_get, insert, remove, IsTrue, None, Some, IfOk, IfErr, IsErrOf};
+ghost use Rattle.std.specs.Prelude.{MatchOption, MatchResult, ◌+◌, nat_lt, IfSome};
 ghost use Rattle.std.specs.Option.{option_copied};
 ghost use Rattle.std.specs.declared.alloc.Global.{Global};
 ghost use Rattle.std.specs.declared.sync.Arc.{Arc};
 ghost use Rattle.vm_memory_guest.specs.Collection.{regions_of};
 ghost use Rattle.vm_memory_guest.specs.Host.{Holds};
+ghost use Rattle.vm_memory_guest.specs.Layout.{inserted, removed, binary_digits, IsFault};
 ghost use Rattle.vm_memory_guest.specs.Region.{Region, IsRegion, last, home_in, region_names, slice_of};
+ghost use Rattle.vm_memory_guest.specs.Queries.{bitmap_from, offset_in, offset_of, host_address_of};
 ghost use Rattle.vm_memory_guest.specs.Region.{IsLayout, neighbours_of, layout_error, fault_of};
 
 use crate::volatile_memory::host::{HostShape, Named};
+use crate::volatile_memory::host_address::HostAddress;
 use crate::volatile_memory::slice::VolatileSlice;
 use std::alloc::{AllocError, Global};
 use std::marker::Model;
 use std::sync::Arc;
 use thiserror::Error;
 use vm_memory_base::{
-    Address, GuestAddress, GuestUsize, IommuError, MemoryRegionAddress, VolatileMemoryError,
+    Address, BitmapRef, GuestAddress, GuestUsize, IoError, IommuError, MemoryRegionAddress,
+    VolatileMemoryError,
 };
 
 /// Why an access of guest memory was refused.
@@ -25,6 +30,9 @@ pub enum GuestMemoryError {
     /// No region holds the address.
     #[error("Guest memory error: invalid guest address {}", .0.0)]
     InvalidGuestAddress(GuestAddress),
+    /// A source or a sink failed.
+    #[error("Guest memory error: {0}")]
+    IOError(IoError),
     /// Fewer bytes were moved than the buffer has.
     #[error("Guest memory error: only used {completed} bytes in {expected} long buffer")]
     PartialBuffer { expected: usize, completed: usize },
@@ -34,6 +42,12 @@ pub enum GuestMemoryError {
     /// The region has no host bytes.
     #[error("Guest memory error: host virtual address not available")]
     HostAddressNotAvailable,
+    /// A callback of `try_access` answered more than was left.
+    #[error("The length returned by the callback passed to `try_access` is outside the address range.")]
+    CallbackOutOfRange,
+    /// A callback of `try_access` went past the greatest address.
+    #[error("The address to be read by `try_access` is outside the address range")]
+    GuestAddressOverflow,
     /// The translation was refused.
     #[error("IOMMU failed to translate guest address: {0}")]
     IommuError(IommuError),
@@ -45,8 +59,8 @@ pub enum GuestMemoryError {
 /// The result of an access of guest memory.
 pub type GuestMemoryResult<T> = Result<T, GuestMemoryError>;
 
-/// An access that does not fit its window does not fit the region; a count stays a count, and want of
-/// memory stays that.
+/// An access that does not fit its window does not fit the region; a count stays a count, a failure of a
+/// source or a sink stays one, and so does want of memory.
 impl From<VolatileMemoryError> for GuestMemoryError {
     ghost use Rattle.std.specs.Prelude.{◌≡◌};
     ghost use Rattle.vm_memory_guest.specs.Error.{of_window};
@@ -59,6 +73,7 @@ impl From<VolatileMemoryError> for GuestMemoryError {
             | VolatileMemoryError::Overflow { .. }
             | VolatileMemoryError::TooBig { .. }
             | VolatileMemoryError::Misaligned { .. } => GuestMemoryError::InvalidBackendAddress,
+            VolatileMemoryError::IOError(error) => GuestMemoryError::IOError(error),
             VolatileMemoryError::PartialBuffer {
                 expected,
                 completed,
@@ -94,6 +109,71 @@ pub trait GuestMemoryRegion: Named + Drop {
     /// The last address.
     fn last_addr(&self) -> GuestAddress
         ensures { result.0 ≡ last (region self.now) };
+
+    /// The view of a bitmap that writes mark, from the region's first byte on: that of its block. Of a region
+    /// without host bytes nothing is marked, whichever view this is.
+    fn bitmap(&self) -> BitmapRef
+        ensures { IfSome (region self.now).place (λ first. result ≡ bitmap_from first) };
+
+    /// Whether there is an address at this offset.
+    #[inline]
+    final fn address_in_range(&self, addr: MemoryRegionAddress) -> bool
+        ensures { result ≡ nat_lt addr.0 (region self.now).len }
+    {
+        addr.0 < self.len()
+    }
+
+    /// The offset, where there is an address at it.
+    #[inline]
+    final fn check_address(&self, addr: MemoryRegionAddress) -> Option<MemoryRegionAddress>
+        ensures { result ≡ offset_in (region self.now) addr.0 }
+    {
+        if self.address_in_range(addr) {
+            Some(addr)
+        } else {
+            None
+        }
+    }
+
+    /// The offset that lies `offset` bytes above `base`, where there is an address at it.
+    #[inline]
+    final fn checked_offset(
+        &self,
+        base: MemoryRegionAddress,
+        offset: usize,
+    ) -> Option<MemoryRegionAddress>
+        ensures { result ≡ offset_in (region self.now) (base.0 + offset) }
+    {
+        let sum = base.0.checked_add(offset as u64)?;
+        self.check_address(MemoryRegionAddress(sum))
+    }
+
+    /// The offset of an address, where the region holds it.
+    #[inline]
+    final fn to_region_addr(&self, addr: GuestAddress) -> Option<MemoryRegionAddress>
+        ensures { result ≡ offset_of (region self.now) addr.0 }
+    {
+        let offset = addr.0.checked_sub(self.start_addr().0)?;
+        self.check_address(MemoryRegionAddress(offset))
+    }
+
+    /// Where the byte at an offset is in the host: `HostAddressNotAvailable` where the region has no host
+    /// bytes, else `InvalidBackendAddress` where there is no address at the offset.
+    #[inline]
+    final fn get_host_address(&self, addr: MemoryRegionAddress) -> GuestMemoryResult<HostAddress>
+        ensures { result ≡ host_address_of (region self.now) addr.0 }
+    {
+        let window = self.get_slice(addr, 1)?;
+        Ok(window.host_address())
+    }
+
+    /// The window of all bytes, or `HostAddressNotAvailable` where the region has no host bytes.
+    #[inline]
+    final fn as_volatile_slice(&self) -> GuestMemoryResult<VolatileSlice>
+        ensures { result ≡ slice_of (region self.now) 0 (region self.now).len }
+    {
+        self.get_slice(MemoryRegionAddress(0), self.len() as usize)
+    }
 
     /// The window of `count` bytes from `offset` on: `InvalidBackendAddress` where it passes the region's
     /// end, `HostAddressNotAvailable` where the region has no host bytes.
@@ -150,6 +230,28 @@ impl<R: GuestMemoryRegion> Model for GuestRegionCollection<R> {
 impl<R: GuestMemoryRegion> GuestRegionCollection<R> {
     ghost use Rattle.vm_memory_guest.specs.Collection.{regions_of};
 
+    /// The layout of no region. It takes no memory.
+    pub fn new(alloc: Global) -> Self
+        ensures { result ≡ [] }
+    {
+        GuestRegionCollection {
+            regions: Vec::new(alloc),
+            starts: Vec::new(alloc),
+        }
+    }
+
+    /// The layout of these regions, in order, as `from_arc_regions` makes it.
+    pub fn from_regions(alloc: Global, regions: Vec<R>) -> Result<Self, GuestRegionCollectionError>
+        ensures { MatchResult result
+            (λ c. (layout_error (map R.region regions.items) ≡ None) × (c ≡ regions.items))
+            (λ e. IsFault (layout_error (map R.region regions.items)) e) }
+    {
+        let Ok(regions) = shared_each(alloc, regions) else {
+            return Err(GuestRegionCollectionError::Memory);
+        };
+        GuestRegionCollection::from_arc_regions(regions)
+    }
+
     /// The layout of these regions, in order. No region at all is `NoMemoryRegion`; the first two neighbours
     /// that are not in order are `UnsortedMemoryRegions` where the earlier starts above the later, else
     /// `MemoryRegionOverlap`. Want of memory is `Memory`.
@@ -170,6 +272,73 @@ impl<R: GuestMemoryRegion> GuestRegionCollection<R> {
         Ok(GuestRegionCollection { regions, starts })
     }
 
+    /// The layout with one region more, whose bytes it shares. The region stands before the first that starts
+    /// above it; then the regions are tested as `from_arc_regions` does. This layout stays as it is.
+    pub fn insert_region(&self, region: Arc<R>) -> Result<Self, GuestRegionCollectionError>
+        ensures { let regions = inserted R.region self.now region.value in MatchResult result
+            (λ c. (layout_error (map R.region regions) ≡ None) × (c ≡ regions))
+            (λ e. IsFault (layout_error (map R.region regions)) e) }
+    {
+        let (place, _, _) = first_above(self.starts.as_slice(), region.start_addr().0);
+        let Ok(regions) = with_region(&self.regions, place, region) else {
+            return Err(GuestRegionCollectionError::Memory);
+        };
+        GuestRegionCollection::from_arc_regions(regions)
+    }
+
+    /// The layout without the region of exactly these addresses, which may be left with none, and that region:
+    /// `NoMemoryRegion` where no region starts at `base` and has `size` bytes. This layout stays as it is.
+    pub fn remove_region(
+        &self,
+        base: GuestAddress,
+        size: GuestUsize,
+    ) -> Result<(Self, Arc<R>), GuestRegionCollectionError>
+        ensures ok { IfOk result (λ p. removed R.region self.now base.0 size ≡ Some (p.0, p.1.value)) }
+        ensures none { IsErrOf result GuestRegionCollectionError.NoMemoryRegion
+            ↔ (removed R.region self.now base.0 size ≡ None) }
+        ensures errors { IfErr result (λ e. (e ≡ GuestRegionCollectionError.NoMemoryRegion)
+            ⊎ (e ≡ GuestRegionCollectionError.Memory)) }
+    {
+        let place = self
+            .place_of(base, size)
+            .ok_or(GuestRegionCollectionError::NoMemoryRegion)?;
+        match self.without(place) {
+            Ok(parts) => Ok(parts),
+            Err(_) => Err(GuestRegionCollectionError::Memory),
+        }
+    }
+
+    // The place of the region of exactly these addresses.
+    fn place_of(&self, base: GuestAddress, size: GuestUsize) -> Option<usize>
+        ensures { MatchOption result
+            (removed R.region self.now base.0 size ≡ None)
+            (λ place. (r : R) × (place < length self.now) × (slice_get self.now place ≡ Some r)
+            × (removed R.region self.now base.0 size ≡ Some (remove self.now place, r))) }
+    {
+        let (next, start, _) = first_above(self.starts.as_slice(), base.0);
+        if next == 0 || start != base.0 {
+            return None;
+        }
+        let region = &*self.regions[next - 1];
+        if region.len() == size {
+            Some(next - 1)
+        } else {
+            None
+        }
+    }
+
+    // All regions but the one at a place, and that one.
+    fn without(&self, place: usize) -> Result<(Self, Arc<R>), AllocError>
+        requires { place < length self.now }
+        ensures { IfOk result (λ p. (p.0 ≡ remove self.now place)
+            × (slice_get self.now place ≡ Some p.1.value)) }
+    {
+        let mut regions = shared(&self.regions)?;
+        let region = regions.remove(place);
+        let starts = starts_of(&regions)?;
+        Ok((GuestRegionCollection { regions, starts }, region))
+    }
+
     /// The number of regions.
     #[inline]
     pub fn num_regions(&self) -> usize
@@ -186,15 +355,40 @@ impl<R: GuestMemoryRegion> GuestRegionCollection<R> {
         ensures found { option_copied result ≡ home_in R.region self.now addr.0 }
         ensures layout { IsLayout (map R.region self.now) }
     {
-        let (next, start) = first_above(self.starts.as_slice(), addr.0);
+        self.find_region_counted(addr).0
+    }
+
+    /// The region that holds an address, and the number of comparisons of the address with a region's start:
+    /// as many as the number of regions has binary digits, and so none where there is no region.
+    // Inlined wherever it is called, so that a caller that drops the number does not count.
+    #[inline(always)]
+    pub fn find_region_counted(&self, addr: GuestAddress) -> (Option<&R>, usize)
+        ensures found { option_copied result.0 ≡ home_in R.region self.now addr.0 }
+        ensures probes { result.1 ≡ binary_digits (length self.now) }
+        ensures layout { IsLayout (map R.region self.now) }
+    {
+        let (next, start, probes) = first_above(self.starts.as_slice(), addr.0);
         if next == 0 {
-            return None;
+            return (None, probes);
         }
         let region = &*self.regions[next - 1];
         if addr.0 - start < region.len() {
-            Some(region)
+            (Some(region), probes)
         } else {
-            None
+            (None, probes)
+        }
+    }
+}
+
+impl<R: GuestMemoryRegion> GuestRegionCollection<R> {
+    /// The region of this number, in the order of addresses.
+    #[inline]
+    pub fn region_at(&self, index: usize) -> Option<&R>
+        ensures { option_copied result ≡ slice_get self.now index }
+    {
+        match self.regions.get(index) {
+            Some(region) => Some(&**region),
+            None => None,
         }
     }
 }
@@ -225,22 +419,25 @@ impl<R: GuestMemoryRegion> Clone for GuestRegionCollection<R> {
     }
 }
 
-// The number of the first start above an address, or how many there are, and the start before it: one probe
-// for each binary digit of their number.
+// The number of the first start above an address, or how many there are, the start before it, and the number
+// of probes: one for each binary digit of their number.
 //
 // Of one conditional move the compiler makes a branch, which would often be predicted wrongly. Of two with
-// the same condition it makes none: so the start is kept beside the number.
-#[inline]
-fn first_above(starts: &[u64], addr: u64) -> (usize, u64)
+// the same condition it makes none: so the start is kept beside the number. Inlined wherever it is called, so
+// that a caller that drops the number of probes does not count.
+#[inline(always)]
+fn first_above(starts: &[u64], addr: u64) -> (usize, u64, usize)
     requires { (i j : ℕ) → i ≤ j → j < length starts.now →
         slice_index starts.now i ≤ slice_index starts.now j }
     ensures within { result.0 ≤ length starts.now }
     ensures below { (k : ℕ) → k < result.0 → slice_index starts.now k ≤ addr }
     ensures above { (k : ℕ) → result.0 ≤ k → k < length starts.now → addr < slice_index starts.now k }
     ensures start { 0 < result.0 → result.1 ≡ slice_index starts.now (result.0 - 1) }
+    ensures probes { result.2 ≡ binary_digits (length starts.now) }
 {
     let mut next = 0;
     let mut start = 0;
+    let mut probes = 0;
     let mut size = starts.len();
     while size > 0 {
         let half = size / 2;
@@ -249,9 +446,10 @@ fn first_above(starts: &[u64], addr: u64) -> (usize, u64)
         let is_above = addr < probe;
         next = if is_above { next } else { after };
         start = if is_above { start } else { probe };
+        probes += 1;
         size = half;
     }
-    (next, start)
+    (next, start, probes)
 }
 
 // The starts of regions, in order.
@@ -274,6 +472,31 @@ fn shared<R: Drop>(regions: &Vec<Arc<R>>) -> Result<Vec<Arc<R>>, AllocError>
         copy.push(region.clone()?)?;
     }
     Ok(copy)
+}
+
+// The same regions with one more at a place, each of the others shared once more.
+fn with_region<R: Drop>(
+    regions: &Vec<Arc<R>>,
+    place: usize,
+    region: Arc<R>,
+) -> Result<Vec<Arc<R>>, AllocError>
+    requires { place ≤ length (regions_of regions.now) }
+    ensures { IfOk result (λ copy. regions_of copy ≡ insert (regions_of regions.now) place region.value) }
+{
+    let mut copy = shared(regions)?;
+    copy.insert(place, region)?;
+    Ok(copy)
+}
+
+// The regions, each to be shared.
+fn shared_each<R: Drop>(alloc: Global, regions: Vec<R>) -> Result<Vec<Arc<R>>, AllocError>
+    ensures { IfOk result (λ shared. regions_of shared ≡ regions.items) }
+{
+    let mut shared = Vec::with_capacity(alloc, regions.len())?;
+    for region in regions {
+        shared.push(Arc::new(alloc, region)?)?;
+    }
+    Ok(shared)
 }
 
 // Whether two regions may follow one another.

@@ -1,7 +1,8 @@
 //! What holds of layouts of regions, whatever the code does: each function is a theorem, and does nothing.
-ghost use Rattle.std.specs.Prelude.{◌≡◌, ◌↔◌, ℕ, ◌+◌, ◌<◌, true, false, None, Some, Ok, Err};
-ghost use Rattle.std.specs.Prelude.{List, All, length, get_or};
+ghost use Rattle.std.specs.Prelude.{◌≡◌, ◌↔◌, ℕ, ◌+◌, ◌^◌, ◌<◌, ◌≤◌, true, false, None, Some, Ok, Err};
+ghost use Rattle.std.specs.Prelude.{List, All, length, get_or, slice_get, insert, remove};
 ghost use Rattle.vm_memory_guest.specs.declared.region.GuestRegionCollectionError.{GuestRegionCollectionError};
+ghost use Rattle.vm_memory_guest.specs.Layout.{inserted, removed, binary_digits};
 ghost use Rattle.vm_memory_guest.specs.Region.{Region, IsRegion, last, has_address, home};
 ghost use Rattle.vm_memory_guest.specs.Region.{neighbours_of, layout_error, IsLayout};
 
@@ -34,4 +35,29 @@ pub fn home_holds_the_address()
         i < length rs → has_address (get_or rs i d) a ≡ true → home rs a ≡ Some (get_or rs i d) }
     ensures hole { (rs : List Region) (a : ℕ) (d : Region) →
         ((k : ℕ) → k < length rs → has_address (get_or rs k d) a ≡ false) → home rs a ≡ None }
+{}
+
+/// A region that is put into a layout stands behind each that starts no higher and before each that starts
+/// above it: where a stable sort by starts leaves one that was appended.
+pub fn inserted_regions_stand_in_order()
+    ensures { (rs : List Region) (new : Region) → All IsRegion rs → IsLayout rs →
+        (n : ℕ) × (n ≤ length rs) × (inserted (λ r. r) rs new ≡ insert rs n new)
+        × ((k : ℕ) (d : Region) → k < n → (get_or rs k d).start ≤ new.start)
+        × ((k : ℕ) (d : Region) → n ≤ k → k < length rs → new.start < (get_or rs k d).start) }
+{}
+
+/// The region that is taken out is one with just these addresses, and the others stay in order. None is taken
+/// out only where no region has just these addresses.
+pub fn one_region_is_removed()
+    ensures taken { (rs others : List Region) (base size : ℕ) (r : Region) →
+        removed (λ r. r) rs base size ≡ Some (others, r) → (r.start ≡ base) × (r.len ≡ size)
+        × ((n : ℕ) × (slice_get rs n ≡ Some r) × (others ≡ remove rs n)) }
+    ensures none { (rs : List Region) (base size k : ℕ) (r : Region) → removed (λ r. r) rs base size ≡ None →
+        slice_get rs k ≡ Some r → r.start ≡ base → r.len ≡ size → ⊥ }
+{}
+
+/// A number has as many binary digits as the least power of two above it has zeros.
+pub fn digits_bound_a_number()
+    ensures above { (n : ℕ) → n < 2 ^ binary_digits n }
+    ensures least { (n d : ℕ) → n < 2 ^ d → binary_digits n ≤ d }
 {}

@@ -1,13 +1,13 @@
 //! Layouts: which regions make one, and blocks and regions that are refused.
 
-use crate::regions::TestRegion;
+use crate::regions::{CountingRegion, TestRegion};
 use crate::support::{Place, expect_text, memory_of, regions_of};
 use std::alloc::{AllocError, Global};
 use std::sync::Arc;
 use std::test::Fail;
 use vm_memory::{
-    GuestAddress, GuestMemoryRegion, GuestRegionCollection, GuestRegionMmap, HostMemory,
-    MmapRegion, MmapRegionError,
+    BlockId, Bytes, GuestAddress, GuestMemoryBackend, GuestMemoryMmap, GuestMemoryRegion,
+    GuestRegionCollection, GuestRegionMmap, HostMemory, MmapRegion, MmapRegionError,
 };
 
 // Regions of 0x1000 bytes, by their starts, and for each of these the start of the region that holds it and
@@ -86,6 +86,162 @@ fn a_copy_of_a_layout_has_its_regions(rt: HostRuntime) -> Result<(), Fail> {
     Ok(())
 }
 
+// A change of a layout of regions of 0x1000 bytes, by their starts.
+#[derive(Clone, Copy)]
+enum Change {
+    Insert(u64),
+    Remove(u64, u64),
+}
+
+use Change::{Insert, Remove};
+
+// Changes one after the other, of regions at 0 and 0x100000: the error, if one was refused, and the starts of
+// the regions then.
+const CHANGES: [(Change, &str, &[u64]); 13] = [
+    (Insert(0x8000), "", &[0, 0x8000, 0x10_0000]),
+    (Insert(0x4000), "", &[0, 0x4000, 0x8000, 0x10_0000]),
+    (Insert(0xc000), "", &[0, 0x4000, 0x8000, 0xc000, 0x10_0000]),
+    (
+        Insert(0x8000),
+        "MemoryRegionOverlap",
+        &[0, 0x4000, 0x8000, 0xc000, 0x10_0000],
+    ),
+    (
+        Insert(0x7001),
+        "MemoryRegionOverlap",
+        &[0, 0x4000, 0x8000, 0xc000, 0x10_0000],
+    ),
+    (
+        Insert(0x8fff),
+        "MemoryRegionOverlap",
+        &[0, 0x4000, 0x8000, 0xc000, 0x10_0000],
+    ),
+    (
+        Remove(0x8000, 0x800),
+        "NoMemoryRegion",
+        &[0, 0x4000, 0x8000, 0xc000, 0x10_0000],
+    ),
+    (
+        Remove(0x7fff, 0x1000),
+        "NoMemoryRegion",
+        &[0, 0x4000, 0x8000, 0xc000, 0x10_0000],
+    ),
+    (Remove(0x8000, 0x1000), "", &[0, 0x4000, 0xc000, 0x10_0000]),
+    (Remove(0, 0x1000), "", &[0x4000, 0xc000, 0x10_0000]),
+    (Remove(0x10_0000, 0x1000), "", &[0x4000, 0xc000]),
+    (Remove(0xc000, 0x1000), "", &[0x4000]),
+    (Remove(0x4000, 0x1000), "", &[]),
+];
+
+type Layout = GuestRegionCollection<TestRegion>;
+
+// The layout after a change, or the text of the error.
+fn changed(
+    alloc: Global,
+    host: &mut HostMemory<()>,
+    layout: &Layout,
+    change: Change,
+) -> Result<Result<Layout, String>, Fail> {
+    let outcome = match change {
+        Insert(start) => {
+            let mut regions = regions_of(alloc, host, &[Place::Block(start, 0x1000)])?;
+            let region = regions.pop().ok_or("there is a region")?;
+            layout.insert_region(region)
+        }
+        Remove(base, size) => match layout.remove_region(GuestAddress(base), size) {
+            Ok((rest, region)) if region.start_addr().0 == base => Ok(rest),
+            Ok(_) => return Err(Fail::new("the region that was removed")),
+            Err(error) => Err(error),
+        },
+    };
+    match outcome {
+        Ok(layout) => Ok(Ok(layout)),
+        Err(error) => Ok(Err(format!(in alloc; "{error:?}")?)),
+    }
+}
+
+fn has_starts(layout: &Layout, starts: &[u64]) -> bool {
+    layout.num_regions() == starts.len()
+        && starts
+            .iter()
+            .all(|start| home_of(layout, *start) == Some(*start))
+}
+
+#[test]
+fn layouts_are_changed(rt: HostRuntime) -> Result<(), Fail> {
+    let mut host = HostMemory::new(rt.alloc());
+    let places = [Place::Block(0, 0x1000), Place::Block(0x10_0000, 0x1000)];
+    let mut layout = memory_of(rt.alloc(), &mut host, &places)?;
+    for (case, (change, error, starts)) in CHANGES.iter().enumerate() {
+        match changed(rt.alloc(), &mut host, &layout, *change)? {
+            Ok(next) => {
+                expect_text(case, "", error)?;
+                layout = next;
+            }
+            Err(text) => expect_text(case, text.as_str(), error)?,
+        }
+        assert!(rt; has_starts(&layout, starts));
+    }
+    Ok(())
+}
+
+#[test]
+fn a_layout_begins_with_no_region(rt: HostRuntime) -> Result<(), Fail> {
+    let none: Layout = GuestRegionCollection::new(rt.alloc());
+    assert!(rt; none.num_regions() == 0 && home_of(&none, 0).is_none());
+    assert!(rt; none.last_addr().0 == 0);
+    assert!(rt; none.find_region_counted(GuestAddress(0)).1 == 0);
+    let region = TestRegion::bare(GuestAddress(7), 3).ok_or("the region fits")?;
+    let one = none.insert_region(Arc::new(rt.alloc(), region)?)?;
+    assert!(rt; has_starts(&one, &[7]) && none.num_regions() == 0);
+    let both = [
+        TestRegion::bare(GuestAddress(7), 3).ok_or("the region fits")?,
+        TestRegion::bare(GuestAddress(10), 1).ok_or("the region fits")?,
+    ];
+    let two = GuestRegionCollection::from_regions(rt.alloc(), Vec::from_array(rt.alloc(), both)?)?;
+    assert!(rt; has_starts(&two, &[7, 10]));
+    Ok(())
+}
+
+// A thousand regions of 0x1000 addresses, with as many addresses between any two.
+fn thousand(alloc: Global) -> Result<Vec<Arc<CountingRegion>>, Fail> {
+    let mut regions = Vec::with_capacity(alloc, 1000)?;
+    for number in 0..1000u64 {
+        let region = CountingRegion::new(GuestAddress(0x2000 * number), 0x1000);
+        regions.push(Arc::new(alloc, region.ok_or("the region fits")?)?)?;
+    }
+    Ok(regions)
+}
+
+fn asked(regions: &[Arc<CountingRegion>]) -> usize {
+    regions
+        .iter()
+        .fold(0, |sum: usize, region| sum.saturating_add(region.asked()))
+}
+
+#[test]
+fn a_search_among_a_thousand_regions_makes_ten_probes(rt: HostRuntime) -> Result<(), Fail> {
+    let regions = thousand(rt.alloc())?;
+    let mut again = Vec::new(rt.alloc());
+    for region in &regions {
+        again.push(region.clone()?)?;
+    }
+    let layout = GuestRegionCollection::from_arc_regions(again)?;
+    for number in 0..2001u64 {
+        let addr = GuestAddress(0x1000 * number);
+        let before = asked(regions.as_slice());
+        let (region, probes) = layout.find_region_counted(addr);
+        let found = region.is_some();
+        let between = asked(regions.as_slice());
+        let searched = layout.find_region(addr).is_some();
+        let after = asked(regions.as_slice());
+        assert!(rt; probes <= 10 && between.saturating_sub(before) <= 16);
+        assert!(rt; after.saturating_sub(between) <= 16);
+        assert!(rt; found == (number % 2 == 0 && number < 2000) && searched == found);
+    }
+    Ok(())
+}
+
 fn told(error: Option<MmapRegionError>) -> &'static str {
     match error {
         None => "made",
@@ -150,4 +306,98 @@ fn a_region_ends_before_the_greatest_address(rt: HostRuntime) -> Result<(), Fail
 
 fn last_of(region: Option<GuestRegionMmap>) -> Option<u64> {
     Some(region?.last_addr().0)
+}
+
+// Ranges of addresses, the error or the starts of the regions, and the sizes of the host's blocks then.
+type Ranges = (&'static [(u64, usize)], &'static str, &'static [usize]);
+
+const RANGES: [Ranges; 9] = [
+    (&[(0, 0x400), (0x1000, 0x200)], "", &[0x400, 0x200]),
+    (&[(7, 1)], "", &[1]),
+    (&[], "Collection(NoMemoryRegion)", &[]),
+    (
+        &[(0x1000, 4), (0, 4)],
+        "Collection(UnsortedMemoryRegions)",
+        &[4, 4],
+    ),
+    (
+        &[(0, 4), (3, 5), (9, 2)],
+        "Collection(MemoryRegionOverlap)",
+        &[4, 5, 2],
+    ),
+    (&[(0, 4), (8, 0)], "MmapRegion(InvalidSize)", &[4]),
+    (
+        &[(0xffff_ffff_ffff_ffff, 0x8000_0000_0000_0000)],
+        "MmapRegion(InvalidSize)",
+        &[],
+    ),
+    (
+        &[(0, 4), (0xffff_ffff_ffff_fffc, 4), (0, 0)],
+        "InvalidGuestRegion",
+        &[4],
+    ),
+    (&[(0xffff_ffff_ffff_fffb, 4)], "", &[4]),
+];
+
+fn ranges_of(
+    alloc: Global,
+    ranges: &[(u64, usize)],
+) -> Result<Vec<(GuestAddress, usize)>, AllocError> {
+    let mut all = Vec::new(alloc);
+    for (start, size) in ranges {
+        all.push((GuestAddress(*start), *size))?;
+    }
+    Ok(all)
+}
+
+// Whether a host has blocks of these sizes, and no more.
+fn has_blocks(host: &HostMemory<()>, sizes: &[usize]) -> bool {
+    sizes.iter().enumerate().all(|(number, size)| host.shape().block_len(BlockId(number))
+        == Some(*size))
+        && host.shape().block_len(BlockId(sizes.len())).is_none()
+}
+
+fn has_ranges(memory: &GuestMemoryMmap, ranges: &[(u64, usize)]) -> bool {
+    memory.num_regions() == ranges.len()
+        && ranges.iter().all(|(start, size)| match memory.find_region(GuestAddress(*start)) {
+            Some(region) => { region.start_addr().0 == *start && region.get_mmap().size() == *size }
+            None => false,
+        })
+}
+
+#[test]
+fn ranges_make_a_memory_or_an_error(rt: HostRuntime) -> Result<(), Fail> {
+    for (case, (ranges, error, sizes)) in RANGES.iter().enumerate() {
+        let mut host: HostMemory<()> = HostMemory::new(rt.alloc());
+        let all = ranges_of(rt.alloc(), ranges)?;
+        match GuestMemoryMmap::from_ranges(rt.alloc(), &mut host, all.as_slice()) {
+            Ok(memory) => {
+                expect_text(case, "", error)?;
+                assert!(rt; has_ranges(&memory, ranges) && host.holds(&memory));
+            }
+            Err(refused) => {
+                let text = format!(in rt.alloc(); "{refused:?}")?;
+                expect_text(case, text.as_str(), error)?;
+            }
+        }
+        assert!(rt; has_blocks(&host, sizes));
+    }
+    Ok(())
+}
+
+#[test]
+fn a_block_at_two_addresses_is_written_once(rt: HostRuntime) -> Result<(), Fail> {
+    let mut host = HostMemory::new(rt.alloc());
+    let places = [Place::Block(0, 0x1000), Place::Again(0x1000)];
+    let memory = memory_of(rt.alloc(), &mut host, &places)?;
+    assert!(rt; host.holds(&memory));
+    let mut bytes = vec![in rt.alloc(); 1u8; 0x1000]?;
+    bytes.push(9)?;
+    let count = memory.write(&mut host, bytes.as_slice(), GuestAddress(0))?;
+    let mut block = vec![in rt.alloc(); 0u8; 0x1000]?;
+    memory.read_slice(&host, block.as_mut_slice(), GuestAddress(0x1000))?;
+    let first = block.as_slice().first().copied();
+    assert!(rt; count == 0x1001 && first == Some(9));
+    assert!(rt; block.iter().skip(1).all(|byte| *byte == 1));
+    Ok(())
 }

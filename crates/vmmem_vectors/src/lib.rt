@@ -9,6 +9,8 @@ mod layouts;
 mod machines;
 #[cfg(test)]
 mod memories;
+#[cfg(test)]
+mod queries;
 pub mod regions;
 #[cfg(test)]
 mod rounds;
@@ -17,7 +19,11 @@ mod scripts;
 #[cfg(test)]
 mod support;
 #[cfg(test)]
+mod tables;
+#[cfg(test)]
 mod texts;
+#[cfg(test)]
+mod transfers;
 #[cfg(test)]
 mod typed;
 #[cfg(test)]

@@ -94,16 +94,24 @@ fn read_of(memory: usize, addr: u64, count: usize) -> Command {
 #[derive(Clone, Copy)]
 enum Line {
     Layout(&'static [usize]),
+    Insert(usize, usize),
+    Remove(usize, u64, u64),
     Plain(usize),
     Read(usize, u64, usize),
     Write(usize, u64, &'static [u8]),
 }
 
-use Line::{Layout, Plain, Read, Write};
+use Line::{Insert, Layout, Plain, Read, Remove, Write};
 
 fn command_of(alloc: Global, line: Line) -> Result<Command, AllocError> {
     match line {
         Layout(numbers) => layout_of(alloc, numbers),
+        Insert(layout, region) => Ok(Command::Insert { layout, region }),
+        Remove(layout, base, size) => Ok(Command::Remove {
+            layout,
+            base: GuestAddress(base),
+            size,
+        }),
         Plain(layout) => Ok(Command::Plain(layout)),
         Read(memory, addr, count) => Ok(read_of(memory, addr, count)),
         Write(memory, addr, bytes) => write_of(alloc, memory, addr, bytes),
@@ -198,8 +206,68 @@ const ON_A_BARE_REGION: [(Line, &str); 6] = [
     (Read(0, 8, 1), "error G1 0x8"),
 ];
 
+// Regions that are plugged in between two others, and one that is taken out again.
+const TO_PLUG: [Place; 6] = [
+    Place::Block(0, 0x1000),
+    Place::Block(0x10_0000, 0x1000),
+    Place::Block(0x8000, 0x1000),
+    Place::Block(0x4000, 0x1000),
+    Place::Block(0xc000, 0x1000),
+    Place::Block(0x8000, 0x1000),
+];
+
+const ON_CHANGED_LAYOUTS: [(Line, &str); 33] = [
+    (Layout(&[0, 1]), "layout 0"),
+    (Insert(0, 2), "layout 1"),
+    (Insert(1, 3), "layout 2"),
+    (Insert(2, 4), "layout 3"),
+    (Insert(3, 5), "error C2"),
+    (Insert(0, 0), "error C2"),
+    (Insert(3, 6), "error NoSuch"),
+    (Insert(4, 0), "error NoSuch"),
+    (Plain(3), "memory 0"),
+    (Plain(0), "memory 1"),
+    (Write(0, 0x8fff, &[1, 2]), "count 1"),
+    (Write(0, 0x4000, &[3]), "count 1"),
+    (Write(0, 0xcfff, &[4]), "count 1"),
+    (Write(0, 0x10_0000, &[5]), "count 1"),
+    (Read(1, 0x8fff, 1), "error G1 0x8fff"),
+    (Read(1, 0x10_0000, 1), "bytes 05"),
+    (Remove(3, 0x8000, 0x800), "error C1"),
+    (Remove(3, 0x8800, 0x800), "error C1"),
+    (Remove(3, 0x7000, 0x1000), "error C1"),
+    (Remove(3, 0x8000, 0), "error C1"),
+    (Remove(4, 0x8000, 0x1000), "error NoSuch"),
+    (Remove(3, 0x8000, 0x1000), "layout 4"),
+    (Plain(4), "memory 2"),
+    (Read(2, 0x8fff, 1), "error G1 0x8fff"),
+    (Read(2, 0x4000, 1), "bytes 03"),
+    (Read(0, 0x8fff, 1), "bytes 01"),
+    (Insert(4, 5), "layout 5"),
+    (Remove(0, 0, 0x1000), "layout 6"),
+    (Remove(6, 0x10_0000, 0x1000), "layout 7"),
+    (Remove(7, 0, 0x1000), "error C1"),
+    (Plain(7), "memory 3"),
+    (Read(3, 0, 1), "error G1 0x0"),
+    (Insert(7, 0), "layout 8"),
+];
+
+// A block that is plugged in at a second address has the same bytes there.
+const TO_PLUG_AGAIN: [Place; 2] = [Place::Block(0, 4), Place::Again(0x10)];
+
+const ON_A_BLOCK_PLUGGED_IN_AGAIN: [(Line, &str); 6] = [
+    (Layout(&[0]), "layout 0"),
+    (Plain(0), "memory 0"),
+    (Insert(0, 1), "layout 1"),
+    (Plain(1), "memory 1"),
+    (Write(1, 0x12, &[5]), "count 1"),
+    (Read(0, 0, 4), "bytes 00000500"),
+];
+
 #[test]
 fn each_command_has_its_reply(rt: HostRuntime) -> Result<(), Fail> {
+    expect_lines(rt.alloc(), &TO_PLUG, &ON_CHANGED_LAYOUTS)?;
+    expect_lines(rt.alloc(), &TO_PLUG_AGAIN, &ON_A_BLOCK_PLUGGED_IN_AGAIN)?;
     expect_lines(rt.alloc(), &APART, &ON_REGIONS_APART)?;
     expect_lines(rt.alloc(), &TOUCHING, &ON_TOUCHING_REGIONS)?;
     expect_lines(rt.alloc(), &TO_THE_END, &AROUND_THE_END)?;
@@ -311,7 +379,7 @@ fn a_mebibyte_is_written_and_read_whole(rt: HostRuntime) -> Result<(), Fail> {
     expect_replies(rt.alloc(), &TWICE, commands.as_slice(), 5, wanted.as_str())
 }
 
-static FAULTS: [Fault; 9] = [
+static FAULTS: [Fault; 11] = [
     Fault::InvalidGuestAddress(GuestAddress(0)),
     Fault::InvalidGuestAddress(GuestAddress(0xabc0)),
     Fault::PartialBuffer {
@@ -320,6 +388,8 @@ static FAULTS: [Fault; 9] = [
     },
     Fault::InvalidBackendAddress,
     Fault::HostAddressNotAvailable,
+    Fault::CallbackOutOfRange,
+    Fault::GuestAddressOverflow,
     Fault::IommuError(IommuError::CannotResolve {
         iova_range: IovaRange {
             base: GuestAddress(0x5000),
@@ -339,6 +409,8 @@ fn some_replies(alloc: Global) -> Result<Vec<Reply>, AllocError> {
     replies.push(Reply::Count(256))?;
     replies.push(Reply::Bytes(ByteList::from_vec(vec![in alloc; 0u8, 0xa, 0xff]?)))?;
     replies.push(Reply::Bytes(ByteList::from_vec(Vec::new(alloc))))?;
+    replies.push(Reply::Truth(true))?;
+    replies.push(Reply::Truth(false))?;
     replies.push(Reply::Fault(Fault::InvalidBackendAddress))?;
     replies.push(Reply::NoSuch)?;
     replies.push(Reply::BadRange)?;
@@ -352,6 +424,8 @@ memory 3
 count 256
 bytes 000aff
 bytes -
+true
+false
 error G4
 error NoSuch
 error BadRange
@@ -361,6 +435,8 @@ G1 0xabc0
 G3 8 6
 G4
 G5
+G6
+G7
 G8 I1 0x5000+0x2 missing
 C1
 C2

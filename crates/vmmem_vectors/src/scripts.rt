@@ -8,7 +8,7 @@ use std::test::Fail;
 use vm_memory::{DriveFault, drive};
 
 // Scripts, and what they tell: their replies, and then the status and the text of a fault.
-const SCRIPTS: [(&[u8], &str); 19] = [
+const SCRIPTS: [(&[u8], &str); 24] = [
     (b"", ""),
     (b"\n\n# nothing\n#\xff\x00\r  \n", ""),
     (
@@ -86,16 +86,61 @@ const SCRIPTS: [(&[u8], &str); 19] = [
         "block 0\nblock 1\nregion 0\nlayout 0\nmemory 0\nok\npages -\npages 0 1 2\nerror G1 0x8\ncount 1\n\
          pages 3\npages -\npages 0 1 2\n",
     ),
+    // Layouts of none or more regions, and layouts that are changed.
+    (
+        b"block 0x1000 1\nblock 0x1000 1\nregion 0 0\nregion 1 0x1000\nregion 0 0x800\nlayout\nlayout 0 1\n\
+          layout 1 0\nlayout 0 2\nlayout 0 3\ninsert 0 2\ninsert 1 0\nremove 0 0x1000 0x800\n\
+          remove 0 0x1000 0x1000\ninsert 1 1\nremove 1 0 0x1000\nplain 3\nread 0 0 1\nremove 4 0 1\n",
+        "block 0\nblock 1\nregion 0\nregion 1\nregion 2\nerror C1\nlayout 0\nerror C3\nerror C2\n\
+         error NoSuch\nerror C2\nerror NoSuch\nerror C1\nlayout 1\nlayout 2\nlayout 3\nmemory 0\n\
+         error G1 0x0\nerror NoSuch\n",
+    ),
+    // A region ends at the greatest address but one, and its block's other bytes stay as they were.
+    (
+        b"block 2 1\nregion 0 0\nregion 0 0xfffffffffffffffd\nlayout 0\ninsert 0 1\nplain 1\n\
+          write 0 0xfffffffffffffffe 07\nread 0 0 2\nremove 1 0xfffffffffffffffd 2\nplain 2\n\
+          read 1 0xfffffffffffffffe 1\nread 1 0 2\n",
+        "block 0\nregion 0\nregion 1\nlayout 0\nlayout 1\nmemory 0\ncount 1\nbytes 0007\nlayout 2\n\
+         memory 1\nerror G1 0xfffffffffffffffe\nbytes 0007\n",
+    ),
     // Spaces have pages of their own. A number that names nothing is told.
     (
         b"space 0x3000 0x1000\nspace 0 1\nblock 1 1\ndirty space 0\nharvest space 1\ndirty space 2\n\
           harvest block 1\n",
         "space 0\nspace 1\nblock 0\npages -\npages -\nerror NoSuch\nerror NoSuch\n",
     ),
+    // A range is checked up to its last byte, whatever it is asked for, and one of no byte is true anywhere.
+    (
+        b"block 0x400 1\nregion 0 0x1000\nlayout 0\nplain 0\ncheck 0 0x1000 0x400 rw\ncheck 0 0x1001 0x400 r\n\
+          check 0 0x1400 0 w\ncheck 0 0x1400 1 no\ncheck 0 0xffffffffffffffff 2 no\ncheck 1 0x1000 1 r\n",
+        "block 0\nregion 0\nlayout 0\nmemory 0\ntrue\nfalse\ntrue\nfalse\nfalse\nerror NoSuch\n",
+    ),
     // A line that sets up comes before the first command, also before one that was refused.
     (
         b"block 1 1\nplain 0\nblock 1 1\n",
         "block 0\nerror NoSuch\n1 line 3: bad line",
+    ),
+    // Neighbours that are mapped alike are one range. What is not mapped is missed, and what does not permit the
+    // access fails. The sum of an address and a length is an address, or nothing is changed.
+    (
+        b"table\nset 0 0 0x10000 0x1000 r\nset 0 0x1000 0x11000 0x1000 r\nlookup 0 0xff0 0x20 r\n\
+          lookup 0 0 0x1000 w\ninvalidate 0 0x800 0x100\nlookup 0 0 0x1000 r\nset 0 0x1000 0 0x1000 r\n\
+          lookup 0 0x1800 0x10 r\nclear 0\nlookup 0 0xffffffffffffffff 1 no\nlookup 0 5 0 w\n\
+          set 0 0xffffffffffffffff 0 1 r\nset 0 0xfffffffffffffffe 0 1 r\n\
+          invalidate 0 0xffffffffffffffff 1\nlookup 0 0xfffffffffffffffd 2 rw\n",
+        "table 0\nok\nok\npieces 0x10ff0+0x20\nfails misses - access 0x0+0x1000\nok\n\
+         fails misses 0x800+0x100 access -\nok\npieces 0x800+0x10\nok\n\
+         fails misses 0xffffffffffffffff+0x1 access -\npieces -\nerror BadRange\nok\nerror BadRange\n\
+         fails misses 0xfffffffffffffffd+0x1 access 0xfffffffffffffffe+0x1\n",
+    ),
+    // Several pieces, misses and failures, and numbers that name nothing, which come before a bad range.
+    (
+        b"table\ntable\nset 1 2 8 2 rw\nset 1 6 12 2 rw\nset 1 8 14 1 no\nlookup 1 0 10 r\nset 1 4 0 2 r\n\
+          lookup 1 2 6 r\nset 2 0xffffffffffffffff 0 1 r\ninvalidate 2 0 1\nclear 2\nlookup 2 0 1 no\n\
+          lookup 0 0 1 no\n",
+        "table 0\ntable 1\nok\nok\nok\nfails misses 0x0+0x2 0x4+0x2 0x9+0x1 access 0x8+0x1\nok\n\
+         pieces 0x8+0x2 0x0+0x2 0xc+0x2\nerror NoSuch\nerror NoSuch\nerror NoSuch\nerror NoSuch\n\
+         fails misses 0x0+0x1 access -\n",
     ),
     (
         b"block 1 1\nplain 0\nregion 0 0\n",
@@ -130,7 +175,14 @@ fn each_line_has_its_reply(rt: HostRuntime) -> Result<(), Fail> {
 }
 
 // Lines that are bad before the first command and after it.
-const BAD_LINES: [&[u8]; 87] = [
+const BAD_LINES: [&[u8]; 103] = [
+    // tables and accesses
+    b"table 0",
+    b"set 0 0 0 1",
+    b"set 0 0 0 1 rwx",
+    b"invalidate 0 0",
+    b"clear 0 0",
+    b"lookup 0 0 1 R",
     // between words there is one space, and no other byte
     b" ",
     b"\r",
@@ -165,8 +217,13 @@ const BAD_LINES: [&[u8]; 87] = [
     b"region",
     b"region 0",
     b"region 0 0 0",
-    b"layout",
-    b"layout 0 0",
+    b"layout ",
+    b"layout 0 ",
+    b"layout  0",
+    b"insert 0",
+    b"insert 0 0 0",
+    b"remove 0 0",
+    b"remove 0 0 1 1",
     b"plain",
     b"plain 0 0",
     b"read",
@@ -226,6 +283,12 @@ const BAD_LINES: [&[u8]; 87] = [
     b"write 0 0 --",
     b"write 0 0 0-",
     b"write 0 0 ",
+    // permissions
+    b"check 0 0 1",
+    b"check 0 0 1 x",
+    b"check 0 0 1 wr",
+    b"check 0 0 1 R",
+    b"check 0 0 1 r w",
 ];
 
 // The replies before a bad line, and the line's number, in a script that begins so.

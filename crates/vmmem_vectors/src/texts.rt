@@ -3,8 +3,8 @@
 use crate::support::expect_text;
 use std::test::Fail;
 use vm_memory::{
-    GuestAddress, GuestMemoryError, GuestRegionCollectionError, IommuError, IovaRange,
-    MmapRegionError, Reason, VolatileMemoryError,
+    FromRangesError, GuestAddress, GuestMemoryError, GuestRegionCollectionError, IommuError, Iotlb,
+    IovaRange, LookupError, MmapRegionError, Permissions, Reason, VolatileMemoryError,
 };
 
 const RANGE: IovaRange = IovaRange {
@@ -12,41 +12,47 @@ const RANGE: IovaRange = IovaRange {
     length: 20,
 };
 
-static OF_WINDOWS: [VolatileMemoryError; 6] = [
-    VolatileMemoryError::OutOfBounds { addr: 0x19 },
-    VolatileMemoryError::Overflow {
-        base: usize::MAX,
-        offset: 10,
-    },
-    VolatileMemoryError::TooBig {
-        nelements: 3,
-        size: 0x8000_0000_0000_0000,
-    },
-    VolatileMemoryError::Misaligned {
-        addr: 0x13,
-        alignment: 8,
-    },
-    VolatileMemoryError::PartialBuffer {
-        expected: 8,
-        completed: 4,
-    },
-    VolatileMemoryError::Memory,
-];
+fn of_windows() -> [VolatileMemoryError; 6] {
+    [
+        VolatileMemoryError::OutOfBounds { addr: 0x19 },
+        VolatileMemoryError::Overflow {
+            base: usize::MAX,
+            offset: 10,
+        },
+        VolatileMemoryError::TooBig {
+            nelements: 3,
+            size: 0x8000_0000_0000_0000,
+        },
+        VolatileMemoryError::Misaligned {
+            addr: 0x13,
+            alignment: 8,
+        },
+        VolatileMemoryError::PartialBuffer {
+            expected: 8,
+            completed: 4,
+        },
+        VolatileMemoryError::Memory,
+    ]
+}
 
-static OF_MEMORIES: [GuestMemoryError; 6] = [
-    GuestMemoryError::InvalidGuestAddress(GuestAddress(0x400)),
-    GuestMemoryError::PartialBuffer {
-        expected: 8,
-        completed: 4,
-    },
-    GuestMemoryError::InvalidBackendAddress,
-    GuestMemoryError::HostAddressNotAvailable,
-    GuestMemoryError::IommuError(IommuError::CannotResolve {
-        iova_range: RANGE,
-        reason: Reason::MissingMapping,
-    }),
-    GuestMemoryError::Memory,
-];
+fn of_memories() -> [GuestMemoryError; 8] {
+    [
+        GuestMemoryError::InvalidGuestAddress(GuestAddress(0x400)),
+        GuestMemoryError::PartialBuffer {
+            expected: 8,
+            completed: 4,
+        },
+        GuestMemoryError::InvalidBackendAddress,
+        GuestMemoryError::HostAddressNotAvailable,
+        GuestMemoryError::CallbackOutOfRange,
+        GuestMemoryError::GuestAddressOverflow,
+        GuestMemoryError::IommuError(IommuError::CannotResolve {
+            iova_range: RANGE,
+            reason: Reason::MissingMapping,
+        }),
+        GuestMemoryError::Memory,
+    ]
+}
 
 static OF_TRANSLATIONS: [IommuError; 4] = [
     IommuError::CannotResolve {
@@ -70,6 +76,12 @@ static OF_LAYOUTS: [GuestRegionCollectionError; 4] = [
     GuestRegionCollectionError::Memory,
 ];
 
+static OF_RANGES: [FromRangesError; 3] = [
+    FromRangesError::Collection(GuestRegionCollectionError::MemoryRegionOverlap),
+    FromRangesError::MmapRegion(MmapRegionError::InvalidSize),
+    FromRangesError::InvalidGuestRegion,
+];
+
 static OF_BLOCKS: [MmapRegionError; 2] = [MmapRegionError::InvalidSize, MmapRegionError::Memory];
 
 const TEXTS: &str = "\
@@ -83,6 +95,8 @@ Guest memory error: invalid guest address 1024
 Guest memory error: only used 4 bytes in 8 long buffer
 Guest memory error: invalid backend address
 Guest memory error: host virtual address not available
+The length returned by the callback passed to `try_access` is outside the address range.
+The address to be read by `try_access` is outside the address range
 IOMMU failed to translate guest address: Cannot translate I/O virtual address range 0xab+20: missing mapping
 out of memory
 Cannot translate I/O virtual address range 0xab+20: access not allowed
@@ -93,17 +107,22 @@ No memory region found
 Some of the memory regions intersect with each other
 The provided memory regions haven't been sorted
 out of memory
+Error constructing guest region collection: Some of the memory regions intersect with each other
+Error setting up raw memory for guest region: invalid block size
+Combination of guest address and region length invalid (would overflow)
 invalid block size
+out of memory
+lookup failed
 out of memory
 ";
 
 #[test]
 fn an_error_has_its_text(rt: HostRuntime) -> Result<(), Fail> {
     let mut text = String::new(rt.alloc());
-    for error in &OF_WINDOWS {
+    for error in &of_windows() {
         writeln!(text, "{error}")?;
     }
-    for error in &OF_MEMORIES {
+    for error in &of_memories() {
         writeln!(text, "{error}")?;
     }
     for error in &OF_TRANSLATIONS {
@@ -112,8 +131,16 @@ fn an_error_has_its_text(rt: HostRuntime) -> Result<(), Fail> {
     for error in &OF_LAYOUTS {
         writeln!(text, "{error}")?;
     }
+    for error in &OF_RANGES {
+        writeln!(text, "{error}")?;
+    }
     for error in &OF_BLOCKS {
         writeln!(text, "{error}")?;
     }
+    let table = Iotlb::new(rt.alloc());
+    if let Err(error) = table.lookup(GuestAddress(0), 1, Permissions::No) {
+        writeln!(text, "{error}")?;
+    }
+    writeln!(text, "{}", LookupError::Memory)?;
     expect_text(0, text.as_str(), TEXTS)
 }

@@ -11,7 +11,7 @@ use vm_memory::{
     GuestMemoryResult, GuestRegionCollection, GuestRegionMmap, HostMemory, MemoryRegionAddress,
     MmapRegion, VolatileSlice,
 };
-use vm_memory_guest::{VolatileArrayRef, VolatileMemory};
+use vm_memory_guest::{VolatileArrayRef, VolatileMemory, VolatileRef};
 
 // A window at 0x10 of a new block, part of a window that begins before it, that holds these bytes.
 fn window_of(host: &mut HostMemory<()>, bytes: &[u8]) -> Result<VolatileSlice, Fail> {
@@ -237,19 +237,150 @@ fn an_array_in_a_window(rt: HostRuntime) -> Result<(), Fail> {
 }
 
 #[test]
+fn a_pair_in_a_window(rt: HostRuntime) -> Result<(), Fail> {
+    let mut host: HostMemory<()> = HostMemory::new(rt.alloc());
+    let window = window_of(&mut host, &[1, 2, 3, 4, 5, 6, 7, 8])?;
+    let pair: VolatileRef<[u16; 2]> = window.get_ref(1)?;
+    assert!(rt; host.holds(&pair));
+    assert!(rt; pair.load(&host) == [0x0302, 0x0504]);
+    pair.store(&mut host, [0x1312, 0x1514]);
+    assert!(rt; pair.load(&host) == [0x1312, 0x1514]);
+    let pairs: VolatileArrayRef<[u16; 2]> = window.get_array_ref(0, 2)?;
+    assert!(rt; host.holds(&pairs));
+    assert!(rt; pairs.load(&host, 1) == [0x0615, 0x0807]);
+    pairs.store(&mut host, 1, [0x2524, 0x2726]);
+    let mut values = [[9u16; 2]; 3];
+    let count = pairs.copy_to(&host, &mut values);
+    assert!(rt; [pair.len(), pairs.element_size(), count] == [4, 4, 2]);
+    assert!(rt; values == [[0x1201, 0x1413], [0x2524, 0x2726], [9, 9]]);
+    Ok(())
+}
+
+// Of a window of 8 bytes at 0x10, by an offset and a number: how long a u32 there is, how many of so many
+// u16 from there on, where so many bytes end, and how long the parts on both sides are.
+const VIEWS: [(usize, usize, [&str; 4]); 6] = [
+    (4, 2, ["Ok(4)", "Ok(2)", "Ok(6)", "Ok((4, 4))"]),
+    (
+        5,
+        2,
+        [
+            "Err(OutOfBounds { addr: 9 })",
+            "Err(OutOfBounds { addr: 9 })",
+            "Ok(7)",
+            "Ok((5, 3))",
+        ],
+    ),
+    (
+        8,
+        0,
+        [
+            "Err(OutOfBounds { addr: 12 })",
+            "Ok(0)",
+            "Ok(8)",
+            "Ok((8, 0))",
+        ],
+    ),
+    (
+        9,
+        0,
+        [
+            "Err(OutOfBounds { addr: 13 })",
+            "Err(OutOfBounds { addr: 9 })",
+            "Err(OutOfBounds { addr: 9 })",
+            "Err(OutOfBounds { addr: 25 })",
+        ],
+    ),
+    (
+        usize::MAX,
+        1,
+        [
+            "Err(Overflow { base: 18446744073709551615, offset: 4 })",
+            "Err(Overflow { base: 18446744073709551615, offset: 2 })",
+            "Err(Overflow { base: 18446744073709551615, offset: 1 })",
+            "Err(Overflow { base: 16, offset: 18446744073709551615 })",
+        ],
+    ),
+    (
+        0,
+        0x4000_0000_0000_0000,
+        [
+            "Ok(4)",
+            "Err(TooBig { nelements: 4611686018427387904, size: 2 })",
+            "Err(OutOfBounds { addr: 4611686018427387904 })",
+            "Ok((0, 8))",
+        ],
+    ),
+];
+
+#[test]
+fn a_view_lies_in_its_window(rt: HostRuntime) -> Result<(), Fail> {
+    let mut host: HostMemory<()> = HostMemory::new(rt.alloc());
+    let window = window_of(&mut host, &[1, 2, 3, 4, 5, 6, 7, 8])?;
+    let memory = window.as_volatile_slice();
+    for (case, (at, count, wanted)) in VIEWS.iter().enumerate() {
+        let value = memory.get_ref::<u32>(*at).map(|value| value.len());
+        let array = memory.get_array_ref::<u16>(*at, *count);
+        let number = array.map(|array| array.len());
+        let end = memory.compute_end_offset(*at, *count);
+        let parts = memory.split_at(*at);
+        let lengths = parts.map(|parts| (parts.0.len(), parts.1.len()));
+        let told = format!(in rt.alloc(); "{value:?} {number:?} {end:?} {lengths:?}")?;
+        let [value, number, end, lengths] = *wanted;
+        let wanted = format!(in rt.alloc(); "{value} {number} {end} {lengths}")?;
+        expect_text(case, told.as_str(), wanted.as_str())?;
+    }
+    Ok(())
+}
+
+// A window from byte 2 to the end of a new block of 0x20, each byte of which has a page of its own.
+fn tracked_window(
+    alloc: Global,
+    host: &mut HostMemory<ExclusiveBitmap>,
+) -> Result<VolatileSlice, Fail> {
+    let page = NonZeroUsize::new(1).ok_or("a page has a byte")?;
+    let block = host.new_block_with(0x20, ExclusiveBitmap::new(alloc, 0x20, page)?)?;
+    if host.shape().block_len(block).is_none() {
+        return Err(Fail::new("the host has the block"));
+    }
+    let mapping = MmapRegion::of_block(host, block);
+    let region = GuestRegionMmap::new(mapping, GuestAddress(0)).ok_or("the region fits")?;
+    Ok(region.get_slice(MemoryRegionAddress(2), 0x1e)?)
+}
+
+#[test]
 fn a_store_marks_its_bytes(rt: HostRuntime) -> Result<(), Fail> {
     let mut host: HostMemory<ExclusiveBitmap> = HostMemory::new(rt.alloc());
-    let page = NonZeroUsize::new(1).ok_or("a page has a byte")?;
-    let block = host.new_block_with(0x20, ExclusiveBitmap::new(rt.alloc(), 0x20, page)?)?;
-    assert!(rt; host.shape().block_len(block).is_some());
-    let mapping = MmapRegion::of_block(&host, block);
-    let region = GuestRegionMmap::new(mapping, GuestAddress(0)).ok_or("the region fits")?;
-    let window = region.get_slice(MemoryRegionAddress(2), 0x1e)?;
+    let window = tracked_window(rt.alloc(), &mut host)?;
     assert!(rt; host.holds(&window));
     let refused = window.store(&mut host, 7u32, 8, Ordering::SeqCst);
     window.store(&mut host, 7u32, 2, Ordering::SeqCst)?;
     let dirty = host.bitmap_mut(window.bitmap().id).harvest(rt.alloc())?;
     assert!(rt; refused.is_err());
     assert!(rt; dirty.as_slice() == [4, 5, 6, 7].as_slice());
+    Ok(())
+}
+
+#[test]
+fn each_write_of_values_marks_their_bytes(rt: HostRuntime) -> Result<(), Fail> {
+    let mut host: HostMemory<ExclusiveBitmap> = HostMemory::new(rt.alloc());
+    let window = tracked_window(rt.alloc(), &mut host)?;
+    let value = window.get_ref::<u32>(4)?;
+    let array = window.get_array_ref::<u16>(0xa, 3)?;
+    let three = window.subslice(0x14, 3)?;
+    assert!(rt; host.holds(&window));
+    assert!(rt; host.holds(&value));
+    assert!(rt; host.holds(&array));
+    assert!(rt; host.holds(&three));
+    window.write_obj(&mut host, 7u16, 0)?;
+    value.store(&mut host, 7);
+    array.store(&mut host, 1, 9);
+    array.copy_from(&mut host, &[8]);
+    array.copy_to_volatile_slice(&mut host, three);
+    let mut bytes = [1; 4];
+    window.read_slice(&host, &mut bytes, 0x14)?;
+    assert!(rt; bytes == [8, 0, 9, 0]);
+    let dirty = host.bitmap_mut(window.bitmap().id).harvest(rt.alloc())?;
+    let wanted = [2, 3, 6, 7, 8, 9, 12, 13, 14, 15, 22, 23, 24];
+    assert!(rt; dirty.as_slice() == wanted.as_slice());
     Ok(())
 }

@@ -98,6 +98,7 @@ pub(super) fn refused(error: GuestMemoryError) -> Reply
 {
     Reply::Fault(match error {
         GuestMemoryError::InvalidGuestAddress(addr) => Fault::InvalidGuestAddress(addr),
+        GuestMemoryError::IOError(error) => Fault::IOError(error.kind()),
         GuestMemoryError::PartialBuffer {
             expected,
             completed,
@@ -107,6 +108,8 @@ pub(super) fn refused(error: GuestMemoryError) -> Reply
         },
         GuestMemoryError::InvalidBackendAddress => Fault::InvalidBackendAddress,
         GuestMemoryError::HostAddressNotAvailable => Fault::HostAddressNotAvailable,
+        GuestMemoryError::CallbackOutOfRange => Fault::CallbackOutOfRange,
+        GuestMemoryError::GuestAddressOverflow => Fault::GuestAddressOverflow,
         GuestMemoryError::IommuError(error) => Fault::IommuError(error),
         GuestMemoryError::Memory => return Reply::Memory,
     })

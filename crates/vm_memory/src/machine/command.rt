@@ -2,14 +2,26 @@
 ghost use Rattle.std.specs.Prelude.{◌≡◌};
 ghost use Rattle.vm_memory.specs.Typed.{fits_width, integer_of};
 
-use super::list::{ByteList, NumberList};
-use vm_memory_base::{BitmapId, GuestAddress, IommuError};
+use super::list::{ByteList, NumberList, PieceList};
+use std::io::ErrorKind;
+use vm_memory_base::{BitmapId, GuestAddress, GuestUsize, IommuError, IotlbFails, Permissions};
 
-/// A call that a machine makes. Regions, layouts and memories go by number, from 0 in the order of making.
+/// A call that a machine makes. Regions, layouts, memories and tables go by number, from 0 in the order of making.
 #[derive(Debug, Drop)]
 pub enum Command {
     /// Makes the layout of these regions of the pool.
     FromRegions(NumberList),
+    /// Makes a layout of one with a region of the pool more.
+    Insert {
+        layout: usize,
+        region: usize,
+    },
+    /// Makes a layout of one without its region of exactly these addresses: `size` of them, from `base` on.
+    Remove {
+        layout: usize,
+        base: GuestAddress,
+        size: GuestUsize,
+    },
     /// Makes a memory of a layout, without an IOMMU.
     Plain(usize),
     /// Reads `count` bytes of a memory.
@@ -37,10 +49,40 @@ pub enum Command {
         width: Width,
         addr: GuestAddress,
     },
+    /// Asks whether each of `count` bytes of a memory may be accessed so, and has a byte of the host.
+    CheckRange {
+        memory: usize,
+        addr: GuestAddress,
+        count: usize,
+        access: Permissions,
+    },
     /// Copies the first bytes of a window to the front of another, as many as both have.
     Copy {
         from: BlockRange,
         to: BlockRange,
+    },
+    /// Lets `length` I/O addresses of a table lead to as many from `map_to` on.
+    Set {
+        table: usize,
+        iova: GuestAddress,
+        map_to: GuestAddress,
+        length: usize,
+        perm: Permissions,
+    },
+    /// Lets `length` I/O addresses of a table lead nowhere.
+    Invalidate {
+        table: usize,
+        iova: GuestAddress,
+        length: usize,
+    },
+    /// Lets every I/O address of a table lead nowhere.
+    InvalidateAll(usize),
+    /// Asks where `length` I/O addresses of a table lead, for an access.
+    Lookup {
+        table: usize,
+        iova: GuestAddress,
+        length: usize,
+        access: Permissions,
     },
     /// Asks for the dirty pages of a block's bitmap or of a space.
     Dirty(BitmapId),
@@ -85,12 +127,18 @@ impl Width {
 pub enum Fault {
     /// No region holds the address.
     InvalidGuestAddress(GuestAddress),
+    /// A source or a sink failed.
+    IOError(ErrorKind),
     /// Fewer bytes were moved than were asked for.
     PartialBuffer { expected: usize, completed: usize },
     /// The access does not fit the region or the window.
     InvalidBackendAddress,
     /// The region has no host bytes.
     HostAddressNotAvailable,
+    /// A callback answered more than was left. No command calls one.
+    CallbackOutOfRange,
+    /// A callback went past the greatest address. No command calls one.
+    GuestAddressOverflow,
     /// The translation was refused.
     IommuError(IommuError),
     /// A layout of no region.
@@ -114,10 +162,16 @@ pub enum Reply {
     Count(usize),
     /// The value that was loaded.
     Value(u64),
+    /// Whether it is so.
+    Truth(bool),
     /// The bytes that were read.
     Bytes(ByteList),
     /// The numbers of the dirty pages, ascending.
     Pages(NumberList),
+    /// Where the addresses of a look-up lead, in order.
+    Pieces(PieceList),
+    /// What a look-up missed, and what failed.
+    Fails(IotlbFails),
     /// The call was refused.
     Fault(Fault),
     /// A number names nothing.

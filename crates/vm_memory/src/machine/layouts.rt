@@ -1,17 +1,18 @@
 //! The commands that make layouts and memories.
-ghost use Rattle.std.specs.Prelude.{◌≡◌, ◌↔◌, ◌<◌, All, IsTrue, IsSome, IfOk, Some, map};
+ghost use Rattle.std.specs.Prelude.{◌≡◌, ◌↔◌, ◌<◌, ◌⊎◌, ◌++◌, ◌∷◌, [], length, All, IsTrue, IsSome, IfOk, Some, map};
 ghost use Rattle.vm_memory_guest.specs.Collection.{regions_of};
 ghost use Rattle.vm_memory.specs.Machine.{Step};
-ghost use Rattle.vm_memory.specs.Parts.{state_of};
+ghost use Rattle.vm_memory.specs.Parts.{HoldsRegions, state_of};
 ghost use Rattle.vm_memory.specs.Reply.{reply_of_layout_error};
 ghost use Rattle.vm_memory.specs.State.{named};
 ghost use Rattle.vm_memory.specs.declared.machine.command.Command.TheVariants as command;
+ghost use Rattle.vm_memory.specs.declared.machine.command.Reply.TheVariants as reply;
 
 use super::Machine;
 use super::command::{Fault, Reply};
 use std::alloc::{AllocError, Global};
 use std::sync::Arc;
-use vm_memory_base::ExactBitmap;
+use vm_memory_base::{ExactBitmap, GuestAddress, GuestUsize};
 use vm_memory_guest::host_laws::regions_are_held_one_by_one;
 use vm_memory_guest::{GuestMemoryRegion, GuestRegionCollection, GuestRegionCollectionError};
 
@@ -27,10 +28,51 @@ impl<R: GuestMemoryRegion, B: ExactBitmap> Machine<R, B> {
         let Ok(regions) = shared(self.alloc, &self.regions, numbers) else {
             return Reply::Memory;
         };
-        let layout = match GuestRegionCollection::from_arc_regions(regions) {
-            Ok(layout) => layout,
-            Err(error) => return layout_refused(error),
+        match GuestRegionCollection::from_arc_regions(regions) {
+            Ok(layout) => self.add_layout(layout),
+            Err(error) => layout_refused(error),
+        }
+    }
+
+    pub(super) fn insert(&mut self, layout: usize, region: usize) -> Reply
+        ensures { let before = state_of R.region B.pages self.old in
+            Step before (command.Insert layout region) result (state_of R.region B.pages self.new) }
+    {
+        regions_are_held_one_by_one();
+        let (Some(layout), Some(region)) = (self.layouts.get(layout), self.regions.get(region))
+        else {
+            return Reply::NoSuch;
         };
+        let Ok(region) = region.clone() else {
+            return Reply::Memory;
+        };
+        match layout.insert_region(region) {
+            Ok(layout) => self.add_layout(layout),
+            Err(error) => layout_refused(error),
+        }
+    }
+
+    pub(super) fn remove(&mut self, layout: usize, base: GuestAddress, size: GuestUsize) -> Reply
+        ensures { let before = state_of R.region B.pages self.old in
+            Step before (command.Remove layout base size) result (state_of R.region B.pages self.new) }
+    {
+        regions_are_held_one_by_one();
+        let Some(old) = self.layouts.get(layout) else {
+            return Reply::NoSuch;
+        };
+        match old.remove_region(base, size) {
+            Ok((layout, _)) => self.add_layout(layout),
+            Err(error) => layout_refused(error),
+        }
+    }
+
+    // Makes a layout the next, where its regions are held.
+    fn add_layout(&mut self, layout: GuestRegionCollection<R>) -> Reply
+        requires { HoldsRegions R.region self.old.host layout }
+        ensures { ((result ≡ reply.LayoutMade (length self.old.layouts))
+            × (self.new ≡ record self.old { layouts = self.old.layouts ++ layout ∷ [] }))
+            ⊎ ((result ≡ reply.Memory) × (self.new ≡ self.old)) }
+    {
         let number = self.layouts.len();
         if self.layouts.push(layout).is_err() {
             return Reply::Memory;

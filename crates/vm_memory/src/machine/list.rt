@@ -1,45 +1,10 @@
 //! Lists that clauses see as lists, whatever room their vectors have.
-ghost use Rattle.std.specs.Prelude.{◌≡◌};
+ghost use Rattle.std.specs.Prelude.{◌≡◌, map};
+ghost use Rattle.vm_memory.specs.Pieces.{range_of_piece};
 
 use std::marker::Model;
-
-/// Bytes.
-#[derive(Debug, Drop)]
-pub struct ByteList {
-    bytes: Vec<u8>,
-}
-
-impl Model for ByteList {
-    ghost use Rattle.std.specs.Prelude.{List, ℕ};
-
-    ghost Value = { List ℕ };
-
-    ghost view = { λ l. l.bytes.items };
-}
-
-impl ByteList {
-    /// The bytes of a vector. It takes no memory.
-    pub fn from_vec(bytes: Vec<u8>) -> ByteList
-        ensures { result ≡ bytes.items }
-    {
-        ByteList { bytes }
-    }
-
-    /// The bytes.
-    pub fn as_slice(&self) -> &[u8]
-        ensures { result.now ≡ self.now }
-    {
-        self.bytes.as_slice()
-    }
-
-    /// The vector back.
-    pub fn into_vec(self) -> Vec<u8>
-        ensures { result.items ≡ self }
-    {
-        let ByteList { bytes } = self;
-        bytes
-    }
-}
+pub use vm_memory_base::ByteList;
+use vm_memory_base::MappedRange;
 
 /// Numbers of a pool or of a list of a machine.
 #[derive(Debug, Drop)]
@@ -76,5 +41,45 @@ impl NumberList {
     {
         let NumberList { numbers } = self;
         numbers
+    }
+}
+
+/// Ranges that I/O addresses lead to, in order.
+#[derive(Debug, Drop)]
+pub struct PieceList {
+    pieces: Vec<MappedRange>,
+}
+
+impl Model for PieceList {
+    ghost use Rattle.std.specs.Prelude.{List, map};
+    ghost use Rattle.vm_memory_base.specs.Table.{Range};
+    ghost use Rattle.vm_memory.specs.Pieces.{range_of_piece};
+
+    ghost Value = { List Range };
+
+    ghost view = { λ l. map range_of_piece l.pieces.items };
+}
+
+impl PieceList {
+    /// The ranges of a vector. It takes no memory.
+    pub fn from_vec(pieces: Vec<MappedRange>) -> PieceList
+        ensures { result ≡ map range_of_piece pieces.items }
+    {
+        PieceList { pieces }
+    }
+
+    /// The ranges.
+    pub fn as_slice(&self) -> &[MappedRange]
+        ensures { map range_of_piece result.now ≡ self.now }
+    {
+        self.pieces.as_slice()
+    }
+
+    /// The vector back.
+    pub fn into_vec(self) -> Vec<MappedRange>
+        ensures { map range_of_piece result.items ≡ self }
+    {
+        let PieceList { pieces } = self;
+        pieces
     }
 }

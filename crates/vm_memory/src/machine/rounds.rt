@@ -6,7 +6,8 @@ ghost use Rattle.vm_memory_guest.specs.Dirt.{with_pages};
 ghost use Rattle.vm_memory_guest.specs.Host as names;
 ghost use Rattle.vm_memory_guest.specs.Host.{Holds, block_at, shape_of};
 ghost use Rattle.vm_memory_guest.specs.Window.{with_bitmap};
-ghost use Rattle.vm_memory.specs.Rounds.{patched, image_now, pages_of};
+ghost use Rattle.vm_memory.specs.Parts.{state_of};
+ghost use Rattle.vm_memory.specs.Rounds.{patched, image_now, pages_of, IsSynced};
 
 use super::Machine;
 use std::alloc::{AllocError, Global};
@@ -23,8 +24,8 @@ impl<R: GuestMemoryRegion, B: ExactBitmap> Machine<R, B> {
     pub fn sync(&mut self, block: BlockId, image: &mut [u8]) -> Result<(), AllocError>
         requires there { Holds (shape_of self.old.host) (names.Block block.0 ∷ []) }
         requires len { length image.old ≡ length (block_at self.old.host.blocks block.0) }
-        ensures image { let before = with_pages B.pages self.old.host in
-            OnOk result (image.new ≡ image_now block.0 before image.old) }
+        ensures synced { let state = state_of R.region B.pages in
+            OnOk result (IsSynced block.0 (state self.old) image.old (state self.new) image.new) }
         ensures clean { let before = with_pages B.pages self.old.host in
             OnOk result ((after : B) × (B.pages after ≡ cleaned (pages_of block.0 before))
             × (self.new ≡ record self.old { host = with_bitmap self.old.host (Block block.0) after })) }

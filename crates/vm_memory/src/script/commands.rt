@@ -13,6 +13,15 @@ pub(super) fn parse(
 ) -> Result<Command, LineError> {
     Ok(match word {
         "layout" => layout(alloc, words)?,
+        "insert" => Command::Insert {
+            layout: words.index()?,
+            region: words.index()?,
+        },
+        "remove" => Command::Remove {
+            layout: words.index()?,
+            base: words.address()?,
+            size: words.number()?,
+        },
         "plain" => Command::Plain(words.index()?),
         "read" => Command::Read {
             memory: words.index()?,
@@ -35,9 +44,34 @@ pub(super) fn parse(
             width: words.width()?,
             addr: words.address()?,
         },
+        "check" => Command::CheckRange {
+            memory: words.index()?,
+            addr: words.address()?,
+            count: words.index()?,
+            access: words.permissions()?,
+        },
         "copy" => Command::Copy {
             from: words.block_range()?,
             to: words.block_range()?,
+        },
+        "set" => Command::Set {
+            table: words.index()?,
+            iova: words.address()?,
+            map_to: words.address()?,
+            length: words.index()?,
+            perm: words.permissions()?,
+        },
+        "invalidate" => Command::Invalidate {
+            table: words.index()?,
+            iova: words.address()?,
+            length: words.index()?,
+        },
+        "clear" => Command::InvalidateAll(words.index()?),
+        "lookup" => Command::Lookup {
+            table: words.index()?,
+            iova: words.address()?,
+            length: words.index()?,
+            access: words.permissions()?,
         },
         "dirty" => Command::Dirty(words.bitmap()?),
         "harvest" => Command::Harvest(words.bitmap()?),
@@ -45,9 +79,14 @@ pub(super) fn parse(
     })
 }
 
-// A layout has one region.
+// A layout has none or more regions.
 fn layout(alloc: Global, words: &mut Words<'_>) -> Result<Command, LineError> {
-    let region = words.index()?;
-    let numbers = vec![in alloc; region]?;
+    let mut numbers = Vec::new(alloc);
+    for _ in 0..u64::MAX {
+        if words.is_empty() {
+            break;
+        }
+        numbers.push(words.index()?)?;
+    }
     Ok(Command::FromRegions(NumberList::from_vec(numbers)))
 }

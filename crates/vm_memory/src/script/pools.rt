@@ -1,4 +1,4 @@
-//! What setup lines make: the blocks and spaces of a host, and the regions of a machine.
+//! What setup lines make: the blocks, spaces and tables of a host, and the regions of a machine.
 ghost use Rattle.std.specs.Prelude.{◌≡◌, ◌++◌, ◌∷◌, [], OnOk, OnErr};
 ghost use Rattle.vm_memory_guest.specs.Collection.{regions_of};
 
@@ -53,6 +53,7 @@ impl Pools {
         match setup {
             Setup::Block { size, page_size } => self.make_block(size, page_size),
             Setup::Space { size, page_size } => self.make_space(size, page_size),
+            Setup::Table => self.make_table(),
             Setup::Region { block, addr } => self.make_region(block, addr),
         }
     }
@@ -83,6 +84,13 @@ impl Pools {
         };
         match self.host.new_space(bitmap) {
             Ok(space) => SetupReply::SpaceMade(space.0),
+            Err(_) => SetupReply::Memory,
+        }
+    }
+
+    fn make_table(&mut self) -> SetupReply {
+        match self.host.new_table() {
+            Ok(table) => SetupReply::TableMade(table.0),
             Err(_) => SetupReply::Memory,
         }
     }

@@ -2,7 +2,7 @@
 
 use crate::machine::command::{Fault, Reply};
 use std::fmt;
-use vm_memory_base::{IommuError, IovaRange, Reason};
+use vm_memory_base::{IommuError, IovaRange, MappedRange, Reason};
 
 /// What a setup line answers. All but the numbers changed nothing.
 #[derive(Drop)]
@@ -11,6 +11,8 @@ pub(super) enum SetupReply {
     BlockMade(usize),
     /// The number of the space that was made.
     SpaceMade(usize),
+    /// The number of the table that was made.
+    TableMade(usize),
     /// The number of the region that was made.
     RegionMade(usize),
     /// A block has 1 to 2^63 - 1 bytes.
@@ -28,6 +30,7 @@ impl fmt::Display for SetupReply {
         match self {
             SetupReply::BlockMade(number) => write!(f, "block {number}"),
             SetupReply::SpaceMade(number) => write!(f, "space {number}"),
+            SetupReply::TableMade(number) => write!(f, "table {number}"),
             SetupReply::RegionMade(number) => write!(f, "region {number}"),
             SetupReply::InvalidSize => write!(f, "error M1"),
             SetupReply::InvalidRegion => write!(f, "error F3"),
@@ -45,8 +48,16 @@ impl fmt::Display for Reply {
             Reply::Done => write!(f, "ok"),
             Reply::Count(count) => write!(f, "count {count}"),
             Reply::Value(value) => write!(f, "value {value}"),
+            Reply::Truth(truth) => write!(f, "{truth}"),
             Reply::Bytes(bytes) => write!(f, "bytes {}", Hex(bytes.as_slice())),
             Reply::Pages(pages) => write!(f, "pages {}", Numbers(pages.as_slice())),
+            Reply::Pieces(pieces) => write!(f, "pieces {}", Pieces(pieces.as_slice())),
+            Reply::Fails(fails) => write!(
+                f,
+                "fails misses {} access {}",
+                Ranges(fails.misses.as_slice()),
+                Ranges(fails.access_fails.as_slice())
+            ),
             Reply::Fault(fault) => write!(f, "error {fault}"),
             Reply::NoSuch => write!(f, "error NoSuch"),
             Reply::BadRange => write!(f, "error BadRange"),
@@ -59,12 +70,15 @@ impl fmt::Display for Fault {
     fn fmt<W: fmt::Write>(&self, f: &mut fmt::Formatter<W>) -> fmt::Result {
         match self {
             Fault::InvalidGuestAddress(addr) => write!(f, "G1 {:#x}", addr.0),
+            Fault::IOError(kind) => write!(f, "G2 {kind:?}"),
             Fault::PartialBuffer {
                 expected,
                 completed,
             } => write!(f, "G3 {expected} {completed}"),
             Fault::InvalidBackendAddress => write!(f, "G4"),
             Fault::HostAddressNotAvailable => write!(f, "G5"),
+            Fault::CallbackOutOfRange => write!(f, "G6"),
+            Fault::GuestAddressOverflow => write!(f, "G7"),
             Fault::IommuError(error) => write!(f, "G8 {}", Translation(error)),
             Fault::NoMemoryRegion => write!(f, "C1"),
             Fault::MemoryRegionOverlap => write!(f, "C2"),
@@ -108,6 +122,47 @@ struct Range(IovaRange);
 impl fmt::Display for Range {
     fn fmt<W: fmt::Write>(&self, f: &mut fmt::Formatter<W>) -> fmt::Result {
         write!(f, "{:#x}+{:#x}", self.0.base.0, self.0.length)
+    }
+}
+
+// Ranges with one space between any two, or a dash where there is none.
+#[derive(Drop)]
+struct Ranges<'a>(&'a [IovaRange]);
+
+impl fmt::Display for Ranges<'_> {
+    fn fmt<W: fmt::Write>(&self, f: &mut fmt::Formatter<W>) -> fmt::Result {
+        let Some((first, others)) = self.0.split_first() else {
+            return write!(f, "-");
+        };
+        write!(f, "{}", Range(*first))?;
+        for range in others {
+            write!(f, " {}", Range(*range))?;
+        }
+        Ok(())
+    }
+}
+
+// The same of the ranges that addresses lead to.
+#[derive(Drop)]
+struct Pieces<'a>(&'a [MappedRange]);
+
+impl fmt::Display for Pieces<'_> {
+    fn fmt<W: fmt::Write>(&self, f: &mut fmt::Formatter<W>) -> fmt::Result {
+        let Some((first, others)) = self.0.split_first() else {
+            return write!(f, "-");
+        };
+        write!(f, "{}", Range(range_of(*first)))?;
+        for piece in others {
+            write!(f, " {}", Range(range_of(*piece)))?;
+        }
+        Ok(())
+    }
+}
+
+fn range_of(piece: MappedRange) -> IovaRange {
+    IovaRange {
+        base: piece.base,
+        length: piece.length,
     }
 }
 

@@ -18,6 +18,8 @@ pub(super) enum Setup {
         size: usize,
         page_size: NonZeroUsize,
     },
+    /// A table that says nothing.
+    Table,
     /// A region of a whole block at an address.
     Region {
         block: BlockId,
@@ -36,6 +38,7 @@ pub(super) fn parse(word: &str, words: &mut Words<'_>) -> Result<Option<Setup>, 
             size: words.index()?,
             page_size: words.page_size()?,
         }),
+        "table" => Some(Setup::Table),
         "region" => Some(Setup::Region {
             block: BlockId(words.index()?),
             addr: words.address()?,

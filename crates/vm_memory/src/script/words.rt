@@ -6,7 +6,7 @@ use crate::machine::command::{BlockRange, Width};
 use crate::machine::list::ByteList;
 use std::alloc::{AllocError, AllocFailed, Global};
 use std::num::NonZeroUsize;
-use vm_memory_base::{BitmapId, GuestAddress};
+use vm_memory_base::{BitmapId, GuestAddress, Permissions};
 
 /// Why there is no line.
 #[derive(Clone, Copy)]
@@ -111,9 +111,25 @@ impl<'a> Words<'a> {
         }
     }
 
+    /// The next word as a set of accesses: `no`, `r`, `w` or `rw`.
+    pub(super) fn permissions(&mut self) -> Result<Permissions, LineError> {
+        match self.word()? {
+            "no" => Ok(Permissions::No),
+            "r" => Ok(Permissions::Read),
+            "w" => Ok(Permissions::Write),
+            "rw" => Ok(Permissions::ReadWrite),
+            _ => Err(LineError::Bad),
+        }
+    }
+
     /// The next word as bytes: two hexadecimal digits each, one or more, or a dash for none.
     pub(super) fn bytes(&mut self, alloc: Global) -> Result<ByteList, LineError> {
         bytes(alloc, self.word()?)
+    }
+
+    /// Whether no word is left.
+    pub(super) fn is_empty(&self) -> bool {
+        self.rest.is_none()
     }
 
     /// Nothing, where no word is left.

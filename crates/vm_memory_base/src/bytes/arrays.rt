@@ -6,11 +6,13 @@ ghost use Rattle.vm_memory_base.specs.Bytes.{IsArrayOf, values_of};
 ghost use Rattle.vm_memory_base.specs.ArrayCodes.{array_code};
 
 use super::integers::{number_in, write_number};
-use super::{ByteValued, FixedInteger};
+use super::{ByteSized, ByteValued, FixedInteger};
+
+impl<T: FixedInteger, const N: usize> ByteSized for [T; N] {
+    ghost width = { N * T.width };
+}
 
 impl<T: FixedInteger, const N: usize> ByteValued for [T; N] {
-    ghost width = { N * T.width };
-
     ghost is_value = { IsArrayOf T.is_value N };
 
     // The bytes of the elements, one after the other.

@@ -8,14 +8,12 @@ ghost use Rattle.std.proofs.lemmas.Bool.Decides.{Decides-eqb, Decides-int_eq};
 ghost use Rattle.vm_memory_base.specs.Bytes.{IsByteCode};
 ghost use Rattle.vm_memory_base.specs.ByteCodes.{unsigned_code, signed_code, length-low};
 
+use super::ByteSized;
 use std::fmt::Debug;
 
 /// Integers of at most 16 bytes, all of whose bytes are their own: the integers, and those that name
 /// the order of their bytes.
-pub trait FixedInteger: Copy + Eq + Debug {
-    // How many bytes a value takes.
-    ghost width: { ℕ };
-
+pub trait FixedInteger: ByteSized + Copy + Eq + Debug {
     // Holds of the values of the type.
     ghost is_value: { Self → Type 0 };
 
@@ -26,26 +24,26 @@ pub trait FixedInteger: Copy + Eq + Debug {
 
     /// How many bytes a value takes.
     fn bytes_count() -> usize
-        ensures value { result ≡ width }
+        ensures value { result ≡ Self.width }
         ensures positive { 0 < result }
         ensures small { result ≤ 16 };
 
     /// The number that the bytes of the value write, the lowest first.
     fn to_bits(self) -> u128
-        ensures bytes { bytes_low_first 0 width result ≡ bytes self }
-        ensures fits { result < 256 ^ width }
+        ensures bytes { bytes_low_first 0 Self.width result ≡ bytes self }
+        ensures fits { result < 256 ^ Self.width }
         ensures known { is_value self };
 
     /// The value whose bytes write this number.
     fn from_bits(bits: u128) -> Self
-        requires { bits < 256 ^ width }
-        ensures { result ≡ value_of (bytes_low_first 0 width bits) };
+        requires { bits < 256 ^ Self.width }
+        ensures { result ≡ value_of (bytes_low_first 0 Self.width bits) };
 
     // Values and lists of bytes stand for one another.
-    ghost laws: { IsByteCode width is_value bytes value_of };
+    ghost laws: { IsByteCode Self.width is_value bytes value_of };
 
     // Whatever is taken for a value has as many bytes.
-    ghost length_always: { (x : Self) → length (bytes x) ≡ width };
+    ghost length_always: { (x : Self) → length (bytes x) ≡ Self.width };
 
     // Equal values are the same value.
     ghost equal: { (x y : Self) → Decides (Self.eq x y) (x ≡ y) };
@@ -121,9 +119,11 @@ pub(crate) fn reversed(bits: u128, size: usize) -> u128
     number_in(own)
 }
 
-impl FixedInteger for u8 {
+impl ByteSized for u8 {
     ghost width = { 1 };
+}
 
+impl FixedInteger for u8 {
     ghost is_value = { λ n. n < 2 ^ 8 };
 
     ghost bytes = { to_le_bytes w8 };
@@ -152,9 +152,11 @@ impl FixedInteger for u8 {
     ghost equal = { Decides-eqb };
 }
 
-impl FixedInteger for u16 {
+impl ByteSized for u16 {
     ghost width = { 2 };
+}
 
+impl FixedInteger for u16 {
     ghost is_value = { λ n. n < 2 ^ 16 };
 
     ghost bytes = { to_le_bytes w16 };
@@ -183,9 +185,11 @@ impl FixedInteger for u16 {
     ghost equal = { Decides-eqb };
 }
 
-impl FixedInteger for u32 {
+impl ByteSized for u32 {
     ghost width = { 4 };
+}
 
+impl FixedInteger for u32 {
     ghost is_value = { λ n. n < 2 ^ 32 };
 
     ghost bytes = { to_le_bytes w32 };
@@ -214,9 +218,11 @@ impl FixedInteger for u32 {
     ghost equal = { Decides-eqb };
 }
 
-impl FixedInteger for u64 {
+impl ByteSized for u64 {
     ghost width = { 8 };
+}
 
+impl FixedInteger for u64 {
     ghost is_value = { λ n. n < 2 ^ 64 };
 
     ghost bytes = { to_le_bytes w64 };
@@ -245,9 +251,11 @@ impl FixedInteger for u64 {
     ghost equal = { Decides-eqb };
 }
 
-impl FixedInteger for u128 {
+impl ByteSized for u128 {
     ghost width = { 16 };
+}
 
+impl FixedInteger for u128 {
     ghost is_value = { λ n. n < 2 ^ 128 };
 
     ghost bytes = { to_le_bytes w128 };
@@ -276,9 +284,11 @@ impl FixedInteger for u128 {
     ghost equal = { Decides-eqb };
 }
 
-impl FixedInteger for usize {
+impl ByteSized for usize {
     ghost width = { 8 };
+}
 
+impl FixedInteger for usize {
     ghost is_value = { λ n. n < 2 ^ 64 };
 
     ghost bytes = { to_le_bytes w64 };
@@ -307,9 +317,11 @@ impl FixedInteger for usize {
     ghost equal = { Decides-eqb };
 }
 
-impl FixedInteger for i8 {
+impl ByteSized for i8 {
     ghost width = { 1 };
+}
 
+impl FixedInteger for i8 {
     ghost is_value = { FitsSigned w8 };
 
     ghost bytes = { λ z. to_le_bytes w8 (cast_unsigned w8 z) };
@@ -338,9 +350,11 @@ impl FixedInteger for i8 {
     ghost equal = { Decides-int_eq };
 }
 
-impl FixedInteger for i16 {
+impl ByteSized for i16 {
     ghost width = { 2 };
+}
 
+impl FixedInteger for i16 {
     ghost is_value = { FitsSigned w16 };
 
     ghost bytes = { λ z. to_le_bytes w16 (cast_unsigned w16 z) };
@@ -369,9 +383,11 @@ impl FixedInteger for i16 {
     ghost equal = { Decides-int_eq };
 }
 
-impl FixedInteger for i32 {
+impl ByteSized for i32 {
     ghost width = { 4 };
+}
 
+impl FixedInteger for i32 {
     ghost is_value = { FitsSigned w32 };
 
     ghost bytes = { λ z. to_le_bytes w32 (cast_unsigned w32 z) };
@@ -400,9 +416,11 @@ impl FixedInteger for i32 {
     ghost equal = { Decides-int_eq };
 }
 
-impl FixedInteger for i64 {
+impl ByteSized for i64 {
     ghost width = { 8 };
+}
 
+impl FixedInteger for i64 {
     ghost is_value = { FitsSigned w64 };
 
     ghost bytes = { λ z. to_le_bytes w64 (cast_unsigned w64 z) };
@@ -431,9 +449,11 @@ impl FixedInteger for i64 {
     ghost equal = { Decides-int_eq };
 }
 
-impl FixedInteger for i128 {
+impl ByteSized for i128 {
     ghost width = { 16 };
+}
 
+impl FixedInteger for i128 {
     ghost is_value = { FitsSigned w128 };
 
     ghost bytes = { λ z. to_le_bytes w128 (cast_unsigned w128 z) };
@@ -462,9 +482,11 @@ impl FixedInteger for i128 {
     ghost equal = { Decides-int_eq };
 }
 
-impl FixedInteger for isize {
+impl ByteSized for isize {
     ghost width = { 8 };
+}
 
+impl FixedInteger for isize {
     ghost is_value = { FitsSigned w64 };
 
     ghost bytes = { λ z. to_le_bytes w64 (cast_unsigned w64 z) };

@@ -2,9 +2,11 @@
 ghost use Rattle.std.specs.Prelude.{◌≡◌, ◌↔◌, ℕ, ◌+◌, ◌-◌, ◌^◌, ◌<◌, ◌≤◌, ◌⊎◌, Bool, true, false, not, List, [], ◌∷◌, ◌++◌, map, filter, flat_map, sum_by, Option, Some, None, is_some, All};
 ghost use Rattle.vm_memory_base.specs.Address.{step, numbers, difference};
 ghost use Rattle.vm_memory_base.specs.Runs.{Run, TestsEquality, runs, IsCanonical, value_at, cut_to};
-ghost use Rattle.vm_memory_base.specs.Table.{Mapping, same_mapping, target, Says, Table, says, TableCall, Set, Invalidate, InvalidateAll, covers, says_after, says_after_all, new_table_after, canonical_list, grants, each, overruns, is_allowed, reason, piece_of, pieces, addresses, target_if_any, forbids, range_of, if_forbidden, misses, failures};
+ghost use Rattle.vm_memory_base.specs.Table.{Mapping, same_mapping, target, Says, Table, says, range_count, TableCall, Set, Invalidate, InvalidateAll, covers, says_after, says_after_all, new_table_after, canonical_list, grants, each, overruns, is_allowed, reason, piece_of, pieces, addresses, target_if_any, forbids, range_of, if_forbidden, misses, failures};
 ghost use Rattle.vm_memory_base.specs.declared.iotlb.Permissions.{Permissions};
 ghost use Rattle.vm_memory_base.specs.declared.iotlb.Reason.TheVariants.{MissingMapping, AccessNotAllowed};
+
+use crate::iotlb::Iotlb;
 
 /// A call changes what is said of the addresses that it covers, and of no other. A call of length 0
 /// covers none.
@@ -153,3 +155,14 @@ pub fn look_up_by_addresses()
         → flat_map (λ r. numbers r.base r.len) (failures f a n access)
         ≡ filter (λ x. is_some (if_forbidden access (f x))) (numbers a n) }
 {}
+
+/// Two tables that say the same of each address are equal: they keep the same ranges, and answer every
+/// look-up alike.
+pub fn tables_that_say_the_same(a: &Iotlb, b: &Iotlb)
+    ensures same { ((x : ℕ) → x < 2 ^ 64 → says a.now x ≡ says b.now x) → a.now ≡ b.now }
+    ensures ranges { ((x : ℕ) → x < 2 ^ 64 → says a.now x ≡ says b.now x)
+        → range_count a.now ≡ range_count b.now }
+{
+    let _first = a.num_ranges();
+    let _second = b.num_ranges();
+}

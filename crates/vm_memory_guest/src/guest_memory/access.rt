@@ -57,7 +57,7 @@ impl<T: GuestMemory> Bytes<GuestAddress> for T {
         read_windows(walk, host, buf)
     }
 
-    #[inline]
+    #[inline(always)]
     fn write_slice<B: Bitmap>(
         &self,
         host: &mut HostMemory<B>,
@@ -68,7 +68,7 @@ impl<T: GuestMemory> Bytes<GuestAddress> for T {
         whole(buf.len(), completed)
     }
 
-    #[inline]
+    #[inline(always)]
     fn read_slice<B: Bitmap>(
         &self,
         host: &HostMemory<B>,

@@ -1,11 +1,20 @@
 //! Backends: layouts of regions, and the walk through them.
-ghost use Rattle.std.specs.Prelude.{◌≡◌, List, length, map, flat_map, option_copied};
+ghost use Rattle.std.specs.Prelude.{◌≡◌, ◌+◌, ◌-◌, ◌<◌, ◌≤◌, ◌↔◌, List, length, map, flat_map, slice_get, option_copied, MatchOption, MatchResult, None, Some, Ok, Err, IsSome, IsTrue};
 ghost use Rattle.std.specs.Iterator.{YieldsFirst, item_count};
+ghost use Rattle.vm_memory_guest.specs.Access.{meets, path};
+ghost use Rattle.vm_memory_guest.specs.Memory.{Direct};
+ghost use Rattle.vm_memory_guest.specs.Queries.{address_above, address_in, greatest_last};
+ghost use Rattle.vm_memory_guest.specs.Queries.{host_address_at, is_whole, slice_at};
 ghost use Rattle.vm_memory_guest.specs.Region.{IsLayout, home_in, region_names};
+ghost use Rattle.vm_memory_guest.specs.TryAccess.{CallsAt, Ends, GoesOn, next, TryAccess};
+ghost use Rattle.vm_memory_base.specs.Address.{step};
 ghost use Rattle.vm_memory_guest.specs.Walk.{items_of, walk_of};
 
+use super::iter::RegionIter;
+use super::stop_on_error::{GuestMemorySliceIterator, ends_well};
 use crate::region::{GuestMemoryError, GuestMemoryRegion, GuestMemoryResult};
 use crate::volatile_memory::host::Named;
+use crate::volatile_memory::host_address::HostAddress;
 use crate::volatile_memory::slice::VolatileSlice;
 use std::marker::Model;
 use vm_memory_base::{Address, GuestAddress, MemoryRegionAddress};
@@ -33,6 +42,143 @@ pub trait GuestMemoryBackend: Named + Drop {
     fn find_region(&self, addr: GuestAddress) -> Option<&Self::R>
         ensures found { option_copied result ≡ home_in Self.R.region (regions self.now) addr.0 }
         ensures layout { IsLayout (map Self.R.region (regions self.now)) };
+
+    /// The region of this number, in the order of addresses.
+    fn region_at(&self, index: usize) -> Option<&Self::R>
+        ensures { option_copied result ≡ slice_get (regions self.now) index };
+
+    /// The regions, ascending.
+    #[inline]
+    final fn iter(&self) -> RegionIter<'_, Self, Self::R>
+        ensures { result ≡ regions self.now }
+    {
+        RegionIter::new(self)
+    }
+
+    /// The greatest address that a region holds, or 0 where there is no region.
+    #[inline]
+    final fn last_addr(&self) -> GuestAddress
+        ensures { result.0 ≡ greatest_last (map Self.R.region (regions self.now)) }
+    {
+        // Regions ascend, so that none ends above the last of them.
+        match self.region_at(self.num_regions().saturating_sub(1)) {
+            Some(region) => region.last_addr(),
+            None => GuestAddress(0),
+        }
+    }
+
+    /// The region that holds an address, and the address's offset there.
+    #[inline]
+    final fn to_region_addr(&self, addr: GuestAddress) -> Option<(&Self::R, MemoryRegionAddress)>
+        ensures { let home = home_in Self.R.region (regions self.now) addr.0 in
+            MatchOption result (home ≡ None)
+            (λ p. (home ≡ Some p.0.now) × (p.1.0 ≡ addr.0 - (Self.R.region p.0.now).start)) }
+    {
+        let region = self.find_region(addr)?;
+        let offset = MemoryRegionAddress(addr.0 - region.start_addr().0);
+        Some((region, offset))
+    }
+
+    /// Whether a region holds an address.
+    #[inline]
+    final fn address_in_range(&self, addr: GuestAddress) -> bool
+        ensures { IsTrue result ↔ IsSome (home_in Self.R.region (regions self.now) addr.0) }
+    {
+        self.find_region(addr).is_some()
+    }
+
+    /// The address, where a region holds it.
+    #[inline]
+    final fn check_address(&self, addr: GuestAddress) -> Option<GuestAddress>
+        ensures { result ≡ address_in Self.R.region (regions self.now) addr.0 }
+    {
+        self.find_region(addr)?;
+        Some(addr)
+    }
+
+    /// The address that lies `offset` above `base`, where that is an address and a region holds it.
+    #[inline]
+    final fn checked_offset(&self, base: GuestAddress, offset: usize) -> Option<GuestAddress>
+        ensures { result ≡ address_above Self.R.region (regions self.now) base.0 offset }
+    {
+        let sum = base.0.checked_add(offset as u64)?;
+        self.check_address(GuestAddress(sum))
+    }
+
+    /// Whether each of `len` bytes from an address on has a byte of the host. After the greatest address comes
+    /// 0, and of no byte it is so.
+    #[inline]
+    final fn check_range(&self, base: GuestAddress, len: usize) -> bool
+    where
+        Self: Sized,
+        ensures { let regions = map Self.R.region (regions self.now) in
+            result ≡ is_whole (path (meets regions Direct base.0) 0 len) len }
+    {
+        ends_well(self.get_slices(base, len))
+    }
+
+    /// Handles `count` bytes from an address on by a callback: docs/DEFINITIONS.md, "Accesses by a callback".
+    ///
+    /// It is called with the bytes handled so far, how many of the rest lie in the region of the next address,
+    /// the offset there and the region, and answers how many it handled. The access ends where it answers 0 or
+    /// has handled all, and where no region holds the next address, with the bytes handled. Its error is
+    /// answered. `CallbackOutOfRange` is the answer where it handled more than `count` bytes in all,
+    /// `GuestAddressOverflow` where they go past the greatest address, to another than 0, and
+    /// `InvalidGuestAddress` where no region holds the first address.
+    final fn try_access<F>(
+        &self,
+        count: usize,
+        addr: GuestAddress,
+        mut f: F,
+    ) -> GuestMemoryResult<usize>
+    where
+        F: FnMut(usize, usize, MemoryRegionAddress, &Self::R) -> GuestMemoryResult<usize>,
+        requires { F.IsAlwaysCallable f }
+        ensures { (last : F) × TryAccess Self.R.region (regions self.now) (CallsAt F.FnMut) addr.0 count
+            f 0 addr.0 result last }
+    {
+        let mut total = 0;
+        let mut current = addr;
+        while let Some(region) = self.find_region(current) {
+            let offset = current.0 - region.start_addr().0;
+            let len = (region.len() - offset).min((count - total) as u64);
+            let handled = f(total, len as usize, MemoryRegionAddress(offset), region)?;
+            let next = behind(count, total, current, handled)?;
+            total += handled;
+            let Some(next) = next else {
+                return Ok(total);
+            };
+            current = next;
+        }
+        if total == 0 {
+            return Err(GuestMemoryError::InvalidGuestAddress(addr));
+        }
+        Ok(total)
+    }
+
+    /// Where the byte at an address is in the host: `InvalidGuestAddress` where no region holds it, else as its
+    /// region answers.
+    #[inline]
+    final fn get_host_address(&self, addr: GuestAddress) -> GuestMemoryResult<HostAddress>
+        ensures { result ≡ host_address_at Self.R.region (regions self.now) addr.0 }
+    {
+        let Some((region, offset)) = self.to_region_addr(addr) else {
+            return Err(GuestMemoryError::InvalidGuestAddress(addr));
+        };
+        region.get_host_address(offset)
+    }
+
+    /// The window of `count` bytes from an address on, all in one region: `InvalidGuestAddress` where no region
+    /// holds the address, else as its region answers.
+    #[inline]
+    final fn get_slice(&self, addr: GuestAddress, count: usize) -> GuestMemoryResult<VolatileSlice>
+        ensures { result ≡ slice_at Self.R.region (regions self.now) addr.0 count }
+    {
+        let Some((region, offset)) = self.to_region_addr(addr) else {
+            return Err(GuestMemoryError::InvalidGuestAddress(addr));
+        };
+        region.get_slice(offset, count)
+    }
 
     /// The windows of `count` bytes from an address on, and then the error of the first address that has no
     /// byte: `InvalidGuestAddress` where no region holds it, `HostAddressNotAvailable` where its region has no
@@ -75,6 +221,17 @@ impl<'a, M: GuestMemoryBackend> Model for GuestMemoryBackendSliceIterator<'a, M>
     ghost view = { λ it. walk_of (map M.R.region (M.regions it.mem.now)) it.addr.0 it.count };
 }
 
+impl<'a, M: GuestMemoryBackend> GuestMemorySliceIterator
+    for GuestMemoryBackendSliceIterator<'a, M> {
+    ghost left = { λ it. it };
+
+    ghost can = { λ it. tt };
+
+    ghost ends = { λ it. tt };
+
+    ghost gives = { λ s r t h. h };
+}
+
 impl<'a, M: GuestMemoryBackend> Iterator for GuestMemoryBackendSliceIterator<'a, M> {
     type Item = GuestMemoryResult<VolatileSlice>;
 
@@ -106,4 +263,36 @@ impl<'a, M: GuestMemoryBackend> Iterator for GuestMemoryBackendSliceIterator<'a,
             }
         }
     }
+}
+
+// The address behind what a callback handled of an access of `count` bytes, or `None` where that was nothing or
+// all that was left.
+#[inline]
+fn behind(
+    count: usize,
+    total: usize,
+    addr: GuestAddress,
+    handled: usize,
+) -> GuestMemoryResult<Option<GuestAddress>>
+    requires { total ≤ count }
+    ensures { let then = next count total addr.0 (Ok handled) in
+        MatchResult result
+        (λ next. (total + handled ≤ count) × MatchOption next (then ≡ Ends (Ok (total + handled)))
+        (λ a. (then ≡ GoesOn) × (0 < handled) × (total + handled < count) × (a.0 ≡ step addr.0 handled)))
+        (λ e. then ≡ Ends (Err e)) }
+{
+    if handled == 0 {
+        return Ok(None);
+    }
+    if handled > count - total {
+        return Err(GuestMemoryError::CallbackOutOfRange);
+    }
+    if handled == count - total {
+        return Ok(None);
+    }
+    let (next, past) = addr.overflowing_add(handled as u64);
+    if past && next.0 != 0 {
+        return Err(GuestMemoryError::GuestAddressOverflow);
+    }
+    Ok(Some(next))
 }

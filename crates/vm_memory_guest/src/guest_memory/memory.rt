@@ -1,13 +1,16 @@
 //! Guest memory: a backend, or one behind an IOMMU.
-ghost use Rattle.std.specs.Prelude.{◌≡◌, ◌⊎◌, map, flat_map, All, None, MatchResult};
+ghost use Rattle.std.specs.Prelude.{◌≡◌, ◌⊎◌, map, flat_map, All, None, IsSome, MatchOption, MatchResult};
 ghost use Rattle.std.specs.Iterator.{YieldsFirst, item_count};
+ghost use Rattle.vm_memory_guest.specs.Access.{access_of};
 ghost use Rattle.vm_memory_guest.specs.Host.{shape_of, Holds};
 ghost use Rattle.vm_memory_guest.specs.Region.{IsRegion, IsLayout};
-ghost use Rattle.vm_memory_guest.specs.Memory.{Memory, memory_names};
+ghost use Rattle.vm_memory_guest.specs.Memory.{Memory, memory_names, route};
+ghost use Rattle.vm_memory_guest.specs.Queries.{is_whole};
 ghost use Rattle.vm_memory_guest.specs.Walk.{items_of, walk_of, GivesAccess, RefusesAccess, WantsMemory};
 
 use super::backend::{GuestMemoryBackend, GuestMemoryBackendSliceIterator};
-use crate::region::GuestMemoryResult;
+use super::stop_on_error::{GuestMemorySliceIterator, ends_well};
+use crate::region::{GuestMemoryError, GuestMemoryResult};
 use crate::volatile_memory::host::{HostMemory, Named};
 use crate::volatile_memory::slice::VolatileSlice;
 use std::marker::Model;
@@ -27,6 +30,16 @@ impl<'a, M: GuestMemoryBackend> Model for IommuMemorySliceIterator<'a, M> {
     ghost Value = { Reach Fault };
 
     ghost view = { λ it. it.walk };
+}
+
+impl<'a, M: GuestMemoryBackend> GuestMemorySliceIterator for IommuMemorySliceIterator<'a, M> {
+    ghost left = { λ it. it };
+
+    ghost can = { λ it. tt };
+
+    ghost ends = { λ it. tt };
+
+    ghost gives = { λ s r t h. h };
 }
 
 impl<'a, M: GuestMemoryBackend> Iterator for IommuMemorySliceIterator<'a, M> {
@@ -74,6 +87,35 @@ pub trait GuestMemory: Named {
             ⊎ RefusesAccess (memory self.now) host.now.tables addr.0 count access e) }
         ensures layout { IsLayout (memory self.now).regions };
 
+    /// Whether each of `count` bytes from an address on may be accessed so, and has a byte of the host. Of no
+    /// byte it is so. `Memory` comes only with an IOMMU that is on, and no other error comes.
+    #[inline]
+    fn check_range<B: Bitmap>(
+        &self,
+        host: &HostMemory<B>,
+        addr: GuestAddress,
+        count: usize,
+        access: Permissions,
+    ) -> GuestMemoryResult<bool>
+        requires { Holds (shape_of host.now) (Self.names self.now) }
+        ensures { let m = memory self.now in
+            let reached = access_of m.regions (route m host.now.tables) addr.0 count access in
+            MatchResult result (λ all. all ≡ is_whole reached.path count) (WantsMemory m) }
+    {
+        match self.get_slices(host, addr, count, access) {
+            Ok(walk) => Ok(ends_well(walk)),
+            Err(GuestMemoryError::Memory) => Err(GuestMemoryError::Memory),
+            Err(_) => Ok(false),
+        }
+    }
+
+    /// The backend, where addresses are physical: where no IOMMU is on.
+    fn physical_memory(&self) -> Option<&Self::PhysicalMemory>
+        ensures { MatchOption result (IsSome (memory self.now).iommu) (λ backend. memory self.now ≡ record {
+          regions = map Self.PhysicalMemory.R.region (Self.PhysicalMemory.regions backend.now);
+          iommu = None;
+        }) };
+
     /// Its regions' addresses and offsets fit 64 bits.
     ghost each_fits: { (m : Self) → All IsRegion (memory m).regions };
 
@@ -106,5 +148,10 @@ impl<M: GuestMemoryBackend> GuestMemory for M {
         Ok(IommuMemorySliceIterator {
             walk: GuestMemoryBackend::get_slices(self, addr, count),
         })
+    }
+
+    #[inline]
+    fn physical_memory(&self) -> Option<&M> {
+        Some(self)
     }
 }

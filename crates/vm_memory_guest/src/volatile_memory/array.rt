@@ -12,7 +12,7 @@ use super::host::{HostMemory, HostShape, Named};
 use super::reference::VolatileRef;
 use super::slice::VolatileSlice;
 use std::marker::{Model, PhantomData};
-use vm_memory_base::{Bitmap, BitmapRef, ByteValued};
+use vm_memory_base::{Bitmap, BitmapRef, ByteSized, ByteValued};
 
 /// Values of one type in host memory, one after the other: a window of as many bytes as they have.
 ///
@@ -22,13 +22,13 @@ use vm_memory_base::{Bitmap, BitmapRef, ByteValued};
 /// assert_eq!(words.load(&host, 3), 7);
 /// ```
 #[derive(Clone, Copy, Debug)]
-pub struct VolatileArrayRef<T: ByteValued> {
+pub struct VolatileArrayRef<T: ByteSized> {
     slice: VolatileSlice,
     nelem: usize,
     of: PhantomData<T>,
 }
 
-impl<T: ByteValued> Model for VolatileArrayRef<T> {
+impl<T: ByteSized> Model for VolatileArrayRef<T> {
     ghost use Rattle.std.specs.Prelude.{◌≡◌, ◌*◌, ◌^◌, ◌<◌};
     ghost use Rattle.vm_memory_guest.specs.Typed.{size_of};
     ghost use Rattle.vm_memory_guest.specs.Volatile.{Elements};

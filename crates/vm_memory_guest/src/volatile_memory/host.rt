@@ -1,18 +1,20 @@
-//! Host memory: every block, bitmap and space, which each access is lent.
+//! Host memory: every block, bitmap, space and table, which each access is lent.
 ghost use Rattle.std.specs.Prelude.{◌≡◌, ◌≢◌, ℕ, ◌+◌, ◌-◌, ◌*◌, ◌^◌, ◌<◌, ◌≤◌, ◌↔◌, ◌⊎◌, [], ◌∷◌, ◌++◌, List, length, take, drop, map, replicate, slice_get, slice_set, nat_lt, All, IsTrue, Some, IfOk, IfSome, OnOk, OnErr, IsErrOf};
 ghost use Rattle.vm_memory_guest.specs.Host as names;
-ghost use Rattle.vm_memory_guest.specs.Host.{Host, Shape, with_block, with_space, shape_of, Name, IsHeld, Holds, block_at, bytes_at, cells_from, written};
+ghost use Rattle.vm_memory_guest.specs.Host.{Host, Shape, with_block, with_space, with_table, with_table_at, shape_of, Name, IsHeld, Holds, block_at, bytes_at, cells_from, written};
 ghost use Rattle.std.specs.List.{flat_map};
 ghost use Rattle.vm_memory_base.specs.Bytes.{values_of};
 ghost use Rattle.vm_memory_guest.specs.Inside.{blocks_of};
 ghost use Rattle.vm_memory_guest.specs.Typed.{size_of};
+
+mod transfer;
 
 use super::block::{copy_in, part_of, put_in, put_value_in, put_values_in, value_in};
 use super::slice::VolatileSlice;
 use std::alloc::{AllocError, Global};
 use std::marker::Model;
 use thiserror::Error;
-use vm_memory_base::{Bitmap, BitmapId, BitmapRef, ByteValued, NewBitmap};
+use vm_memory_base::{Bitmap, BitmapId, BitmapRef, ByteValued, Iotlb, NewBitmap};
 
 /// The number of a block of a host, from 0 in the order of making.
 #[derive(Clone, Copy, Debug, PartialEq, Eq)]
@@ -125,14 +127,15 @@ pub trait Named {
         ensures { IsTrue result ↔ Holds shape.now (names self.now) };
 }
 
-/// All bytes, bitmaps and spaces. Numbers start at 0 in each kind, no number ever stops naming, and no
-/// block changes its length.
+/// All bytes, bitmaps, spaces and tables. Numbers start at 0 in each kind, no number ever stops naming, and
+/// no block changes its length.
 #[derive(Drop)]
 pub struct HostMemory<B> {
     alloc: Global,
     blocks: Vec<Vec<u8>>,
     bitmaps: Vec<B>,
     spaces: Vec<B>,
+    tables: Vec<Iotlb>,
     shape: HostShape,
 }
 
@@ -148,10 +151,11 @@ impl<B> Model for HostMemory<B> {
       blocks = blocks_of h.blocks;
       bitmaps = h.bitmaps.items;
       spaces = h.spaces.items;
-      tables = [];
+      tables = h.tables.items;
     } };
 
-    ghost invariant = { λ h. IsSound h.shape (blocks_of h.blocks) h.bitmaps.items h.spaces.items };
+    ghost invariant = { λ h. IsSound h.shape (blocks_of h.blocks) h.bitmaps.items h.spaces.items
+        h.tables.items };
 }
 
 impl<B> HostMemory<B> {
@@ -164,6 +168,7 @@ impl<B> HostMemory<B> {
             blocks: Vec::new(alloc),
             bitmaps: Vec::new(alloc),
             spaces: Vec::new(alloc),
+            tables: Vec::new(alloc),
             shape: HostShape::new(alloc),
         }
     }
@@ -259,11 +264,34 @@ impl<B> HostMemory<B> {
         self.shape.spaces += 1;
         Ok(space)
     }
+
+    /// Makes a table that says nothing of any address: the answer is its number. Refused, nothing changes.
+    pub fn new_table(&mut self) -> Result<TlbId, AllocError>
+        ensures number { IfOk result (λ table. table.0 ≡ length self.old.tables) }
+        ensures ok { OnOk result (self.new ≡ with_table self.old) }
+        ensures err { OnErr result (self.new ≡ self.old) }
+        ensures kept { (names : List Name) → Holds (shape_of self.old) names
+            → Holds (shape_of self.new) names }
+    {
+        self.add_table()
+    }
+
+    fn add_table(&mut self) -> Result<TlbId, AllocError>
+        ensures number { IfOk result (λ table. table.0 ≡ length self.old.tables) }
+        ensures ok { OnOk result (self.new ≡ with_table self.old) }
+        ensures err { OnErr result (self.new ≡ self.old) }
+    {
+        let table = TlbId(self.tables.len());
+        self.tables.push(Iotlb::new(self.alloc))?;
+        self.shape.tables += 1;
+        Ok(table)
+    }
 }
 
 impl<B> HostMemory<B> {
     ghost use Rattle.std.specs.Borrow.{Lends, sem};
     ghost use Rattle.vm_memory_guest.specs.contracts.volatile_memory.host.HostMemory.{the_row};
+    ghost use Rattle.vm_memory_base.specs.contracts.iotlb.table.Iotlb.{the_row as table_row};
     ghost use Rattle.vm_memory_guest.specs.Window.{window_names, with_bitmap, bitmap_name, bitmap_of, cells_of, Marks, MarksWindow, Writes};
 
     /// The bytes of a window.
@@ -296,6 +324,24 @@ impl<B> HostMemory<B> {
             BitmapId::Block(block) => &mut self.bitmaps[block],
             BitmapId::Space(space) => &mut self.spaces[space],
         }
+    }
+
+    /// A table.
+    pub fn table(&self, table: TlbId) -> &Iotlb
+        requires { Holds (shape_of self.now) (names.Tlb table.0 ∷ []) }
+        ensures { slice_get self.now.tables table.0 ≡ Some result.now }
+    {
+        &self.tables[table.0]
+    }
+
+    /// A table, to change.
+    pub fn table_mut(&mut self, table: TlbId) -> &mut Iotlb
+        requires { Holds (shape_of self.old) (names.Tlb table.0 ∷ []) }
+        ensures* lends { sem 𝓛
+            (Lends (the_row B.row) table_row self.entry result (with_table_at self.old table.0)) }
+        ensures value { slice_get self.old.tables table.0 ≡ Some result.now }
+    {
+        &mut self.tables[table.0]
     }
 
     // Moves bytes to a place of a block.
@@ -512,7 +558,7 @@ impl<B: NewBitmap + Drop> HostMemory<B> {
     }
 }
 
-const MAX_BLOCK: usize = 0x7fff_ffff_ffff_ffff;
+pub(crate) const MAX_BLOCK: usize = 0x7fff_ffff_ffff_ffff;
 
 fn zeroed(alloc: Global, size: usize) -> Result<Vec<u8>, AllocError>
     ensures { IfOk result (λ bytes. bytes.items ≡ replicate size 0) }

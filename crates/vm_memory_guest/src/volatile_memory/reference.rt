@@ -7,7 +7,7 @@ ghost use Rattle.vm_memory_guest.specs.Window.{window_names, cells_of, Writes};
 use super::host::{HostMemory, HostShape, Named};
 use super::slice::VolatileSlice;
 use std::marker::{Model, PhantomData};
-use vm_memory_base::{Bitmap, BitmapRef, ByteValued};
+use vm_memory_base::{Bitmap, BitmapRef, ByteSized, ByteValued};
 
 /// A value in host memory: a window of as many bytes as values of the type have.
 ///
@@ -17,12 +17,12 @@ use vm_memory_base::{Bitmap, BitmapRef, ByteValued};
 /// assert_eq!(word.load(&host), 7);
 /// ```
 #[derive(Clone, Copy, Debug)]
-pub struct VolatileRef<T: ByteValued> {
+pub struct VolatileRef<T: ByteSized> {
     slice: VolatileSlice,
     of: PhantomData<T>,
 }
 
-impl<T: ByteValued> Model for VolatileRef<T> {
+impl<T: ByteSized> Model for VolatileRef<T> {
     ghost use Rattle.std.specs.Prelude.{◌≡◌};
     ghost use Rattle.vm_memory_guest.specs.Typed.{size_of};
     ghost use Rattle.vm_memory_guest.specs.Window.{Window};

@@ -12,6 +12,7 @@ ghost use Rattle.vm_memory_base.specs.declared.io.VolatileMemoryError.TheVariant
 
 use super::access::Bytes;
 use super::host::{BlockId, HostMemory, HostShape, Named};
+use super::host_address::HostAddress;
 use std::marker::Model;
 use std::sync::atomic::Ordering;
 use vm_memory_base::{
@@ -84,6 +85,17 @@ impl VolatileSlice {
         ensures { result ≡ self.now.bitmap }
     {
         self.bitmap
+    }
+
+    // Where its first byte is.
+    #[inline]
+    pub(crate) fn host_address(&self) -> HostAddress
+        ensures { result ≡ record { block = self.now.block; offset = self.now.offset } }
+    {
+        HostAddress {
+            block: self.block,
+            offset: self.offset,
+        }
     }
 
     /// `count` bytes from `offset` on. `Overflow` where their sum is no 64-bit number, `OutOfBounds` at the

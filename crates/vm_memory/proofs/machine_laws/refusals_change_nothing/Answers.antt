@@ -9,5 +9,8 @@ returns c = record {
   memory = λ old new c step. still-step old new c reply.Memory tt step;
   read = λ old new c bytes step. still-step old new c (reply.Bytes bytes) tt step;
   load = λ old new c value step. still-step old new c (reply.Value value) tt step;
+  check = λ old new c truth step. still-step old new c (reply.Truth truth) tt step;
+  pieces = λ old new c pieces step. still-step old new c (reply.Pieces pieces) tt step;
+  fails = λ old new c fails step. still-step old new c (reply.Fails fails) tt step;
   bad_range = λ old new c step. still-step old new c reply.BadRange tt step;
 }

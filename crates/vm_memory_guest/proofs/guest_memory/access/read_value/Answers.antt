@@ -44,7 +44,7 @@ loop-item-preserved g c =
 pub returns-then-total-eq0-clause-answer : goal.returns-then-total-eq0-clause-answer
 returns-then-total-eq0-clause-answer g c =
     let end = ends_in c.loop-item.item-iterator c.in-Some.item c.in-Err.error (items_of c.next.new.self) c.in-Some.ensures.steps c.in-Err.is in
-    answer-none c.loop-item.invariant.came g.V.ByteValued.width end c.requires.asked c.if-total-eq0.true
+    answer-none c.loop-item.invariant.came g.V.ByteSized.width end c.requires.asked c.if-total-eq0.true
 
 pub returns-then-total-eq0-clause-bytes : goal.returns-then-total-eq0-clause-bytes
 returns-then-total-eq0-clause-bytes g c = filled-ends c.loop-item.invariant (ends_in c.loop-item.item-iterator c.in-Some.item c.in-Err.error (items_of c.next.new.self) c.in-Some.ensures.steps c.in-Err.is)
@@ -52,13 +52,13 @@ returns-then-total-eq0-clause-bytes g c = filled-ends c.loop-item.invariant (end
 pub returns-in-Err-clause-answer : goal.returns-in-Err-clause-answer
 returns-in-Err-clause-answer g c =
     let end = ends_in c.loop-item.item-iterator c.in-Some.item c.in-Err.error (items_of c.next.new.self) c.in-Some.ensures.steps c.in-Err.is in
-    answer-some c.loop-item.invariant.came g.V.ByteValued.width end c.if-total-eq0.false
+    answer-some c.loop-item.invariant.came g.V.ByteSized.width end c.if-total-eq0.false
 
 pub returns-in-Err-clause-bytes : goal.returns-in-Err-clause-bytes
 returns-in-Err-clause-bytes g c = filled-ends c.loop-item.invariant (ends_in c.loop-item.item-iterator c.in-Some.item c.in-Err.error (items_of c.next.new.self) c.in-Some.ensures.steps c.in-Err.is)
 
 pub returns-clause-answer : goal.returns-clause-answer
-returns-clause-answer g c = answer-whole c.loop-item.invariant.came g.V.ByteValued.width (ends_whole c.loop-item.item-iterator c.in-None.ensures.steps.0)
+returns-clause-answer g c = answer-whole c.loop-item.invariant.came g.V.ByteSized.width (ends_whole c.loop-item.item-iterator c.in-None.ensures.steps.0)
 
 pub returns-clause-bytes : goal.returns-clause-bytes
 returns-clause-bytes g c = filled-ends c.loop-item.invariant (ends_whole c.loop-item.item-iterator c.in-None.ensures.steps.0)

@@ -33,13 +33,13 @@ overflow_add-total g c =
 pub loop-item-preserved : goal.loop-item-preserved
 loop-item-preserved g c =
     let next = gave c.loop-item.item-iterator c.next.new.self c.in-Some.item c.in-Ok.window c.in-Some.ensures.steps c.in-Ok.is in
-    let long : length (g.V.ByteValued.bytes c.args.value.now) ≡ g.V.ByteValued.width = g.met.V.ByteValued.laws.length_bytes c.args.value.now c.known.ensures in
+    let long : length (g.V.ByteValued.bytes c.args.value.now) ≡ g.V.ByteSized.width = g.met.V.ByteValued.laws.length_bytes c.args.value.now c.known.ensures in
     wrote_next g.B.Bitmap.marks c.loop-item.invariant next c.write_value.new.self c.len-total.result c.len-total.ensures (omega (arith, c.requires.fits)) c.write_value.ensures.bytes
 
 pub returns-then-total-eq0-clause-answer : goal.returns-then-total-eq0-clause-answer
 returns-then-total-eq0-clause-answer g c =
     let end = ends_in c.loop-item.item-iterator c.in-Some.item c.in-Err.error (items_of c.next.new.self) c.in-Some.ensures.steps c.in-Err.is in
-    answer-none c.loop-item.invariant.came g.V.ByteValued.width end c.requires.asked c.if-total-eq0.true
+    answer-none c.loop-item.invariant.came g.V.ByteSized.width end c.requires.asked c.if-total-eq0.true
 
 pub returns-then-total-eq0-clause-bytes : goal.returns-then-total-eq0-clause-bytes
 returns-then-total-eq0-clause-bytes g c =
@@ -49,7 +49,7 @@ returns-then-total-eq0-clause-bytes g c =
 pub returns-in-Err-clause-answer : goal.returns-in-Err-clause-answer
 returns-in-Err-clause-answer g c =
     let end = ends_in c.loop-item.item-iterator c.in-Some.item c.in-Err.error (items_of c.next.new.self) c.in-Some.ensures.steps c.in-Err.is in
-    answer-some c.loop-item.invariant.came g.V.ByteValued.width end c.if-total-eq0.false
+    answer-some c.loop-item.invariant.came g.V.ByteSized.width end c.if-total-eq0.false
 
 pub returns-in-Err-clause-bytes : goal.returns-in-Err-clause-bytes
 returns-in-Err-clause-bytes g c =
@@ -57,7 +57,7 @@ returns-in-Err-clause-bytes g c =
     wrote-ends g.B.Bitmap.marks c.loop-item.invariant end
 
 pub returns-clause-answer : goal.returns-clause-answer
-returns-clause-answer g c = answer-whole c.loop-item.invariant.came g.V.ByteValued.width (ends_whole c.loop-item.item-iterator c.in-None.ensures.steps.0)
+returns-clause-answer g c = answer-whole c.loop-item.invariant.came g.V.ByteSized.width (ends_whole c.loop-item.item-iterator c.in-None.ensures.steps.0)
 
 pub returns-clause-bytes : goal.returns-clause-bytes
 returns-clause-bytes g c = wrote-ends g.B.Bitmap.marks c.loop-item.invariant (ends_whole c.loop-item.item-iterator c.in-None.ensures.steps.0)

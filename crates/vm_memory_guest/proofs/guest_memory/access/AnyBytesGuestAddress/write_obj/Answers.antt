@@ -17,9 +17,9 @@ returns-in_err-walk-clause-answer g c short =
     let memory = g.T.GuestMemory.memory c.args.self.now in
     let host = c.args.host.now in
     let e = c.in_err-walk.field-0.0 in
-    let width : c.size.result ≡ g.V.ByteValued.width = omega (arith, c.size.ensures) in
+    let width : c.size.result ≡ g.V.ByteSized.width = omega (arith, c.size.ensures) in
     let why = subst (λ n. WantsMemory memory e ⊎ RefusesAccess memory host.tables c.args.addr.0 n Write e) width c.in_err-walk.ensures.answer in
-    rw (p.1, p.2) (value-refused memory host.tables c.args.addr.0 g.V.ByteValued.width Write (λ r. exactly PartialBuffer (span r.windows) r.fault g.V.ByteValued.width) (host ≡ host) (λ ws. Writes g.B.Bitmap.marks ws (g.V.ByteValued.bytes c.args.val) host host) e why (exactly-none g.V.ByteValued.width e) refl refl)
+    rw (p.1, p.2) (value-refused memory host.tables c.args.addr.0 g.V.ByteSized.width Write (λ r. exactly PartialBuffer (span r.windows) r.fault g.V.ByteSized.width) (host ≡ host) (λ ws. Writes g.B.Bitmap.marks ws (g.V.ByteValued.bytes c.args.val) host host) e why (exactly-none g.V.ByteSized.width e) refl refl)
 
 pub write_value-requires-clause-held : goal.write_value-requires-clause-held
 write_value-requires-clause-held g c =
@@ -30,7 +30,7 @@ write_value-requires-clause-fits g c = subst (λ n. span c.in_ok-walk.walk.windo
 
 pub write_value-requires-clause-asked : goal.write_value-requires-clause-asked
 write_value-requires-clause-asked g c =
-    asked-of c.in_ok-walk.walk.fault c.size.result g.V.ByteValued.width c.size.ensures (walk-asked (g.T.GuestMemory.memory c.args.self.now) c.args.host.now.tables c.args.addr.0 c.size.result Write c.in_ok-walk.walk c.in_ok-walk.ensures.answer)
+    asked-of c.in_ok-walk.walk.fault c.size.result g.V.ByteSized.width c.size.ensures (walk-asked (g.T.GuestMemory.memory c.args.self.now) c.args.host.now.tables c.args.addr.0 c.size.result Write c.in_ok-walk.walk c.in_ok-walk.ensures.answer)
 
 pub returns-in_err-completed-clause-shape : goal.returns-in_err-completed-clause-shape
 returns-in_err-completed-clause-shape g c = shape_of-Writes g.B.Bitmap.marks c.in_ok-walk.walk.windows (g.V.ByteValued.bytes c.args.val) c.args.host.now c.write_value.new.host c.write_value.ensures.bytes

@@ -12,7 +12,7 @@ set_bytes-requires-clause-inside g c =
 
 pub returns : goal.returns
 returns g c all =
-    let width = g.T.ByteValued.width in
+    let width = g.T.ByteSized.width in
     let bs = c.bytes.result.now in
     let long : length bs ≡ width = ap length c.bytes.ensures ∙ length-bytes c.args.self.now.blocks c.args.window.now ∙ all in
     let zeros = ap length c.zeroed-value.ensures ∙ length-replicate width 0 in

@@ -1,0 +1,214 @@
+-- The commands that change layouts, and what they are in the model.
+use Rattle.std.proofs.Common.{◌≡◌, ◌⊎◌, ℕ, List, [], ◌∷◌, ◌++◌, length, map, nat_lt, true, false, cond, slice_get, Option, Some, None, All, refl, sym, ap, subst, ◌∙◌, inl, inr}
+use Rattle.std.proofs.lemmas.List.{length-map, map-append}
+use Rattle.std.proofs.lemmas.List.Elements.{All-nil, All-cons, All-head, All-tail}
+use Rattle.std.proofs.lemmas.Option.{slice_get-map}
+use Rattle.vm_memory_base.specs.Pages.{PageSet}
+use Rattle.vm_memory_base.specs.declared.address.GuestAddress.{GuestAddress}
+use Rattle.vm_memory_guest.specs.Layout.{inserted, is_exactly, behind_first, removed, IsFault}
+use Rattle.vm_memory_guest.specs.Region.{Region, layout_error}
+use Rattle.vm_memory_guest.specs.declared.region.GuestRegionCollectionError.{GuestRegionCollectionError}
+use Rattle.vm_memory_guest.specs.declared.region.GuestRegionCollectionError.TheVariants as layout
+use Rattle.vm_memory.specs.Machine.{Step, MayWant, outcome, new_layout, rest_layout}
+use Rattle.vm_memory.specs.Parts.{Parts, state_of}
+use Rattle.vm_memory.specs.Reply.{reply_of_layout_error}
+use Rattle.vm_memory.specs.State.{State}
+use Rattle.vm_memory.specs.declared.machine.command.Command.{Command}
+use Rattle.vm_memory.specs.declared.machine.command.Command.TheVariants as command
+use Rattle.vm_memory.specs.declared.machine.command.Reply.{Reply}
+use Rattle.vm_memory.specs.declared.machine.command.Reply.TheVariants as reply
+
+-- ---- regions by what they mean
+
+inserted-map : {R : Type 0} (region : R → Region) (rs : List R) (r : R)
+    → map region (inserted region rs r) ≡ inserted (λ q. q) (map region rs) (region r)
+inserted-map region [] r = refl
+inserted-map region (x ∷ xs) r =
+    elim (nat_lt (region r).start (region x).start) as (λ b. map region (cond b (r ∷ x ∷ xs) (x ∷ inserted region xs r))
+    ≡ cond b (region r ∷ region x ∷ map region xs) (region x ∷ inserted (λ q. q) (map region xs) (region r))) [
+      | true ↦ refl
+      | false ↦ ap (λ ys. region x ∷ ys) (inserted-map region xs r)
+    ]
+
+abbrev means : {R : Type 0} → (R → Region) → Option (List R × R) → Option (List Region × Region)
+means region None = None
+means region (Some p) = Some (map region p.0, region p.1)
+
+means-behind : {R : Type 0} (region : R → Region) (x : R) (o : Option (List R × R))
+    → behind_first (region x) (means region o) ≡ means region (behind_first x o)
+means-behind region x None = refl
+means-behind region x (Some p) = refl
+
+removed-map : {R : Type 0} (region : R → Region) (rs : List R) (base size : ℕ)
+    → removed (λ q. q) (map region rs) base size ≡ means region (removed region rs base size)
+removed-map region [] base size = refl
+removed-map region (x ∷ xs) base size =
+    elim (is_exactly base size (region x)) as (λ b.
+    cond b (Some (map region xs, region x)) (behind_first (region x) (removed (λ q. q) (map region xs) base size))
+    ≡ means region (cond b (Some (xs, x)) (behind_first x (removed region xs base size)))) [
+      | true ↦ refl
+      | false ↦
+          ap (behind_first (region x)) (removed-map region xs base size)
+          ∙ means-behind region x (removed region xs base size)
+    ]
+
+-- ---- what holds of each region
+
+All-inserted : (P : Region → Type 0) (rs : List Region) (r : Region) → All P rs → P r
+    → All P (inserted (λ q. q) rs r)
+All-inserted P [] r all p = All-cons P r [] p (All-nil P)
+All-inserted P (x ∷ xs) r all p =
+    elim (nat_lt r.start x.start) as (λ b. All P (cond b (r ∷ x ∷ xs) (x ∷ inserted (λ q. q) xs r))) [
+      | true ↦ All-cons P r (x ∷ xs) p all
+      | false ↦
+          All-cons P x (inserted (λ q. q) xs r) (All-head P x xs all)
+          (All-inserted P xs r (All-tail P x xs all) p)
+    ]
+
+pub All-inserted_values : {R : Type 0} (region : R → Region) (P : Region → Type 0) (rs : List R) (r : R)
+    → All P (map region rs) → P (region r) → All P (map region (inserted region rs r))
+All-inserted_values region P rs r all p =
+    subst (All P) (sym (inserted-map region rs r)) (All-inserted P (map region rs) (region r) all p)
+
+abbrev AllLeft : (Region → Type 0) → Option (List Region × Region) → Type 0
+AllLeft P None = Unit {0}
+AllLeft P (Some p) = All P p.0
+
+AllLeft-behind : (P : Region → Type 0) (x : Region) (o : Option (List Region × Region)) → P x → AllLeft P o
+    → AllLeft P (behind_first x o)
+AllLeft-behind P x None p all = tt
+AllLeft-behind P x (Some q) p all = All-cons P x q.0 p all
+
+All-removed : (P : Region → Type 0) (rs : List Region) (base size : ℕ) → All P rs
+    → AllLeft P (removed (λ q. q) rs base size)
+All-removed P [] base size all = tt
+All-removed P (x ∷ xs) base size all =
+    elim (is_exactly base size x) as (λ b.
+    AllLeft P (cond b (Some (xs, x)) (behind_first x (removed (λ q. q) xs base size)))) [
+      | true ↦ All-tail P x xs all
+      | false ↦
+          AllLeft-behind P x (removed (λ q. q) xs base size) (All-head P x xs all)
+          (All-removed P xs base size (All-tail P x xs all))
+    ]
+
+pub All-removed_values : {R : Type 0} (region : R → Region) (P : Region → Type 0) (rs others : List R) (r : R)
+    (base size : ℕ) → removed region rs base size ≡ Some (others, r) → All P (map region rs)
+    → All P (map region others)
+All-removed_values region P rs others r base size e all =
+    subst (AllLeft P) (removed-map region rs base size ∙ ap (means region) e) (All-removed P (map region rs) base size all)
+
+-- ---- steps
+
+module _ {R B : Type 0} (region : R → Region) (pages : B → PageSet) (m : Parts R B) where
+  abbrev before : State
+  before = state_of region pages m
+
+  abbrev with_layout : List R → Parts R B
+  with_layout c = record m { layouts = m.layouts ++ c ∷ [] }
+
+  after-is : (c : List R) (xs : List Region) → map region c ≡ xs
+      → (reply.LayoutMade (length m.layouts), state_of region pages (with_layout c)) ≡ new_layout before xs None
+  after-is c xs same =
+      ap (λ (n : ℕ). (reply.LayoutMade n, state_of region pages (with_layout c))) (sym (length-map m.layouts (map region)))
+      ∙ ap (λ (ls : List (List Region)). (reply.LayoutMade (length before.layouts), record before { layouts = ls }))
+      (map-append (map region) m.layouts (c ∷ []) ∙ ap (λ (ys : List Region). before.layouts ++ ys ∷ []) same)
+
+  -- a layout was added, or there was no memory for it
+  abbrev Added : List R → Reply → Parts R B → Type 0
+  Added c r new = ((r ≡ reply.LayoutMade (length m.layouts)) × (new ≡ with_layout c)) ⊎ ((r ≡ reply.Memory) × (new ≡ m))
+
+  pub step-added : (cmd : Command) (c : List R) (xs : List Region) (r : Reply) (new : Parts R B)
+      → outcome before cmd ≡ new_layout before xs None → MayWant before cmd → map region c ≡ xs → Added c r new
+      → Step before cmd r (state_of region pages new)
+  step-added cmd c xs r new is want same added = elim added [
+    | inl p ↦
+        inl (ap (λ (q : Reply). (q, state_of region pages new)) p.0
+        ∙ ap (λ (n : Parts R B). (reply.LayoutMade (length m.layouts), state_of region pages n)) p.1
+        ∙ after-is c xs same ∙ sym is)
+    | inr q ↦ inr (q.0, want, ap (state_of region pages) q.1)
+  ]
+
+  module _ (place number : ℕ) (rs : List R) (r : R) (there : slice_get m.layouts place ≡ Some rs)
+      (at : slice_get m.regions number ≡ Some r) where
+    layout-there : slice_get before.layouts place ≡ Some (map region rs)
+    layout-there = rw (slice_get-map (map region) m.layouts place, there) refl
+
+    region-there : slice_get before.regions number ≡ Some (region r)
+    region-there = rw (slice_get-map region m.regions number, at) refl
+
+    abbrev more : List Region
+    more = inserted (λ q. q) (map region rs) (region r)
+
+    insert-outcome : outcome before (command.Insert place number) ≡ new_layout before more (layout_error more)
+    insert-outcome = rw (layout-there, region-there) refl
+
+    pub insert-wants : MayWant before (command.Insert place number)
+    insert-wants = rw (layout-there, region-there) (refl, refl)
+
+    pub insert-step : (c : List R) (answer : Reply) (new : Parts R B) → c ≡ inserted region rs r
+        → layout_error (map region (inserted region rs r)) ≡ None → Added c answer new
+        → Step before (command.Insert place number) answer (state_of region pages new)
+    insert-step c answer new is none added =
+        let same = inserted-map region rs r in
+        let good : layout_error more ≡ None = subst (λ (xs : List Region). layout_error xs ≡ None) same none in
+        step-added (command.Insert place number) c more answer new
+        (insert-outcome ∙ ap (new_layout before more) good) insert-wants
+        (ap (map region) is ∙ same) added
+
+    pub insert-refused : (e : GuestRegionCollectionError) → IsFault (layout_error (map region (inserted region rs r))) e
+        → Step before (command.Insert place number) (reply_of_layout_error e) before
+    insert-refused e fault = elim fault [
+      | inl memory ↦ inr (ap reply_of_layout_error memory, insert-wants, refl)
+      | inr told ↦
+          let bad : layout_error more ≡ Some e =
+          subst (λ (xs : List Region). layout_error xs ≡ Some e) (inserted-map region rs r) told in
+          inl (sym (insert-outcome ∙ ap (new_layout before more) bad))
+    ]
+
+  module _ (place : ℕ) (base : GuestAddress) (size : ℕ) (rs : List R) (there : slice_get m.layouts place ≡ Some rs) where
+    abbrev cmd : Command
+    cmd = command.Remove place base size
+
+    remove-outcome : (o : Option (List R × R)) → removed region rs base.0 size ≡ o
+        → outcome before cmd ≡ rest_layout before (means region o)
+    remove-outcome o e =
+        let here : slice_get before.layouts place ≡ Some (map region rs) =
+        rw (slice_get-map (map region) m.layouts place, there) refl in
+        let is : removed (λ q. q) (map region rs) base.0 size ≡ means region o =
+        removed-map region rs base.0 size ∙ ap (means region) e in
+        rw (here, is) refl
+
+    remove-wants : (p : List R × R) → removed region rs base.0 size ≡ Some p → MayWant before cmd
+    remove-wants p e =
+        let here : slice_get before.layouts place ≡ Some (map region rs) =
+        rw (slice_get-map (map region) m.layouts place, there) refl in
+        let is : removed (λ q. q) (map region rs) base.0 size ≡ Some (map region p.0, region p.1) =
+        removed-map region rs base.0 size ∙ ap (means region) e in
+        rw (here, is) refl
+
+    pub remove-step : (others : List R) (r : R) (answer : Reply) (new : Parts R B)
+        → removed region rs base.0 size ≡ Some (others, r) → Added others answer new
+        → Step before cmd answer (state_of region pages new)
+    remove-step others r answer new e added =
+        step-added cmd others (map region others) answer new (remove-outcome (Some (others, r)) e)
+        (remove-wants (others, r) e) refl added
+
+    remove-none : removed region rs base.0 size ≡ None → Step before cmd (reply_of_layout_error layout.NoMemoryRegion) before
+    remove-none e = inl (sym (remove-outcome None e))
+
+    remove-memory : (o : Option (List R × R)) → removed region rs base.0 size ≡ o → (o ≡ None → ⊥)
+        → Step before cmd (reply_of_layout_error layout.Memory) before
+    remove-memory None e some = absurd (some refl)
+    remove-memory (Some p) e some = inr (refl, remove-wants p e, refl)
+
+    pub remove-refused : (e : GuestRegionCollectionError)
+        → (e ≡ layout.NoMemoryRegion → removed region rs base.0 size ≡ None)
+        → (removed region rs base.0 size ≡ None → e ≡ layout.NoMemoryRegion)
+        → (e ≡ layout.NoMemoryRegion) ⊎ (e ≡ layout.Memory)
+        → Step before cmd (reply_of_layout_error e) before
+    remove-refused e there back either = elim either [
+      | inl none ↦ rw none (remove-none (there none))
+      | inr memory ↦
+          rw memory (remove-memory (removed region rs base.0 size) refl
+          (λ none. let is = back none in absurd (cc)))
+    ]

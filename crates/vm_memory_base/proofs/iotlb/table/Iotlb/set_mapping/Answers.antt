@@ -1,0 +1,20 @@
+use Rattle.std.proofs.Common.{None, ap, ◌∙◌, rules}
+use Rattle.vm_memory_base.specs.Table.{Table, TableCall, says, says_after, changed, Set}
+use Rattle.vm_memory_base.proofs.ChangeLemmas.{on_ok, table_stays, empty_set}
+use Rattle.vm_memory_base.proofs.TableLaws.{value_at-canonical_list}
+use Rattle.vm_memory_base.proofs.iotlb.table.Iotlb.set_mapping.Goals as goal
+
+pub returns-then-length-eq0-clause-ok : goal.returns-then-length-eq0-clause-ok
+returns-then-length-eq0-clause-ok c =
+    let call : TableCall = Set c.args.iova.0 c.args.map_to.0 c.args.length c.args.perm in
+    table_stays call (record { limit = None; ranges = c.self.inside.ranges.items }) c.self.invariant (empty_set c.args.iova.0 c.args.map_to.0 c.args.length c.args.perm c.if-length-eq0.true)
+    ∙ ap (changed call) c.self.view_is
+
+pub returns-clause-ok : goal.returns-clause-ok
+returns-clause-ok c = search rules
+
+pub returns-clause-says : goal.returns-clause-says
+returns-clause-says c =
+    on_ok c.match-set_run.result
+    (λ e x l. ap (λ (t : Table). says t x) e ∙ value_at-canonical_list (λ y. says_after (Set c.args.iova.0 c.args.map_to.0 c.args.length c.args.perm) y (says c.args.self.now y)) x l)
+    (returns-clause-ok c)

@@ -1,0 +1,111 @@
+//! Bytes in memory as sources and sinks.
+ghost use Rattle.std.specs.Prelude.{◌≡◌, ◌-◌, min, length, take, drop, [], Some, None, ⊤};
+ghost use Rattle.std.specs.Io.Cursor.{cursor_inner, cursor_position};
+ghost use Rattle.vm_memory_base.specs.Transfer.{giving, with_front};
+
+use super::{ReadVolatile, VolatileMemoryError, VolatileMemoryResult, WriteVolatile};
+use std::io::{Cursor, Write};
+
+// Copies as many bytes as both have to the beginning of a buffer, and answers how many.
+pub(super) fn copy_front(bytes: &[u8], buf: &mut [u8]) -> usize
+    ensures count { result ≡ min (length buf.old) (length bytes.now) }
+    ensures copied { buf.new ≡ with_front (take (length buf.old) bytes.now) buf.old }
+{
+    let count = buf.len().min(bytes.len());
+    buf[..count].copy_from_slice(&bytes[..count]);
+    count
+}
+
+// Bytes give themselves in order. They refuse at once to fill a buffer that is longer.
+impl ReadVolatile for &[u8] {
+    ghost source = { λ s. Some (giving s.now []) };
+
+    ghost known_left = { λ s. Some (length s.now) };
+
+    fn read_volatile(&mut self, buf: &mut [u8]) -> VolatileMemoryResult<usize> {
+        let all: &[u8] = *self;
+        let count = copy_front(all, buf);
+        *self = &all[count..];
+        Ok(count)
+    }
+
+    fn known_left(&self) -> Option<usize> {
+        Some(self.len())
+    }
+}
+
+// A cursor gives the bytes from its position on.
+impl ReadVolatile for Cursor<&[u8]> {
+    ghost source = { λ c. Some (giving (drop (cursor_position c) (cursor_inner c).now) []) };
+
+    ghost known_left = { λ c. Some (length (cursor_inner c).now - cursor_position c) };
+
+    fn read_volatile(&mut self, buf: &mut [u8]) -> VolatileMemoryResult<usize> {
+        let all: &[u8] = *self.get_ref();
+        let at = self.position() as usize;
+        let start = at.min(all.len());
+        let count = copy_front(&all[start..], buf);
+        self.set_position((at + count) as u64);
+        Ok(count)
+    }
+
+    fn known_left(&self) -> Option<usize> {
+        let all: &[u8] = *self.get_ref();
+        Some(all.len().saturating_sub(self.position() as usize))
+    }
+}
+
+// Bytes take as many as they have, and what is left of them takes the next.
+impl WriteVolatile for &mut [u8] {
+    ghost sink = { λ s. Some (record { next = []; room = Some (length s.now) }) };
+
+    ghost taken = { λ s. None };
+
+    ghost may_want = { λ s. ⊥ };
+
+    fn write_volatile(&mut self, buf: &[u8]) -> VolatileMemoryResult<usize> {
+        let all = std::mem::take(self);
+        let count = copy_front(buf, all);
+        *self = &mut all[count..];
+        Ok(count)
+    }
+}
+
+// A vector takes all bytes, unless it finds no memory.
+impl WriteVolatile for Vec<u8> {
+    ghost sink = { λ v. Some (record { next = []; room = None }) };
+
+    ghost taken = { λ v. Some v.items };
+
+    ghost may_want = { λ v. ⊤ };
+
+    fn write_volatile(&mut self, buf: &[u8]) -> VolatileMemoryResult<usize> {
+        match self.extend_from_slice(buf) {
+            Ok(()) => Ok(buf.len()),
+            Err(_) => Err(VolatileMemoryError::Memory),
+        }
+    }
+}
+
+// A cursor takes bytes from its position on. Those before it are what it took.
+impl WriteVolatile for Cursor<&mut [u8]> {
+    ghost sink = { λ c. Some (record {
+      next = [];
+      room = Some (length (cursor_inner c).now - cursor_position c);
+    }) };
+
+    ghost taken = { λ c. Some (take (cursor_position c) (cursor_inner c).now) };
+
+    ghost may_want = { λ c. ⊥ };
+
+    fn write_volatile(&mut self, buf: &[u8]) -> VolatileMemoryResult<usize> {
+        let len = self.get_ref().len();
+        if self.position() as usize > len {
+            return Ok(0);
+        }
+        match self.write(buf) {
+            Ok(count) => Ok(count),
+            Err(_) => Ok(0),
+        }
+    }
+}

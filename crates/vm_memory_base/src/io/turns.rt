@@ -1,0 +1,61 @@
+//! Tries again after interruptions.
+ghost use Rattle.std.specs.Prelude.{◌≡◌, ◌≤◌, length, IfOk};
+ghost use Rattle.vm_memory_base.specs.Transfer.{is_interrupted, TriesAs, OffersAs, Keeps, count_of};
+
+use super::{ReadVolatile, VolatileMemoryError, VolatileMemoryResult, WriteVolatile};
+use std::io::ErrorKind;
+
+// How many times in a row a try is made again after an interruption.
+const RETRIES: usize = 64;
+
+/// Whether a try was interrupted.
+pub fn is_interrupted<T>(answer: &VolatileMemoryResult<T>) -> bool
+    ensures { result ≡ is_interrupted answer.now }
+{
+    match answer {
+        Err(VolatileMemoryError::IOError(error)) => error.kind() == ErrorKind::Interrupted,
+        _ => false,
+    }
+}
+
+// Reads, and again after each interruption, at most 64 times. An interruption before the last read sets the
+// flag.
+pub(super) fn read_again<S: ReadVolatile>(
+    source: &mut S,
+    buf: &mut [u8],
+    interrupted: &mut bool,
+) -> VolatileMemoryResult<usize>
+    ensures count { IfOk result (λ count. count ≤ length buf.old) }
+    ensures tells { TriesAs 64 (S.source source.old) interrupted.old buf.old result interrupted.new buf.new
+        (S.source source.new) }
+{
+    let mut left = RETRIES;
+    while left > 0 {
+        let answer = source.read_volatile(buf);
+        if !is_interrupted(&answer) {
+            return answer;
+        }
+        *interrupted = true;
+        left -= 1;
+    }
+    source.read_volatile(buf)
+}
+
+// Writes, and again after each interruption, at most 64 times.
+pub(super) fn offer_again<S: WriteVolatile>(sink: &mut S, buf: &[u8]) -> VolatileMemoryResult<usize>
+    ensures count { IfOk result (λ count. count ≤ length buf.now) }
+    ensures tells { OffersAs (S.may_want sink.old) 64 (S.sink sink.old) (length buf.now) result
+        (S.sink sink.new) }
+    ensures keeps { Keeps (S.taken sink.old) buf.now (count_of result) (S.taken sink.new) }
+    ensures wants { S.may_want sink.new → S.may_want sink.old }
+{
+    let mut left = RETRIES;
+    while left > 0 {
+        let answer = sink.write_volatile(buf);
+        if !is_interrupted(&answer) {
+            return answer;
+        }
+        left -= 1;
+    }
+    sink.write_volatile(buf)
+}

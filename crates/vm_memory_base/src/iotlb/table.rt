@@ -1,0 +1,217 @@
+//! The table of an IOMMU.
+ghost use Rattle.std.specs.Prelude.{◌≡◌, ℕ, ◌+◌, ◌-◌, ◌^◌, ◌<◌, ◌≤◌, ◌⊎◌, ◌∷◌, [], true, false, None, map, OnOk, OnErr, IfOk, IfErr};
+ghost use Rattle.std.specs.List.{filter};
+ghost use Rattle.vm_memory_base.specs.Change.{gaps};
+ghost use Rattle.vm_memory_base.specs.Runs.{IsCanonical, cut_to};
+ghost use Rattle.vm_memory_base.specs.Table as table;
+ghost use Rattle.vm_memory_base.specs.Table.{Set, Invalidate, InvalidateAll, says, says_after, canonical_list, changed, range_count, is_allowed, pieces, failures, same_mapping, range_of, forbids};
+
+use super::lookup::{
+    IotlbFails, IotlbIterator, IovaRangeList, LookupError, access_fails, are_granted, misses,
+};
+use super::mapped_run::{MappedRun, clear_range, ends_below, set_run, starts_upto};
+use super::{IommuError, IovaRange, Permissions};
+use crate::address::GuestAddress;
+use std::alloc::Global;
+use std::marker::Model;
+
+/// The table of an IOMMU: where I/O addresses lead, and which accesses are permitted there.
+///
+/// It keeps the maximal ranges of neighbouring addresses that are mapped alike, ascending. So two tables
+/// that say the same of each address are equal: docs/DEFINITIONS.md, "I/O tables".
+///
+/// ```rust
+/// use vm_memory_base::{GuestAddress, Iotlb, Permissions};
+///
+/// let mut table = Iotlb::new(rt.alloc());
+/// table.set_mapping(GuestAddress(0), GuestAddress(0x10000), 0x1000, Permissions::Read)?;
+/// for piece in table.lookup(GuestAddress(0xff0), 0x10, Permissions::Read)? {
+///     assert!(rt; piece.base == GuestAddress(0x10ff0));
+/// }
+/// ```
+#[derive(Debug, Drop)]
+pub struct Iotlb {
+    ranges: Vec<MappedRun>,
+}
+
+impl Model for Iotlb {
+    ghost use Rattle.std.specs.Prelude.{None};
+    ghost use Rattle.vm_memory_base.specs.Change.{IsKept};
+    ghost use Rattle.vm_memory_base.specs.Table.{Table};
+
+    ghost Value = { Table };
+
+    ghost view = { λ t. record { limit = None; ranges = t.ranges.items } };
+
+    ghost invariant = { λ t. IsKept t.ranges.items };
+}
+
+impl Iotlb {
+    /// A table that says nothing of any address. It takes no memory.
+    pub fn new(alloc: Global) -> Iotlb
+        ensures { result ≡ record { limit = None; ranges = [] } }
+    {
+        Iotlb {
+            ranges: Vec::new(alloc),
+        }
+    }
+
+    /// Lets `length` addresses from `iova` on lead to as many from `map_to` on, modulo 2^64, for these
+    /// accesses, whatever was said of them before. A length of 0 changes nothing. The sum of `iova` and
+    /// `length` has to be an address.
+    ///
+    /// `Memory` where there is no memory for it, and then nothing is changed.
+    pub fn set_mapping(
+        &mut self,
+        iova: GuestAddress,
+        map_to: GuestAddress,
+        length: usize,
+        perm: Permissions,
+    ) -> Result<(), IommuError>
+        requires { iova.0 + length < 2 ^ 64 }
+        ensures ok { OnOk result (self.new ≡ changed (Set iova.0 map_to.0 length perm) self.old) }
+        ensures says { OnOk result ((x : ℕ) → x < 2 ^ 64
+            → says self.new x ≡ says_after (Set iova.0 map_to.0 length perm) x (says self.old x)) }
+        ensures growth { range_count self.new ≤ range_count self.old + 2 }
+        ensures none { length ≡ 0 → self.new ≡ self.old }
+        ensures err { IfErr result (λ e. (e ≡ IommuError.Memory) × (self.new ≡ self.old)) }
+    {
+        let ranges = &mut self.ranges;
+        if length == 0 {
+            return Ok(());
+        }
+        let end = iova.0 + length as u64;
+        let difference = map_to.0.wrapping_sub(iova.0);
+        let run = MappedRun::new(iova.0, end, difference, perm);
+        match set_run(ranges, run) {
+            Ok(()) => Ok(()),
+            Err(_) => Err(IommuError::Memory),
+        }
+    }
+
+    /// Lets `length` addresses from `iova` on lead nowhere. A length of 0 changes nothing. The sum of `iova`
+    /// and `length` has to be an address.
+    ///
+    /// `Memory` where there is no memory for it, and then nothing is changed.
+    pub fn invalidate_mapping(
+        &mut self,
+        iova: GuestAddress,
+        length: usize,
+    ) -> Result<(), IommuError>
+        requires { iova.0 + length < 2 ^ 64 }
+        ensures ok { OnOk result (self.new ≡ changed (Invalidate iova.0 length) self.old) }
+        ensures says { OnOk result ((x : ℕ) → x < 2 ^ 64
+            → says self.new x ≡ says_after (Invalidate iova.0 length) x (says self.old x)) }
+        ensures growth { range_count self.new ≤ range_count self.old + 2 }
+        ensures none { length ≡ 0 → self.new ≡ self.old }
+        ensures err { IfErr result (λ e. (e ≡ IommuError.Memory) × (self.new ≡ self.old)) }
+    {
+        let ranges = &mut self.ranges;
+        if length == 0 {
+            return Ok(());
+        }
+        match clear_range(ranges, iova.0, iova.0 + length as u64) {
+            Ok(()) => Ok(()),
+            Err(_) => Err(IommuError::Memory),
+        }
+    }
+
+    /// Lets every address lead nowhere. It takes no memory.
+    pub fn invalidate_all(&mut self)
+        ensures all { self.new ≡ changed InvalidateAll self.old }
+        ensures empty { self.new.ranges ≡ [] }
+    {
+        self.ranges.clear();
+    }
+
+    /// Where `length` addresses from `iova` on lead, as pieces in order, for an access. A piece is a part of
+    /// a range that is kept, so neighbouring pieces are mapped with different targets or permissions. A length
+    /// of 0 gives no piece. It takes no memory.
+    ///
+    /// `Fails` where an address is not mapped or its mapping does not permit the access: what is missed and
+    /// what fails, each in order. Where the sum of `iova` and `length` is no address the whole range is missed.
+    /// `Memory` where there is no memory to say so.
+    pub fn lookup(
+        &self,
+        iova: GuestAddress,
+        length: usize,
+        access: Permissions,
+    ) -> Result<IotlbIterator<'_>, LookupError>
+        ensures found { IfOk result (λ it. (is_allowed (says self.now) iova.0 length access ≡ true)
+            × (it ≡ pieces (says self.now) iova.0 length)) }
+        ensures refused { IfErr result (λ e. (is_allowed (says self.now) iova.0 length access ≡ false)
+            × ((e ≡ LookupError.Memory) ⊎ (e ≡ LookupError.Fails (record {
+              misses = table.misses (says self.now) iova.0 length;
+              access_fails = failures (says self.now) iova.0 length access;
+            })))) }
+    {
+        let ranges = self.ranges.as_slice();
+        let Some(end) = iova.0.checked_add(length as u64) else {
+            return Err(overrun(*self.ranges.allocator(), iova, length));
+        };
+        if length == 0 {
+            return Ok(IotlbIterator::new(ranges, end, end));
+        }
+        let asked = &ranges[ends_below(ranges, iova.0 + 1)..];
+        if are_granted(asked, iova.0, end, access) {
+            return Ok(IotlbIterator::new(asked, iova.0, end));
+        }
+        Err(refusal(*self.ranges.allocator(), asked, iova.0, end, access))
+    }
+
+    /// The number of ranges that are kept. They are the canonical list of what the table says.
+    pub fn num_ranges(&self) -> usize
+        ensures count { result ≡ range_count self.now }
+        ensures canonical { canonical_list (says self.now) ≡ self.now.ranges }
+        ensures limit { self.now.limit ≡ None }
+    {
+        self.ranges.len()
+    }
+}
+
+// A look-up of a range whose end is no address misses all of it.
+fn overrun(alloc: Global, iova: GuestAddress, length: usize) -> LookupError
+    ensures { (result ≡ LookupError.Memory) ⊎ (result ≡ LookupError.Fails (record {
+      misses = record { base = iova.0; len = length } ∷ [];
+      access_fails = [];
+    })) }
+{
+    let mut misses = Vec::new(alloc);
+    let range = IovaRange { base: iova, length };
+    match misses.push(range) {
+        Ok(()) => LookupError::Fails(IotlbFails {
+            misses: IovaRangeList::from_vec(misses),
+            access_fails: IovaRangeList::from_vec(Vec::new(alloc)),
+        }),
+        Err(_) => LookupError::Memory,
+    }
+}
+
+// What a look-up of the addresses from one up to another misses, and what fails, of runs none of which ends by
+// the first of them.
+fn refusal(
+    alloc: Global,
+    runs: &[MappedRun],
+    start: u64,
+    end: u64,
+    access: Permissions,
+) -> LookupError
+    requires canonical { IsCanonical same_mapping runs.now }
+    requires some { start < end }
+    ensures { (result ≡ LookupError.Memory) ⊎ (result ≡ LookupError.Fails (record {
+      misses = map range_of (gaps start end runs.now);
+      access_fails = map range_of (filter (λ r. forbids access r.value) (cut_to start (end - start) runs.now));
+    })) }
+{
+    let asked = &runs[..starts_upto(runs, end - 1)];
+    match (
+        misses(alloc, asked, start, end),
+        access_fails(alloc, asked, start, end, access),
+    ) {
+        (Ok(misses), Ok(access_fails)) => LookupError::Fails(IotlbFails {
+            misses: IovaRangeList::from_vec(misses),
+            access_fails: IovaRangeList::from_vec(access_fails),
+        }),
+        _ => LookupError::Memory,
+    }
+}

@@ -1,0 +1,29 @@
+use Rattle.std.proofs.Common.{◌≡◌, ℕ, ◌-◌, ◌≤◌, None, Err, refl, ap, ◌∙◌, inl, inr, arith}
+use Rattle.std.proofs.lemmas.Bool.Decides.{nat_tests}
+use Rattle.vm_memory_base.specs.declared.address.GuestAddress.{GuestAddress}
+use Rattle.vm_memory_guest.specs.Ranges.{range_error, refusal_of}
+use Rattle.vm_memory_guest.specs.declared.mmap.FromRangesError.TheVariants.{MmapRegion}
+use Rattle.vm_memory_guest.specs.declared.volatile_memory.host.MmapRegionError.{MmapRegionError}
+use Rattle.vm_memory_guest.specs.declared.volatile_memory.host.MmapRegionError.TheVariants as block
+use Rattle.vm_memory_guest.proofs.mmap.GuestRegionMmap.from_range.Goals as goal
+
+-- of a range that makes a region only memory can be wanting
+told : (addr : GuestAddress) (size : ℕ) (e : MmapRegionError) → (e ≡ block.InvalidSize → ⊥)
+    → range_error addr size ≡ None → range_error addr size ≡ refusal_of (MmapRegion e)
+told addr size block.InvalidSize other none = absurd (other refl)
+told addr size block.Memory other none = none
+
+fits : (addr : GuestAddress) (size : ℕ) → (size ≡ 0 → ⊥) → size ≤ 9223372036854775807
+    → size ≤ 18446744073709551615 - addr.0 → range_error addr size ≡ None
+fits addr size some bound room = grind (arith, nat_tests)
+
+pub returns-in-Err-clause-region : goal.returns-in-Err-clause-region
+returns-in-Err-clause-region g c =
+    let e = c.in-Err.error in
+    let valid : e ≡ block.InvalidSize → ⊥ =
+    λ is. elim (c.new.ensures.invalid.0 (c.in-Err.is ∙ ap (λ (x : MmapRegionError). Err x) is)) [
+      | inl none ↦ c.if-size-eq0.false none
+      | inr long ↦ omega (arith, c.if-size-gt-MAX_BLOCK.false, long)
+    ] in
+    let good = fits c.args.addr c.args.size c.if-size-eq0.false c.if-size-gt-MAX_BLOCK.false c.if-size-addr.false in
+    rw c.from.ensures (told c.args.addr c.args.size e valid good)

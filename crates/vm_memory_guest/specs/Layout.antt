@@ -1,0 +1,40 @@
+-- What calls make of a layout: regions that are put in or taken out, and how long a search takes.
+use Rattle.std.specs.Prelude.{◌≡◌, ◌⊎◌, ℕ, zero, suc, ◌+◌, ◌/◌, nat_lt, Bool, ◌&&◌, ◌==◌, cond, List, [], ◌∷◌, Option, Some, None}
+use Rattle.vm_memory_guest.specs.Region.{Region}
+use Rattle.vm_memory_guest.specs.declared.region.GuestRegionCollectionError.{GuestRegionCollectionError}
+use Rattle.vm_memory_guest.specs.declared.region.GuestRegionCollectionError.TheVariants as layout
+
+-- one region more, in its place: before the first that starts above it, so behind any that starts where it does
+abbrev pub inserted : {R : Type 0} → (R → Region) → List R → R → List R
+inserted region [] new = new ∷ []
+inserted region (r ∷ rs) new =
+    cond (nat_lt (region new).start (region r).start) (new ∷ r ∷ rs) (r ∷ inserted region rs new)
+
+-- an error tells the fault of regions, or the want of memory, which may come first
+abbrev pub IsFault : Option GuestRegionCollectionError → GuestRegionCollectionError → Type 0
+IsFault fault e = (e ≡ layout.Memory) ⊎ (fault ≡ Some e)
+
+-- whether a region has just these addresses: size of them, from base on
+abbrev pub is_exactly : ℕ → ℕ → Region → Bool
+is_exactly base size r = r.start == base && r.len == size
+
+-- one region was taken out behind another: the others, and it
+abbrev pub behind_first : {R : Type 0} → R → Option (List R × R) → Option (List R × R)
+behind_first r None = None
+behind_first r (Some p) = Some (r ∷ p.0, p.1)
+
+-- the other regions and the one with just these addresses, if there is one
+abbrev pub removed : {R : Type 0} → (R → Region) → List R → ℕ → ℕ → Option (List R × R)
+removed region [] base size = None
+removed region (r ∷ rs) base size =
+    cond (is_exactly base size (region r)) (Some (rs, r)) (behind_first r (removed region rs base size))
+
+-- the number of binary digits of n, none of 0, counted up to k of them
+abbrev pub digits_within : ℕ → ℕ → ℕ
+digits_within zero n = 0
+digits_within (suc k) zero = 0
+digits_within (suc k) (suc n) = 1 + digits_within k (suc n / 2)
+
+-- the number of binary digits of a number, none of 0
+abbrev pub binary_digits : ℕ → ℕ
+binary_digits n = digits_within n n

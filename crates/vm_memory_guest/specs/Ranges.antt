@@ -1,0 +1,55 @@
+-- Ranges of addresses, for each of which a new block is made.
+use Rattle.std.specs.Prelude.{◌≡◌, ℕ, ◌+◌, ◌^◌, nat_le, ◌==◌, ◌||◌, cond, List, [], ◌∷◌}
+use Rattle.std.specs.Prelude.{Option, Some, None, option_map}
+use Rattle.vm_memory_base.specs.declared.address.GuestAddress.{GuestAddress}
+use Rattle.vm_memory_guest.specs.Host.{Host, with_block}
+use Rattle.vm_memory_guest.specs.Region.{Region, layout_error}
+use Rattle.vm_memory_guest.specs.declared.mmap.FromRangesError.{FromRangesError}
+use Rattle.vm_memory_guest.specs.declared.mmap.FromRangesError.TheVariants.{Collection, MmapRegion, InvalidGuestRegion}
+use Rattle.vm_memory_guest.specs.declared.region.GuestRegionCollectionError.TheVariants as layout
+use Rattle.vm_memory_guest.specs.declared.volatile_memory.host.MmapRegionError.TheVariants as block
+
+-- why a range makes no region, memory aside: the size of its block is tested before its end
+abbrev pub range_error : GuestAddress → ℕ → Option FromRangesError
+range_error addr size =
+    cond (size == 0 || nat_le (2 ^ 63) size) (Some (MmapRegion block.InvalidSize))
+    (cond (nat_le (2 ^ 64) (addr.0 + size)) (Some InvalidGuestRegion) None)
+
+-- the refusal that an error tells: want of memory is none
+abbrev pub refusal_of : FromRangesError → Option FromRangesError
+refusal_of (Collection layout.Memory) = None
+refusal_of (MmapRegion block.Memory) = None
+refusal_of e = Some e
+
+-- the region of a range, over the block of this number
+abbrev pub range_region : ℕ → GuestAddress → ℕ → Region
+range_region block addr size = record {
+  start = addr.0;
+  len = size;
+  place = Some (record { block = block; offset = 0 });
+}
+
+-- the first address and the size of each
+abbrev pub RangeList : Type 0
+RangeList = List (GuestAddress × ℕ)
+
+-- the regions of ranges, over blocks from this number on
+abbrev pub range_regions : ℕ → RangeList → List Region
+range_regions block [] = []
+range_regions block (r ∷ rs) = range_region block r.0 r.1 ∷ range_regions (block + 1) rs
+
+-- each range makes a region
+abbrev pub AllFit : RangeList → Type 0
+AllFit [] = Unit {0}
+AllFit (r ∷ rs) = (range_error r.0 r.1 ≡ None) × AllFit rs
+
+-- a host with a block more for each range, in order, with a bitmap that is made for it
+abbrev pub HasBlocks : {B : Type 0} → (ℕ → B → Type 0) → RangeList → Host B → Host B → Type 0
+HasBlocks made [] old new = new ≡ old
+HasBlocks {B} made (r ∷ rs) old new =
+    (bitmap : B) × made r.1 bitmap × HasBlocks made rs (with_block old r.1 bitmap) new
+
+-- what stops at a range: its own refusal, or behind the last that the regions make no layout
+abbrev pub refused_at : Option (GuestAddress × ℕ) → List Region → Option FromRangesError
+refused_at (Some r) rs = range_error r.0 r.1
+refused_at None rs = option_map Collection (layout_error rs)

@@ -1,0 +1,53 @@
+-- Accesses by a callback, which is called for what of the rest lies in one region, and answers how many bytes of
+-- it it handled.
+use Rattle.std.specs.Prelude.{◌≡◌, ℕ, ◌+◌, ◌-◌, ◌^◌, min, nat_lt, ◌==◌, if◌then◌else◌, List, Some, None, Result, Ok, Err}
+use Rattle.std.specs.Fn.{Mut, Called}
+use denote.Ref.{Bor}
+use Rattle.vm_memory_base.specs.Address.{step}
+use Rattle.vm_memory_base.specs.declared.address.MemoryRegionAddress.{MemoryRegionAddress}
+use Rattle.vm_memory_guest.specs.Region.{Region, home_in}
+use Rattle.vm_memory_guest.specs.declared.region.GuestMemoryError.{GuestMemoryError}
+use Rattle.vm_memory_guest.specs.declared.region.GuestMemoryError.TheVariants.{InvalidGuestAddress, CallbackOutOfRange, GuestAddressOverflow}
+
+-- a call of f with the total so far, the length, the offset and the region may give this answer and leave g
+pub record CallsAt {F R : Type 0}
+    (call : Mut F (ℕ × (ℕ × (MemoryRegionAddress × (Bor R × Unit {0})))) (Result ℕ GuestMemoryError))
+    (f : F) (total len offset : ℕ) (r : R) (given : Result ℕ GuestMemoryError) (g : F) : Type 0 where
+  pub shown : Bor R
+  pub shows : shown.now ≡ r
+  pub called : Called call f (total, (len, (record { 0 = offset }, (shown, tt)))) given g
+
+-- what follows what the callback answered: an answer, or a call for what lies behind
+pub data Next : Type 0 where
+  Ends : (answer : Result ℕ GuestMemoryError) → Next
+  GoesOn : Next
+
+-- after it was called at the address a, where total of count bytes were handled before
+abbrev pub next : ℕ → ℕ → ℕ → Result ℕ GuestMemoryError → Next
+next count total a (Err e) = Ends (Err e)
+next count total a (Ok n) = if n == 0 then Ends (Ok total)
+    else (if nat_lt count (total + n) then Ends (Err CallbackOutOfRange)
+    else (if total + n == count then Ends (Ok count)
+    else (if nat_lt (2 ^ 64) (a + n) then Ends (Err GuestAddressOverflow) else GoesOn)))
+
+-- the answer at an address in no region
+abbrev pub ended : ℕ → ℕ → Result ℕ GuestMemoryError
+ended start total = if total == 0 then Err (InvalidGuestAddress (record { 0 = start })) else Ok total
+
+module _ {R F : Type 0} (region : R → Region) (rs : List R)
+    (Calls : F → ℕ → ℕ → ℕ → R → Result ℕ GuestMemoryError → F → Type 0) (start count : ℕ) where
+  -- the callback is called at an address of a region, for what of the rest lies in the region
+  abbrev pub CallsIn : F → ℕ → ℕ → R → Result ℕ GuestMemoryError → F → Type 0
+  CallsIn f total a r given g =
+      let offset = a - (region r).start in
+      Calls f total (min ((region r).len - offset) (count - total)) offset r given g
+
+  -- from the callback f, with total bytes handled, an access at a may answer so and leave the callback g
+  pub data TryAccess : F → ℕ → ℕ → Result ℕ GuestMemoryError → F → Type 0 where
+    Nowhere : {f : F} {total a : ℕ} → home_in region rs a ≡ None → TryAccess f total a (ended start total) f
+    Last : {f g : F} {total a : ℕ} {answer : Result ℕ GuestMemoryError} (r : R)
+        (given : Result ℕ GuestMemoryError) → home_in region rs a ≡ Some r → CallsIn f total a r given g
+        → next count total a given ≡ Ends answer → TryAccess f total a answer g
+    More : {f g h : F} {total a : ℕ} {answer : Result ℕ GuestMemoryError} (r : R) (n : ℕ)
+        → home_in region rs a ≡ Some r → CallsIn f total a r (Ok n) g → next count total a (Ok n) ≡ GoesOn
+        → TryAccess g (total + n) (step a n) answer h → TryAccess f total a answer h

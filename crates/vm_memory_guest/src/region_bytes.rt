@@ -1,0 +1,156 @@
+//! Access to the bytes of one region.
+ghost use Rattle.std.specs.Prelude.{◌≡◌, IfOk};
+ghost use Rattle.vm_memory_guest.specs.Region.{slice_of};
+ghost use Rattle.vm_memory_guest.specs.RegionBytes.{as_guest, region_place, region_reach};
+ghost use Rattle.vm_memory_guest.specs.TypedFacts.{place-sized};
+ghost use Rattle.vm_memory_guest.specs.declared.region.GuestMemoryError.TheVariants as errors;
+
+use crate::region::{GuestMemoryError, GuestMemoryRegion, GuestMemoryResult};
+use crate::volatile_memory::access::Bytes;
+use crate::volatile_memory::host::HostMemory;
+use std::sync::atomic::Ordering;
+use vm_memory_base::{AtomicAccess, Bitmap, ByteValued, MemoryRegionAddress, VolatileMemoryResult};
+
+/// A region whose bytes are accessed by their offsets, as those of the window of all its bytes:
+/// docs/DEFINITIONS.md, "Accesses". A region without host bytes answers `HostAddressNotAvailable`.
+///
+/// ```text
+/// region.write_slice(&mut host, &[1, 2, 3], MemoryRegionAddress(0x10))?;
+/// ```
+pub trait GuestMemoryRegionBytes: GuestMemoryRegion {}
+
+impl<R: GuestMemoryRegionBytes> Bytes<MemoryRegionAddress> for R {
+    type E = GuestMemoryError;
+
+    ghost reach = { λ r tables addr n access. region_reach (R.region r) addr.0 n };
+
+    ghost place = { λ r tables addr size access. region_place (R.region r) addr.0 size };
+
+    ghost partial = { errors.PartialBuffer };
+
+    ghost no_memory = { errors.Memory };
+
+    ghost may_want = { λ r. ⊥ };
+
+    #[inline]
+    fn write<B: Bitmap>(
+        &self,
+        host: &mut HostMemory<B>,
+        buf: &[u8],
+        addr: MemoryRegionAddress,
+    ) -> GuestMemoryResult<usize> {
+        if buf.is_empty() {
+            return Ok(0);
+        }
+        let window = self.as_volatile_slice()?;
+        told(window.write(host, buf, addr.0 as usize))
+    }
+
+    #[inline]
+    fn read<B: Bitmap>(
+        &self,
+        host: &HostMemory<B>,
+        buf: &mut [u8],
+        addr: MemoryRegionAddress,
+    ) -> GuestMemoryResult<usize> {
+        if buf.is_empty() {
+            return Ok(0);
+        }
+        let window = self.as_volatile_slice()?;
+        told(window.read(host, buf, addr.0 as usize))
+    }
+
+    #[inline]
+    fn write_slice<B: Bitmap>(
+        &self,
+        host: &mut HostMemory<B>,
+        buf: &[u8],
+        addr: MemoryRegionAddress,
+    ) -> GuestMemoryResult<()> {
+        if buf.is_empty() {
+            return Ok(());
+        }
+        let window = self.as_volatile_slice()?;
+        told(window.write_slice(host, buf, addr.0 as usize))
+    }
+
+    #[inline]
+    fn read_slice<B: Bitmap>(
+        &self,
+        host: &HostMemory<B>,
+        buf: &mut [u8],
+        addr: MemoryRegionAddress,
+    ) -> GuestMemoryResult<()> {
+        if buf.is_empty() {
+            return Ok(());
+        }
+        let window = self.as_volatile_slice()?;
+        told(window.read_slice(host, buf, addr.0 as usize))
+    }
+
+    #[inline]
+    fn write_obj<T: ByteValued, B: Bitmap>(
+        &self,
+        host: &mut HostMemory<B>,
+        val: T,
+        addr: MemoryRegionAddress,
+    ) -> GuestMemoryResult<()> {
+        if T::size() == 0 {
+            return Ok(());
+        }
+        let window = self.as_volatile_slice()?;
+        told(window.write_obj(host, val, addr.0 as usize))
+    }
+
+    #[inline]
+    fn read_obj<T: ByteValued, B: Bitmap>(
+        &self,
+        host: &HostMemory<B>,
+        addr: MemoryRegionAddress,
+    ) -> GuestMemoryResult<T> {
+        if T::size() == 0 {
+            let value = T::zeroed();
+            value.known();
+            return Ok(value);
+        }
+        let window = self.as_volatile_slice()?;
+        told(window.read_obj(host, addr.0 as usize))
+    }
+
+    #[inline]
+    fn store<T: AtomicAccess, B: Bitmap>(
+        &self,
+        host: &mut HostMemory<B>,
+        val: T,
+        addr: MemoryRegionAddress,
+        order: Ordering,
+    ) -> GuestMemoryResult<()> {
+        let window = self.as_volatile_slice()?;
+        told(window.store(host, val, addr.0 as usize, order))
+    }
+
+    #[inline]
+    fn load<T: AtomicAccess, B: Bitmap>(
+        &self,
+        host: &HostMemory<B>,
+        addr: MemoryRegionAddress,
+        order: Ordering,
+    ) -> GuestMemoryResult<T> {
+        let window = self.as_volatile_slice()?;
+        told(window.load(host, addr.0 as usize, order))
+    }
+
+    ghost place_has_all = { λ r tables addr n access.
+        place-sized (slice_of (R.region r) 0 (R.region r).len) addr.0 n };
+}
+
+// An answer of a window, as guest memory tells it.
+#[inline]
+fn told<T>(answer: VolatileMemoryResult<T>) -> GuestMemoryResult<T>
+    ensures { result ≡ as_guest answer }
+{
+    match answer {
+        Ok(value) => Ok(value),
+        Err(error) => Err(GuestMemoryError::from(error)),
+    }
+}

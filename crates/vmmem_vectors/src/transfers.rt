@@ -1,0 +1,204 @@
+//! Sources and sinks: bytes in memory, scripts, files and sockets.
+
+use crate::support::expect_text;
+use std::alloc::Global;
+use std::env;
+use std::fs::{self, File, OpenOptions};
+use std::io::{self, Cursor};
+use std::net::{TcpListener, TcpStream};
+use std::os::unix::net::UnixStream;
+use std::test::Fail;
+use vm_memory_base::{
+    ByteList, GuestAddress, IoError, ReadVolatile, ScriptSink, ScriptSource, SinkStep, SourceStep,
+    VolatileMemoryError, WriteVolatile,
+};
+use vm_memory_guest::GuestMemoryError;
+
+// What a source reads into five bytes, what it fills them with, and what it has left for five more.
+fn reads<S: ReadVolatile>(alloc: Global, source: &mut S, out: &mut String) -> Result<(), Fail> {
+    let mut lent = [0u8; 5];
+    let answer = source.read_volatile(&mut lent);
+    writeln!(out, "{answer:?} {lent:?}")?;
+    let mut lent = [0u8; 5];
+    let answer = source.read_exact_volatile(&mut lent);
+    writeln!(out, "{answer:?} {lent:?}")?;
+    let _ = alloc;
+    Ok(())
+}
+
+fn give(alloc: Global, bytes: &[u8]) -> Result<SourceStep, Fail> {
+    Ok(SourceStep::Give(ByteList::from_vec(bytes.to_vec(alloc)?)))
+}
+
+const READS: &str = "\
+Ok(2) [1, 2, 0, 0, 0]
+Err(ReadExactFault { touched: 0, error: IOError(Kind(UnexpectedEof)) }) [0, 0, 0, 0, 0]
+Ok(5) [1, 2, 3, 4, 5]
+Ok(()) [6, 7, 8, 9, 10]
+Ok(3) [3, 4, 5, 0, 0]
+Err(ReadExactFault { touched: 0, error: IOError(Kind(UnexpectedEof)) }) [0, 0, 0, 0, 0]
+Ok(0) [0, 0, 0, 0, 0]
+Err(ReadExactFault { touched: 0, error: IOError(Kind(UnexpectedEof)) }) [0, 0, 0, 0, 0]
+Ok(2) [1, 2, 0, 0, 0]
+Err(ReadExactFault { touched: 3, error: IOError(Kind(UnexpectedEof)) }) [3, 4, 5, 0, 0]
+Err(IOError(Kind(Interrupted))) [9, 0, 0, 0, 0]
+Err(ReadExactFault { touched: 5, error: IOError(Kind(UnexpectedEof)) }) [1, 9, 0, 0, 0]
+Ok(1) [1, 0, 0, 0, 0]
+Err(ReadExactFault { touched: 5, error: IOError(Kind(Other)) }) [2, 8, 7, 0, 0]
+";
+
+#[test]
+fn sources_give_what_they_have(rt: HostRuntime) -> Result<(), Fail> {
+    let alloc = rt.alloc();
+    let mut out = String::new(alloc);
+    reads(alloc, &mut &[1u8, 2][..], &mut out)?;
+    reads(
+        alloc,
+        &mut &[1u8, 2, 3, 4, 5, 6, 7, 8, 9, 10, 11][..],
+        &mut out,
+    )?;
+    let mut cursor = Cursor::new(&[1u8, 2, 3, 4, 5][..]);
+    cursor.set_position(2);
+    reads(alloc, &mut cursor, &mut out)?;
+    cursor.set_position(9);
+    reads(alloc, &mut cursor, &mut out)?;
+    let script = vec![in alloc; give(alloc, &[1, 2])?, give(alloc, &[3, 4, 5])?]?;
+    reads(alloc, &mut ScriptSource::new(script.as_slice()), &mut out)?;
+    let nine = ByteList::from_vec(vec![in alloc; 9u8]?);
+    let again = ByteList::from_vec(vec![in alloc; 9u8]?);
+    let script = vec![in alloc;
+        SourceStep::Interrupted(nine),
+        give(alloc, &[1])?,
+        SourceStep::Interrupted(again),
+    ]?;
+    reads(alloc, &mut ScriptSource::new(script.as_slice()), &mut out)?;
+    let scribble = ByteList::from_vec([8u8, 7].to_vec(alloc)?);
+    let script = vec![in alloc;
+        give(alloc, &[1])?,
+        give(alloc, &[2])?,
+        SourceStep::Fail(scribble),
+    ]?;
+    reads(alloc, &mut ScriptSource::new(script.as_slice()), &mut out)?;
+    expect_text(0, out.as_str(), READS)
+}
+
+const WRITES: &str = "\
+Ok(5) Err(IOError(Kind(WriteZero)))
+[1, 2, 3, 4, 5, 1, 2]
+Ok(3) Err(IOError(Kind(WriteZero)))
+[0, 0, 0, 0, 1, 2, 3]
+Ok(5) Ok(())
+[1, 2, 3, 4, 5, 1, 2, 3, 4, 5]
+Ok(3) Ok(())
+[1, 2, 3, 1, 2, 3, 4, 5]
+Err(IOError(Kind(Interrupted))) Err(IOError(Kind(Other)))
+[1]
+";
+
+const BYTES: [u8; 5] = [1, 2, 3, 4, 5];
+
+// What a sink answers to a write of five bytes, and to one of all of them.
+fn writes<W: WriteVolatile>(sink: &mut W, out: &mut String) -> Result<(), Fail> {
+    let any = sink.write_volatile(&BYTES);
+    let all = sink.write_all_volatile(&BYTES);
+    writeln!(out, "{any:?} {all:?}")?;
+    Ok(())
+}
+
+fn writes_over(place: &mut [u8], out: &mut String) -> Result<(), Fail> {
+    let mut sink = place;
+    writes(&mut sink, out)
+}
+
+fn writes_behind(place: &mut [u8], out: &mut String) -> Result<(), Fail> {
+    let mut sink = Cursor::new(place);
+    sink.set_position(4);
+    writes(&mut sink, out)
+}
+
+fn writes_by(alloc: Global, steps: &[SinkStep], out: &mut String) -> Result<(), Fail> {
+    let mut sink = ScriptSink::new(alloc, steps, 10)?;
+    writes(&mut sink, out)?;
+    writeln!(out, "{:?}", sink.taken())?;
+    Ok(())
+}
+
+#[test]
+fn sinks_take_what_they_can(rt: HostRuntime) -> Result<(), Fail> {
+    let alloc = rt.alloc();
+    let mut out = String::new(alloc);
+    let mut place = [0u8; 7];
+    writes_over(&mut place, &mut out)?;
+    writeln!(out, "{place:?}")?;
+    let mut place = [0u8; 7];
+    writes_behind(&mut place, &mut out)?;
+    writeln!(out, "{place:?}")?;
+    let mut sink: Vec<u8> = Vec::new(alloc);
+    writes(&mut sink, &mut out)?;
+    writeln!(out, "{:?}", sink.as_slice())?;
+    writes_by(alloc, &[SinkStep::Take(3)], &mut out)?;
+    let steps = [
+        SinkStep::Interrupted,
+        SinkStep::Take(1),
+        SinkStep::Interrupted,
+        SinkStep::Fail,
+    ];
+    writes_by(alloc, &steps, &mut out)?;
+    expect_text(0, out.as_str(), WRITES)
+}
+
+// Fails where what a sink was given is not what a source gives back.
+fn expect_passed<W: WriteVolatile, S: ReadVolatile>(
+    case: u8,
+    sink: &mut W,
+    source: &mut S,
+) -> Result<(), Fail> {
+    let sent: &[u8] = &[case, 2, 3, 4, 5, 6, 7, 8];
+    sink.write_all_volatile(sent)?;
+    let mut came = [0u8; 8];
+    if source.read_exact_volatile(&mut came).is_err() || came.as_slice() != sent {
+        return Err(Fail::new(format_args!("case {case}: {came:?}")));
+    }
+    Ok(())
+}
+
+#[test]
+fn sockets_carry_bytes_each_way(rt: HostRuntime) -> Result<(), Fail> {
+    let (mut one, mut other) = UnixStream::pair(&rt)?;
+    expect_passed(0, &mut one, &mut other)?;
+    expect_passed(1, &mut &other, &mut &one)?;
+    expect_passed(2, &mut &mut one, &mut &mut other)?;
+    let listener = TcpListener::bind(&rt, "127.0.0.1:0")?;
+    let mut one = TcpStream::connect(&rt, listener.local_addr()?)?;
+    let (mut other, _) = listener.accept()?;
+    expect_passed(3, &mut one, &mut other)?;
+    expect_passed(4, &mut &other, &mut &one)?;
+    expect_passed(5, &mut &mut one, &mut &mut other)
+}
+
+#[test]
+fn files_give_back_what_they_took(rt: HostRuntime) -> Result<(), Fail> {
+    let path = "vmmem-transfers-test";
+    let mut file = File::create(&rt, path)?;
+    let mut back = File::open(&rt, path)?;
+    expect_passed(0, &mut file, &mut back)?;
+    expect_passed(1, &mut &file, &mut &back)?;
+    expect_passed(2, &mut &mut file, &mut &mut back)?;
+    let mut lent = [0u8; 2];
+    let ended = back.read_exact_volatile(&mut lent);
+    fs::remove_file(&rt, path)?;
+    let text = format!(in rt.alloc(); "{ended:?} {lent:?}")?;
+    let wanted = "Err(ReadExactFault { touched: 0, error: IOError(Kind(UnexpectedEof)) }) [0, 0]";
+    expect_text(3, text.as_str(), wanted)
+}
+
+#[test]
+fn a_failure_has_the_text_of_its_error(rt: HostRuntime) -> Result<(), Fail> {
+    let error = io::Error::new(io::ErrorKind::BrokenPipe, "the guest is gone");
+    let of_window = VolatileMemoryError::IOError(IoError::from(error));
+    let of_memory = GuestMemoryError::from(VolatileMemoryError::IOError(IoError::from(error)));
+    let kind = IoError::of_kind(io::ErrorKind::Interrupted);
+    let text = format!(in rt.alloc(); "{of_window}, {of_memory}, {kind}")?;
+    let wanted = "the guest is gone, Guest memory error: the guest is gone, operation interrupted";
+    expect_text(0, text.as_str(), wanted)
+}
