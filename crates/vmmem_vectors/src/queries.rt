@@ -181,6 +181,9 @@ fn range_text(
     addr: GuestAddress,
     count: usize,
 ) -> Result<String, Fail> {
+    if !host.holds(layout) {
+        return Err(Fail::new("the host holds the memory"));
+    }
     let above = layout.checked_offset(addr, count);
     let whole = GuestMemoryBackend::check_range(layout, addr, count);
     let allowed = GuestMemory::check_range(layout, host, addr, count, Permissions::Write)?;
@@ -205,9 +208,6 @@ fn ranges_are_answered(rt: HostRuntime) -> Result<(), Fail> {
     for (case, (places, addr, count, wanted)) in AT_RANGES.iter().enumerate() {
         let mut host = HostMemory::new(rt.alloc());
         let layout = memory_of(rt.alloc(), &mut host, places)?;
-        if !host.holds(&layout) {
-            return Err(Fail::new("the host holds the memory"));
-        }
         let text = range_text(rt.alloc(), &host, &layout, GuestAddress(*addr), *count)?;
         expect_text(case, text.as_str(), wanted)?;
     }
@@ -400,7 +400,8 @@ fn a_region_is_accessed_by_offset(rt: HostRuntime) -> Result<(), Fail> {
     for (case, (place, offset, count, wanted)) in BY_OFFSET.iter().enumerate() {
         let mut host = HostMemory::new(rt.alloc());
         let regions = regions_of(rt.alloc(), &mut host, &[*place])?;
-        let text = offset_text(rt.alloc(), &mut host, &*regions[0], *offset, *count)?;
+        let region = regions.first().ok_or("there is a region")?;
+        let text = offset_text(rt.alloc(), &mut host, &**region, *offset, *count)?;
         expect_text(case, text.as_str(), wanted)?;
     }
     Ok(())
