@@ -37,7 +37,7 @@ use Rattle.vm_memory_base.specs.Table as table
 use Rattle.vm_memory.specs.Copy.{copied, has_block, ends_inside}
 use Rattle.vm_memory.specs.Machine.{Step, Run, if_there, new_layout, rest_layout, with_host, outcome}
 use Rattle.vm_memory.specs.Tables.{changed_table}
-use Rattle.vm_memory.specs.Reply.{reached_by, answer_of, reply_of, writes}
+use Rattle.vm_memory.specs.Reply.{reached_by, answer_of, reply_of, writes, writes_whole}
 use Rattle.vm_memory.specs.Rounds.{patched, patched_by, patched_with, bytes_of, pages_of, image_now, image_after, MirrorsBlock, Cover, IsTracked, IsDirect, RunsDirectly, KeepsImage}
 use Rattle.vm_memory.specs.State.{State, MachineMemory, named, meaning, IsOn}
 use Rattle.vm_memory.specs.Typed.{integer_of, fits_width, stores, stores_bytes}
@@ -383,6 +383,15 @@ module _ (are_listed : AreListed) (cleaned_stay : CleanedStay) (laws : WriteLaws
         leaves r (writes (meaning m) old.host a bytes) e
         (write_keeps laws reached.path (reached_marks m off a (length bytes)) bytes old.host block image kept)
 
+    wrote_whole : (a : ℕ) (bytes : List ℕ) (r : Reply) (o : Option MachineMemory) → IfSome o (λ m. IsOn m → ⊥)
+        → (r, new) ≡ if_there old o (λ m. with_host old (writes_whole (meaning m) old.host a bytes))
+        → KeepsBlock block image new.host
+    wrote_whole a bytes r None off e = stays r (reply.NoSuch, old) e refl
+    wrote_whole a bytes r (Some m) off e =
+        let reached = reached_by (meaning m) old.host.tables a (length bytes) permissions.Write in
+        leaves r (writes_whole (meaning m) old.host a bytes) e
+        (write_keeps laws reached.path (reached_marks m off a (length bytes)) bytes old.host block image kept)
+
     -- the bytes of a store, if its value fits
     fitting : (m : MachineMemory) → (IsOn m → ⊥) → (a : ℕ) (bytes : List ℕ) (b : Bool)
         → KeepsBlock block image (cond b (stores_bytes (meaning m) old.host a bytes) (reply.BadRange, old.host)).1
@@ -452,6 +461,10 @@ module _ (are_listed : AreListed) (cleaned_stay : CleanedStay) (laws : WriteLaws
         stays r _ e (same_host old (slice_get old.memories memory) _ (λ m. refl))
     answered (command.Write memory addr bytes) r direct e =
         wrote addr.0 bytes r (slice_get old.memories memory) direct e
+    answered (command.ReadSlice memory addr n) r direct e =
+        stays r _ e (same_host old (slice_get old.memories memory) _ (λ m. refl))
+    answered (command.WriteSlice memory addr bytes) r direct e =
+        wrote_whole addr.0 bytes r (slice_get old.memories memory) direct e
     answered (command.Store memory width addr value) r direct e =
         stored addr.0 (integer_of width) value r (slice_get old.memories memory) direct e
     answered (command.Load memory width addr) r direct e =

@@ -1,13 +1,13 @@
 -- Steps and runs of the model.
 use Rattle.std.proofs.Common.{◌≡◌, ℕ, List, [], ◌∷◌, ◌++◌, length, Bool, true, false, ◌&&◌, ◌==◌, nat_lt, cond, Option, Some, None, Result, Ok, Err, subst, ap, ◌∙◌, refl, inl, inr, arith, slice_get, option_map}
-use Rattle.std.proofs.lemmas.Bool.{eqb-true}
+use Rattle.std.proofs.lemmas.Bool.{eqb-true, true≢false}
 use Rattle.vm_memory_base.specs.Pages.{dirty_pages, cleaned}
 use Rattle.std.specs.Int as int
 use Rattle.std.specs.Int.{to_le_bytes}
 use Rattle.vm_memory_base.specs.declared.iotlb.Permissions.TheVariants as permissions
 use Rattle.vm_memory_base.specs.Pages.{PageSet}
 use Rattle.vm_memory_guest.specs.Access.{Reached}
-use Rattle.vm_memory_guest.specs.Answer.{counted}
+use Rattle.vm_memory_guest.specs.Answer.{counted, exactly}
 use Rattle.vm_memory_guest.specs.Dirt.{after_write}
 use Rattle.vm_memory_guest.specs.Error.{error_of}
 use Rattle.vm_memory_guest.specs.Host.{Host}
@@ -16,10 +16,11 @@ use Rattle.vm_memory_guest.specs.Region.{Region, layout_error}
 use Rattle.vm_memory_guest.specs.Window.{bitmap_of, with_bitmap}
 use Rattle.vm_memory_guest.specs.Typed.{path_given}
 use Rattle.vm_memory_guest.specs.declared.region.GuestMemoryError.{GuestMemoryError}
+use Rattle.vm_memory_guest.specs.declared.region.GuestMemoryError.TheVariants as errors
 use Rattle.vm_memory_guest.specs.declared.region.GuestRegionCollectionError.{GuestRegionCollectionError}
 use Rattle.vm_memory.specs.State.{State, MachineMemory, named, plain, meaning}
 use Rattle.vm_memory.specs.Machine.{Step, Run, if_there, new_layout, rest_layout, new_memory, with_host, outcome}
-use Rattle.vm_memory.specs.Reply.{reply_of, reached_by, writes}
+use Rattle.vm_memory.specs.Reply.{reply_of, reached_by, writes, writes_whole, is_partial}
 use Rattle.vm_memory_base.specs.Table as table
 use Rattle.vm_memory_guest.specs.Host.{with_table_at}
 use Rattle.vm_memory.specs.Copy as copy
@@ -30,6 +31,8 @@ use Rattle.vm_memory.specs.declared.machine.command.Command.{Command}
 use Rattle.vm_memory.specs.declared.machine.command.Command.TheVariants as command
 use Rattle.vm_memory.specs.declared.machine.command.Reply.{Reply}
 use Rattle.vm_memory.specs.declared.machine.command.Reply.TheVariants as reply
+use Rattle.vm_memory.specs.declared.machine.command.Fault.{Fault}
+use Rattle.vm_memory.specs.declared.machine.command.Fault.TheVariants as fault
 
 -- a run, and a step more
 pub Run-step : (old : State) (cs : List Command) (rs : List Reply) (mid : State) (c : Command) (r : Reply) (new : State)
@@ -46,6 +49,7 @@ IsStill (reply.MemoryMade n) = ⊥
 IsStill reply.Done = ⊥
 IsStill (reply.Count n) = ⊥
 IsStill (reply.Pages pages) = ⊥
+IsStill (reply.Fault (fault.PartialBuffer expected completed)) = ⊥
 IsStill r = Unit {0}
 
 there : {X : Type 0} (old new : State) (o : Option X) (answer : X → Reply × State) (r : Reply)
@@ -62,6 +66,33 @@ reached_none (x ∷ xs) (Some f) n r still e = go (nat_lt 0 n) (length (x ∷ xs
   where
     go : (b z : Bool) → (length (x ∷ xs) == 0) ≡ z
         → r ≡ reply_of reply.Count (cond (b && z) (Err f) (Ok (length (x ∷ xs)))) → x ∷ xs ≡ []
+    go b true h e = absurd (omega (arith, eqb-true (length (x ∷ xs)) 0 h))
+    go true false h e = absurd (subst IsStill e still)
+    go false false h e = absurd (subst IsStill e still)
+
+-- a write of all bytes that is refused, and not in part, reached nothing
+reached_none_of_all : (xs : List Reached) (fault : Option GuestMemoryError) (n : ℕ) (r : Reply) → IsStill r
+    → r ≡ reply_of (λ (done : Unit {0}). reply.Done)
+    (exactly (λ (expected completed : ℕ). errors.PartialBuffer expected completed) (length xs) fault n)
+    → xs ≡ []
+reached_none_of_all [] fault n r still e = refl
+reached_none_of_all (x ∷ xs) None n r still e = go (length (x ∷ xs) == n) e
+  where
+    short : GuestMemoryError
+    short = errors.PartialBuffer n (length (x ∷ xs))
+
+    go : (b : Bool) → r ≡ reply_of (λ (done : Unit {0}). reply.Done) (cond b (Ok tt) (Err short)) → x ∷ xs ≡ []
+    go true e = absurd (subst IsStill e still)
+    go false e = absurd (subst IsStill e still)
+reached_none_of_all (x ∷ xs) (Some f) n r still e =
+    go (length (x ∷ xs) == n) (length (x ∷ xs) == 0) refl e
+  where
+    short : GuestMemoryError
+    short = errors.PartialBuffer n (length (x ∷ xs))
+
+    go : (b z : Bool) → (length (x ∷ xs) == 0) ≡ z
+        → r ≡ reply_of (λ (done : Unit {0}). reply.Done) (cond b (Ok tt) (cond z (Err f) (Err short)))
+        → x ∷ xs ≡ []
     go b true h e = absurd (omega (arith, eqb-true (length (x ∷ xs)) 0 h))
     go true false h e = absurd (subst IsStill e still)
     go false false h e = absurd (subst IsStill e still)
@@ -97,6 +128,15 @@ still-step old new c r still step = elim step [ inl e ↦ go c e | inr want ↦ 
         let told = ap (λ (p : Reply × State). p.0) e in
         let none = reached_none reached.path (option_map error_of reached.fault) (length bytes) r still told in
         after (with_host old (writes (meaning m) old.host a bytes)) e
+        ∙ ap (λ (xs : List Reached). record old { host = after_write xs bytes old.host }) none
+
+    wrote_whole : (m : MachineMemory) (a : ℕ) (bytes : List ℕ)
+        → (r, new) ≡ with_host old (writes_whole (meaning m) old.host a bytes) → new ≡ old
+    wrote_whole m a bytes e =
+        let reached = reached_by (meaning m) old.host.tables a (length bytes) permissions.Write in
+        let told = ap (λ (p : Reply × State). p.0) e in
+        let none = reached_none_of_all reached.path (option_map error_of reached.fault) (length bytes) r still told in
+        after (with_host old (writes_whole (meaning m) old.host a bytes)) e
         ∙ ap (λ (xs : List Reached). record old { host = after_write xs bytes old.host }) none
 
     stored : (m : MachineMemory) (a : ℕ) (w : int.Width) (value : ℕ)
@@ -142,6 +182,10 @@ still-step old new c r still step = elim step [ inl e ↦ go c e | inr want ↦ 
         there old new (slice_get old.memories memory) _ r (λ m f. ap (λ (p : Reply × State). p.1) f) e
     go (command.Write memory addr bytes) e =
         there old new (slice_get old.memories memory) _ r (λ m. wrote m addr.0 bytes) e
+    go (command.ReadSlice memory addr n) e =
+        there old new (slice_get old.memories memory) _ r (λ m f. ap (λ (p : Reply × State). p.1) f) e
+    go (command.WriteSlice memory addr bytes) e =
+        there old new (slice_get old.memories memory) _ r (λ m. wrote_whole m addr.0 bytes) e
     go (command.Dirty id) e =
         there old new (bitmap_of old.host id) _ r (λ set f. ap (λ (p : Reply × State). p.1) f) e
     go (command.Harvest id) e =
@@ -165,3 +209,17 @@ still-step old new c r still step = elim step [ inl e ↦ go c e | inr want ↦ 
     go (command.Copy from to) e =
         copied (has_block old.host from && has_block old.host to)
         (ends_inside old.host from && ends_inside old.host to) (copy.copied old.host from to) e
+
+-- a fault that is not told of an access in part is one
+pub still-fault : (f : Fault) → is_partial f ≡ false → IsStill (reply.Fault f)
+still-fault (fault.PartialBuffer expected completed) e = absurd (true≢false e)
+still-fault (fault.InvalidGuestAddress addr) e = tt
+still-fault (fault.IOError kind) e = tt
+still-fault fault.InvalidBackendAddress e = tt
+still-fault fault.HostAddressNotAvailable e = tt
+still-fault fault.CallbackOutOfRange e = tt
+still-fault fault.GuestAddressOverflow e = tt
+still-fault (fault.IommuError d) e = tt
+still-fault fault.NoMemoryRegion e = tt
+still-fault fault.MemoryRegionOverlap e = tt
+still-fault fault.UnsortedMemoryRegions e = tt

@@ -11,11 +11,12 @@ use Rattle.vm_memory_guest.specs.Window.{bitmap_of, with_bitmap}
 use Rattle.vm_memory_guest.specs.declared.region.GuestRegionCollectionError.{GuestRegionCollectionError}
 use Rattle.vm_memory.specs.State.{State, MachineMemory, plain, meaning, named, IsOn}
 use Rattle.vm_memory.specs.Copy.{copies}
-use Rattle.vm_memory.specs.Reply.{reads, writes, checks, reply_of_layout_error}
+use Rattle.vm_memory.specs.Reply.{reads, writes, reads_whole, writes_whole, checks, reply_of_layout_error}
 use Rattle.vm_memory.specs.Typed.{integer_of, fits_width, loads, stores}
 use Rattle.vm_memory.specs.declared.machine.command.Command.{Command}
 use Rattle.vm_memory.specs.declared.machine.command.Command.TheVariants.{FromRegions, Insert, Remove, Plain}
-use Rattle.vm_memory.specs.declared.machine.command.Command.TheVariants.{Read, Write, Store, Load, Copy, Dirty}
+use Rattle.vm_memory.specs.declared.machine.command.Command.TheVariants.{Read, Write, ReadSlice, WriteSlice}
+use Rattle.vm_memory.specs.declared.machine.command.Command.TheVariants.{Store, Load, Copy, Dirty}
 use Rattle.vm_memory.specs.declared.machine.command.Command.TheVariants.{Harvest, CheckRange, Set, Invalidate}
 use Rattle.vm_memory.specs.declared.machine.command.Command.TheVariants.{InvalidateAll, Lookup}
 use Rattle.vm_memory.specs.Tables.{changes, looks_up}
@@ -65,6 +66,12 @@ outcome old (Read memory addr count) =
 outcome old (Write memory addr bytes) =
     if_there old (slice_get old.memories memory)
     (λ m. with_host old (writes (meaning m) old.host addr.0 bytes))
+outcome old (ReadSlice memory addr count) =
+    if_there old (slice_get old.memories memory)
+    (λ m. (reads_whole (meaning m) old.host addr.0 count, old))
+outcome old (WriteSlice memory addr bytes) =
+    if_there old (slice_get old.memories memory)
+    (λ m. with_host old (writes_whole (meaning m) old.host addr.0 bytes))
 outcome old (Store memory width addr value) =
     if_there old (slice_get old.memories memory)
     (λ m. with_host old (stores (meaning m) old.host addr.0 (integer_of width) value))
@@ -98,6 +105,8 @@ MayWant old (Remove layout base size) =
 MayWant old (Plain layout) = IsSome (slice_get old.layouts layout)
 MayWant old (Read memory addr n) = IsSomeAnd (slice_get old.memories memory) (λ m. IsOn m ⊎ (0 < n))
 MayWant old (Write memory addr bytes) = IsSomeAnd (slice_get old.memories memory) IsOn
+MayWant old (ReadSlice memory addr n) = IsSomeAnd (slice_get old.memories memory) (λ m. IsOn m ⊎ (0 < n))
+MayWant old (WriteSlice memory addr bytes) = IsSomeAnd (slice_get old.memories memory) IsOn
 MayWant old (Store memory width addr value) =
     IsSomeAnd (slice_get old.memories memory) (λ m. IsOn m × IsTrue (fits_width (integer_of width) value))
 MayWant old (Load memory width addr) = IsSomeAnd (slice_get old.memories memory) IsOn

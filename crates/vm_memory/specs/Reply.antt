@@ -1,5 +1,5 @@
 -- What a machine replies to calls, and what accesses reply and leave.
-use Rattle.std.specs.Prelude.{ℕ, List, length, Result, Ok, Err, option_map}
+use Rattle.std.specs.Prelude.{ℕ, Bool, true, false, List, length, Result, Ok, Err, option_map}
 use Rattle.vm_memory_base.specs.Pages.{PageSet}
 use Rattle.vm_memory_base.specs.Table.{Table}
 use Rattle.vm_memory_base.specs.declared.iotlb.Permissions.{Permissions}
@@ -7,7 +7,7 @@ use Rattle.vm_memory_base.specs.declared.iotlb.Permissions.TheVariants as permis
 use Rattle.vm_memory_guest.specs.Host.{Host}
 use Rattle.vm_memory_guest.specs.Memory.{Memory, route}
 use Rattle.vm_memory_guest.specs.Access.{Access, access_of}
-use Rattle.vm_memory_guest.specs.Answer.{counted}
+use Rattle.vm_memory_guest.specs.Answer.{counted, exactly}
 use Rattle.vm_memory_guest.specs.Dirt.{after_write, bytes_read}
 use Rattle.vm_memory_guest.specs.Error.{error_of}
 use Rattle.vm_memory_guest.specs.Queries.{is_whole}
@@ -17,7 +17,8 @@ use Rattle.vm_memory_guest.specs.declared.region.GuestRegionCollectionError.{Gue
 use Rattle.vm_memory_guest.specs.declared.region.GuestRegionCollectionError.TheVariants as layouts
 use Rattle.vm_memory.specs.declared.machine.command.Reply.{Reply}
 use Rattle.vm_memory.specs.declared.machine.command.Reply.TheVariants as reply
-use Rattle.vm_memory.specs.declared.machine.command.Reply.TheVariants.{Count, Bytes, Truth, Fault}
+use Rattle.vm_memory.specs.declared.machine.command.Fault as faults
+use Rattle.vm_memory.specs.declared.machine.command.Reply.TheVariants.{Count, Bytes, Truth, Done, Fault}
 use Rattle.vm_memory.specs.declared.machine.command.Fault.TheVariants as fault
 
 -- an error of an access: want of memory is told as such, and every other error as the fault of its name
@@ -31,6 +32,11 @@ reply_of_error errors.CallbackOutOfRange = Fault fault.CallbackOutOfRange
 reply_of_error errors.GuestAddressOverflow = Fault fault.GuestAddressOverflow
 reply_of_error (errors.IommuError e) = Fault (fault.IommuError e)
 reply_of_error errors.Memory = reply.Memory
+
+-- whether an access is told to have moved fewer bytes than it was to move
+abbrev pub is_partial : faults.Fault → Bool
+is_partial (fault.PartialBuffer expected completed) = true
+is_partial f = false
 
 -- an error of regions that make no layout, likewise
 abbrev pub reply_of_layout_error : GuestRegionCollectionError → Reply
@@ -58,6 +64,18 @@ reads m host a n =
     let reached = reached_by m host.tables a n permissions.Read in
     reply_of (λ count. Bytes (bytes_read reached.path host)) (answer_of reached n)
 
+-- whether an access reached all of n bytes: nothing, or the error where it did not
+abbrev pub whole_of : Access → ℕ → Result (Unit {0}) GuestMemoryError
+whole_of reached n =
+    exactly (λ expected completed. errors.PartialBuffer expected completed) (length reached.path)
+    (option_map error_of reached.fault) n
+
+-- a read of all bytes replies those of its path, where it reached all
+abbrev pub reads_whole : Memory → Host PageSet → ℕ → ℕ → Reply
+reads_whole m host a n =
+    let reached = reached_by m host.tables a n permissions.Read in
+    reply_of (λ done. Bytes (bytes_read reached.path host)) (whole_of reached n)
+
 -- a check replies whether an access would reach all of its n bytes
 abbrev pub checks : Memory → Host PageSet → ℕ → ℕ → Permissions → Reply
 checks m host a n access = Truth (is_whole (reached_by m host.tables a n access).path n)
@@ -68,3 +86,10 @@ writes m host a bytes =
     let n = length bytes in
     let reached = reached_by m host.tables a n permissions.Write in
     (reply_of Count (answer_of reached n), after_write reached.path bytes host)
+
+-- a write of all bytes leaves those that have a place in its path, also where not all have
+abbrev pub writes_whole : Memory → Host PageSet → ℕ → List ℕ → Reply × Host PageSet
+writes_whole m host a bytes =
+    let n = length bytes in
+    let reached = reached_by m host.tables a n permissions.Write in
+    (reply_of (λ done. Done) (whole_of reached n), after_write reached.path bytes host)

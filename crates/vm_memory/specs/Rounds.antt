@@ -12,7 +12,7 @@ use Rattle.vm_memory_guest.specs.Window.{with_bitmap}
 use Rattle.vm_memory.specs.Machine.{Run}
 use Rattle.vm_memory.specs.State.{State, IsOn}
 use Rattle.vm_memory.specs.declared.machine.command.Command.{Command}
-use Rattle.vm_memory.specs.declared.machine.command.Command.TheVariants.{Write, Store, Harvest}
+use Rattle.vm_memory.specs.declared.machine.command.Command.TheVariants.{Write, WriteSlice, Store, Harvest}
 use Rattle.vm_memory.specs.declared.machine.command.Reply.{Reply}
 use Rattle.vm_memory.specs.declared.machine.command.Reply.TheVariants.{Pages}
 
@@ -65,6 +65,7 @@ IsTracked block host = Cover (shape (pages_of block host)) (length (bytes_of blo
 -- the memory that a command writes to, if it writes
 abbrev pub written_memory : Command → Option ℕ
 written_memory (Write memory addr bytes) = Some memory
+written_memory (WriteSlice memory addr bytes) = Some memory
 written_memory (Store memory width addr value) = Some memory
 written_memory c = None
 

@@ -100,6 +100,16 @@ impl<R: GuestMemoryRegion, B: ExactBitmap> Machine<R, B> {
                 addr,
                 bytes,
             } => self.write(*memory, *addr, bytes.as_slice()),
+            Command::ReadSlice {
+                memory,
+                addr,
+                count,
+            } => self.read_slice(*memory, *addr, *count),
+            Command::WriteSlice {
+                memory,
+                addr,
+                bytes,
+            } => self.write_slice(*memory, *addr, bytes.as_slice()),
             Command::Store {
                 memory,
                 width,

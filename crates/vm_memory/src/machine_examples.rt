@@ -18,7 +18,7 @@ ghost use Rattle.vm_memory.specs.Parts.{Parts, AreHeld, state_of};
 ghost use Rattle.vm_memory.specs.Reply.{reply_of_error, reply_of_layout_error};
 ghost use Rattle.vm_memory.specs.Rounds.{patched, image_after, MirrorsBlock, IsTracked, IsDirect};
 ghost use Rattle.vm_memory.specs.State.{State, plain};
-ghost use Rattle.vm_memory.specs.declared.machine.command.Command.TheVariants.{FromRegions, Insert, Remove};
+ghost use Rattle.vm_memory.specs.declared.machine.command.Command.TheVariants.{FromRegions, Insert, Remove, ReadSlice, WriteSlice};
 ghost use Rattle.vm_memory.specs.declared.machine.command.Command.TheVariants.{Plain, Read, Write, Store, Load};
 ghost use Rattle.vm_memory.specs.declared.machine.command.Command.TheVariants.{Copy, Dirty, Harvest};
 ghost use Rattle.vm_memory.specs.declared.machine.command.Command.TheVariants.{CheckRange, Set, InvalidateAll};
@@ -114,6 +114,15 @@ pub fn reads_are_answered()
     ensures nothing_in_a_hole { outcome machine (Read 0 (at 8) 0) ≡ (Bytes [], machine) }
 {}
 
+/// A read of all bytes replies them, or how many there are.
+pub fn whole_reads_are_answered()
+    ensures over_two_regions { outcome machine (ReadSlice 0 (at 2) 4) ≡ (Bytes (3 ∷ 4 ∷ 5 ∷ 6 ∷ []), machine) }
+    ensures up_to_a_hole { outcome machine (ReadSlice 0 (at 6) 4) ≡ (Fault (fault.PartialBuffer 4 2), machine) }
+    ensures in_a_hole { outcome machine (ReadSlice 0 (at 8) 1) ≡ (Fault (no_region_at 8), machine) }
+    ensures nothing_in_a_hole { outcome machine (ReadSlice 0 (at 8) 0) ≡ (Bytes [], machine) }
+    ensures no_such { outcome machine (ReadSlice 3 (at 0) 1) ≡ (NoSuch, machine) }
+{}
+
 /// A write leaves its bytes up to a hole, and marks their pages.
 pub fn writes_are_answered()
     ensures over_two_regions { outcome machine (Write 0 (at 3) (9 ∷ 10 ∷ []))
@@ -138,6 +147,33 @@ pub fn writes_are_answered()
         ) }
     ensures in_a_hole { outcome machine (Write 0 (at 8) (9 ∷ [])) ≡ (Fault (no_region_at 8), machine) }
     ensures nothing_in_a_hole { outcome machine (Write 0 (at 8) []) ≡ (Count 0, machine) }
+{}
+
+/// A write of all bytes leaves those that fit, and replies how many they are where they are not all.
+pub fn whole_writes_are_answered()
+    ensures over_two_regions { outcome machine (WriteSlice 0 (at 3) (9 ∷ 10 ∷ []))
+        ≡ (
+          Done,
+          record machine {
+            host = record host {
+              blocks = (1 ∷ 2 ∷ 3 ∷ 9 ∷ []) ∷ (10 ∷ 6 ∷ 7 ∷ 8 ∷ []) ∷ [];
+              bitmaps = block_pages false true ∷ block_pages true false ∷ [];
+            };
+          },
+        ) }
+    ensures up_to_a_hole { outcome machine (WriteSlice 0 (at 7) (9 ∷ 10 ∷ []))
+        ≡ (
+          Fault (fault.PartialBuffer 2 1),
+          record machine {
+            host = record host {
+              blocks = (1 ∷ 2 ∷ 3 ∷ 4 ∷ []) ∷ (5 ∷ 6 ∷ 7 ∷ 9 ∷ []) ∷ [];
+              bitmaps = block_pages false false ∷ block_pages false true ∷ [];
+            };
+          },
+        ) }
+    ensures in_a_hole { outcome machine (WriteSlice 0 (at 8) (9 ∷ [])) ≡ (Fault (no_region_at 8), machine) }
+    ensures nothing_in_a_hole { outcome machine (WriteSlice 0 (at 8) []) ≡ (Done, machine) }
+    ensures never_wants { MayWant machine (WriteSlice 0 (at 0) (9 ∷ [])) → ⊥ }
 {}
 
 /// With an IOMMU that is on an access goes where its addresses are mapped, and a write marks the space.

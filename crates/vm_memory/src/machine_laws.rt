@@ -1,6 +1,6 @@
 //! What holds of every step and every run of a machine: each function here is a theorem, and does nothing.
 //! It calls the theorems that it follows from.
-ghost use Rattle.std.specs.Prelude.{◌≡◌, ◌≢◌, Bool, ℕ, ◌^◌, ◌<◌, List, length, slice_get, slice_index, All, Some};
+ghost use Rattle.std.specs.Prelude.{◌≡◌, ◌≢◌, Bool, false, ℕ, ◌^◌, ◌<◌, List, length, slice_get, slice_index, All, Some};
 ghost use Rattle.vm_memory_base.specs.Pages.{PageSet};
 ghost use Rattle.vm_memory_base.specs.Table.{Range};
 ghost use Rattle.vm_memory_base.specs.declared.address.GuestAddress.{GuestAddress};
@@ -10,7 +10,7 @@ ghost use Rattle.vm_memory_base.specs.declared.iotlb.lookup.IotlbFails.{IotlbFai
 ghost use Rattle.vm_memory_guest.specs.Access.{Reached};
 ghost use Rattle.vm_memory_guest.specs.Host.{Host};
 ghost use Rattle.vm_memory.specs.Machine.{Step, Run};
-ghost use Rattle.vm_memory.specs.Reply.{reached_by};
+ghost use Rattle.vm_memory.specs.Reply.{reached_by, is_partial};
 ghost use Rattle.vm_memory.specs.Rounds.{MirrorsBlock, IsTracked, RunsDirectly, KeepsImage};
 ghost use Rattle.vm_memory.specs.Rounds.{image_now, bytes_of, IsSynced};
 ghost use Rattle.vm_memory.specs.State.{State, MachineMemory, meaning};
@@ -29,9 +29,10 @@ use vm_memory_guest::effect_laws::{
 };
 
 /// A command that is refused, or finds no memory, changes nothing, and neither does a read, a load, a check or
-/// a look-up.
+/// a look-up. A write of all bytes that replies how many fitted is not refused: these were written.
 pub fn refusals_change_nothing()
-    ensures fault { (old new : State) (c : Command) (f : Fault) → Step old c (reply.Fault f) new → new ≡ old }
+    ensures fault { (old new : State) (c : Command) (f : Fault) → is_partial f ≡ false
+        → Step old c (reply.Fault f) new → new ≡ old }
     ensures no_such { (old new : State) (c : Command) → Step old c NoSuch new → new ≡ old }
     ensures memory { (old new : State) (c : Command) → Step old c Memory new → new ≡ old }
     ensures read { (old new : State) (c : Command) (bytes : List ℕ) → Step old c (Bytes bytes) new

@@ -8,7 +8,7 @@ use std::test::Fail;
 use vm_memory::{DriveFault, drive};
 
 // Scripts, and what they tell: their replies, and then the status and the text of a fault.
-const SCRIPTS: [(&[u8], &str); 24] = [
+const SCRIPTS: [(&[u8], &str); 25] = [
     (b"", ""),
     (b"\n\n# nothing\n#\xff\x00\r  \n", ""),
     (
@@ -62,6 +62,16 @@ const SCRIPTS: [(&[u8], &str); 24] = [
           store 0 8 0x400 1\ncopy 0 4 4 0 6 4\nread 0 4 6\n",
         "block 0\nregion 0\nlayout 0\nmemory 0\nerror G4\nerror G4\nok\nbytes 0000040302010000\n\
          value 772\nerror BadRange\nerror G1 0x400\nok\nbytes 040304030201\n",
+    ),
+    // An access of all bytes tells how many there are where they are not all, and a write has written them.
+    (
+        b"block 4 1\nregion 0 0x10\nlayout 0\nplain 0\nwritex 0 0x10 01020304\nreadx 0 0x11 2\nharvest block 0\n\
+          readx 0 0x12 4\nwritex 0 0x13 0506\ndirty block 0\nread 0 0x10 4\nreadx 0 0x14 1\nwritex 0 0xf 07\n\
+          readx 0 0x14 0\nwritex 0 0xf -\nreadx 1 0x10 1\nwritex 1 0x10 07\nreadx 0 0x10 0xffffffffffffffff\n\
+          dirty block 0\n",
+        "block 0\nregion 0\nlayout 0\nmemory 0\nok\nbytes 0203\npages 0 1 2 3\nerror G3 4 2\nerror G3 2 1\n\
+         pages 3\nbytes 01020305\nerror G1 0x14\nerror G1 0xf\nbytes -\nok\nerror NoSuch\nerror NoSuch\n\
+         error Memory\npages 3\n",
     ),
     // What is named is looked for first, and then the range is tested.
     (
@@ -175,7 +185,7 @@ fn each_line_has_its_reply(rt: HostRuntime) -> Result<(), Fail> {
 }
 
 // Lines that are bad before the first command and after it.
-const BAD_LINES: [&[u8]; 103] = [
+const BAD_LINES: [&[u8]; 107] = [
     // tables and accesses
     b"table 0",
     b"set 0 0 0 1",
@@ -232,6 +242,10 @@ const BAD_LINES: [&[u8]; 103] = [
     b"read 0 0 1 1",
     b"write 0 0",
     b"write 0 0 01 02",
+    b"readx 0 0",
+    b"readx 0 0 1 1",
+    b"writex 0 0",
+    b"writex 0 0 0",
     b"store",
     b"store 0 4 0",
     b"store 0 4 0 0 0",

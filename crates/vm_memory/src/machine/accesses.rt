@@ -4,7 +4,7 @@ ghost use Rattle.vm_memory_guest.specs.Dirt.{with_pages};
 ghost use Rattle.vm_memory_guest.specs.Host.{shape_of, Holds};
 ghost use Rattle.vm_memory.specs.Machine.{Step};
 ghost use Rattle.vm_memory.specs.Parts.{state_of};
-ghost use Rattle.vm_memory.specs.Reply.{reads, writes, reply_of_error};
+ghost use Rattle.vm_memory.specs.Reply.{reads, writes, reads_whole, writes_whole, reply_of, reply_of_error};
 ghost use Rattle.vm_memory.specs.declared.machine.command.Command.TheVariants as command;
 
 use super::Machine;
@@ -13,7 +13,9 @@ use super::list::ByteList;
 use std::alloc::{AllocError, Global};
 use vm_memory_base::{ExactBitmap, GuestAddress};
 use vm_memory_guest::access_laws::accesses_are_by_bytes;
-use vm_memory_guest::{Bytes, GuestMemory, GuestMemoryError, GuestMemoryRegion, HostMemory};
+use vm_memory_guest::{
+    Bytes, GuestMemory, GuestMemoryError, GuestMemoryRegion, GuestMemoryResult, HostMemory,
+};
 
 impl<R: GuestMemoryRegion, B: ExactBitmap> Machine<R, B> {
     pub(super) fn read(&mut self, memory: usize, addr: GuestAddress, count: usize) -> Reply
@@ -37,6 +39,29 @@ impl<R: GuestMemoryRegion, B: ExactBitmap> Machine<R, B> {
             return Reply::NoSuch;
         };
         write_from(memory, &mut self.host, bytes, addr)
+    }
+
+    pub(super) fn read_slice(&mut self, memory: usize, addr: GuestAddress, count: usize) -> Reply
+        ensures { let before = state_of R.region B.pages self.old in
+            Step before (command.ReadSlice memory addr count) result (state_of R.region B.pages self.new) }
+    {
+        let Some(memory) = self.memories.get(memory) else {
+            return Reply::NoSuch;
+        };
+        let Ok(buffer) = zeroed(self.alloc, count) else {
+            return Reply::Memory;
+        };
+        fill(memory, &self.host, buffer, addr)
+    }
+
+    pub(super) fn write_slice(&mut self, memory: usize, addr: GuestAddress, bytes: &[u8]) -> Reply
+        ensures { let before = state_of R.region B.pages self.old in
+            Step before (command.WriteSlice memory addr bytes.now) result (state_of R.region B.pages self.new) }
+    {
+        let Some(memory) = self.memories.get(memory) else {
+            return Reply::NoSuch;
+        };
+        write_whole(memory, &mut self.host, bytes, addr)
     }
 }
 
@@ -82,6 +107,43 @@ fn write_from<M: GuestMemory, B: ExactBitmap>(
     }
 }
 
+// Fills a buffer from a memory, and answers it.
+fn fill<M: GuestMemory, B: ExactBitmap>(
+    memory: &M,
+    host: &HostMemory<B>,
+    mut buffer: Vec<u8>,
+    addr: GuestAddress,
+) -> Reply
+    requires { Holds (shape_of host.now) (M.names memory.now) }
+    ensures { let m = M.memory memory.now in let before = with_pages B.pages host.now in
+        (result ≡ reads_whole m before addr.0 (length buffer.items))
+        ⊎ ((result ≡ Reply.Memory) × IsSome m.iommu) }
+{
+    accesses_are_by_bytes::<B>();
+    match memory.read_slice(host, buffer.as_mut_slice(), addr) {
+        Ok(()) => Reply::Bytes(ByteList::from_vec(buffer)),
+        Err(error) => refused(error),
+    }
+}
+
+// Writes all bytes to a memory.
+fn write_whole<M: GuestMemory, B: ExactBitmap>(
+    memory: &M,
+    host: &mut HostMemory<B>,
+    bytes: &[u8],
+    addr: GuestAddress,
+) -> Reply
+    requires { Holds (shape_of host.old) (M.names memory.now) }
+    ensures written { let m = M.memory memory.now in let before = with_pages B.pages host.old in
+        let after = with_pages B.pages host.new in
+        ((result, after) ≡ writes_whole m before addr.0 bytes.now)
+        ⊎ ((result ≡ Reply.Memory) × IsSome m.iommu × (after ≡ before)) }
+    ensures shape { shape_of host.new ≡ shape_of host.old }
+{
+    accesses_are_by_bytes::<B>();
+    done(memory.write_slice(host, bytes, addr))
+}
+
 fn zeroed(alloc: Global, count: usize) -> Result<Vec<u8>, AllocError>
     ensures bytes { IfOk result (λ bytes. length bytes.items ≡ count) }
     ensures empty { count ≡ 0 → IsOk result }
@@ -90,6 +152,16 @@ fn zeroed(alloc: Global, count: usize) -> Result<Vec<u8>, AllocError>
         return Ok(Vec::new(alloc));
     }
     vec![in alloc; 0u8; count]
+}
+
+// The reply to an access that gives nothing back.
+pub(super) fn done(answer: GuestMemoryResult<()>) -> Reply
+    ensures { result ≡ reply_of (λ _. Reply.Done) answer }
+{
+    match answer {
+        Ok(()) => Reply::Done,
+        Err(error) => refused(error),
+    }
 }
 
 // The reply to an access that was refused.

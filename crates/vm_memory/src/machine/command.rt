@@ -36,6 +36,18 @@ pub enum Command {
         addr: GuestAddress,
         bytes: ByteList,
     },
+    /// Reads `count` bytes of a memory: all of them, or none is told.
+    ReadSlice {
+        memory: usize,
+        addr: GuestAddress,
+        count: usize,
+    },
+    /// Writes bytes to a memory. Where not all of them fit, those before the first that does not are written.
+    WriteSlice {
+        memory: usize,
+        addr: GuestAddress,
+        bytes: ByteList,
+    },
     /// Stores a value in a memory, its lowest byte first, as one integer of this width.
     Store {
         memory: usize,

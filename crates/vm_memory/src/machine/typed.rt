@@ -9,12 +9,11 @@ ghost use Rattle.vm_memory_guest.specs.Typed.{answered};
 ghost use Rattle.vm_memory_guest.specs.declared.region.GuestMemoryError.TheVariants as errors;
 ghost use Rattle.vm_memory.specs.Machine.{Step};
 ghost use Rattle.vm_memory.specs.Parts.{state_of};
-ghost use Rattle.vm_memory.specs.Reply.{reply_of};
 ghost use Rattle.vm_memory.specs.Typed.{fits_width, integer_of, loads, stores, stores_bytes, taken_by};
 ghost use Rattle.vm_memory.specs.declared.machine.command.Command.TheVariants as command;
 
 use super::Machine;
-use super::accesses::refused;
+use super::accesses::{done, refused};
 use super::command::{Reply, Width};
 use std::sync::atomic::Ordering;
 use vm_memory_base::{AtomicAccess, ExactBitmap, GuestAddress};
@@ -92,16 +91,6 @@ fn store_value<T: AtomicAccess, M: GuestMemory, B: ExactBitmap>(
     loads_and_stores_are_by_bytes::<B>();
     value.known();
     done(Bytes::store(memory, host, value, addr, Ordering::SeqCst))
-}
-
-// The reply to an access that gives nothing back.
-fn done(answer: GuestMemoryResult<()>) -> Reply
-    ensures { result ≡ reply_of (λ _. Reply.Done) answer }
-{
-    match answer {
-        Ok(()) => Reply::Done,
-        Err(error) => refused(error),
-    }
 }
 
 // Loads an integer of this width, and replies it.

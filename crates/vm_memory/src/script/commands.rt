@@ -33,6 +33,16 @@ pub(super) fn parse(
             addr: words.address()?,
             bytes: words.bytes(alloc)?,
         },
+        "readx" => Command::ReadSlice {
+            memory: words.index()?,
+            addr: words.address()?,
+            count: words.index()?,
+        },
+        "writex" => Command::WriteSlice {
+            memory: words.index()?,
+            addr: words.address()?,
+            bytes: words.bytes(alloc)?,
+        },
         "store" => Command::Store {
             memory: words.index()?,
             width: words.width()?,
