@@ -50,38 +50,38 @@ with_bitmap-same host (Space space) b there =
 
 -- ---- a harvest is a step
 
-module _ {R B : Type 0} (region : R → Region) (pages : B → PageSet) (m : Parts R B) (id : BitmapId) (b : B)
+module _ {R I B : Type 0} (region : R → Region) (number_of : I → ℕ) (pages : B → PageSet) (m : Parts R I B) (id : BitmapId) (b : B)
     (there : bitmap_of m.host id ≡ Some b)
   where
     seen : bitmap_of (with_pages pages m.host) id ≡ Some (pages b)
     seen = bitmap_of-with_pages pages m.host id ∙ ap (option_map pages) there
 
     pub harvest_is_step : (dirty : List ℕ) (after : B) → dirty ≡ dirty_pages (pages b) → pages after ≡ cleaned (pages b)
-        → Step (state_of region pages m) (command.Harvest id) (reply.Pages dirty)
-        (state_of region pages (record m { host = with_bitmap m.host id after }))
+        → Step (state_of region number_of pages m) (command.Harvest id) (reply.Pages dirty)
+        (state_of region number_of pages (record m { host = with_bitmap m.host id after }))
     unfolding seen
     harvest_is_step dirty after listed clean =
         rw (seen, with_pages-with_bitmap pages m.host id after, listed, clean) (inl refl)
 
-    pub refusal_is_step : Step (state_of region pages m) (command.Harvest id) reply.Memory
-        (state_of region pages (record m { host = with_bitmap m.host id b }))
+    pub refusal_is_step : Step (state_of region number_of pages m) (command.Harvest id) reply.Memory
+        (state_of region number_of pages (record m { host = with_bitmap m.host id b }))
     refusal_is_step = rw (seen, with_bitmap-same m.host id b there) (inr (refl, refl, refl))
 
 -- ---- a sync
 
-module _ {R B E : Type 0} (region : R → Region) (pages : B → PageSet) (m : Parts R B) (block : ℕ)
+module _ {R I B E : Type 0} (region : R → Region) (number_of : I → ℕ) (pages : B → PageSet) (m : Parts R I B) (block : ℕ)
     (image synced : List ℕ) (host : Host B)
   where
     pub sync_is_synced : (r : Result (Unit {0}) E)
         → OnOk r (synced ≡ image_now block (with_pages pages m.host) image)
         → OnOk r ((after : B) × (pages after ≡ cleaned (pages_of block (with_pages pages m.host)))
         × (host ≡ with_bitmap m.host (Block block) after))
-        → OnOk r (IsSynced block (state_of region pages m) image
-        (state_of region pages (record m { host = host })) synced)
+        → OnOk r (IsSynced block (state_of region number_of pages m) image
+        (state_of region number_of pages (record m { host = host })) synced)
     sync_is_synced (Err e) patched cleans = tt
     sync_is_synced (Ok done) patched (after, clean, left) = (
       patched,
-      ap (λ (h : Host PageSet). record (state_of region pages m) { host = h })
+      ap (λ (h : Host PageSet). record (state_of region number_of pages m) { host = h })
           (ap (with_pages pages) left ∙ with_pages-with_bitmap pages m.host (Block block) after
           ∙ ap (with_bitmap (with_pages pages m.host) (Block block)) clean),
     )

@@ -99,33 +99,33 @@ All-removed_values region P rs others r base size e all =
 
 -- ---- steps
 
-module _ {R B : Type 0} (region : R → Region) (pages : B → PageSet) (m : Parts R B) where
+module _ {R I B : Type 0} (region : R → Region) (number_of : I → ℕ) (pages : B → PageSet) (m : Parts R I B) where
   abbrev before : State
-  before = state_of region pages m
+  before = state_of region number_of pages m
 
-  abbrev with_layout : List R → Parts R B
+  abbrev with_layout : List R → Parts R I B
   with_layout c = record m { layouts = m.layouts ++ c ∷ [] }
 
   after-is : (c : List R) (xs : List Region) → map region c ≡ xs
-      → (reply.LayoutMade (length m.layouts), state_of region pages (with_layout c)) ≡ new_layout before xs None
+      → (reply.LayoutMade (length m.layouts), state_of region number_of pages (with_layout c)) ≡ new_layout before xs None
   after-is c xs same =
-      ap (λ (n : ℕ). (reply.LayoutMade n, state_of region pages (with_layout c))) (sym (length-map m.layouts (map region)))
+      ap (λ (n : ℕ). (reply.LayoutMade n, state_of region number_of pages (with_layout c))) (sym (length-map m.layouts (map region)))
       ∙ ap (λ (ls : List (List Region)). (reply.LayoutMade (length before.layouts), record before { layouts = ls }))
       (map-append (map region) m.layouts (c ∷ []) ∙ ap (λ (ys : List Region). before.layouts ++ ys ∷ []) same)
 
   -- a layout was added, or there was no memory for it
-  abbrev Added : List R → Reply → Parts R B → Type 0
+  abbrev Added : List R → Reply → Parts R I B → Type 0
   Added c r new = ((r ≡ reply.LayoutMade (length m.layouts)) × (new ≡ with_layout c)) ⊎ ((r ≡ reply.Memory) × (new ≡ m))
 
-  pub step-added : (cmd : Command) (c : List R) (xs : List Region) (r : Reply) (new : Parts R B)
+  pub step-added : (cmd : Command) (c : List R) (xs : List Region) (r : Reply) (new : Parts R I B)
       → outcome before cmd ≡ new_layout before xs None → MayWant before cmd → map region c ≡ xs → Added c r new
-      → Step before cmd r (state_of region pages new)
+      → Step before cmd r (state_of region number_of pages new)
   step-added cmd c xs r new is want same added = elim added [
     | inl p ↦
-        inl (ap (λ (q : Reply). (q, state_of region pages new)) p.0
-        ∙ ap (λ (n : Parts R B). (reply.LayoutMade (length m.layouts), state_of region pages n)) p.1
+        inl (ap (λ (q : Reply). (q, state_of region number_of pages new)) p.0
+        ∙ ap (λ (n : Parts R I B). (reply.LayoutMade (length m.layouts), state_of region number_of pages n)) p.1
         ∙ after-is c xs same ∙ sym is)
-    | inr q ↦ inr (q.0, want, ap (state_of region pages) q.1)
+    | inr q ↦ inr (q.0, want, ap (state_of region number_of pages) q.1)
   ]
 
   module _ (place number : ℕ) (rs : List R) (r : R) (there : slice_get m.layouts place ≡ Some rs)
@@ -145,9 +145,9 @@ module _ {R B : Type 0} (region : R → Region) (pages : B → PageSet) (m : Par
     pub insert-wants : MayWant before (command.Insert place number)
     insert-wants = rw (layout-there, region-there) (refl, refl)
 
-    pub insert-step : (c : List R) (answer : Reply) (new : Parts R B) → c ≡ inserted region rs r
+    pub insert-step : (c : List R) (answer : Reply) (new : Parts R I B) → c ≡ inserted region rs r
         → layout_error (map region (inserted region rs r)) ≡ None → Added c answer new
-        → Step before (command.Insert place number) answer (state_of region pages new)
+        → Step before (command.Insert place number) answer (state_of region number_of pages new)
     insert-step c answer new is none added =
         let same = inserted-map region rs r in
         let good : layout_error more ≡ None = subst (λ (xs : List Region). layout_error xs ≡ None) same none in
@@ -186,9 +186,9 @@ module _ {R B : Type 0} (region : R → Region) (pages : B → PageSet) (m : Par
         removed-map region rs base.0 size ∙ ap (means region) e in
         rw (here, is) refl
 
-    pub remove-step : (others : List R) (r : R) (answer : Reply) (new : Parts R B)
+    pub remove-step : (others : List R) (r : R) (answer : Reply) (new : Parts R I B)
         → removed region rs base.0 size ≡ Some (others, r) → Added others answer new
-        → Step before cmd answer (state_of region pages new)
+        → Step before cmd answer (state_of region number_of pages new)
     remove-step others r answer new e added =
         step-added cmd others (map region others) answer new (remove-outcome (Some (others, r)) e)
         (remove-wants (others, r) e) refl added

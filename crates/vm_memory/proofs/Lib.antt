@@ -1,3 +1,4 @@
+pub mod IommuLemmas
 pub mod AccessLemmas
 pub mod BitmapLemmas
 pub mod BlockLemmas
@@ -5,6 +6,7 @@ pub mod CopyLemmas
 pub mod LayoutLemmas
 pub mod TableLemmas
 pub mod ListLemmas
+pub mod MemoryLemmas
 pub mod NamedLemmas
 pub mod PatchLemmas
 pub mod RoundsLemmas

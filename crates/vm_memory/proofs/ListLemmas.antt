@@ -1,6 +1,8 @@
 -- Elements of lists by their numbers.
-use Rattle.std.proofs.Common.{◌≡◌, ℕ, List, length, Some, All, ap, ◌∙◌, subst, get_or}
-use Rattle.std.proofs.lemmas.Option.{slice_get_read, slice_get_within, get_or_from_slice_get}
+use Rattle.std.proofs.Common.{◌≡◌, ℕ, List, length, map, Some, All, refl, ap, ◌∙◌, subst, get_or}
+use Rattle.std.specs.declared.alloc.Global.{Global}
+use Rattle.std.specs.declared.sync.Arc.{Arc}
+use Rattle.std.proofs.lemmas.Option.{slice_get-map, slice_get_read, slice_get_within, get_or_from_slice_get}
 use Rattle.std.proofs.lemmas.List.Elements.{All-get_or}
 use Rattle.std.specs.List.{slice_get}
 use Rattle.std.specs.Slice.{IsItemAt}
@@ -11,6 +13,11 @@ pub item_at : {X : Type 0} (xs ys : List X) (i : ℕ) (r : Bor X) → ys ≡ xs 
     → slice_get xs i ≡ Some r.now
 item_at xs ys i r same h =
     slice_get_read xs (length ys) i r.now (ap length same) h.3.0 (h.1 ∙ ap (λ (zs : List _). get_or zs i r.now) same)
+
+-- the value of a share that a list of shares has
+pub value_of : {X : Type 0} (rs : List (Arc X Global)) (i : ℕ) (r : Arc X Global) → slice_get rs i ≡ Some r
+    → slice_get (map (λ (q : Arc X Global). q.value) rs) i ≡ Some r.value
+value_of {X} rs i r at = rw (slice_get-map (λ (q : Arc X Global). q.value) rs i, at) refl
 
 -- what holds of each element holds of one by its number
 pub All-slice_get : {X : Type 0} (P : X → Type 0) (xs : List X) (i : ℕ) (x : X) → slice_get xs i ≡ Some x → All P xs → P x

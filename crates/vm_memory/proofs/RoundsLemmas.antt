@@ -26,7 +26,7 @@ use Rattle.vm_memory_guest.specs.Dirt.{pages_at, path_cells, after_write, bytes_
 use Rattle.vm_memory_guest.specs.Error.{error_of}
 use Rattle.vm_memory_guest.specs.Host.{Host, Cell, block_at, byte_at, bytes_at, cells_from, written}
 use Rattle.vm_memory_guest.specs.Layout.{inserted, removed}
-use Rattle.vm_memory_guest.specs.Memory.{Behind, Direct, physical, route_behind}
+use Rattle.vm_memory_guest.specs.Memory.{Memory, IsOn, Behind, Direct, behind_of, physical, route_behind}
 use Rattle.vm_memory_guest.specs.Region.{Region, Lies, Byte, Bare, Hole, cell, layout_error}
 use Rattle.vm_memory_guest.specs.Typed.{path_given, typed_path, whole_path}
 use Rattle.vm_memory_guest.specs.Window.{bitmap_of, with_bitmap}
@@ -39,7 +39,7 @@ use Rattle.vm_memory.specs.Machine.{Step, Run, if_there, new_layout, rest_layout
 use Rattle.vm_memory.specs.Tables.{changed_table}
 use Rattle.vm_memory.specs.Reply.{reached_by, answer_of, reply_of, writes, writes_whole}
 use Rattle.vm_memory.specs.Rounds.{patched, patched_by, patched_with, bytes_of, pages_of, image_now, image_after, MirrorsBlock, Cover, IsTracked, IsDirect, RunsDirectly, KeepsImage}
-use Rattle.vm_memory.specs.State.{State, MachineMemory, named, meaning, IsOn}
+use Rattle.vm_memory.specs.State.{State, named}
 use Rattle.vm_memory.specs.Typed.{integer_of, fits_width, stores, stores_bytes}
 use Rattle.vm_memory.specs.declared.machine.command.BlockRange.{BlockRange}
 use Rattle.vm_memory.specs.declared.machine.command.Command.{Command}
@@ -370,44 +370,44 @@ module _ (are_listed : AreListed) (cleaned_stay : CleanedStay) (laws : WriteLaws
         → KeepsBlock block image new.host
     leaves r a e after = subst (KeepsBlock block image) (sym (ap (λ (p : Reply × State). p.1.host) e)) after
 
-    reached_marks : (m : MachineMemory) → (IsOn m → ⊥) → (a n : ℕ)
-        → All MarksItsCell (reached_by (meaning m) old.host.tables a n permissions.Write).path
-    reached_marks m off a n = direct_marks (meaning m).iommu off (meaning m).regions old.host.tables a n permissions.Write
+    reached_marks : (m : Memory) → (IsOn m → ⊥) → (a n : ℕ)
+        → All MarksItsCell (reached_by m old.host.tables a n permissions.Write).path
+    reached_marks m off a n = direct_marks (behind_of m.iommu) off m.regions old.host.tables a n permissions.Write
 
-    wrote : (a : ℕ) (bytes : List ℕ) (r : Reply) (o : Option MachineMemory) → IfSome o (λ m. IsOn m → ⊥)
-        → (r, new) ≡ if_there old o (λ m. with_host old (writes (meaning m) old.host a bytes))
+    wrote : (a : ℕ) (bytes : List ℕ) (r : Reply) (o : Option Memory) → IfSome o (λ m. IsOn m → ⊥)
+        → (r, new) ≡ if_there old o (λ m. with_host old (writes m old.host a bytes))
         → KeepsBlock block image new.host
     wrote a bytes r None off e = stays r (reply.NoSuch, old) e refl
     wrote a bytes r (Some m) off e =
-        let reached = reached_by (meaning m) old.host.tables a (length bytes) permissions.Write in
-        leaves r (writes (meaning m) old.host a bytes) e
+        let reached = reached_by m old.host.tables a (length bytes) permissions.Write in
+        leaves r (writes m old.host a bytes) e
         (write_keeps laws reached.path (reached_marks m off a (length bytes)) bytes old.host block image kept)
 
-    wrote_whole : (a : ℕ) (bytes : List ℕ) (r : Reply) (o : Option MachineMemory) → IfSome o (λ m. IsOn m → ⊥)
-        → (r, new) ≡ if_there old o (λ m. with_host old (writes_whole (meaning m) old.host a bytes))
+    wrote_whole : (a : ℕ) (bytes : List ℕ) (r : Reply) (o : Option Memory) → IfSome o (λ m. IsOn m → ⊥)
+        → (r, new) ≡ if_there old o (λ m. with_host old (writes_whole m old.host a bytes))
         → KeepsBlock block image new.host
     wrote_whole a bytes r None off e = stays r (reply.NoSuch, old) e refl
     wrote_whole a bytes r (Some m) off e =
-        let reached = reached_by (meaning m) old.host.tables a (length bytes) permissions.Write in
-        leaves r (writes_whole (meaning m) old.host a bytes) e
+        let reached = reached_by m old.host.tables a (length bytes) permissions.Write in
+        leaves r (writes_whole m old.host a bytes) e
         (write_keeps laws reached.path (reached_marks m off a (length bytes)) bytes old.host block image kept)
 
     -- the bytes of a store, if its value fits
-    fitting : (m : MachineMemory) → (IsOn m → ⊥) → (a : ℕ) (bytes : List ℕ) (b : Bool)
-        → KeepsBlock block image (cond b (stores_bytes (meaning m) old.host a bytes) (reply.BadRange, old.host)).1
+    fitting : (m : Memory) → (IsOn m → ⊥) → (a : ℕ) (bytes : List ℕ) (b : Bool)
+        → KeepsBlock block image (cond b (stores_bytes m old.host a bytes) (reply.BadRange, old.host)).1
     fitting m off a bytes true =
         let n = length bytes in
-        let reached = reached_by (meaning m) old.host.tables a n permissions.Write in
+        let reached = reached_by m old.host.tables a n permissions.Write in
         let own = whole_marks n reached.path (option_map error_of reached.fault) (reached_marks m off a n) in
         write_keeps laws (path_given (typed_path n reached)) own bytes old.host block image kept
     fitting m off a bytes false = kept
 
-    stored : (a : ℕ) (w : int.Width) (value : ℕ) (r : Reply) (o : Option MachineMemory) → IfSome o (λ m. IsOn m → ⊥)
-        → (r, new) ≡ if_there old o (λ m. with_host old (stores (meaning m) old.host a w value))
+    stored : (a : ℕ) (w : int.Width) (value : ℕ) (r : Reply) (o : Option Memory) → IfSome o (λ m. IsOn m → ⊥)
+        → (r, new) ≡ if_there old o (λ m. with_host old (stores m old.host a w value))
         → KeepsBlock block image new.host
     stored a w value r None off e = stays r (reply.NoSuch, old) e refl
     stored a w value r (Some m) off e =
-        leaves r (stores (meaning m) old.host a w value) e (fitting m off a (to_le_bytes w value) (fits_width w value))
+        leaves r (stores m old.host a w value) e (fitting m off a (to_le_bytes w value) (fits_width w value))
 
     copied_keeps : (from to : BlockRange) (r : Reply) (there fits : Bool)
         → (r, new) ≡ with_host old
@@ -457,6 +457,18 @@ module _ (are_listed : AreListed) (cleaned_stay : CleanedStay) (laws : WriteLaws
         (same_host old (slice_get old.layouts place) _ (λ rs. rest_keeps_host old (removed (λ q. q) rs base.0 size)))
     answered (command.Plain layout) r direct e =
         stays r _ e (same_host old (slice_get old.layouts layout) _ (λ rs. refl))
+    answered (command.NewMemory layout translator space on) r direct e =
+        stays r _ e
+        (same_host old (slice_get old.layouts layout) _
+        (λ rs. same_host old (slice_get old.translators translator) _
+        (λ table. same_host old (slice_get old.host.spaces space) _ (λ pages. refl))))
+    answered (command.ReplaceBackend memory layout) r direct e =
+        stays r _ e
+        (same_host old (slice_get old.memories memory) _
+        (λ m. same_host old m.iommu _
+        (λ s. same_host old (slice_get old.layouts layout) _ (λ rs. refl))))
+    answered (command.Enable memory on) r direct e =
+        stays r _ e (same_host old (slice_get old.memories memory) _ (λ m. same_host old m.iommu _ (λ s. refl)))
     answered (command.Read memory addr n) r direct e =
         stays r _ e (same_host old (slice_get old.memories memory) _ (λ m. refl))
     answered (command.Write memory addr bytes) r direct e =
@@ -574,15 +586,15 @@ read_bytes xs host bytes (Err errors.Memory) e = cc
 
 -- byte k of a read, where it is of the block
 pub read_of_image : (block : ℕ) (image : List ℕ) (old new : State) (memory : ℕ) (addr : GuestAddress) (n : ℕ)
-    (bytes : List ℕ) (m : MachineMemory) (k : ℕ) (x : Reached) → MirrorsBlock block old.host image
+    (bytes : List ℕ) (m : Memory) (k : ℕ) (x : Reached) → MirrorsBlock block old.host image
     → Step old (command.Read memory addr n) (reply.Bytes bytes) new → slice_get old.memories memory ≡ Some m
-    → slice_get (reached_by (meaning m) old.host.tables addr.0 n permissions.Read).path k ≡ Some x
+    → slice_get (reached_by m old.host.tables addr.0 n permissions.Read).path k ≡ Some x
     → x.cell.block ≡ block → slice_get bytes k ≡ Some (get_or (image_now block old.host image) x.cell.offset 0)
 read_of_image block image old new memory addr n bytes m k x mirrors step there reached here = elim step [
   | inl e ↦
-      (let xs = (reached_by (meaning m) old.host.tables addr.0 n permissions.Read).path in
+      (let xs = (reached_by m old.host.tables addr.0 n permissions.Read).path in
       let told = rw there at (ap (λ (p : Reply × State). p.0) e) in
-      let is = read_bytes xs old.host bytes (answer_of (reached_by (meaning m) old.host.tables addr.0 n permissions.Read) n) told in
+      let is = read_bytes xs old.host bytes (answer_of (reached_by m old.host.tables addr.0 n permissions.Read) n) told in
       let cells : slice_get (path_cells xs) k ≡ Some x.cell =
       slice_get-map (λ (y : Reached). y.cell) xs k ∙ ap (option_map (λ (y : Reached). y.cell)) reached in
       let read : slice_get (bytes_read xs old.host) k ≡ Some (byte_at old.host.blocks x.cell) =

@@ -12,14 +12,15 @@ use Rattle.vm_memory_guest.specs.Dirt.{after_write}
 use Rattle.vm_memory_guest.specs.Error.{error_of}
 use Rattle.vm_memory_guest.specs.Host.{Host}
 use Rattle.vm_memory_guest.specs.Layout.{inserted, removed}
+use Rattle.vm_memory_guest.specs.Memory.{Memory, Switched}
 use Rattle.vm_memory_guest.specs.Region.{Region, layout_error}
 use Rattle.vm_memory_guest.specs.Window.{bitmap_of, with_bitmap}
 use Rattle.vm_memory_guest.specs.Typed.{path_given}
 use Rattle.vm_memory_guest.specs.declared.region.GuestMemoryError.{GuestMemoryError}
 use Rattle.vm_memory_guest.specs.declared.region.GuestMemoryError.TheVariants as errors
 use Rattle.vm_memory_guest.specs.declared.region.GuestRegionCollectionError.{GuestRegionCollectionError}
-use Rattle.vm_memory.specs.State.{State, MachineMemory, named, plain, meaning}
-use Rattle.vm_memory.specs.Machine.{Step, Run, if_there, new_layout, rest_layout, new_memory, with_host, outcome}
+use Rattle.vm_memory.specs.State.{State, named, plain, behind}
+use Rattle.vm_memory.specs.Machine.{Step, Run, if_there, new_layout, rest_layout, new_memory, turned, with_host, outcome}
 use Rattle.vm_memory.specs.Reply.{reply_of, reached_by, writes, writes_whole, is_partial}
 use Rattle.vm_memory_base.specs.Table as table
 use Rattle.vm_memory_guest.specs.Host.{with_table_at}
@@ -121,37 +122,37 @@ still-step old new c r still step = elim step [ inl e ↦ go c e | inr want ↦ 
     left None e = after (rest_layout old None) e
     left (Some p) e = made p.0 None e
 
-    wrote : (m : MachineMemory) (a : ℕ) (bytes : List ℕ)
-        → (r, new) ≡ with_host old (writes (meaning m) old.host a bytes) → new ≡ old
+    wrote : (m : Memory) (a : ℕ) (bytes : List ℕ)
+        → (r, new) ≡ with_host old (writes m old.host a bytes) → new ≡ old
     wrote m a bytes e =
-        let reached = reached_by (meaning m) old.host.tables a (length bytes) permissions.Write in
+        let reached = reached_by m old.host.tables a (length bytes) permissions.Write in
         let told = ap (λ (p : Reply × State). p.0) e in
         let none = reached_none reached.path (option_map error_of reached.fault) (length bytes) r still told in
-        after (with_host old (writes (meaning m) old.host a bytes)) e
+        after (with_host old (writes m old.host a bytes)) e
         ∙ ap (λ (xs : List Reached). record old { host = after_write xs bytes old.host }) none
 
-    wrote_whole : (m : MachineMemory) (a : ℕ) (bytes : List ℕ)
-        → (r, new) ≡ with_host old (writes_whole (meaning m) old.host a bytes) → new ≡ old
+    wrote_whole : (m : Memory) (a : ℕ) (bytes : List ℕ)
+        → (r, new) ≡ with_host old (writes_whole m old.host a bytes) → new ≡ old
     wrote_whole m a bytes e =
-        let reached = reached_by (meaning m) old.host.tables a (length bytes) permissions.Write in
+        let reached = reached_by m old.host.tables a (length bytes) permissions.Write in
         let told = ap (λ (p : Reply × State). p.0) e in
         let none = reached_none_of_all reached.path (option_map error_of reached.fault) (length bytes) r still told in
-        after (with_host old (writes_whole (meaning m) old.host a bytes)) e
+        after (with_host old (writes_whole m old.host a bytes)) e
         ∙ ap (λ (xs : List Reached). record old { host = after_write xs bytes old.host }) none
 
-    stored : (m : MachineMemory) (a : ℕ) (w : int.Width) (value : ℕ)
-        → (r, new) ≡ with_host old (stores (meaning m) old.host a w value) → new ≡ old
+    stored : (m : Memory) (a : ℕ) (w : int.Width) (value : ℕ)
+        → (r, new) ≡ with_host old (stores m old.host a w value) → new ≡ old
     stored m a w value e = by_range (fits_width w value) e
       where
         by_range : (fits : Bool)
-            → (r, new) ≡ with_host old (cond fits (stores_bytes (meaning m) old.host a (to_le_bytes w value)) (reply.BadRange, old.host))
+            → (r, new) ≡ with_host old (cond fits (stores_bytes m old.host a (to_le_bytes w value)) (reply.BadRange, old.host))
             → new ≡ old
         by_range false e = after (reply.BadRange, old) e
         by_range true e =
             let bytes = to_le_bytes w value in
-            let taken = taken_by (meaning m) old.host.tables a (length bytes) permissions.Write in
+            let taken = taken_by m old.host.tables a (length bytes) permissions.Write in
             let none = not_stored taken r still (ap (λ (p : Reply × State). p.0) e) in
-            after (with_host old (stores_bytes (meaning m) old.host a bytes)) e
+            after (with_host old (stores_bytes m old.host a bytes)) e
             ∙ ap (λ (xs : List Reached). record old { host = after_write xs bytes old.host }) none
 
     copied : (there fits : Bool) (host : Host PageSet)
@@ -178,6 +179,19 @@ still-step old new c r still step = elim step [ inl e ↦ go c e | inr want ↦ 
         there old new (slice_get old.layouts layout) _ r (λ rs. left (removed (λ q. q) rs base.0 size)) e
     go (command.Plain layout) e =
         there old new (slice_get old.layouts layout) _ r (λ rs f. absurd (no_change (new_memory old (plain rs)) f)) e
+    go (command.NewMemory layout translator space on) e =
+        there old new (slice_get old.layouts layout) _ r
+        (λ rs. there old new (slice_get old.translators translator) _ r
+        (λ table. there old new (slice_get old.host.spaces space) _ r
+        (λ pages f. absurd (no_change (new_memory old (behind rs table space on)) f)))) e
+    go (command.ReplaceBackend memory layout) e =
+        there old new (slice_get old.memories memory) _ r
+        (λ m. there old new m.iommu _ r
+        (λ s. there old new (slice_get old.layouts layout) _ r
+        (λ rs f. absurd (no_change (new_memory old (record { regions = rs; iommu = Some s })) f)))) e
+    go (command.Enable memory on) e =
+        there old new (slice_get old.memories memory) _ r
+        (λ m. there old new m.iommu _ r (λ s f. absurd (no_change (turned old memory m s on) f))) e
     go (command.Read memory addr n) e =
         there old new (slice_get old.memories memory) _ r (λ m f. ap (λ (p : Reply × State). p.1) f) e
     go (command.Write memory addr bytes) e =

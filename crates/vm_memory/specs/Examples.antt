@@ -10,8 +10,9 @@ use Rattle.vm_memory_base.specs.declared.iotlb.Permissions.TheVariants.{Read, Re
 use Rattle.vm_memory_base.specs.declared.iotlb.Reason.{Reason}
 use Rattle.vm_memory_base.specs.declared.iotlb.lookup.IotlbFails.{IotlbFails}
 use Rattle.vm_memory_guest.specs.Host.{Host}
+use Rattle.vm_memory_guest.specs.Memory.{Memory}
 use Rattle.vm_memory_guest.specs.Region.{Region}
-use Rattle.vm_memory.specs.State.{State, MachineMemory, plain}
+use Rattle.vm_memory.specs.State.{State, plain, behind}
 use Rattle.vm_memory.specs.declared.machine.command.BlockRange.{BlockRange}
 use Rattle.vm_memory.specs.declared.machine.command.Fault.{Fault}
 use Rattle.vm_memory.specs.declared.machine.command.Fault.TheVariants.{InvalidGuestAddress, IommuError}
@@ -56,11 +57,8 @@ host = record {
 }
 
 -- the two regions with bytes behind an IOMMU of this table and this space
-abbrev pub behind : Bool → MachineMemory
-behind on = record {
-  regions = low ∷ high ∷ [];
-  iommu = Some (record { behind = record { table = 0; space = 0 }; on = on });
-}
+abbrev pub translated : Bool → Memory
+translated on = behind (low ∷ high ∷ []) 0 0 on
 
 -- a machine of these regions: memory 0 is plain, the IOMMU of memory 1 is on, and that of memory 2 is off
 abbrev pub machine : State
@@ -68,7 +66,7 @@ machine = record {
   regions = low ∷ high ∷ bare ∷ [];
   translators = 0 ∷ [];
   layouts = (low ∷ high ∷ []) ∷ [];
-  memories = plain (low ∷ high ∷ bare ∷ []) ∷ behind true ∷ behind false ∷ [];
+  memories = plain (low ∷ high ∷ bare ∷ []) ∷ translated true ∷ translated false ∷ [];
   host = host;
 }
 

@@ -3,7 +3,9 @@ pub mod Tables
 pub mod Pieces
 pub mod Examples
 pub mod Inside
+pub mod Iommu
 pub mod Machine
+pub mod Memories
 pub mod Parts
 pub mod Reply
 pub mod Rounds

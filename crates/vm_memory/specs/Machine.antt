@@ -1,27 +1,30 @@
 -- A machine as a model: what a command answers and leaves, a step of it, and a run of steps.
-use Rattle.std.specs.Prelude.{◌≡◌, ◌⊎◌, ◌<◌, false, IsTrue, List, [], ◌∷◌, ◌++◌, length, slice_get}
+use Rattle.std.specs.Prelude.{◌≡◌, ◌⊎◌, ◌<◌, ℕ, Bool, false, IsTrue, List, [], ◌∷◌, ◌++◌, length, slice_get, slice_set}
 use Rattle.std.specs.Prelude.{Option, Some, None, IsSome, IsSomeAnd}
 use Rattle.vm_memory_base.specs.Pages.{PageSet, dirty_pages, cleaned}
 use Rattle.vm_memory_base.specs.Table as table
 use Rattle.vm_memory_base.specs.Table.{says, overruns}
 use Rattle.vm_memory_guest.specs.Host.{Host}
 use Rattle.vm_memory_guest.specs.Layout.{inserted, removed}
+use Rattle.vm_memory_guest.specs.Memory as guest
+use Rattle.vm_memory_guest.specs.Memory.{IsOn, Switched}
 use Rattle.vm_memory_guest.specs.Region.{Region, layout_error}
 use Rattle.vm_memory_guest.specs.Window.{bitmap_of, with_bitmap}
 use Rattle.vm_memory_guest.specs.declared.region.GuestRegionCollectionError.{GuestRegionCollectionError}
-use Rattle.vm_memory.specs.State.{State, MachineMemory, plain, meaning, named, IsOn}
+use Rattle.vm_memory.specs.State.{State, plain, behind, named}
 use Rattle.vm_memory.specs.Copy.{copies}
 use Rattle.vm_memory.specs.Reply.{reads, writes, reads_whole, writes_whole, checks, reply_of_layout_error}
 use Rattle.vm_memory.specs.Typed.{integer_of, fits_width, loads, stores}
 use Rattle.vm_memory.specs.declared.machine.command.Command.{Command}
 use Rattle.vm_memory.specs.declared.machine.command.Command.TheVariants.{FromRegions, Insert, Remove, Plain}
+use Rattle.vm_memory.specs.declared.machine.command.Command.TheVariants.{NewMemory, ReplaceBackend, Enable}
 use Rattle.vm_memory.specs.declared.machine.command.Command.TheVariants.{Read, Write, ReadSlice, WriteSlice}
 use Rattle.vm_memory.specs.declared.machine.command.Command.TheVariants.{Store, Load, Copy, Dirty}
 use Rattle.vm_memory.specs.declared.machine.command.Command.TheVariants.{Harvest, CheckRange, Set, Invalidate}
 use Rattle.vm_memory.specs.declared.machine.command.Command.TheVariants.{InvalidateAll, Lookup}
 use Rattle.vm_memory.specs.Tables.{changes, looks_up}
 use Rattle.vm_memory.specs.declared.machine.command.Reply.{Reply}
-use Rattle.vm_memory.specs.declared.machine.command.Reply.TheVariants.{LayoutMade, MemoryMade, Pages}
+use Rattle.vm_memory.specs.declared.machine.command.Reply.TheVariants.{LayoutMade, MemoryMade, Pages, Done}
 use Rattle.vm_memory.specs.declared.machine.command.Reply.TheVariants.{Fault, NoSuch, Memory}
 use Rattle.vm_memory.specs.declared.machine.command.Fault.TheVariants.{NoMemoryRegion}
 
@@ -41,8 +44,15 @@ rest_layout old None = (Fault NoMemoryRegion, old)
 rest_layout old (Some p) = new_layout old p.0 None
 
 -- a memory is the next
-abbrev pub new_memory : State → MachineMemory → Reply × State
+abbrev pub new_memory : State → guest.Memory → Reply × State
 new_memory old m = (MemoryMade (length old.memories), record old { memories = old.memories ++ m ∷ [] })
+
+-- the IOMMU of a memory is turned on or off, and nothing else changes
+abbrev pub turned : State → ℕ → guest.Memory → Switched → Bool → Reply × State
+turned old memory m s on = (
+  Done,
+  record old { memories = slice_set old.memories memory (record m { iommu = Some (record s { on = on }) }) },
+)
 
 -- the reply and the host that a command leaves: all else stays
 abbrev pub with_host : State → Reply × Host PageSet → Reply × State
@@ -60,27 +70,39 @@ outcome old (Remove layout base size) =
     if_there old (slice_get old.layouts layout)
     (λ rs. rest_layout old (removed (λ r. r) rs base.0 size))
 outcome old (Plain layout) = if_there old (slice_get old.layouts layout) (λ rs. new_memory old (plain rs))
+outcome old (NewMemory layout translator space on) =
+    if_there old (slice_get old.layouts layout)
+    (λ rs. if_there old (slice_get old.translators translator)
+    (λ table. if_there old (slice_get old.host.spaces space)
+    (λ pages. new_memory old (behind rs table space on))))
+outcome old (ReplaceBackend memory layout) =
+    if_there old (slice_get old.memories memory)
+    (λ m. if_there old m.iommu
+    (λ s. if_there old (slice_get old.layouts layout)
+    (λ rs. new_memory old (record { regions = rs; iommu = Some s }))))
+outcome old (Enable memory on) =
+    if_there old (slice_get old.memories memory) (λ m. if_there old m.iommu (λ s. turned old memory m s on))
 outcome old (Read memory addr count) =
     if_there old (slice_get old.memories memory)
-    (λ m. (reads (meaning m) old.host addr.0 count, old))
+    (λ m. (reads m old.host addr.0 count, old))
 outcome old (Write memory addr bytes) =
     if_there old (slice_get old.memories memory)
-    (λ m. with_host old (writes (meaning m) old.host addr.0 bytes))
+    (λ m. with_host old (writes m old.host addr.0 bytes))
 outcome old (ReadSlice memory addr count) =
     if_there old (slice_get old.memories memory)
-    (λ m. (reads_whole (meaning m) old.host addr.0 count, old))
+    (λ m. (reads_whole m old.host addr.0 count, old))
 outcome old (WriteSlice memory addr bytes) =
     if_there old (slice_get old.memories memory)
-    (λ m. with_host old (writes_whole (meaning m) old.host addr.0 bytes))
+    (λ m. with_host old (writes_whole m old.host addr.0 bytes))
 outcome old (Store memory width addr value) =
     if_there old (slice_get old.memories memory)
-    (λ m. with_host old (stores (meaning m) old.host addr.0 (integer_of width) value))
+    (λ m. with_host old (stores m old.host addr.0 (integer_of width) value))
 outcome old (Load memory width addr) =
     if_there old (slice_get old.memories memory)
-    (λ m. (loads (meaning m) old.host addr.0 (integer_of width), old))
+    (λ m. (loads m old.host addr.0 (integer_of width), old))
 outcome old (CheckRange memory addr count access) =
     if_there old (slice_get old.memories memory)
-    (λ m. (checks (meaning m) old.host addr.0 count access, old))
+    (λ m. (checks m old.host addr.0 count access, old))
 outcome old (Dirty id) = if_there old (bitmap_of old.host id) (λ set. (Pages (dirty_pages set), old))
 outcome old (Harvest id) =
     if_there old (bitmap_of old.host id)
@@ -103,6 +125,11 @@ MayWant old (Insert layout region) =
 MayWant old (Remove layout base size) =
     IsSomeAnd (slice_get old.layouts layout) (λ rs. IsSome (removed (λ r. r) rs base.0 size))
 MayWant old (Plain layout) = IsSome (slice_get old.layouts layout)
+MayWant old (NewMemory layout translator space on) = IsSome (slice_get old.layouts layout)
+    × IsSome (slice_get old.translators translator) × IsSome (slice_get old.host.spaces space)
+MayWant old (ReplaceBackend memory layout) =
+    IsSomeAnd (slice_get old.memories memory) (λ m. IsSome m.iommu) × IsSome (slice_get old.layouts layout)
+MayWant old (Enable memory on) = ⊥
 MayWant old (Read memory addr n) = IsSomeAnd (slice_get old.memories memory) (λ m. IsOn m ⊎ (0 < n))
 MayWant old (Write memory addr bytes) = IsSomeAnd (slice_get old.memories memory) IsOn
 MayWant old (ReadSlice memory addr n) = IsSomeAnd (slice_get old.memories memory) (λ m. IsOn m ⊎ (0 < n))

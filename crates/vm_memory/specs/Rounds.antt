@@ -8,9 +8,10 @@ use Rattle.vm_memory_base.specs.Pages.{PageSet, shape, dirty_pages, cleaned}
 use Rattle.vm_memory_base.specs.declared.bitmap.BitmapId.TheVariants as bitmap
 use Rattle.vm_memory_guest.specs.Dirt.{pages_at}
 use Rattle.vm_memory_guest.specs.Host.{Host, block_at}
+use Rattle.vm_memory_guest.specs.Memory.{IsOn}
 use Rattle.vm_memory_guest.specs.Window.{with_bitmap}
 use Rattle.vm_memory.specs.Machine.{Run}
-use Rattle.vm_memory.specs.State.{State, IsOn}
+use Rattle.vm_memory.specs.State.{State}
 use Rattle.vm_memory.specs.declared.machine.command.Command.{Command}
 use Rattle.vm_memory.specs.declared.machine.command.Command.TheVariants.{Write, WriteSlice, Store, Harvest}
 use Rattle.vm_memory.specs.declared.machine.command.Reply.{Reply}

@@ -1,11 +1,13 @@
 //! Guest memory for virtual machine monitors: every public name of the crates below, and the machine.
 #![tactic(auto)]
 
+mod iommu;
 pub mod machine;
 pub mod machine_examples;
 pub mod machine_laws;
 pub mod script;
 
+pub use iommu::{Iommu, IommuMemory, TableIommu};
 pub use script::{DriveFault, drive};
 pub use vm_memory_base::{
     Address, AddressValue, AddressWord, AtomicAccess, AtomicInteger, Be16, Be32, Be64, BeSize,

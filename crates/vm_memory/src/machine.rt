@@ -3,7 +3,7 @@
 ghost use Rattle.std.specs.Prelude.{◌≡◌, ℕ, List, ◌++◌, [], OnOk, OnErr};
 ghost use Rattle.vm_memory_guest.specs.Collection.{regions_of};
 ghost use Rattle.vm_memory.specs.Machine.{Step, Run};
-ghost use Rattle.vm_memory.specs.Parts.{HoldsRegions, state_of};
+ghost use Rattle.vm_memory.specs.Parts.{HoldsRegions, HoldsTables, state_of};
 ghost use Rattle.vm_memory.specs.Rounds.{IsTracked, RunsDirectly, KeepsImage, bytes_of};
 
 mod accesses;
@@ -12,13 +12,17 @@ pub mod command;
 mod copies;
 mod layouts;
 pub mod list;
+mod memories;
+pub mod memory;
 mod pages;
 mod rounds;
 mod tables;
 mod typed;
 
+use crate::iommu::Iommu;
 use crate::machine_laws::runs_keep_images;
 use command::{Command, Reply};
+use memory::MachineMemory;
 use std::alloc::{AllocError, Global};
 use std::marker::Model;
 use std::sync::Arc;
@@ -28,36 +32,51 @@ use vm_memory_guest::{GuestMemoryRegion, GuestRegionCollection, HostMemory};
 
 /// A host, a pool of regions, and the layouts and memories that commands made, each kind by number from 0.
 #[derive(Drop)]
-pub struct Machine<R: GuestMemoryRegion, B> {
+pub struct Machine<R: GuestMemoryRegion, I: Iommu, B> {
     alloc: Global,
     host: HostMemory<B>,
     regions: Vec<Arc<R>>,
+    translators: Vec<Arc<I>>,
     layouts: Vec<GuestRegionCollection<R>>,
-    memories: Vec<GuestRegionCollection<R>>,
+    memories: Vec<MachineMemory<R, I>>,
 }
 
-impl<R: GuestMemoryRegion, B> Model for Machine<R, B> {
+impl<R: GuestMemoryRegion, I: Iommu, B> Model for Machine<R, I, B> {
     ghost use Rattle.vm_memory.specs.Parts.{Parts, AreHeld};
 
-    ghost Value = { Parts R B };
+    ghost Value = { Parts R I B };
 
     ghost use Rattle.vm_memory.specs.Inside.{parts_of};
 
     ghost view = { parts_of };
 
-    ghost invariant = { λ m. AreHeld R.region (parts_of m) };
+    ghost invariant = { λ m. AreHeld R.region I.number (parts_of m) };
 }
 
-impl<R: GuestMemoryRegion, B> Machine<R, B> {
-    /// A machine with a host and a pool of regions that it holds, and nothing made yet.
-    pub fn new(alloc: Global, host: HostMemory<B>, regions: Vec<Arc<R>>) -> Machine<R, B>
-        requires { HoldsRegions R.region host (regions_of regions) }
-        ensures { result ≡ record { host = host; regions = regions_of regions; layouts = []; memories = [] } }
+impl<R: GuestMemoryRegion, I: Iommu, B> Machine<R, I, B> {
+    /// A machine with a host, and pools of regions and of translators whose bytes and tables it holds, and nothing
+    /// made yet.
+    pub fn new(
+        alloc: Global,
+        host: HostMemory<B>,
+        regions: Vec<Arc<R>>,
+        translators: Vec<Arc<I>>,
+    ) -> Machine<R, I, B>
+        requires regions { HoldsRegions R.region host (regions_of regions) }
+        requires tables { HoldsTables I.number host (regions_of translators) }
+        ensures { result ≡ record {
+          host = host;
+          regions = regions_of regions;
+          translators = regions_of translators;
+          layouts = [];
+          memories = [];
+        } }
     {
         Machine {
             alloc,
             host,
             regions,
+            translators,
             layouts: Vec::new(alloc),
             memories: Vec::new(alloc),
         }
@@ -79,17 +98,25 @@ impl<R: GuestMemoryRegion, B> Machine<R, B> {
     }
 }
 
-impl<R: GuestMemoryRegion, B: ExactBitmap> Machine<R, B> {
+impl<R: GuestMemoryRegion, I: Iommu, B: ExactBitmap> Machine<R, I, B> {
     // One command. Numbers are tested first, then memory is reserved, and then the call is made.
     fn step(&mut self, command: &Command) -> Reply
-        ensures { let before = state_of R.region B.pages self.old in
-            Step before command.now result (state_of R.region B.pages self.new) }
+        ensures { let before = state_of R.region I.number B.pages self.old in
+            Step before command.now result (state_of R.region I.number B.pages self.new) }
     {
         match command {
             Command::FromRegions(numbers) => self.from_regions(numbers.as_slice()),
             Command::Insert { layout, region } => self.insert(*layout, *region),
             Command::Remove { layout, base, size } => self.remove(*layout, *base, *size),
             Command::Plain(layout) => self.plain(*layout),
+            Command::NewMemory {
+                layout,
+                translator,
+                space,
+                on,
+            } => self.new_memory(*layout, *translator, *space, *on),
+            Command::ReplaceBackend { memory, layout } => self.replace_backend(*memory, *layout),
+            Command::Enable { memory, on } => self.enable(*memory, *on),
             Command::Read {
                 memory,
                 addr,
@@ -158,13 +185,13 @@ impl<R: GuestMemoryRegion, B: ExactBitmap> Machine<R, B> {
 ///
 /// A copy of a block that its bitmap covers, patched with the pages of each harvest and with those that are
 /// dirty, is the block at every moment of the run: docs/DEFINITIONS.md, "Images kept in rounds".
-pub fn run<R: GuestMemoryRegion, B: ExactBitmap>(
-    machine: &mut Machine<R, B>,
+pub fn run<R: GuestMemoryRegion, I: Iommu, B: ExactBitmap>(
+    machine: &mut Machine<R, I, B>,
     commands: &[Command],
     replies: &mut Vec<Reply>,
 ) -> Result<(), AllocError>
-    ensures ran { let before = state_of R.region B.pages machine.old in
-        let after = state_of R.region B.pages machine.new in
+    ensures ran { let before = state_of R.region I.number B.pages machine.old in
+        let after = state_of R.region I.number B.pages machine.new in
         OnOk result ((new : List Reply) × (replies.new.items ≡ replies.old.items ++ new)
         × (run : Run before commands.now new after)
         × ((block : ℕ) → IsTracked block before.host → RunsDirectly before commands.now new after run

@@ -1,7 +1,7 @@
 //! What a machine answers and leaves in small cases: each function here is a theorem, and does nothing.
 #![tactic(auto, unfolding(vm_memory_base::specs::Runs::runs, vm_memory_base::specs::Table::each, vm_memory_guest::specs::Access::path, vm_memory_guest::specs::Access::first_fault))]
 
-ghost use Rattle.std.specs.Prelude.{◌≡◌, ◌-◌, ◌^◌, [], ◌∷◌, ◌++◌, None, true, false};
+ghost use Rattle.std.specs.Prelude.{◌≡◌, ℕ, ◌-◌, ◌^◌, [], ◌∷◌, ◌++◌, None, true, false};
 ghost use Rattle.vm_memory_base.specs.Pages.{PageSet};
 ghost use Rattle.vm_memory_base.specs.declared.bitmap.BitmapId.TheVariants.{Block, Space};
 ghost use Rattle.vm_memory_base.specs.declared.iotlb.Permissions.TheVariants.{No};
@@ -10,15 +10,17 @@ ghost use Rattle.vm_memory_base.specs.declared.iotlb.Reason.TheVariants.{Missing
 ghost use Rattle.vm_memory_guest.specs.Region.{Region};
 ghost use Rattle.vm_memory_guest.specs.declared.region.GuestMemoryError.TheVariants as errors;
 ghost use Rattle.vm_memory_guest.specs.declared.region.GuestRegionCollectionError.TheVariants as layouts;
-ghost use Rattle.vm_memory.specs.Examples.{at, low, high, bare, block_pages, space_pages, host, machine};
+ghost use Rattle.vm_memory.specs.Examples.{at, low, high, bare, block_pages, space_pages, host, machine, translated};
 ghost use Rattle.vm_memory.specs.Examples.{marked_host, marked, range, failed};
 ghost use Rattle.vm_memory.specs.Examples.{no_region_at, not_translated, in_block};
 ghost use Rattle.vm_memory.specs.Machine.{outcome, MayWant, Step, Run};
-ghost use Rattle.vm_memory.specs.Parts.{Parts, AreHeld, state_of};
+ghost use Rattle.vm_memory.specs.Parts.{Parts, AreHeld, HoldsMemory, state_of};
 ghost use Rattle.vm_memory.specs.Reply.{reply_of_error, reply_of_layout_error};
 ghost use Rattle.vm_memory.specs.Rounds.{patched, image_after, MirrorsBlock, IsTracked, IsDirect};
-ghost use Rattle.vm_memory.specs.State.{State, plain};
+ghost use Rattle.vm_memory.specs.State.{State, plain, behind};
+ghost use Rattle.vm_memory.specs.declared.machine.memory.MachineMemory.TheVariants as memory;
 ghost use Rattle.vm_memory.specs.declared.machine.command.Command.TheVariants.{FromRegions, Insert, Remove, ReadSlice, WriteSlice};
+ghost use Rattle.vm_memory.specs.declared.machine.command.Command.TheVariants.{NewMemory, ReplaceBackend, Enable};
 ghost use Rattle.vm_memory.specs.declared.machine.command.Command.TheVariants.{Plain, Read, Write, Store, Load};
 ghost use Rattle.vm_memory.specs.declared.machine.command.Command.TheVariants.{Copy, Dirty, Harvest};
 ghost use Rattle.vm_memory.specs.declared.machine.command.Command.TheVariants.{CheckRange, Set, InvalidateAll};
@@ -90,6 +92,47 @@ pub fn layouts_are_changed()
 pub fn memories_are_made()
     ensures { outcome machine (Plain 0)
         ≡ (MemoryMade 3, record machine { memories = machine.memories ++ plain (low ∷ high ∷ []) ∷ [] }) }
+{}
+
+/// A memory behind an IOMMU has the regions of its layout, the table of its translator and its space, and is the
+/// next. One over another layout has the IOMMU of the memory that it is made of, which stays.
+pub fn memories_behind_an_iommu_are_made()
+    ensures made { outcome machine (NewMemory 0 0 0 true)
+        ≡ (MemoryMade 3, record machine { memories = machine.memories ++ translated true ∷ [] }) }
+    ensures made_off { outcome machine (NewMemory 0 0 0 false)
+        ≡ (MemoryMade 3, record machine { memories = machine.memories ++ translated false ∷ [] }) }
+    ensures replaced { let more = record machine { layouts = machine.layouts ++ (bare ∷ []) ∷ [] } in
+        outcome more (ReplaceBackend 1 1)
+        ≡ (MemoryMade 3, record more { memories = machine.memories ++ behind (bare ∷ []) 0 0 true ∷ [] }) }
+    ensures no_layout { outcome machine (NewMemory 1 0 0 true) ≡ (NoSuch, machine) }
+    ensures no_translator { outcome machine (NewMemory 0 1 0 true) ≡ (NoSuch, machine) }
+    ensures no_space { outcome machine (NewMemory 0 0 1 true) ≡ (NoSuch, machine) }
+    ensures replace_of_none { outcome machine (ReplaceBackend 3 0) ≡ (NoSuch, machine) }
+    ensures replace_of_plain { outcome machine (ReplaceBackend 0 0) ≡ (NoSuch, machine) }
+    ensures replace_by_none { outcome machine (ReplaceBackend 1 1) ≡ (NoSuch, machine) }
+    ensures may_want { MayWant machine (NewMemory 0 0 0 true) }
+    ensures plain_never_wants { MayWant machine (ReplaceBackend 0 0) → ⊥ }
+{}
+
+/// The IOMMU of one memory is turned on or off, and no other. A memory that has none is told.
+pub fn memories_are_turned()
+    ensures off { outcome machine (Enable 1 false)
+        ≡ (
+          Done,
+          record machine {
+            memories = plain (low ∷ high ∷ bare ∷ []) ∷ translated false ∷ translated false ∷ [];
+          },
+        ) }
+    ensures on { outcome machine (Enable 2 true)
+        ≡ (
+          Done,
+          record machine {
+            memories = plain (low ∷ high ∷ bare ∷ []) ∷ translated true ∷ translated true ∷ [];
+          },
+        ) }
+    ensures of_plain { outcome machine (Enable 0 true) ≡ (NoSuch, machine) }
+    ensures of_none { outcome machine (Enable 3 true) ≡ (NoSuch, machine) }
+    ensures never_wants { MayWant machine (Enable 1 false) → ⊥ }
 {}
 
 /// A number that names nothing is told, and changes nothing.
@@ -408,32 +451,49 @@ pub fn replies_of_errors()
     ensures memory_of_a_layout { reply_of_layout_error layouts.Memory ≡ Memory }
 {}
 
-/// A machine stands for what its regions and its bitmaps mean, and its memories are plain. Its host holds
-/// the bytes of every region.
+/// A machine stands for what its regions, translators, memories and bitmaps mean. Its host holds the bytes of
+/// every region, the table of every translator, and what every memory names.
 pub fn what_a_machine_stands_for()
-    ensures state { state_of {R = Region} {B = PageSet} (λ r. r) (λ b. b) (record {
+    ensures state { state_of {R = Region} {I = ℕ} {B = PageSet} (λ r. r) (λ i. i) (λ b. b) (record {
       host = host;
       regions = low ∷ bare ∷ [];
+      translators = 0 ∷ [];
       layouts = (low ∷ []) ∷ [];
-      memories = (bare ∷ []) ∷ [];
+      memories = memory.Plain (bare ∷ []) ∷ memory.Translated (record {
+        backend = low ∷ [];
+        iommu = 0;
+        on = true;
+        space = 0;
+      }) ∷ [];
     })
         ≡ record {
           regions = low ∷ bare ∷ [];
-          translators = [];
+          translators = 0 ∷ [];
           layouts = (low ∷ []) ∷ [];
-          memories = plain (bare ∷ []) ∷ [];
+          memories = plain (bare ∷ []) ∷ behind (low ∷ []) 0 0 true ∷ [];
           host = host;
         } }
-    ensures held { AreHeld {R = Region} {B = PageSet} (λ r. r) (record {
+    ensures held { AreHeld {R = Region} {I = ℕ} {B = PageSet} (λ r. r) (λ i. i) (record {
       host = host;
       regions = low ∷ bare ∷ [];
+      translators = 0 ∷ [];
       layouts = [];
       memories = [];
     }) }
-    ensures not_held { AreHeld {R = Region} {B = PageSet} (λ r. r) (record {
+    ensures not_held { AreHeld {R = Region} {I = ℕ} {B = PageSet} (λ r. r) (λ i. i) (record {
       host = record host { blocks = [] };
       regions = low ∷ bare ∷ [];
+      translators = [];
       layouts = [];
       memories = [];
     }) → ⊥ }
+    ensures no_table { AreHeld {R = Region} {I = ℕ} {B = PageSet} (λ r. r) (λ i. i) (record {
+      host = host;
+      regions = [];
+      translators = 1 ∷ [];
+      layouts = [];
+      memories = [];
+    }) → ⊥ }
+    ensures no_space { HoldsMemory {R = Region} {I = ℕ} {B = PageSet} (λ r. r) (λ i. i) host
+        (memory.Translated (record { backend = []; iommu = 0; on = false; space = 1 })) → ⊥ }
 {}

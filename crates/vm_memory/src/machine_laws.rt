@@ -9,11 +9,12 @@ ghost use Rattle.vm_memory_base.specs.declared.iotlb.Permissions.TheVariants as 
 ghost use Rattle.vm_memory_base.specs.declared.iotlb.lookup.IotlbFails.{IotlbFails};
 ghost use Rattle.vm_memory_guest.specs.Access.{Reached};
 ghost use Rattle.vm_memory_guest.specs.Host.{Host};
+ghost use Rattle.vm_memory_guest.specs.Memory as guest;
 ghost use Rattle.vm_memory.specs.Machine.{Step, Run};
 ghost use Rattle.vm_memory.specs.Reply.{reached_by, is_partial};
 ghost use Rattle.vm_memory.specs.Rounds.{MirrorsBlock, IsTracked, RunsDirectly, KeepsImage};
 ghost use Rattle.vm_memory.specs.Rounds.{image_now, bytes_of, IsSynced};
-ghost use Rattle.vm_memory.specs.State.{State, MachineMemory, meaning};
+ghost use Rattle.vm_memory.specs.State.{State};
 ghost use Rattle.vm_memory.specs.declared.machine.command.Command.{Command};
 ghost use Rattle.vm_memory.specs.declared.machine.command.Command.TheVariants as command;
 ghost use Rattle.vm_memory.specs.declared.machine.command.Command.TheVariants.{Harvest};
@@ -86,9 +87,9 @@ pub fn synced_images_are_the_block()
 /// reaches, patched with the pages that are dirty then.
 pub fn reads_are_of_the_image()
     ensures { (block : ℕ) (image : List ℕ) (old new : State) (memory : ℕ) (addr : GuestAddress) (n : ℕ)
-        (bytes : List ℕ) (m : MachineMemory) (k : ℕ) (x : Reached) → MirrorsBlock block old.host image
+        (bytes : List ℕ) (m : guest.Memory) (k : ℕ) (x : Reached) → MirrorsBlock block old.host image
         → Step old (command.Read memory addr n) (Bytes bytes) new → slice_get old.memories memory ≡ Some m
-        → slice_get (reached_by (meaning m) old.host.tables addr.0 n permissions.Read).path k ≡ Some x
+        → slice_get (reached_by m old.host.tables addr.0 n permissions.Read).path k ≡ Some x
         → x.cell.block ≡ block
         → slice_get bytes k ≡ Some (slice_index (image_now block old.host image) x.cell.offset) }
 {}

@@ -10,7 +10,8 @@ mod system;
 mod turns;
 
 pub use self::script::{ScriptSink, ScriptSource, SinkStep, SourceStep};
-use self::turns::{offer_again, read_again};
+use self::turns::read_again;
+pub use self::turns::{is_interrupted, offer_again};
 use std::fmt;
 use std::io::{self, ErrorKind};
 use std::marker::Model;
@@ -228,9 +229,10 @@ pub trait WriteVolatile {
     /// Takes the whole buffer, by as many writes as that takes. A write that is interrupted is made again, at
     /// most 64 times in a row. `WriteZero` where the sink takes nothing of bytes that are left.
     final fn write_all_volatile(&mut self, buf: &[u8]) -> VolatileMemoryResult<()>
-        ensures { (count : ℕ) × (count ≤ length buf.now) × OnOk result (count ≡ length buf.now)
+        ensures sends { (count : ℕ) × (count ≤ length buf.now) × OnOk result (count ≡ length buf.now)
             × Keeps (taken self.old) buf.now count (taken self.new)
             × SendsAs (may_want self.old) (sink self.old) (length buf.now) count result (sink self.new) }
+        ensures wants { may_want self.new → may_want self.old }
     {
         let mut done = 0;
         while done < buf.len() {

@@ -1,7 +1,7 @@
 -- Moves between a buffer and the windows of a walk, one after the other, and what they answer.
 use Rattle.std.specs.List.{AllByRecursion}
 use Rattle.std.specs.Prelude.{is_none}
-use Rattle.std.proofs.Common.{◌≡◌, ◌⊎◌, ℕ, true, false, ◌+◌, ◌-◌, ◌<◌, ◌≤◌, ◌≢◌, List, [], ◌∷◌, ◌++◌, map, take, drop, length, All, Option, Some, None, option_map, Result, Ok, Err, OnSome, MatchOption, IfOk, IsSome, refl, sym, ap, ap₂, subst, ◌∙◌, inl, inr, append_assoc, append-nil, take-append-drop, length-take-le, length-drop, arith}
+use Rattle.std.proofs.Common.{◌≡◌, ◌⊎◌, ℕ, Bool, true, false, ◌+◌, ◌-◌, ◌<◌, ◌≤◌, ◌≢◌, List, [], ◌∷◌, ◌++◌, map, take, drop, length, All, Option, Some, None, option_map, Result, Ok, Err, OnSome, MatchOption, IfOk, refl, sym, ap, ap₂, subst, ◌∙◌, inl, inr, append_assoc, append-nil, take-append-drop, length-take-le, length-drop, arith}
 use Rattle.std.proofs.lemmas.Bool.{cond_both}
 use Rattle.std.proofs.lemmas.Bool.Decides.{nat_tests}
 use borrow.Rule.Slice.PartMut.{put_mid}
@@ -12,7 +12,7 @@ use Rattle.vm_memory_guest.specs.Answer.{Reach, Outcome, counted, filled, told}
 use Rattle.vm_memory_guest.specs.Error.{error_of}
 use Rattle.vm_memory_guest.specs.Walk.{error_item, items_of, windows_before, reached, GivesAccess, RefusesAccess, WantsMemory}
 use Rattle.vm_memory_guest.specs.Host.{Host, Shape, Cell, Name, Holds, shape_of, bytes_at}
-use Rattle.vm_memory_guest.specs.Memory.{Memory, Behind, route, route_behind, behind_names, memory_names}
+use Rattle.vm_memory_guest.specs.Memory.{Memory, Switched, IsOn, behind_if, behind_of, route, route_behind, switched_names, memory_names}
 use Rattle.vm_memory_guest.specs.Region.{IsRegion}
 use Rattle.vm_memory_guest.specs.Window.{window_names, span, cells, cells_of, Writes, Window}
 use Rattle.vm_memory_guest.specs.declared.region.GuestMemoryError.{GuestMemoryError}
@@ -75,10 +75,10 @@ pub record Came (start left : Reach Fault) (done : List Window) (total : ℕ) : 
   pub fault : option_map error_of start.fault ≡ option_map error_of left.fault
   pub count : total ≡ span done
 
-came_first : (start : Reach Fault) → Came start start [] 0
+pub came_first : (start : Reach Fault) → Came start start [] 0
 came_first start = record { windows = refl; fault = refl; count = refl }
 
-came_more : {start left next : Reach Fault} {done : List Window} {w : Window} {total : ℕ} → Came start left done total → Gave left next w → (len : ℕ) → len ≡ w.size → Came start next (done ++ w ∷ []) (total + len)
+pub came_more : {start left next : Reach Fault} {done : List Window} {w : Window} {total : ℕ} → Came start left done total → Gave left next w → (len : ℕ) → len ≡ w.size → Came start next (done ++ w ∷ []) (total + len)
 came_more {start} {left} {next} {done} {w} {total} came gives len is = record {
   windows = came.windows ∙ ap (λ (ws : List Window). done ++ ws) gives.windows ∙ sym (append_assoc done (w ∷ []) next.windows);
   fault = came.fault ∙ gives.fault;
@@ -218,16 +218,20 @@ none_reached = refl
 pub accessed-refused : (memory : Memory) (tables : List Table) (a n : ℕ) (access : Permissions) (e : GuestMemoryError) → RefusesAccess memory tables a n access e → told error_of (reached memory tables a n access) ≡ record { windows = []; fault = Some e }
 accessed-refused memory tables a n access e refused = rw (refused.0, refused.1, none_reached) refl
 
-route_held : (shape : Shape) (behind : Option Behind) (tables : List Table) → Holds shape (behind_names behind) → Holds shape (route_names (route_behind behind tables))
+route_held : (shape : Shape) (iommu : Option Switched) (tables : List Table) → Holds shape (switched_names iommu) → Holds shape (route_names (route_behind (behind_of iommu) tables))
 route_held shape None tables h = tt
-route_held shape (Some b) tables h = (h.1.0, tt)
+route_held shape (Some s) tables h = go s.on
+  where
+    go : (on : Bool) → Holds shape (route_names (route_behind (behind_if on s.behind) tables))
+    go false = tt
+    go true = (h.1.0, tt)
 
 -- a host that holds a memory holds the windows of its accesses
 reached-held : (shape : Shape) (memory : Memory) (tables : List Table) (a n : ℕ) (access : Permissions) → All IsRegion memory.regions → Holds shape (memory_names memory) → AllByRecursion (λ w. Holds shape (window_names w)) (reached memory tables a n access).windows
 reached-held shape memory tables a n access each held =
     let way = route memory tables in
     let regions = memory.regions in
-    let parts = Holds-append shape _ (behind_names memory.iommu) held in
+    let parts = Holds-append shape _ (switched_names memory.iommu) held in
     cond_both (allowed way a n access) (record { path = path (meets regions way a) 0 n; fault = first_fault (meets regions way a) 0 n }) (record { path = []; fault = Some (refusal way a n) }) (λ (x : Access). AllByRecursion (λ w. Holds shape (window_names w)) (windows x.path))
     (λ h. windows-held shape regions way a n each parts.0 (route_held shape memory.iommu tables parts.1))
     (λ h. subst (AllByRecursion (λ w. Holds shape (window_names w))) (sym none_reached) tt)
@@ -278,10 +282,10 @@ module _ (memory : Memory) (tables : List Table) (a n : ℕ) (access : Permissio
 
   -- what it reached is what the access does
   pub outcome-walk : (r : Result ℕ GuestMemoryError) (unchanged : Type 0) (Effect : List Window → Type 0) → r ≡ counted (span walk.windows) (option_map error_of walk.fault) n → Effect walk.windows
-      → let x = told error_of (reached memory tables a n access) in Outcome errors.Memory (IsSome memory.iommu) (counted (span x.windows) x.fault n) unchanged (Effect x.windows) r
+      → let x = told error_of (reached memory tables a n access) in Outcome errors.Memory (IsOn memory) (counted (span x.windows) x.fault n) unchanged (Effect x.windows) r
   outcome-walk r unchanged Effect answer done =
       let x = told error_of (reached memory tables a n access) in
-      outcome errors.Memory (IsSome memory.iommu) r (counted (span x.windows) x.fault n) unchanged (Effect x.windows)
+      outcome errors.Memory (IsOn memory) r (counted (span x.windows) x.fault n) unchanged (Effect x.windows)
       (subst (λ (y : Reach Fault). r ≡ counted (span y.windows) (option_map error_of y.fault) n) gives.1 answer)
       (subst (λ (y : Reach Fault). Effect y.windows) gives.1 done)
 
@@ -291,7 +295,7 @@ module _ (memory : Memory) (tables : List Table) (a n : ℕ) (access : Permissio
 
 -- the outcome of an access without a walk
 pub outcome-refused : (memory : Memory) (tables : List Table) (a n : ℕ) (access : Permissions) (unchanged : Type 0) (Effect : List Window → Type 0) (e : GuestMemoryError) → (WantsMemory memory e ⊎ RefusesAccess memory tables a n access e) → unchanged → Effect []
-    → let x = told error_of (reached memory tables a n access) in Outcome {T = ℕ} errors.Memory (IsSome memory.iommu) (counted (span x.windows) x.fault n) unchanged (Effect x.windows) (Err e)
+    → let x = told error_of (reached memory tables a n access) in Outcome {T = ℕ} errors.Memory (IsOn memory) (counted (span x.windows) x.fault n) unchanged (Effect x.windows) (Err e)
 outcome-refused memory tables a n access unchanged Effect e why kept done = elim why [
   | inl wanted ↦ inl (wanted.0, wanted.1, kept)
   | inr refused ↦

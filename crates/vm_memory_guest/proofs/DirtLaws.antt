@@ -179,7 +179,7 @@ module _ {B : Type 0} (marks : B → ℕ → ℕ → B → Type 0) (pages : B �
         (changed_same (marked offset 0) (empty offset) host.spaces space)
 
     -- a window of exact bitmaps marks their pages
-    with_pages-MarksWindow : (w : Window) (old new : Host B) → MarksWindow marks w old new
+    pub with_pages-MarksWindow : (w : Window) (old new : Host B) → MarksWindow marks w old new
         → with_pages pages new ≡ marks_pages w.bitmap.id w.bitmap.base w.size (with_pages pages old)
     with_pages-MarksWindow w old new h = at w.size h
       where

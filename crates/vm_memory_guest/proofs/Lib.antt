@@ -8,6 +8,8 @@ pub mod WrittenLaws
 pub mod PathLaws
 pub mod PathWalk
 pub mod WalkLemmas
+pub mod PieceLemmas
+pub mod PieceWalk
 pub mod TransferLemmas
 pub mod TypedLemmas
 pub mod TypedWalk
@@ -23,3 +25,6 @@ pub mod QueryLemmas
 pub mod TryLemmas
 pub mod WholeRanges
 pub mod AccessLemmas
+pub mod OrderLemmas
+pub mod DealtLaws
+pub mod GivenLaws

@@ -1,10 +1,11 @@
 -- Short names for the values that the small cases of module `examples` speak of.
-use Rattle.std.specs.Prelude.{◌≡◌, ℕ, Bool, false, List, [], ◌∷◌, length, replicate, Some, None, Result, Ok}
+use Rattle.std.specs.Prelude.{◌≡◌, ℕ, Bool, true, false, List, [], ◌∷◌, length, replicate, Some, None, Result, Ok}
 use Rattle.vm_memory_base.specs.Pages.{PageSet, marked}
 use Rattle.vm_memory_base.specs.Runs.{Run}
 use Rattle.vm_memory_base.specs.Table.{Table, Mapping}
 use Rattle.vm_memory_base.specs.declared.address.GuestAddress.{GuestAddress}
 use Rattle.vm_memory_base.specs.declared.bitmap.BitmapId.{BitmapId}
+use Rattle.vm_memory_base.specs.declared.iotlb.lookup.MappedRange.{MappedRange}
 use Rattle.vm_memory_base.specs.declared.bitmap.BitmapId.TheVariants.{Block}
 use Rattle.vm_memory_base.specs.declared.iotlb.IommuError.TheVariants.{CannotResolve}
 use Rattle.vm_memory_base.specs.declared.iotlb.Permissions.{Permissions}
@@ -109,14 +110,22 @@ run_of start len difference permissions = record {
 abbrev pub table_of : List (Run Mapping) → Table
 table_of ranges = record { limit = None; ranges = ranges }
 
--- regions behind an IOMMU that is on, with this table and this space
-abbrev pub memory_with_iommu : List Region → ℕ → ℕ → Memory
-memory_with_iommu regions table space = record {
+-- regions behind an IOMMU with this table and this space, and whether it is on
+abbrev pub memory_switched : Bool → List Region → ℕ → ℕ → Memory
+memory_switched on regions table space = record {
   regions = regions;
-  iommu = Some (record { table = table; space = space });
+  iommu = Some (record { behind = record { table = table; space = space }; on = on });
 }
 
--- regions with no IOMMU, or behind one that is off
+-- the same where it is on
+abbrev pub memory_with_iommu : List Region → ℕ → ℕ → Memory
+memory_with_iommu regions table space = memory_switched true regions table space
+
+-- a piece of a translation: so many addresses from one on
+abbrev pub piece : ℕ → ℕ → MappedRange
+piece base len = record { base = record { 0 = base }; length = len }
+
+-- regions with no IOMMU
 abbrev pub memory_without_iommu : List Region → Memory
 memory_without_iommu regions = record { regions = regions; iommu = None }
 

@@ -11,6 +11,7 @@ pub mod Layout
 pub mod Memory
 pub mod Mmap
 pub mod Ranges
+pub mod Pieces
 pub mod Queries
 pub mod Region
 pub mod RegionBytes
@@ -21,3 +22,4 @@ pub mod TypedFacts
 pub mod Volatile
 pub mod Walk
 pub mod Window
+pub mod Dealt

@@ -1,5 +1,5 @@
 -- Guest memory: its regions, and the translation that its accesses go through.
-use Rattle.std.specs.Prelude.{ℕ, ◌+◌, List, [], ◌∷◌, ◌++◌, flat_map, slice_get, Option, Some, None}
+use Rattle.std.specs.Prelude.{ℕ, ◌+◌, Bool, true, false, List, [], ◌∷◌, ◌++◌, flat_map, slice_get, Option, Some, None, IsSome}
 use Rattle.vm_memory_base.specs.Address.{step}
 use Rattle.vm_memory_base.specs.Table.{Table, Says, says, says_nothing, Mapping, target}
 use Rattle.vm_memory_guest.specs.Host as host
@@ -11,10 +11,28 @@ pub record Behind : Type 0 where
   pub table : ℕ
   pub space : ℕ
 
--- regions, and what they lie behind where an IOMMU is on
+-- an IOMMU: what memory lies behind where it is on, and whether it is
+pub record Switched : Type 0 where
+  pub behind : Behind
+  pub on : Bool
+
+-- regions, and their IOMMU, if they have one
 pub record Memory : Type 0 where
   pub regions : List Region
-  pub iommu : Option Behind
+  pub iommu : Option Switched
+
+-- what a memory lies behind: nothing where its IOMMU is off
+abbrev pub behind_if : Bool → Behind → Option Behind
+behind_if false b = None
+behind_if true b = Some b
+
+abbrev pub behind_of : Option Switched → Option Behind
+behind_of None = None
+behind_of (Some s) = behind_if s.on s.behind
+
+-- a memory has an IOMMU that is on
+abbrev pub IsOn : Memory → Type 0
+IsOn memory = IsSome (behind_of memory.iommu)
 
 -- how addresses become physical: as they are, or by what a table says of them, and then writes mark a space
 pub data Route : Type 0 where
@@ -30,7 +48,7 @@ route_behind None tables = Direct
 route_behind (Some b) tables = Through (says_of (slice_get tables b.table)) b.space
 
 abbrev pub route : Memory → List Table → Route
-route memory tables = route_behind memory.iommu tables
+route memory tables = route_behind (behind_of memory.iommu) tables
 
 -- the mapping of the byte i of an access at a, where its address is translated and has one
 abbrev pub mapping_of : Route → ℕ → ℕ → Option Mapping
@@ -47,10 +65,10 @@ abbrev pub physical : Route → ℕ → ℕ → ℕ
 physical Direct a i = step a i
 physical (Through f space) a i = translated (a + i) (f (a + i))
 
--- what a memory names: the bytes of its regions, and its table and space where its IOMMU is on
-abbrev pub behind_names : Option Behind → List Name
-behind_names None = []
-behind_names (Some b) = host.Tlb b.table ∷ host.Space b.space ∷ []
+-- what a memory names: the bytes of its regions, and its table and space, also where its IOMMU is off
+abbrev pub switched_names : Option Switched → List Name
+switched_names None = []
+switched_names (Some s) = host.Tlb s.behind.table ∷ host.Space s.behind.space ∷ []
 
 abbrev pub memory_names : Memory → List Name
-memory_names memory = flat_map region_names memory.regions ++ behind_names memory.iommu
+memory_names memory = flat_map region_names memory.regions ++ switched_names memory.iommu

@@ -28,3 +28,8 @@ place_in (Ok w) offset size = as_guest (aligned_of w offset size)
 
 abbrev pub region_place : Region → ℕ → ℕ → Result Window GuestMemoryError
 region_place r offset size = place_in (slice_of r 0 r.len) offset size
+
+-- what a transfer moves of a region: what it moves of the window of all its bytes
+abbrev pub moved_in : Result Window GuestMemoryError → (Window → Reach VolatileMemoryError) → Reach GuestMemoryError
+moved_in (Err e) moved = record { windows = []; fault = Some e }
+moved_in (Ok w) moved = told of_window (moved w)

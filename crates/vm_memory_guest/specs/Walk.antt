@@ -1,11 +1,11 @@
 -- Walks: the windows of an access, one after the other, and then the error of what stops it.
-use Rattle.std.specs.Prelude.{◌≡◌, ℕ, true, false, List, [], ◌∷◌, ◌++◌, map, Option, Some, None, IsSome, Result, Ok, Err}
+use Rattle.std.specs.Prelude.{◌≡◌, ℕ, true, false, List, [], ◌∷◌, ◌++◌, map, Option, Some, None, Result, Ok, Err}
 use Rattle.vm_memory_base.specs.Table.{Table}
 use Rattle.vm_memory_base.specs.declared.iotlb.Permissions.{Permissions}
 use Rattle.vm_memory_guest.specs.Access.{Fault, Access, windows, path, first_fault, meets, access_of, allowed, refusal}
 use Rattle.vm_memory_guest.specs.Answer.{Reach}
 use Rattle.vm_memory_guest.specs.Error.{error_of}
-use Rattle.vm_memory_guest.specs.Memory.{Memory, Direct, route}
+use Rattle.vm_memory_guest.specs.Memory.{Memory, IsOn, Direct, route}
 use Rattle.vm_memory_guest.specs.Region.{Region}
 use Rattle.vm_memory_guest.specs.Window.{Window}
 use Rattle.vm_memory_guest.specs.declared.region.GuestMemoryError.{GuestMemoryError}
@@ -56,4 +56,4 @@ RefusesAccess memory tables a n access e =
 
 -- there was no memory for the translation: an IOMMU is on
 abbrev pub WantsMemory : Memory → GuestMemoryError → Type 0
-WantsMemory memory e = (e ≡ errors.Memory) × IsSome memory.iommu
+WantsMemory memory e = (e ≡ errors.Memory) × IsOn memory

@@ -16,12 +16,14 @@ ghost use Rattle.vm_memory_guest.specs.Examples.{backed_region, bare_region, one
 ghost use Rattle.vm_memory_guest.specs.Examples.{cell_of, block_window, window_marking};
 ghost use Rattle.vm_memory_guest.specs.Examples.{host_of, one_block_shape, zeros};
 ghost use Rattle.vm_memory_guest.specs.Examples.{pages_of, clean_pages, MarksExactly};
-ghost use Rattle.vm_memory_guest.specs.Examples.{run_of, table_of, memory_with_iommu, memory_without_iommu};
+ghost use Rattle.vm_memory_guest.specs.Examples.{run_of, table_of, memory_switched, memory_with_iommu, memory_without_iommu};
+ghost use Rattle.vm_memory_guest.specs.Examples.{piece};
 ghost use Rattle.vm_memory_guest.specs.Examples.{two_regions, touching_regions, regions_with_hole};
 ghost use Rattle.vm_memory_guest.specs.Host as names;
 ghost use Rattle.vm_memory_guest.specs.Host.{shape_of, IsHeld, Holds, Place, Tlb};
 ghost use Rattle.vm_memory_guest.specs.Layout.{inserted, removed, binary_digits};
 ghost use Rattle.vm_memory_guest.specs.Memory.{Direct, Through, memory_names, route};
+ghost use Rattle.vm_memory_guest.specs.Pieces.{marking, walk_of_pieces};
 ghost use Rattle.vm_memory_guest.specs.Ranges.{HasBlocks, range_error, range_regions};
 ghost use Rattle.vm_memory_guest.specs.Region.{home, last, layout_error, slice_of, IsLayout, IsRegion};
 ghost use Rattle.vm_memory_guest.specs.Walk.{items_of, reach_of, walk_of, GivesAccess, RefusesAccess};
@@ -173,10 +175,12 @@ pub fn windows_of_a_region()
     ensures no_host_bytes { slice_of (bare_region 100 4) 0 1 ≡ Err HostAddressNotAvailable }
 {}
 
-/// A memory names the places of its regions' bytes, and its table and its space where its IOMMU is on.
+/// A memory names the places of its regions' bytes, and its table and its space, also where its IOMMU is off.
 pub fn what_a_memory_names()
-    ensures off { memory_names (memory_without_iommu (backed_region 100 4 0 2 ∷ bare_region 200 4 ∷ []))
+    ensures without { memory_names (memory_without_iommu (backed_region 100 4 0 2 ∷ bare_region 200 4 ∷ []))
         ≡ Place 0 2 4 ∷ [] }
+    ensures off { memory_names (memory_switched false (backed_region 100 4 0 2 ∷ []) 3 5)
+        ≡ Place 0 2 4 ∷ Tlb 3 ∷ names.Space 5 ∷ [] }
     ensures on { memory_names (memory_with_iommu (backed_region 100 4 0 2 ∷ []) 3 5)
         ≡ Place 0 2 4 ∷ Tlb 3 ∷ names.Space 5 ∷ [] }
 {}
@@ -378,6 +382,26 @@ pub fn where_windows_are_cut()
     ensures two_permissions { let says = new_table_after (Set 20 2 4 Read ∷ Set 24 6 4 ReadWrite ∷ []) in
         let reached = access_of (one_region 16) (Through says 0) 21 6 Read in
         windows reached.path ≡ window_marking 0 3 3 (Space 0) 21 ∷ window_marking 0 6 3 (Space 0) 24 ∷ [] }
+{}
+
+/// A walk over pieces gives the windows of each, up to the first fault. Where a piece goes on where the one before
+/// it ends there are two windows, and an empty piece has none. Windows mark the space at I/O addresses.
+pub fn walks_over_pieces()
+    ensures touching { marking 5 20 (walk_of_pieces (one_region 8) (piece 1 2 ∷ piece 3 0 ∷ piece 3 4 ∷ []))
+        ≡ record {
+          windows = window_marking 0 1 2 (Space 5) 20 ∷ window_marking 0 3 4 (Space 5) 22 ∷ [];
+          fault = None;
+        } }
+    ensures two_regions { marking 5 20 (walk_of_pieces touching_regions (piece 3 2 ∷ piece 0 1 ∷ [])) ≡ record {
+      windows = window_marking 0 3 1 (Space 5) 20 ∷ window_marking 1 0 1 (Space 5) 21
+          ∷ window_marking 0 0 1 (Space 5) 22 ∷ [];
+      fault = None;
+    } }
+    ensures stopped { marking 5 20 (walk_of_pieces regions_with_hole (piece 2 4 ∷ piece 0 1 ∷ [])) ≡ record {
+      windows = window_marking 0 2 2 (Space 5) 20 ∷ [];
+      fault = Some (NoRegion 4);
+    } }
+    ensures none { walk_of_pieces (one_region 8) [] ≡ record { windows = []; fault = None } }
 {}
 
 /// A walk gives the windows, and then the error of what stopped it. A walk over no bytes gives nothing.

@@ -4,4 +4,6 @@ pub mod access;
 pub mod backend;
 pub mod iter;
 pub mod memory;
+mod pieces;
 pub mod stop_on_error;
+mod transfer;

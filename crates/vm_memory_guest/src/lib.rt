@@ -13,6 +13,8 @@ pub mod query_examples;
 mod region;
 mod region_bytes;
 pub mod region_laws;
+pub mod transfer_examples;
+pub mod transfer_laws;
 pub mod typed_examples;
 pub mod typed_laws;
 mod volatile_memory;

@@ -1,15 +1,20 @@
 //! What paths and their windows have in common, for every list of regions and every route: each function
 //! here is a theorem, and does nothing.
 ghost use Rattle.std.specs.Prelude.{◌≡◌, ℕ, ◌+◌, ◌-◌, ◌<◌, ◌≤◌, ◌↔◌, true, List, [], ◌∷◌, Some, length, flat_map, All, MatchOption};
-ghost use Rattle.vm_memory_base.specs.Table.{Says};
+ghost use Rattle.vm_memory_base.specs.Lookup.{mapped_ranges};
+ghost use Rattle.vm_memory_base.specs.Table.{Says, is_allowed, pieces};
 ghost use Rattle.vm_memory_base.specs.declared.iotlb.Permissions.{Permissions};
 ghost use Rattle.vm_memory_guest.specs.Access.{Reached, Reaches, allowed, meets, path, windows, access_of};
 ghost use Rattle.vm_memory_guest.specs.Dirt.{path_cells, path_marks, window_marks};
 ghost use Rattle.vm_memory_guest.specs.Host.{Cell, Shape, Space, Holds};
 ghost use Rattle.vm_memory_guest.specs.Memory.{Route, Direct, Through};
+ghost use Rattle.vm_memory_guest.specs.Pieces.{marking, walk_of_pieces};
 ghost use Rattle.vm_memory_guest.specs.Queries.{is_whole};
 ghost use Rattle.vm_memory_guest.specs.Region.{Region, IsRegion, IsLayout, home, region_names, window_at};
+ghost use Rattle.vm_memory_guest.specs.Walk.{reach_of};
 ghost use Rattle.vm_memory_guest.specs.Window.{cells, window_names};
+
+use vm_memory_base::laws::table::{allowed_where_each_address_grants, same_mappings};
 
 /// The windows of a path put together are the path, and so are the marks of their bytes.
 pub fn windows_are_the_path()
@@ -42,6 +47,18 @@ pub fn ranges_are_whole_by_bytes()
         ↔ ((allowed route a n access ≡ true)
         × ((i : ℕ) → i < n → (x : Reached) × (meets regions route a i ≡ Reaches x))) }
 {}
+
+/// The pieces of a look-up that is allowed, walked one after the other, are the access: each window marks the
+/// space at the address that was asked for.
+pub fn pieces_are_the_access()
+    ensures { (regions : List Region) (f : Says) (space a n : ℕ) (access : Permissions)
+        → is_allowed f a n access ≡ true
+        → marking space a (walk_of_pieces regions (mapped_ranges (pieces f a n)))
+        ≡ reach_of (access_of regions (Through f space) a n access) }
+{
+    same_mappings();
+    allowed_where_each_address_grants();
+}
 
 /// The windows of a memory that a host holds are held.
 pub fn windows_of_a_held_memory_are_held()

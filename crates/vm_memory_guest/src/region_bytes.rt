@@ -1,7 +1,9 @@
 //! Access to the bytes of one region.
 ghost use Rattle.std.specs.Prelude.{◌≡◌, IfOk};
 ghost use Rattle.vm_memory_guest.specs.Region.{slice_of};
-ghost use Rattle.vm_memory_guest.specs.RegionBytes.{as_guest, region_place, region_reach};
+ghost use Rattle.vm_memory_guest.specs.RegionBytes.{as_guest, moved_in, region_place, region_reach};
+ghost use Rattle.vm_memory_guest.specs.Error.{of_window};
+ghost use Rattle.vm_memory_guest.specs.Transfer.{Alone, Once, cut_of, exact_of};
 ghost use Rattle.vm_memory_guest.specs.TypedFacts.{place-sized};
 ghost use Rattle.vm_memory_guest.specs.declared.region.GuestMemoryError.TheVariants as errors;
 
@@ -9,7 +11,10 @@ use crate::region::{GuestMemoryError, GuestMemoryRegion, GuestMemoryResult};
 use crate::volatile_memory::access::Bytes;
 use crate::volatile_memory::host::HostMemory;
 use std::sync::atomic::Ordering;
-use vm_memory_base::{AtomicAccess, Bitmap, ByteValued, MemoryRegionAddress, VolatileMemoryResult};
+use vm_memory_base::{
+    AtomicAccess, Bitmap, ByteValued, MemoryRegionAddress, ReadVolatile, VolatileMemoryResult,
+    WriteVolatile,
+};
 
 /// A region whose bytes are accessed by their offsets, as those of the window of all its bytes:
 /// docs/DEFINITIONS.md, "Accesses". A region without host bytes answers `HostAddressNotAvailable`.
@@ -31,6 +36,18 @@ impl<R: GuestMemoryRegionBytes> Bytes<MemoryRegionAddress> for R {
     ghost no_memory = { errors.Memory };
 
     ghost may_want = { λ r. ⊥ };
+
+    ghost moved = { λ r tables addr n access. moved_in (slice_of (R.region r) 0 (R.region r).len)
+        (λ w. cut_of w addr.0 n) };
+
+    ghost moved_whole = { λ r tables addr n access. moved_in (slice_of (R.region r) 0 (R.region r).len)
+        (λ w. exact_of w addr.0 n) };
+
+    ghost filling = { Alone };
+
+    ghost sending = { Once };
+
+    ghost failure = { of_window };
 
     #[inline]
     fn write<B: Bitmap>(
@@ -138,6 +155,50 @@ impl<R: GuestMemoryRegionBytes> Bytes<MemoryRegionAddress> for R {
     ) -> GuestMemoryResult<T> {
         let window = self.as_volatile_slice()?;
         told(window.load(host, addr.0 as usize, order))
+    }
+
+    fn read_volatile_from<F: ReadVolatile, B: Bitmap>(
+        &self,
+        host: &mut HostMemory<B>,
+        addr: MemoryRegionAddress,
+        src: &mut F,
+        count: usize,
+    ) -> GuestMemoryResult<usize> {
+        let window = self.as_volatile_slice()?;
+        told(window.read_volatile_from(host, addr.0 as usize, src, count))
+    }
+
+    fn read_exact_volatile_from<F: ReadVolatile, B: Bitmap>(
+        &self,
+        host: &mut HostMemory<B>,
+        addr: MemoryRegionAddress,
+        src: &mut F,
+        count: usize,
+    ) -> GuestMemoryResult<()> {
+        let window = self.as_volatile_slice()?;
+        told(window.read_exact_volatile_from(host, addr.0 as usize, src, count))
+    }
+
+    fn write_volatile_to<F: WriteVolatile, B: Bitmap>(
+        &self,
+        host: &HostMemory<B>,
+        addr: MemoryRegionAddress,
+        dst: &mut F,
+        count: usize,
+    ) -> GuestMemoryResult<usize> {
+        let window = self.as_volatile_slice()?;
+        told(window.write_volatile_to(host, addr.0 as usize, dst, count))
+    }
+
+    fn write_all_volatile_to<F: WriteVolatile, B: Bitmap>(
+        &self,
+        host: &HostMemory<B>,
+        addr: MemoryRegionAddress,
+        dst: &mut F,
+        count: usize,
+    ) -> GuestMemoryResult<()> {
+        let window = self.as_volatile_slice()?;
+        told(window.write_all_volatile_to(host, addr.0 as usize, dst, count))
     }
 
     ghost place_has_all = { λ r tables addr n access.

@@ -4,6 +4,8 @@
 #[cfg(test)]
 mod example;
 #[cfg(test)]
+mod iommu;
+#[cfg(test)]
 mod layouts;
 #[cfg(test)]
 mod machines;

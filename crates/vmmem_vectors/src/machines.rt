@@ -13,8 +13,10 @@ use std::test::Fail;
 use vm_memory::machine::command::{Command, Fault, Reply};
 use vm_memory::machine::list::{ByteList, NumberList};
 use vm_memory::machine::{Machine, run};
-use vm_memory::{GuestAddress, HostMemory, IommuError, IovaRange, Reason};
+use vm_memory::{GuestAddress, HostMemory, IommuError, IovaRange, Reason, TableIommu};
 use vm_memory_guest::host_laws::regions_are_held_one_by_one;
+
+type TestMachine = Machine<TestRegion, TableIommu, ()>;
 
 // Whether a host holds each region.
 fn are_held(host: &HostMemory<()>, regions: &Vec<Arc<TestRegion>>) -> bool
@@ -25,13 +27,13 @@ fn are_held(host: &HostMemory<()>, regions: &Vec<Arc<TestRegion>>) -> bool
 }
 
 // A machine of these regions, and nothing made yet.
-fn machine_of(alloc: Global, places: &[Place]) -> Result<Machine<TestRegion, ()>, Fail> {
+fn machine_of(alloc: Global, places: &[Place]) -> Result<TestMachine, Fail> {
     let mut host = HostMemory::new(alloc);
     let regions = regions_of(alloc, &mut host, places)?;
     if !are_held(&host, &regions) {
         return Err(Fail::new("the host holds the regions"));
     }
-    Ok(Machine::new(alloc, host, regions))
+    Ok(Machine::new(alloc, host, regions, Vec::new(alloc)))
 }
 
 // Runs commands on a machine of these regions, so many at a time, and compares the lines of all replies.
@@ -53,7 +55,7 @@ fn expect_replies(
 
 // It tells its caller less than `run`, and so makes the proof there short.
 fn run_on(
-    machine: &mut Machine<TestRegion, ()>,
+    machine: &mut TestMachine,
     commands: &[Command],
     replies: &mut Vec<Reply>,
 ) -> Result<(), AllocError> {

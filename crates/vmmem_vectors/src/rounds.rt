@@ -8,10 +8,10 @@ use vm_memory::machine::list::{ByteList, NumberList};
 use vm_memory::machine::{Machine, run};
 use vm_memory::{
     BitmapId, BlockId, Bytes, ExactBitmap, ExclusiveBitmap, GuestAddress, GuestMemoryRegion,
-    GuestRegionMmap, HostMemory, MemoryRegionAddress, MmapRegion,
+    GuestRegionMmap, HostMemory, MemoryRegionAddress, MmapRegion, TableIommu,
 };
 
-type TestMachine = Machine<GuestRegionMmap, ExclusiveBitmap>;
+type TestMachine = Machine<GuestRegionMmap, TableIommu, ExclusiveBitmap>;
 
 // A machine over a block of so many bytes in pages of so many, which lies at 0 and again at 0x10000.
 fn machine_of(alloc: Global, size: usize, page_size: usize) -> Result<TestMachine, Fail> {
@@ -26,7 +26,7 @@ fn machine_of(alloc: Global, size: usize, page_size: usize) -> Result<TestMachin
     let low = GuestRegionMmap::new(mapping, GuestAddress(0)).ok_or("the region fits")?;
     let high = GuestRegionMmap::new(mapping, GuestAddress(0x10000)).ok_or("the region fits")?;
     let regions = vec![in alloc; Arc::new(alloc, low)?, Arc::new(alloc, high)?]?;
-    Ok(Machine::new(alloc, host, regions))
+    Ok(Machine::new(alloc, host, regions, Vec::new(alloc)))
 }
 
 // What a step of a test does.

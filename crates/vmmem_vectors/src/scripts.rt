@@ -8,7 +8,7 @@ use std::test::Fail;
 use vm_memory::{DriveFault, drive};
 
 // Scripts, and what they tell: their replies, and then the status and the text of a fault.
-const SCRIPTS: [(&[u8], &str); 25] = [
+const SCRIPTS: [(&[u8], &str); 31] = [
     (b"", ""),
     (b"\n\n# nothing\n#\xff\x00\r  \n", ""),
     (
@@ -152,6 +152,94 @@ const SCRIPTS: [(&[u8], &str); 25] = [
          pieces 0x8+0x2 0x0+0x2 0xc+0x2\nerror NoSuch\nerror NoSuch\nerror NoSuch\nerror NoSuch\n\
          fails misses 0x0+0x1 access -\n",
     ),
+    // A value is loaded from one piece of a translation or not at all. Where a piece has no more region the
+    // access ends. A write marks the space, and not the block. The greatest address is reached through no
+    // table.
+    (
+        b"block 0x2000 0x1000\nregion 0 0\nspace 0x6000 0x1000\ntable\ntranslator 0\nlayout 0\n\
+          memory 0 0 0 on\nset 0 0 0 2 rw\nset 0 2 2 0xffe r\nstore 0 1 2 9\nload 0 4 0\n\
+          set 0 2 2 0xffe rw\nload 0 4 0\nset 0 0x5000 0x1ffe 4 rw\nwrite 0 0x5000 01020304\n\
+          dirty space 0\ndirty block 0\nset 0 0xffffffffffffffff 0 1 r\nset 0 0xfffffffffffffffe 0 1 r\n\
+          lookup 0 0xffffffffffffffff 1 no\nread 0 0xffffffffffffffff 1\nread 0 0x5002 1\n\
+          readx 0 0x5000 4\n",
+        "block 0\nregion 0\nspace 0\ntable 0\ntranslator 0\nlayout 0\nmemory 0\nok\nok\n\
+         error G8 I1 0x2+0x1 access\nerror G4\nok\nvalue 0\nok\ncount 2\npages 5\npages -\n\
+         error BadRange\nok\nfails misses 0xffffffffffffffff+0x1 access -\n\
+         error G8 I1 0xffffffffffffffff+0x1 missing\nerror G1 0x2000\nerror G3 4 2\n",
+    ),
+    // The same accesses of a memory whose IOMMU is on, and then off: other places, other permissions, other
+    // marks. An access of no byte needs no mapping.
+    (
+        b"block 0x2000 0x1000\nregion 0 0\nspace 0x6000 0x1000\ntable\ntranslator 0\nlayout 0\n\
+          memory 0 0 0 on\nset 0 0x1000 0 0x802 rw\nset 0 0x1802 0x802 0x7fe r\nwrite 0 0x1000 0102\n\
+          writex 0 0x1002 0304\nstore 0 2 0x1004 0x605\nread 0 0x1000 7\nreadx 0 0x1800 4\n\
+          load 0 2 0x1002\nload 0 4 0x1800\ncheck 0 0x1800 4 r\ncheck 0 0x1800 4 w\nwritex 0 0x1801 0708\n\
+          read 0 0 1\nread 0 0 0\nwrite 0 0 -\ncheck 0 0 0 rw\nharvest block 0\nharvest space 0\n\
+          enable 0 off\nwrite 0 0x1000 1112\nwritex 0 0x1002 1314\nstore 0 2 0x1004 0x1615\n\
+          read 0 0x1000 7\nreadx 0 0x1800 4\nload 0 2 0x1002\nload 0 4 0x1800\ncheck 0 0x1800 4 r\n\
+          check 0 0x1800 4 w\nwritex 0 0x1801 0708\nread 0 0 6\nharvest block 0\nharvest space 0\n\
+          enable 0 off\nenable 0 on\nread 0 0x1000 7\nreadx 0 0x1801 2\n",
+        "block 0\nregion 0\nspace 0\ntable 0\ntranslator 0\nlayout 0\nmemory 0\nok\nok\ncount 2\nok\nok\n\
+         bytes 01020304050600\nbytes 00000000\nvalue 1027\nerror G4\ntrue\nfalse\n\
+         error G8 I1 0x1801+0x2 access\nerror G8 I1 0x0+0x1 missing\nbytes -\ncount 0\ntrue\npages -\n\
+         pages 1\nok\ncount 2\nok\nok\nbytes 11121314151600\nbytes 00000000\nvalue 5139\nvalue 0\ntrue\n\
+         true\nok\nbytes 010203040506\npages 1\npages -\nok\nok\nbytes 01020304050600\nbytes 0000\n",
+    ),
+    // A memory over another layout has the translator, the space and the switch of the one that it is made
+    // of, which stays. Each memory has a switch of its own. A number that names nothing makes nothing, and a
+    // plain memory has no IOMMU.
+    (
+        b"translator 0\nblock 4 1\nblock 4 1\nregion 0 0\nregion 1 0\nspace 0x20 1\ntable\ntranslator 5\n\
+          translator 0\nlayout 0\nlayout 1\nmemory 0 0 0 on\nset 0 0x10 0 4 rw\nreplace 0 1\n\
+          write 0 0x10 0102\nwrite 1 0x11 0304\nread 0 0x10 4\nread 1 0x10 4\ndirty space 0\n\
+          dirty block 0\ndirty block 1\nenable 1 off\nwrite 1 0 05\nread 1 0x10 1\nread 0 0x10 1\n\
+          read 0 0 1\nreplace 1 0\nread 2 0 4\nread 2 0x10 1\nenable 2 on\nread 2 0x10 2\nread 1 0 4\n\
+          harvest block 1\nplain 0\nreplace 3 0\nenable 3 off\nmemory 2 0 0 on\nmemory 0 1 0 on\n\
+          memory 0 0 1 on\nreplace 0 9\nreplace 4 0\nenable 9 on\nmemory 1 0 0 off\nread 4 0 4\n",
+        "error NoSuch\nblock 0\nblock 1\nregion 0\nregion 1\nspace 0\ntable 0\nerror NoSuch\n\
+         translator 0\nlayout 0\nlayout 1\nmemory 0\nok\nmemory 1\ncount 2\ncount 2\nbytes 01020000\n\
+         bytes 00030400\npages 16 17 18\npages -\npages -\nok\ncount 1\nerror G1 0x10\nbytes 01\n\
+         error G8 I1 0x0+0x1 missing\nmemory 2\nbytes 01020000\nerror G1 0x10\nok\nbytes 0102\n\
+         bytes 05030400\npages 0\nmemory 3\nerror NoSuch\nerror NoSuch\nerror NoSuch\nerror NoSuch\n\
+         error NoSuch\nerror NoSuch\nerror NoSuch\nerror NoSuch\nmemory 4\nbytes 05030400\n",
+    ),
+    // Two memories behind one IOMMU and a plain one, of one block: what one writes the others have where the
+    // table leads there. Each memory behind the IOMMU marks a space of its own.
+    (
+        b"block 0x2000 0x1000\nregion 0 0\nregion 0 0x4000\nspace 0x3000 0x1000\nspace 0x3000 0x1000\n\
+          table\ntranslator 0\nlayout 0\nlayout 0 1\nmemory 0 0 0 on\nmemory 1 0 1 on\nplain 0\n\
+          set 0 0 0x1000 0x1000 rw\nset 0 0x1000 0x4000 0x1000 rw\nset 0 0x2000 0 0x1000 r\n\
+          write 0 0x10 0102\nread 1 0x10 2\nread 2 0x1010 2\nwrite 1 0x1010 0304\nread 0 0x2010 2\n\
+          read 0 0x1010 2\nwrite 2 0x10 05\nread 0 0x2010 2\nread 1 0x1010 2\nwrite 1 0x2010 06\n\
+          check 0 0xfff 2 w\ncheck 1 0xfff 2 w\nwrite 1 0xfff 0708\nread 2 0x1fff 1\nread 0 0x2000 1\n\
+          write 0 0xfff 090a\nread 1 0xfff 2\nwritex 0 0xfff 0b0c\nread 1 0xfff 2\nharvest space 0\n\
+          harvest space 1\nharvest block 0\nenable 0 off\nread 0 0x10 2\nread 1 0x10 2\n",
+        "block 0\nregion 0\nregion 1\nspace 0\nspace 1\ntable 0\ntranslator 0\nlayout 0\nlayout 1\n\
+         memory 0\nmemory 1\nmemory 2\nok\nok\nok\ncount 2\nbytes 0102\nbytes 0102\ncount 2\nbytes 0304\n\
+         error G1 0x4010\ncount 1\nbytes 0504\nbytes 0504\nerror G8 I1 0x2010+0x1 access\nfalse\ntrue\n\
+         count 2\nbytes 07\nbytes 08\ncount 1\nbytes 0908\nerror G3 2 1\nbytes 0b08\npages 0\npages 0 1\n\
+         pages 0\nok\nbytes 0504\nbytes 0102\n",
+    ),
+    // What is taken out of a table is missing then, also where the rest may be accessed. An address that is
+    // missing comes before one that does not permit the access.
+    (
+        b"block 0x10 4\nregion 0 0\nspace 0x20 4\ntable\ntranslator 0\nlayout 0\nmemory 0 0 0 on\n\
+          set 0 0x10 0 0x10 rw\nwrite 0 0x10 01020304\ninvalidate 0 0x11 2\nread 0 0x10 1\nread 0 0x13 1\n\
+          read 0 0x10 2\nwrite 0 0x12 05\nreadx 0 0x12 2\nwritex 0 0x10 0506\nstore 0 1 0x11 5\n\
+          load 0 4 0x10\ncheck 0 0x10 4 r\ncheck 0 0x13 4 rw\nset 0 0x11 1 1 r\nwrite 0 0x10 0506\n\
+          write 0 0x11 0506\nclear 0\nread 0 0x13 1\nstore 0 1 0x1f 6\ncheck 0 0x13 1 no\n\
+          check 0 0x13 0 rw\nharvest space 0\nharvest block 0\nenable 0 off\nread 0 0 4\n",
+        "block 0\nregion 0\nspace 0\ntable 0\ntranslator 0\nlayout 0\nmemory 0\nok\ncount 4\nok\n\
+         bytes 01\nbytes 04\nerror G8 I1 0x10+0x2 missing\nerror G8 I1 0x12+0x1 missing\n\
+         error G8 I1 0x12+0x2 missing\nerror G8 I1 0x10+0x2 missing\nerror G8 I1 0x11+0x1 missing\n\
+         error G8 I1 0x10+0x4 missing\nfalse\ntrue\nok\nerror G8 I1 0x10+0x2 access\n\
+         error G8 I1 0x11+0x2 missing\nok\nerror G8 I1 0x13+0x1 missing\nerror G8 I1 0x1f+0x1 missing\n\
+         false\ntrue\npages 4\npages -\nok\nbytes 01020304\n",
+    ),
+    (
+        b"block 1 1\ntable\nplain 0\ntranslator 0\n",
+        "block 0\ntable 0\nerror NoSuch\n1 line 4: bad line",
+    ),
     (
         b"block 1 1\nplain 0\nregion 0 0\n",
         "block 0\nerror NoSuch\n1 line 3: bad line",
@@ -185,7 +273,7 @@ fn each_line_has_its_reply(rt: HostRuntime) -> Result<(), Fail> {
 }
 
 // Lines that are bad before the first command and after it.
-const BAD_LINES: [&[u8]; 107] = [
+const BAD_LINES: [&[u8]; 116] = [
     // tables and accesses
     b"table 0",
     b"set 0 0 0 1",
@@ -193,6 +281,16 @@ const BAD_LINES: [&[u8]; 107] = [
     b"invalidate 0 0",
     b"clear 0 0",
     b"lookup 0 0 1 R",
+    // memories behind an IOMMU
+    b"translator",
+    b"translator 0 0",
+    b"memory 0 0 0",
+    b"memory 0 0 0 yes",
+    b"memory 0 0 0 on 1",
+    b"replace 0",
+    b"enable 0",
+    b"enable 0 1",
+    b"enable 0 ON",
     // between words there is one space, and no other byte
     b" ",
     b"\r",

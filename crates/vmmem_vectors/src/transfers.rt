@@ -7,12 +7,15 @@ use std::fs::{self, File, OpenOptions};
 use std::io::{self, Cursor};
 use std::net::{TcpListener, TcpStream};
 use std::os::unix::net::UnixStream;
+use std::sync::Arc;
 use std::test::Fail;
 use vm_memory_base::{
-    ByteList, GuestAddress, IoError, ReadVolatile, ScriptSink, ScriptSource, SinkStep, SourceStep,
-    VolatileMemoryError, WriteVolatile,
+    ByteList, GuestAddress, IoError, MemoryRegionAddress, ReadVolatile, ScriptSink, ScriptSource,
+    SinkStep, SourceStep, VolatileMemoryError, WriteVolatile,
 };
-use vm_memory_guest::GuestMemoryError;
+use vm_memory_guest::{
+    Bytes, GuestMemoryError, GuestMemoryMmap, GuestRegionMmap, HostMemory, MmapRegion,
+};
 
 // What a source reads into five bytes, what it fills them with, and what it has left for five more.
 fn reads<S: ReadVolatile>(alloc: Global, source: &mut S, out: &mut String) -> Result<(), Fail> {
@@ -201,4 +204,163 @@ fn a_failure_has_the_text_of_its_error(rt: HostRuntime) -> Result<(), Fail> {
     let text = format!(in rt.alloc(); "{of_window}, {of_memory}, {kind}")?;
     let wanted = "the guest is gone, Guest memory error: the guest is gone, operation interrupted";
     expect_text(0, text.as_str(), wanted)
+}
+
+// Two regions of four bytes that touch.
+fn two_regions(alloc: Global, host: &mut HostMemory<()>) -> Result<GuestMemoryMmap, Fail> {
+    let mut regions = Vec::new(alloc);
+    for start in [0, 4] {
+        let block = MmapRegion::new(host, 4)?;
+        let region = GuestRegionMmap::new(block, GuestAddress(start)).ok_or("the region fits")?;
+        regions.push(Arc::new(alloc, region)?)?;
+    }
+    Ok(GuestMemoryMmap::from_arc_regions(regions)?)
+}
+
+// A transfer of eight bytes into the regions, and the bytes that it leaves.
+fn comes_in(
+    alloc: Global,
+    exact: bool,
+    steps: &[SourceStep],
+    out: &mut String,
+) -> Result<(), Fail> {
+    let mut host = HostMemory::<()>::new(alloc);
+    let memory = two_regions(alloc, &mut host)?;
+    if !host.holds(&memory) {
+        return Err(Fail::new("the host holds the memory"));
+    }
+    let mut source = ScriptSource::new(steps);
+    let start = GuestAddress(0);
+    if exact {
+        let answer = memory.read_exact_volatile_from(&mut host, start, &mut source, 8);
+        write!(out, "{answer:?}")?;
+    } else {
+        let answer = memory.read_volatile_from(&mut host, start, &mut source, 8);
+        write!(out, "{answer:?}")?;
+    }
+    let mut all = [0u8; 8];
+    memory.read_slice(&host, &mut all, start)?;
+    writeln!(out, " {all:?}")?;
+    Ok(())
+}
+
+const COME_IN: &str = "\
+Ok(2) [1, 2, 0, 0, 0, 0, 0, 0]
+Err(PartialBuffer { expected: 8, completed: 6 }) [1, 2, 3, 4, 5, 6, 0, 0]
+Err(IOError(Kind(Other))) [1, 2, 3, 4, 9, 0, 0, 0]
+";
+
+#[test]
+fn transfers_come_in(rt: HostRuntime) -> Result<(), Fail> {
+    let alloc = rt.alloc();
+    let mut out = String::new(alloc);
+    let steps = vec![in alloc; give(alloc, &[1, 2])?, give(alloc, &[3, 4, 5, 6])?]?;
+    comes_in(alloc, false, steps.as_slice(), &mut out)?;
+    comes_in(alloc, true, steps.as_slice(), &mut out)?;
+    let scribble = ByteList::from_vec(vec![in alloc; 9u8]?);
+    let steps = vec![in alloc; give(alloc, &[1, 2, 3, 4])?, SourceStep::Fail(scribble)]?;
+    comes_in(alloc, false, steps.as_slice(), &mut out)?;
+    expect_text(0, out.as_str(), COME_IN)
+}
+
+// A transfer of eight bytes out of the regions, and what the sink took.
+fn goes_out(
+    alloc: Global,
+    exact: bool,
+    addr: GuestAddress,
+    steps: &[SinkStep],
+    out: &mut String,
+) -> Result<(), Fail> {
+    let mut host = HostMemory::<()>::new(alloc);
+    let memory = two_regions(alloc, &mut host)?;
+    if !host.holds(&memory) {
+        return Err(Fail::new("the host holds the memory"));
+    }
+    memory.write_slice(&mut host, &[1, 2, 3, 4, 5, 6, 7, 8], GuestAddress(0))?;
+    let mut sink = ScriptSink::new(alloc, steps, 8)?;
+    if exact {
+        let answer = memory.write_all_volatile_to(&host, addr, &mut sink, 8);
+        write!(out, "{answer:?}")?;
+    } else {
+        let answer = memory.write_volatile_to(&host, addr, &mut sink, 8);
+        write!(out, "{answer:?}")?;
+    }
+    writeln!(out, " {:?}", sink.taken())?;
+    Ok(())
+}
+
+const GO_OUT: &str = "\
+Ok(8) [1, 2, 3, 4, 5, 6, 7, 8]
+Err(PartialBuffer { expected: 8, completed: 6 }) [3, 4, 5, 6, 7, 8]
+Err(IOError(Kind(WriteZero))) [1, 2, 3]
+Err(InvalidGuestAddress(GuestAddress(8))) []
+";
+
+#[test]
+fn transfers_go_out(rt: HostRuntime) -> Result<(), Fail> {
+    let alloc = rt.alloc();
+    let mut out = String::new(alloc);
+    let start = GuestAddress(0);
+    goes_out(alloc, false, start, &[SinkStep::Take(3)], &mut out)?;
+    goes_out(alloc, true, GuestAddress(2), &[], &mut out)?;
+    let steps = [SinkStep::Take(3), SinkStep::Take(0)];
+    goes_out(alloc, false, start, &steps, &mut out)?;
+    goes_out(alloc, false, GuestAddress(8), &[], &mut out)?;
+    expect_text(0, out.as_str(), GO_OUT)
+}
+
+const WINDOW_TRANSFERS: &str = "\
+Ok(2) Ok(()) [7, 8, 1, 2]
+Err(IOError(Kind(UnexpectedEof))) Err(InvalidBackendAddress) [7, 8, 1, 2]
+Ok(3) Ok(()) [7, 8, 1, 1, 2]
+Err(InvalidBackendAddress) Ok(0)
+";
+
+#[test]
+fn transfers_of_a_region(rt: HostRuntime) -> Result<(), Fail> {
+    let alloc = rt.alloc();
+    let mut out = String::new(alloc);
+    let mut host = HostMemory::<()>::new(alloc);
+    let block = MmapRegion::new(&mut host, 4)?;
+    let region = GuestRegionMmap::new(block, GuestAddress(0)).ok_or("the region fits")?;
+    assert!(rt; host.holds(&region));
+    let mut all = [0u8; 4];
+
+    let part = region.read_volatile_from(
+        &mut host,
+        MemoryRegionAddress(2),
+        &mut &[1u8, 2, 3][..],
+        8,
+    );
+    let whole = region.read_exact_volatile_from(
+        &mut host,
+        MemoryRegionAddress(0),
+        &mut &[7u8, 8, 9][..],
+        2,
+    );
+    region.read_slice(&host, &mut all, MemoryRegionAddress(0))?;
+    writeln!(out, "{part:?} {whole:?} {all:?}")?;
+    let short = region.read_exact_volatile_from(
+        &mut host,
+        MemoryRegionAddress(0),
+        &mut &[5u8][..],
+        2,
+    );
+    let past = region.read_exact_volatile_from(
+        &mut host,
+        MemoryRegionAddress(2),
+        &mut &[5u8][..],
+        3,
+    );
+    region.read_slice(&host, &mut all, MemoryRegionAddress(0))?;
+    writeln!(out, "{short:?} {past:?} {all:?}")?;
+
+    let mut sink = ScriptSink::new(alloc, &[SinkStep::Interrupted, SinkStep::Take(3)], 8)?;
+    let part = region.write_volatile_to(&host, MemoryRegionAddress(0), &mut sink, 8);
+    let whole = region.write_all_volatile_to(&host, MemoryRegionAddress(2), &mut sink, 2);
+    writeln!(out, "{part:?} {whole:?} {:?}", sink.taken())?;
+    let past = region.write_volatile_to(&host, MemoryRegionAddress(5), &mut sink, 0);
+    let none = region.write_volatile_to(&host, MemoryRegionAddress(4), &mut sink, 1);
+    writeln!(out, "{past:?} {none:?}")?;
+    expect_text(0, out.as_str(), WINDOW_TRANSFERS)
 }

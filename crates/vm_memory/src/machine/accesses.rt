@@ -1,7 +1,8 @@
 //! The commands that access memories.
-ghost use Rattle.std.specs.Prelude.{◌≡◌, ◌⊎◌, List, length, IsOk, IfOk, IsSome};
+ghost use Rattle.std.specs.Prelude.{◌≡◌, ◌⊎◌, List, length, IsOk, IfOk};
 ghost use Rattle.vm_memory_guest.specs.Dirt.{with_pages};
 ghost use Rattle.vm_memory_guest.specs.Host.{shape_of, Holds};
+ghost use Rattle.vm_memory_guest.specs.Memory.{IsOn};
 ghost use Rattle.vm_memory.specs.Machine.{Step};
 ghost use Rattle.vm_memory.specs.Parts.{state_of};
 ghost use Rattle.vm_memory.specs.Reply.{reads, writes, reads_whole, writes_whole, reply_of, reply_of_error};
@@ -10,6 +11,7 @@ ghost use Rattle.vm_memory.specs.declared.machine.command.Command.TheVariants as
 use super::Machine;
 use super::command::{Fault, Reply};
 use super::list::ByteList;
+use crate::iommu::Iommu;
 use std::alloc::{AllocError, Global};
 use vm_memory_base::{ExactBitmap, GuestAddress};
 use vm_memory_guest::access_laws::accesses_are_by_bytes;
@@ -17,10 +19,10 @@ use vm_memory_guest::{
     Bytes, GuestMemory, GuestMemoryError, GuestMemoryRegion, GuestMemoryResult, HostMemory,
 };
 
-impl<R: GuestMemoryRegion, B: ExactBitmap> Machine<R, B> {
+impl<R: GuestMemoryRegion, I: Iommu, B: ExactBitmap> Machine<R, I, B> {
     pub(super) fn read(&mut self, memory: usize, addr: GuestAddress, count: usize) -> Reply
-        ensures { let before = state_of R.region B.pages self.old in
-            Step before (command.Read memory addr count) result (state_of R.region B.pages self.new) }
+        ensures { let before = state_of R.region I.number B.pages self.old in
+            Step before (command.Read memory addr count) result (state_of R.region I.number B.pages self.new) }
     {
         let Some(memory) = self.memories.get(memory) else {
             return Reply::NoSuch;
@@ -32,8 +34,8 @@ impl<R: GuestMemoryRegion, B: ExactBitmap> Machine<R, B> {
     }
 
     pub(super) fn write(&mut self, memory: usize, addr: GuestAddress, bytes: &[u8]) -> Reply
-        ensures { let before = state_of R.region B.pages self.old in
-            Step before (command.Write memory addr bytes.now) result (state_of R.region B.pages self.new) }
+        ensures { let before = state_of R.region I.number B.pages self.old in
+            Step before (command.Write memory addr bytes.now) result (state_of R.region I.number B.pages self.new) }
     {
         let Some(memory) = self.memories.get(memory) else {
             return Reply::NoSuch;
@@ -42,8 +44,8 @@ impl<R: GuestMemoryRegion, B: ExactBitmap> Machine<R, B> {
     }
 
     pub(super) fn read_slice(&mut self, memory: usize, addr: GuestAddress, count: usize) -> Reply
-        ensures { let before = state_of R.region B.pages self.old in
-            Step before (command.ReadSlice memory addr count) result (state_of R.region B.pages self.new) }
+        ensures { let before = state_of R.region I.number B.pages self.old in
+            Step before (command.ReadSlice memory addr count) result (state_of R.region I.number B.pages self.new) }
     {
         let Some(memory) = self.memories.get(memory) else {
             return Reply::NoSuch;
@@ -55,8 +57,8 @@ impl<R: GuestMemoryRegion, B: ExactBitmap> Machine<R, B> {
     }
 
     pub(super) fn write_slice(&mut self, memory: usize, addr: GuestAddress, bytes: &[u8]) -> Reply
-        ensures { let before = state_of R.region B.pages self.old in
-            Step before (command.WriteSlice memory addr bytes.now) result (state_of R.region B.pages self.new) }
+        ensures { let before = state_of R.region I.number B.pages self.old in
+            Step before (command.WriteSlice memory addr bytes.now) result (state_of R.region I.number B.pages self.new) }
     {
         let Some(memory) = self.memories.get(memory) else {
             return Reply::NoSuch;
@@ -74,7 +76,7 @@ fn read_into<M: GuestMemory, B: ExactBitmap>(
 ) -> Reply
     requires { Holds (shape_of host.now) (M.names memory.now) }
     ensures { let m = M.memory memory.now in let before = with_pages B.pages host.now in
-        (result ≡ reads m before addr.0 (length buffer.items)) ⊎ ((result ≡ Reply.Memory) × IsSome m.iommu) }
+        (result ≡ reads m before addr.0 (length buffer.items)) ⊎ ((result ≡ Reply.Memory) × IsOn m) }
 {
     accesses_are_by_bytes::<B>();
     match memory.read(host, buffer.as_mut_slice(), addr) {
@@ -97,7 +99,7 @@ fn write_from<M: GuestMemory, B: ExactBitmap>(
     ensures written { let m = M.memory memory.now in let before = with_pages B.pages host.old in
         let after = with_pages B.pages host.new in
         ((result, after) ≡ writes m before addr.0 bytes.now)
-        ⊎ ((result ≡ Reply.Memory) × IsSome m.iommu × (after ≡ before)) }
+        ⊎ ((result ≡ Reply.Memory) × IsOn m × (after ≡ before)) }
     ensures shape { shape_of host.new ≡ shape_of host.old }
 {
     accesses_are_by_bytes::<B>();
@@ -117,7 +119,7 @@ fn fill<M: GuestMemory, B: ExactBitmap>(
     requires { Holds (shape_of host.now) (M.names memory.now) }
     ensures { let m = M.memory memory.now in let before = with_pages B.pages host.now in
         (result ≡ reads_whole m before addr.0 (length buffer.items))
-        ⊎ ((result ≡ Reply.Memory) × IsSome m.iommu) }
+        ⊎ ((result ≡ Reply.Memory) × IsOn m) }
 {
     accesses_are_by_bytes::<B>();
     match memory.read_slice(host, buffer.as_mut_slice(), addr) {
@@ -137,7 +139,7 @@ fn write_whole<M: GuestMemory, B: ExactBitmap>(
     ensures written { let m = M.memory memory.now in let before = with_pages B.pages host.old in
         let after = with_pages B.pages host.new in
         ((result, after) ≡ writes_whole m before addr.0 bytes.now)
-        ⊎ ((result ≡ Reply.Memory) × IsSome m.iommu × (after ≡ before)) }
+        ⊎ ((result ≡ Reply.Memory) × IsOn m × (after ≡ before)) }
     ensures shape { shape_of host.new ≡ shape_of host.old }
 {
     accesses_are_by_bytes::<B>();

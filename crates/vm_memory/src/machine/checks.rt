@@ -1,7 +1,8 @@
 //! The command that asks whether a range may be accessed.
-ghost use Rattle.std.specs.Prelude.{◌≡◌, ◌⊎◌, IsSome};
+ghost use Rattle.std.specs.Prelude.{◌≡◌, ◌⊎◌};
 ghost use Rattle.vm_memory_guest.specs.Dirt.{with_pages};
 ghost use Rattle.vm_memory_guest.specs.Host.{shape_of, Holds};
+ghost use Rattle.vm_memory_guest.specs.Memory.{IsOn};
 ghost use Rattle.vm_memory.specs.Machine.{Step};
 ghost use Rattle.vm_memory.specs.Parts.{state_of};
 ghost use Rattle.vm_memory.specs.Reply.{checks};
@@ -10,10 +11,11 @@ ghost use Rattle.vm_memory.specs.declared.machine.command.Command.TheVariants as
 use super::Machine;
 use super::accesses::refused;
 use super::command::Reply;
+use crate::iommu::Iommu;
 use vm_memory_base::{ExactBitmap, GuestAddress, Permissions};
 use vm_memory_guest::{GuestMemory, GuestMemoryRegion, HostMemory};
 
-impl<R: GuestMemoryRegion, B: ExactBitmap> Machine<R, B> {
+impl<R: GuestMemoryRegion, I: Iommu, B: ExactBitmap> Machine<R, I, B> {
     pub(super) fn check_range(
         &mut self,
         memory: usize,
@@ -21,9 +23,9 @@ impl<R: GuestMemoryRegion, B: ExactBitmap> Machine<R, B> {
         count: usize,
         access: Permissions,
     ) -> Reply
-        ensures { let before = state_of R.region B.pages self.old in
+        ensures { let before = state_of R.region I.number B.pages self.old in
             Step before (command.CheckRange memory addr count access) result
-            (state_of R.region B.pages self.new) }
+            (state_of R.region I.number B.pages self.new) }
     {
         let Some(memory) = self.memories.get(memory) else {
             return Reply::NoSuch;
@@ -42,7 +44,7 @@ fn check_in<M: GuestMemory, B: ExactBitmap>(
 ) -> Reply
     requires { Holds (shape_of host.now) (M.names memory.now) }
     ensures { let m = M.memory memory.now in let before = with_pages B.pages host.now in
-        (result ≡ checks m before addr.0 count access) ⊎ ((result ≡ Reply.Memory) × IsSome m.iommu) }
+        (result ≡ checks m before addr.0 count access) ⊎ ((result ≡ Reply.Memory) × IsOn m) }
 {
     match memory.check_range(host, addr, count, access) {
         Ok(all) => Reply::Truth(all),

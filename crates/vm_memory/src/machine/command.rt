@@ -24,6 +24,23 @@ pub enum Command {
     },
     /// Makes a memory of a layout, without an IOMMU.
     Plain(usize),
+    /// Makes a memory of a layout behind an IOMMU: with a translator of the pool, and a space that its writes mark.
+    NewMemory {
+        layout: usize,
+        translator: usize,
+        space: usize,
+        on: bool,
+    },
+    /// Makes a memory of a layout behind the IOMMU of another memory: with its translator, its space and its switch.
+    ReplaceBackend {
+        memory: usize,
+        layout: usize,
+    },
+    /// Turns the IOMMU of a memory on or off.
+    Enable {
+        memory: usize,
+        on: bool,
+    },
     /// Reads `count` bytes of a memory.
     Read {
         memory: usize,

@@ -10,6 +10,7 @@ ghost use Rattle.vm_memory.specs.declared.machine.command.Command.TheVariants as
 
 use super::Machine;
 use super::command::{BlockRange, Reply};
+use crate::iommu::Iommu;
 use vm_memory_base::{ExactBitmap, GuestAddress, MemoryRegionAddress};
 use vm_memory_guest::host_laws::parts_of_a_block_are_held;
 use vm_memory_guest::typed_laws::copies_are_by_bytes;
@@ -17,10 +18,10 @@ use vm_memory_guest::{
     BlockId, GuestMemoryRegion, GuestRegionMmap, HostMemory, MmapRegion, VolatileSlice,
 };
 
-impl<R: GuestMemoryRegion, B: ExactBitmap> Machine<R, B> {
+impl<R: GuestMemoryRegion, I: Iommu, B: ExactBitmap> Machine<R, I, B> {
     pub(super) fn copy(&mut self, from: BlockRange, to: BlockRange) -> Reply
-        ensures { let before = state_of R.region B.pages self.old in
-            Step before (command.Copy from to) result (state_of R.region B.pages self.new) }
+        ensures { let before = state_of R.region I.number B.pages self.old in
+            Step before (command.Copy from to) result (state_of R.region I.number B.pages self.new) }
     {
         copy_in(&mut self.host, from, to)
     }

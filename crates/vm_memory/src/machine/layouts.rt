@@ -10,16 +10,17 @@ ghost use Rattle.vm_memory.specs.declared.machine.command.Reply.TheVariants as r
 
 use super::Machine;
 use super::command::{Fault, Reply};
+use crate::iommu::Iommu;
 use std::alloc::{AllocError, Global};
 use std::sync::Arc;
 use vm_memory_base::{ExactBitmap, GuestAddress, GuestUsize};
 use vm_memory_guest::host_laws::regions_are_held_one_by_one;
 use vm_memory_guest::{GuestMemoryRegion, GuestRegionCollection, GuestRegionCollectionError};
 
-impl<R: GuestMemoryRegion, B: ExactBitmap> Machine<R, B> {
+impl<R: GuestMemoryRegion, I: Iommu, B: ExactBitmap> Machine<R, I, B> {
     pub(super) fn from_regions(&mut self, numbers: &[usize]) -> Reply
-        ensures { let before = state_of R.region B.pages self.old in
-            Step before (command.FromRegions numbers.now) result (state_of R.region B.pages self.new) }
+        ensures { let before = state_of R.region I.number B.pages self.old in
+            Step before (command.FromRegions numbers.now) result (state_of R.region I.number B.pages self.new) }
     {
         regions_are_held_one_by_one();
         if !are_there(&self.regions, numbers) {
@@ -35,8 +36,8 @@ impl<R: GuestMemoryRegion, B: ExactBitmap> Machine<R, B> {
     }
 
     pub(super) fn insert(&mut self, layout: usize, region: usize) -> Reply
-        ensures { let before = state_of R.region B.pages self.old in
-            Step before (command.Insert layout region) result (state_of R.region B.pages self.new) }
+        ensures { let before = state_of R.region I.number B.pages self.old in
+            Step before (command.Insert layout region) result (state_of R.region I.number B.pages self.new) }
     {
         regions_are_held_one_by_one();
         let (Some(layout), Some(region)) = (self.layouts.get(layout), self.regions.get(region))
@@ -53,8 +54,8 @@ impl<R: GuestMemoryRegion, B: ExactBitmap> Machine<R, B> {
     }
 
     pub(super) fn remove(&mut self, layout: usize, base: GuestAddress, size: GuestUsize) -> Reply
-        ensures { let before = state_of R.region B.pages self.old in
-            Step before (command.Remove layout base size) result (state_of R.region B.pages self.new) }
+        ensures { let before = state_of R.region I.number B.pages self.old in
+            Step before (command.Remove layout base size) result (state_of R.region I.number B.pages self.new) }
     {
         regions_are_held_one_by_one();
         let Some(old) = self.layouts.get(layout) else {
@@ -78,23 +79,6 @@ impl<R: GuestMemoryRegion, B: ExactBitmap> Machine<R, B> {
             return Reply::Memory;
         }
         Reply::LayoutMade(number)
-    }
-
-    pub(super) fn plain(&mut self, layout: usize) -> Reply
-        ensures { let before = state_of R.region B.pages self.old in
-            Step before (command.Plain layout) result (state_of R.region B.pages self.new) }
-    {
-        let Some(layout) = self.layouts.get(layout) else {
-            return Reply::NoSuch;
-        };
-        let Ok(memory) = layout.clone() else {
-            return Reply::Memory;
-        };
-        let number = self.memories.len();
-        if self.memories.push(memory).is_err() {
-            return Reply::Memory;
-        }
-        Reply::MemoryMade(number)
     }
 }
 

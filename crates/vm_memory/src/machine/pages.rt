@@ -11,14 +11,15 @@ ghost use Rattle.vm_memory.specs.declared.machine.command.Command.TheVariants as
 use super::Machine;
 use super::command::Reply;
 use super::list::NumberList;
+use crate::iommu::Iommu;
 use std::alloc::{AllocError, Global};
 use vm_memory_base::{BitmapId, ExactBitmap};
 use vm_memory_guest::{GuestMemoryRegion, HostMemory};
 
-impl<R: GuestMemoryRegion, B: ExactBitmap> Machine<R, B> {
+impl<R: GuestMemoryRegion, I: Iommu, B: ExactBitmap> Machine<R, I, B> {
     pub(super) fn dirty(&mut self, bitmap: BitmapId) -> Reply
-        ensures { let before = state_of R.region B.pages self.old in
-            Step before (command.Dirty bitmap) result (state_of R.region B.pages self.new) }
+        ensures { let before = state_of R.region I.number B.pages self.old in
+            Step before (command.Dirty bitmap) result (state_of R.region I.number B.pages self.new) }
     {
         if !has_bitmap(&self.host, bitmap) {
             return Reply::NoSuch;
@@ -30,8 +31,8 @@ impl<R: GuestMemoryRegion, B: ExactBitmap> Machine<R, B> {
     }
 
     pub(super) fn harvest(&mut self, bitmap: BitmapId) -> Reply
-        ensures { let before = state_of R.region B.pages self.old in
-            Step before (command.Harvest bitmap) result (state_of R.region B.pages self.new) }
+        ensures { let before = state_of R.region I.number B.pages self.old in
+            Step before (command.Harvest bitmap) result (state_of R.region I.number B.pages self.new) }
     {
         if !has_bitmap(&self.host, bitmap) {
             return Reply::NoSuch;

@@ -10,11 +10,12 @@ ghost use Rattle.vm_memory.specs.Parts.{state_of};
 ghost use Rattle.vm_memory.specs.Rounds.{patched, image_now, pages_of, IsSynced};
 
 use super::Machine;
+use crate::iommu::Iommu;
 use std::alloc::{AllocError, Global};
 use vm_memory_base::{BitmapId, ExactBitmap};
 use vm_memory_guest::{BlockId, GuestMemoryRegion, HostMemory, MmapRegion, VolatileMemory};
 
-impl<R: GuestMemoryRegion, B: ExactBitmap> Machine<R, B> {
+impl<R: GuestMemoryRegion, I: Iommu, B: ExactBitmap> Machine<R, I, B> {
     /// Brings an image of a block up to date: takes the dirty pages of the block's bitmap, so that none is
     /// dirty, and copies the bytes of these pages from the block. `AllocError` where there is no memory for
     /// the list of pages: then nothing is changed.
@@ -24,7 +25,7 @@ impl<R: GuestMemoryRegion, B: ExactBitmap> Machine<R, B> {
     pub fn sync(&mut self, block: BlockId, image: &mut [u8]) -> Result<(), AllocError>
         requires there { Holds (shape_of self.old.host) (names.Block block.0 ∷ []) }
         requires len { length image.old ≡ length (block_at self.old.host.blocks block.0) }
-        ensures synced { let state = state_of R.region B.pages in
+        ensures synced { let state = state_of R.region I.number B.pages in
             OnOk result (IsSynced block.0 (state self.old) image.old (state self.new) image.new) }
         ensures clean { let before = with_pages B.pages self.old.host in
             OnOk result ((after : B) × (B.pages after ≡ cleaned (pages_of block.0 before))

@@ -14,11 +14,12 @@ ghost use Rattle.vm_memory.specs.declared.machine.command.Reply.TheVariants as r
 use super::Machine;
 use super::command::Reply;
 use super::list::PieceList;
+use crate::iommu::Iommu;
 use std::alloc::{AllocError, Global};
 use vm_memory_base::{ExactBitmap, GuestAddress, IotlbIterator, LookupError, Permissions};
 use vm_memory_guest::{GuestMemoryRegion, HostMemory, TlbId};
 
-impl<R: GuestMemoryRegion, B: ExactBitmap> Machine<R, B> {
+impl<R: GuestMemoryRegion, I: Iommu, B: ExactBitmap> Machine<R, I, B> {
     pub(super) fn set(
         &mut self,
         table: usize,
@@ -27,22 +28,22 @@ impl<R: GuestMemoryRegion, B: ExactBitmap> Machine<R, B> {
         length: usize,
         perm: Permissions,
     ) -> Reply
-        ensures { let before = state_of R.region B.pages self.old in
-            Step before (command.Set table iova map_to length perm) result (state_of R.region B.pages self.new) }
+        ensures { let before = state_of R.region I.number B.pages self.old in
+            Step before (command.Set table iova map_to length perm) result (state_of R.region I.number B.pages self.new) }
     {
         set_in(&mut self.host, table, iova, map_to, length, perm)
     }
 
     pub(super) fn invalidate(&mut self, table: usize, iova: GuestAddress, length: usize) -> Reply
-        ensures { let before = state_of R.region B.pages self.old in
-            Step before (command.Invalidate table iova length) result (state_of R.region B.pages self.new) }
+        ensures { let before = state_of R.region I.number B.pages self.old in
+            Step before (command.Invalidate table iova length) result (state_of R.region I.number B.pages self.new) }
     {
         invalidate_in(&mut self.host, table, iova, length)
     }
 
     pub(super) fn invalidate_all(&mut self, table: usize) -> Reply
-        ensures { let before = state_of R.region B.pages self.old in
-            Step before (command.InvalidateAll table) result (state_of R.region B.pages self.new) }
+        ensures { let before = state_of R.region I.number B.pages self.old in
+            Step before (command.InvalidateAll table) result (state_of R.region I.number B.pages self.new) }
     {
         clear_in(&mut self.host, table)
     }
@@ -54,8 +55,8 @@ impl<R: GuestMemoryRegion, B: ExactBitmap> Machine<R, B> {
         length: usize,
         access: Permissions,
     ) -> Reply
-        ensures { let before = state_of R.region B.pages self.old in
-            Step before (command.Lookup table iova length access) result (state_of R.region B.pages self.new) }
+        ensures { let before = state_of R.region I.number B.pages self.old in
+            Step before (command.Lookup table iova length access) result (state_of R.region I.number B.pages self.new) }
     {
         if !self.host.shape().has_table(TlbId(table)) {
             return Reply::NoSuch;

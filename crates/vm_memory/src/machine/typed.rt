@@ -1,10 +1,11 @@
 //! The commands that store and load values.
-ghost use Rattle.std.specs.Prelude.{◌≡◌, ◌⊎◌, IsTrue, IsSome};
+ghost use Rattle.std.specs.Prelude.{◌≡◌, ◌⊎◌, IsTrue};
 ghost use Rattle.std.specs.Int.{byte_len, from_le_bytes};
 ghost use Rattle.vm_memory_base.specs.declared.iotlb.Permissions.TheVariants as permissions;
 ghost use Rattle.vm_memory_guest.specs.Answer.{Outcome};
 ghost use Rattle.vm_memory_guest.specs.Dirt.{bytes_read, with_pages};
 ghost use Rattle.vm_memory_guest.specs.Host.{shape_of, Holds};
+ghost use Rattle.vm_memory_guest.specs.Memory.{IsOn};
 ghost use Rattle.vm_memory_guest.specs.Typed.{answered};
 ghost use Rattle.vm_memory_guest.specs.declared.region.GuestMemoryError.TheVariants as errors;
 ghost use Rattle.vm_memory.specs.Machine.{Step};
@@ -15,12 +16,13 @@ ghost use Rattle.vm_memory.specs.declared.machine.command.Command.TheVariants as
 use super::Machine;
 use super::accesses::{done, refused};
 use super::command::{Reply, Width};
+use crate::iommu::Iommu;
 use std::sync::atomic::Ordering;
 use vm_memory_base::{AtomicAccess, ExactBitmap, GuestAddress};
 use vm_memory_guest::typed_laws::loads_and_stores_are_by_bytes;
 use vm_memory_guest::{Bytes, GuestMemory, GuestMemoryRegion, GuestMemoryResult, HostMemory};
 
-impl<R: GuestMemoryRegion, B: ExactBitmap> Machine<R, B> {
+impl<R: GuestMemoryRegion, I: Iommu, B: ExactBitmap> Machine<R, I, B> {
     pub(super) fn store(
         &mut self,
         memory: usize,
@@ -28,8 +30,8 @@ impl<R: GuestMemoryRegion, B: ExactBitmap> Machine<R, B> {
         addr: GuestAddress,
         value: u64,
     ) -> Reply
-        ensures { let before = state_of R.region B.pages self.old in
-            Step before (command.Store memory width addr value) result (state_of R.region B.pages self.new) }
+        ensures { let before = state_of R.region I.number B.pages self.old in
+            Step before (command.Store memory width addr value) result (state_of R.region I.number B.pages self.new) }
     {
         let Some(memory) = self.memories.get(memory) else {
             return Reply::NoSuch;
@@ -38,8 +40,8 @@ impl<R: GuestMemoryRegion, B: ExactBitmap> Machine<R, B> {
     }
 
     pub(super) fn load(&mut self, memory: usize, width: Width, addr: GuestAddress) -> Reply
-        ensures { let before = state_of R.region B.pages self.old in
-            Step before (command.Load memory width addr) result (state_of R.region B.pages self.new) }
+        ensures { let before = state_of R.region I.number B.pages self.old in
+            Step before (command.Load memory width addr) result (state_of R.region I.number B.pages self.new) }
     {
         let Some(memory) = self.memories.get(memory) else {
             return Reply::NoSuch;
@@ -60,7 +62,7 @@ fn store_word<M: GuestMemory, B: ExactBitmap>(
     ensures stored { let m = M.memory memory.now in let before = with_pages B.pages host.old in
         let after = with_pages B.pages host.new in let w = integer_of width in
         ((result, after) ≡ stores m before addr.0 w value)
-        ⊎ ((result ≡ Reply.Memory) × (IsSome m.iommu × IsTrue (fits_width w value)) × (after ≡ before)) }
+        ⊎ ((result ≡ Reply.Memory) × (IsOn m × IsTrue (fits_width w value)) × (after ≡ before)) }
     ensures shape { shape_of host.new ≡ shape_of host.old }
 {
     if !width.fits(value) {
@@ -85,7 +87,7 @@ fn store_value<T: AtomicAccess, M: GuestMemory, B: ExactBitmap>(
     ensures stored { let m = M.memory memory.now in let before = with_pages B.pages host.old in
         let after = with_pages B.pages host.new in
         ((result, after) ≡ stores_bytes m before addr.0 (T.bytes value))
-        ⊎ ((result ≡ Reply.Memory) × IsSome m.iommu × (after ≡ before)) }
+        ⊎ ((result ≡ Reply.Memory) × IsOn m × (after ≡ before)) }
     ensures shape { shape_of host.new ≡ shape_of host.old }
 {
     loads_and_stores_are_by_bytes::<B>();
@@ -102,7 +104,7 @@ fn load_from<M: GuestMemory, B: ExactBitmap>(
 ) -> Reply
     requires { Holds (shape_of host.now) (M.names memory.now) }
     ensures { let m = M.memory memory.now in let before = with_pages B.pages host.now in
-        (result ≡ loads m before addr.0 (integer_of width)) ⊎ ((result ≡ Reply.Memory) × IsSome m.iommu) }
+        (result ≡ loads m before addr.0 (integer_of width)) ⊎ ((result ≡ Reply.Memory) × IsOn m) }
 {
     match load_word(memory, host, width, addr) {
         Ok(value) => Reply::Value(value),
@@ -119,7 +121,7 @@ fn load_word<M: GuestMemory, B: ExactBitmap>(
 ) -> GuestMemoryResult<u64>
     requires { Holds (shape_of host.now) (M.names memory.now) }
     ensures { let m = M.memory memory.now in let before = with_pages B.pages host.now in let w = integer_of width in
-        Outcome errors.Memory (IsSome m.iommu) (answered (λ xs. from_le_bytes w (bytes_read xs before))
+        Outcome errors.Memory (IsOn m) (answered (λ xs. from_le_bytes w (bytes_read xs before))
         (taken_by m before.tables addr.0 (byte_len w) permissions.Read)) (Unit {0}) (Unit {0}) result }
 {
     Ok(match width {
@@ -138,7 +140,7 @@ fn load_value<T: AtomicAccess, M: GuestMemory, B: ExactBitmap>(
 ) -> GuestMemoryResult<T>
     requires { Holds (shape_of host.now) (M.names memory.now) }
     ensures { let m = M.memory memory.now in let before = with_pages B.pages host.now in
-        Outcome errors.Memory (IsSome m.iommu) (answered (λ xs. T.value_of (bytes_read xs before))
+        Outcome errors.Memory (IsOn m) (answered (λ xs. T.value_of (bytes_read xs before))
         (taken_by m before.tables addr.0 T.width permissions.Read)) (Unit {0}) (Unit {0}) result }
 {
     loads_and_stores_are_by_bytes::<B>();

@@ -23,6 +23,20 @@ pub(super) fn parse(
             size: words.number()?,
         },
         "plain" => Command::Plain(words.index()?),
+        "memory" => Command::NewMemory {
+            layout: words.index()?,
+            translator: words.index()?,
+            space: words.index()?,
+            on: words.switch()?,
+        },
+        "replace" => Command::ReplaceBackend {
+            memory: words.index()?,
+            layout: words.index()?,
+        },
+        "enable" => Command::Enable {
+            memory: words.index()?,
+            on: words.switch()?,
+        },
         "read" => Command::Read {
             memory: words.index()?,
             addr: words.address()?,

@@ -4,6 +4,7 @@ ghost use Rattle.vm_memory_guest.specs.Collection.{regions_of};
 
 use super::reply::SetupReply;
 use super::setup::Setup;
+use crate::iommu::TableIommu;
 use crate::machine::Machine;
 use std::alloc::{AllocError, Global};
 use std::marker::Model;
@@ -11,17 +12,18 @@ use std::num::NonZeroUsize;
 use std::sync::Arc;
 use vm_memory_base::{ExclusiveBitmap, GuestAddress};
 use vm_memory_guest::host_laws::{names_are_held_one_by_one, parts_of_a_block_are_held};
-use vm_memory_guest::{BlockId, GuestRegionMmap, HostMemory, MmapRegion, MmapRegionError};
+use vm_memory_guest::{BlockId, GuestRegionMmap, HostMemory, MmapRegion, MmapRegionError, TlbId};
 
 /// The machine that a script commands.
-pub(super) type ScriptMachine = Machine<GuestRegionMmap, ExclusiveBitmap>;
+pub(super) type ScriptMachine = Machine<GuestRegionMmap, TableIommu, ExclusiveBitmap>;
 
-/// A host, and regions of its blocks, which it holds.
+/// A host, and regions of its blocks and translators of its tables, which it holds.
 #[derive(Drop)]
 pub(super) struct Pools {
     alloc: Global,
     host: HostMemory<ExclusiveBitmap>,
     regions: Vec<Arc<GuestRegionMmap>>,
+    translators: Vec<Arc<TableIommu>>,
 }
 
 impl Model for Pools {
@@ -29,13 +31,14 @@ impl Model for Pools {
     ghost use Rattle.vm_memory_guest.specs.Mmap.{mmap_region};
     ghost use Rattle.vm_memory_guest.specs.Collection.{regions_of};
     ghost use Rattle.vm_memory_guest.specs.declared.mmap.GuestRegionMmap.{GuestRegionMmap};
-    ghost use Rattle.vm_memory.specs.Parts.{HoldsRegions};
+    ghost use Rattle.vm_memory.specs.Parts.{HoldsRegions, HoldsTables};
 
     ghost Value = { List GuestRegionMmap };
 
     ghost view = { λ p. regions_of p.regions };
 
-    ghost invariant = { λ p. HoldsRegions mmap_region p.host (regions_of p.regions) };
+    ghost invariant = { λ p. HoldsRegions mmap_region p.host (regions_of p.regions)
+        × HoldsTables (λ number. number) p.host (regions_of p.translators) };
 }
 
 impl Pools {
@@ -45,6 +48,7 @@ impl Pools {
             alloc,
             host: HostMemory::new(alloc),
             regions: Vec::new(alloc),
+            translators: Vec::new(alloc),
         }
     }
 
@@ -55,12 +59,13 @@ impl Pools {
             Setup::Space { size, page_size } => self.make_space(size, page_size),
             Setup::Table => self.make_table(),
             Setup::Region { block, addr } => self.make_region(block, addr),
+            Setup::Translator(table) => self.make_translator(table),
         }
     }
 
-    /// A machine of the host and the regions.
+    /// A machine of the host, the regions and the translators.
     pub(super) fn into_machine(self) -> ScriptMachine {
-        Machine::new(self.alloc, self.host, self.regions)
+        Machine::new(self.alloc, self.host, self.regions, self.translators)
     }
 
     // The size comes before the bitmap, which may find no memory.
@@ -111,18 +116,25 @@ impl Pools {
             Err(_) => SetupReply::Memory,
         }
     }
+
+    fn make_translator(&mut self, table: TlbId) -> SetupReply {
+        if !self.host.shape().has_table(table) {
+            return SetupReply::NoSuch;
+        }
+        let number = self.translators.len();
+        match add(self.alloc, &mut self.translators, TableIommu::new(table)) {
+            Ok(()) => SetupReply::TranslatorMade(number),
+            Err(_) => SetupReply::Memory,
+        }
+    }
 }
 
 const MAX_BLOCK: usize = 0x7fff_ffff_ffff_ffff;
 
-fn add(
-    alloc: Global,
-    regions: &mut Vec<Arc<GuestRegionMmap>>,
-    region: GuestRegionMmap,
-) -> Result<(), AllocError>
-    ensures ok { OnOk result (regions_of regions.new ≡ regions_of regions.old ++ region ∷ []) }
-    ensures err { OnErr result (regions_of regions.new ≡ regions_of regions.old) }
+fn add<T: Drop>(alloc: Global, pool: &mut Vec<Arc<T>>, one: T) -> Result<(), AllocError>
+    ensures ok { OnOk result (regions_of pool.new ≡ regions_of pool.old ++ one ∷ []) }
+    ensures err { OnErr result (regions_of pool.new ≡ regions_of pool.old) }
 {
-    regions.push(Arc::new(alloc, region)?)?;
+    pool.push(Arc::new(alloc, one)?)?;
     Ok(())
 }

@@ -15,6 +15,8 @@ pub(super) enum SetupReply {
     TableMade(usize),
     /// The number of the region that was made.
     RegionMade(usize),
+    /// The number of the translator that was made.
+    TranslatorMade(usize),
     /// A block has 1 to 2^63 - 1 bytes.
     InvalidSize,
     /// The region's address plus its size passes 2^64 - 1.
@@ -32,6 +34,7 @@ impl fmt::Display for SetupReply {
             SetupReply::SpaceMade(number) => write!(f, "space {number}"),
             SetupReply::TableMade(number) => write!(f, "table {number}"),
             SetupReply::RegionMade(number) => write!(f, "region {number}"),
+            SetupReply::TranslatorMade(number) => write!(f, "translator {number}"),
             SetupReply::InvalidSize => write!(f, "error M1"),
             SetupReply::InvalidRegion => write!(f, "error F3"),
             SetupReply::NoSuch => write!(f, "error NoSuch"),

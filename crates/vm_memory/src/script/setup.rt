@@ -3,7 +3,7 @@
 use super::words::{LineError, Words};
 use std::num::NonZeroUsize;
 use vm_memory_base::GuestAddress;
-use vm_memory_guest::BlockId;
+use vm_memory_guest::{BlockId, TlbId};
 
 /// What is made before the machine.
 #[derive(Drop)]
@@ -25,6 +25,8 @@ pub(super) enum Setup {
         block: BlockId,
         addr: GuestAddress,
     },
+    /// A translator over a table.
+    Translator(TlbId),
 }
 
 /// The setup line that begins with a word, if there is one.
@@ -43,6 +45,7 @@ pub(super) fn parse(word: &str, words: &mut Words<'_>) -> Result<Option<Setup>, 
             block: BlockId(words.index()?),
             addr: words.address()?,
         }),
+        "translator" => Some(Setup::Translator(TlbId(words.index()?))),
         _ => None,
     })
 }

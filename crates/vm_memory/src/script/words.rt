@@ -122,6 +122,15 @@ impl<'a> Words<'a> {
         }
     }
 
+    /// The next word as a switch: `on` or `off`.
+    pub(super) fn switch(&mut self) -> Result<bool, LineError> {
+        match self.word()? {
+            "on" => Ok(true),
+            "off" => Ok(false),
+            _ => Err(LineError::Bad),
+        }
+    }
+
     /// The next word as bytes: two hexadecimal digits each, one or more, or a dash for none.
     pub(super) fn bytes(&mut self, alloc: Global) -> Result<ByteList, LineError> {
         bytes(alloc, self.word()?)

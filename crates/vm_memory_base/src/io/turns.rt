@@ -41,8 +41,8 @@ pub(super) fn read_again<S: ReadVolatile>(
     source.read_volatile(buf)
 }
 
-// Writes, and again after each interruption, at most 64 times.
-pub(super) fn offer_again<S: WriteVolatile>(sink: &mut S, buf: &[u8]) -> VolatileMemoryResult<usize>
+/// Writes, and again after each interruption, at most 64 times in a row.
+pub fn offer_again<S: WriteVolatile>(sink: &mut S, buf: &[u8]) -> VolatileMemoryResult<usize>
     ensures count { IfOk result (λ count. count ≤ length buf.now) }
     ensures tells { OffersAs (S.may_want sink.old) 64 (S.sink sink.old) (length buf.now) result
         (S.sink sink.new) }

@@ -1,11 +1,12 @@
 //! Access to bytes of guest memory, by guest address.
-ghost use Rattle.std.specs.Prelude.{◌≡◌, ◌-◌, ◌^◌, ◌<◌, ◌≤◌, min, length, OnSome, IsSome, Ok, Err, option_map, ◌==◌, if◌then◌else◌};
+ghost use Rattle.std.specs.Prelude.{◌≡◌, ◌-◌, ◌^◌, ◌<◌, ◌≤◌, min, length, OnSome, Ok, Err, option_map, ◌==◌, if◌then◌else◌};
 ghost use Rattle.std.specs.List.{AllByRecursion};
 ghost use Rattle.vm_memory_guest.specs.Access.{access_of, windows};
 ghost use Rattle.vm_memory_guest.specs.Host.{shape_of, Holds};
 ghost use Rattle.vm_memory_guest.specs.Answer.{counted, filled, told};
-ghost use Rattle.vm_memory_guest.specs.Error.{error_of};
-ghost use Rattle.vm_memory_guest.specs.Memory.{route};
+ghost use Rattle.vm_memory_guest.specs.Error.{error_of, of_window};
+ghost use Rattle.vm_memory_guest.specs.Memory.{IsOn, route};
+ghost use Rattle.vm_memory_guest.specs.Transfer.{UntilWhole};
 ghost use Rattle.vm_memory_guest.specs.Typed.{first_aligned, place_of};
 ghost use Rattle.vm_memory_guest.specs.TypedFacts.{first-sized};
 ghost use Rattle.vm_memory_guest.specs.Walk.{reached};
@@ -14,12 +15,15 @@ ghost use Rattle.vm_memory_guest.specs.declared.region.GuestMemoryError.TheVaria
 
 use super::backend::GuestMemoryBackend;
 use super::memory::{GuestMemory, IommuMemorySliceIterator};
+use super::transfer::{receive_windows, send_windows};
 use crate::region::{GuestMemoryError, GuestMemoryResult};
 use crate::volatile_memory::access::Bytes;
 use crate::volatile_memory::host::HostMemory;
 use crate::volatile_memory::slice::VolatileSlice;
 use std::sync::atomic::Ordering;
-use vm_memory_base::{AtomicAccess, Bitmap, ByteValued, GuestAddress, Permissions};
+use vm_memory_base::{
+    AtomicAccess, Bitmap, ByteValued, GuestAddress, Permissions, ReadVolatile, WriteVolatile,
+};
 
 impl<T: GuestMemory> Bytes<GuestAddress> for T {
     type E = GuestMemoryError;
@@ -33,7 +37,17 @@ impl<T: GuestMemory> Bytes<GuestAddress> for T {
 
     ghost no_memory = { errors.Memory };
 
-    ghost may_want = { λ m. IsSome (T.memory m).iommu };
+    ghost may_want = { λ m. IsOn (T.memory m) };
+
+    ghost moved = { λ m tables addr n access. told error_of (reached (T.memory m) tables addr.0 n access) };
+
+    ghost moved_whole = { λ m tables addr n access. told error_of (reached (T.memory m) tables addr.0 n access) };
+
+    ghost filling = { UntilWhole };
+
+    ghost sending = { UntilWhole };
+
+    ghost failure = { of_window };
 
     #[inline]
     fn write<B: Bitmap>(
@@ -132,6 +146,52 @@ impl<T: GuestMemory> Bytes<GuestAddress> for T {
         let walk = self.get_slices(host, addr, size, Permissions::Read)?;
         let window = first_window(walk, size)?;
         Ok(host.value(&window))
+    }
+
+    fn read_volatile_from<F: ReadVolatile, B: Bitmap>(
+        &self,
+        host: &mut HostMemory<B>,
+        addr: GuestAddress,
+        src: &mut F,
+        count: usize,
+    ) -> GuestMemoryResult<usize> {
+        let walk = self.get_slices(host, addr, count, Permissions::Write)?;
+        receive_windows(walk, host, src, false)
+    }
+
+    fn read_exact_volatile_from<F: ReadVolatile, B: Bitmap>(
+        &self,
+        host: &mut HostMemory<B>,
+        addr: GuestAddress,
+        src: &mut F,
+        count: usize,
+    ) -> GuestMemoryResult<()> {
+        let windows = self.get_slices(host, addr, count, Permissions::Write)?;
+        let completed = receive_windows(windows, host, src, true)?;
+        whole(count, completed)
+    }
+
+    fn write_volatile_to<F: WriteVolatile, B: Bitmap>(
+        &self,
+        host: &HostMemory<B>,
+        addr: GuestAddress,
+        dst: &mut F,
+        count: usize,
+    ) -> GuestMemoryResult<usize> {
+        let walk = self.get_slices(host, addr, count, Permissions::Read)?;
+        send_windows(walk, host, dst)
+    }
+
+    fn write_all_volatile_to<F: WriteVolatile, B: Bitmap>(
+        &self,
+        host: &HostMemory<B>,
+        addr: GuestAddress,
+        dst: &mut F,
+        count: usize,
+    ) -> GuestMemoryResult<()> {
+        let walk = self.get_slices(host, addr, count, Permissions::Read)?;
+        let completed = send_windows(walk, host, dst)?;
+        whole(count, completed)
     }
 
     ghost place_has_all = { λ m tables addr size access.

@@ -1,26 +1,30 @@
 //! Guest memory: a backend, or one behind an IOMMU.
-ghost use Rattle.std.specs.Prelude.{◌≡◌, ◌⊎◌, map, flat_map, All, None, IsSome, MatchOption, MatchResult};
+ghost use Rattle.std.specs.Prelude.{◌≡◌, ◌⊎◌, map, flat_map, All, None, MatchOption, MatchResult};
 ghost use Rattle.std.specs.Iterator.{YieldsFirst, item_count};
 ghost use Rattle.vm_memory_guest.specs.Access.{access_of};
 ghost use Rattle.vm_memory_guest.specs.Host.{shape_of, Holds};
 ghost use Rattle.vm_memory_guest.specs.Region.{IsRegion, IsLayout};
-ghost use Rattle.vm_memory_guest.specs.Memory.{Memory, memory_names, route};
+ghost use Rattle.vm_memory_guest.specs.Memory.{Memory, IsOn, behind_of, memory_names, route};
+ghost use Rattle.vm_memory_guest.specs.Pieces.{marking, walk_of_pieces};
 ghost use Rattle.vm_memory_guest.specs.Queries.{is_whole};
 ghost use Rattle.vm_memory_guest.specs.Walk.{items_of, walk_of, GivesAccess, RefusesAccess, WantsMemory};
 
 use super::backend::{GuestMemoryBackend, GuestMemoryBackendSliceIterator};
+use super::pieces::{PiecesBehind, next_of_pieces};
 use super::stop_on_error::{GuestMemorySliceIterator, ends_well};
 use crate::region::{GuestMemoryError, GuestMemoryResult};
-use crate::volatile_memory::host::{HostMemory, Named};
+use crate::volatile_memory::host::{HostMemory, Named, SpaceId};
 use crate::volatile_memory::slice::VolatileSlice;
 use std::marker::Model;
-use vm_memory_base::{Bitmap, GuestAddress, Permissions};
+use vm_memory_base::{Bitmap, GuestAddress, MappedRange, Permissions};
 
 /// The windows of an access, whatever translated it, and then the error of what stopped it. After its end
 /// or an error it stays ended.
 #[derive(Drop)]
 pub struct IommuMemorySliceIterator<'a, M: GuestMemoryBackend> {
     walk: GuestMemoryBackendSliceIterator<'a, M>,
+    // Where addresses are translated: what comes behind the piece of the walk.
+    behind: Option<PiecesBehind<'a, M>>,
 }
 
 impl<'a, M: GuestMemoryBackend> Model for IommuMemorySliceIterator<'a, M> {
@@ -29,7 +33,28 @@ impl<'a, M: GuestMemoryBackend> Model for IommuMemorySliceIterator<'a, M> {
 
     ghost Value = { Reach Fault };
 
-    ghost view = { λ it. it.walk };
+    ghost use Rattle.vm_memory_guest.specs.Pieces.{left_of};
+
+    ghost view = { λ it. left_of it.walk it.behind };
+}
+
+impl<'a, M: GuestMemoryBackend> IommuMemorySliceIterator<'a, M> {
+    /// The windows of pieces of physical addresses, one piece after the other, up to the first fault. They mark
+    /// the space, from the address `iova` on: behind the greatest address comes 0.
+    pub fn of_pieces(
+        backend: &'a M,
+        pieces: Vec<MappedRange>,
+        iova: GuestAddress,
+        space: SpaceId,
+    ) -> IommuMemorySliceIterator<'a, M>
+        ensures { let regions = map M.R.region (M.regions backend.now) in
+            result ≡ marking space.0 iova.0 (walk_of_pieces regions pieces.items) }
+    {
+        IommuMemorySliceIterator {
+            walk: GuestMemoryBackend::get_slices(backend, iova, 0),
+            behind: Some(PiecesBehind::new(backend, pieces, iova, space)),
+        }
+    }
 }
 
 impl<'a, M: GuestMemoryBackend> GuestMemorySliceIterator for IommuMemorySliceIterator<'a, M> {
@@ -51,7 +76,10 @@ impl<'a, M: GuestMemoryBackend> Iterator for IommuMemorySliceIterator<'a, M> {
 
     #[inline]
     fn next(&mut self) -> Option<GuestMemoryResult<VolatileSlice>> {
-        self.walk.next()
+        match &mut self.behind {
+            None => self.walk.next(),
+            Some(behind) => next_of_pieces(&mut self.walk, behind),
+        }
     }
 }
 
@@ -67,7 +95,7 @@ pub trait GuestMemory: Named {
     /// The backend in which translated addresses lie.
     type PhysicalMemory: GuestMemoryBackend;
 
-    /// Its regions, and the table and space that it lies behind where its IOMMU is on.
+    /// Its regions, and its IOMMU, if it has one.
     ghost memory: { Self → Memory };
 
     /// The windows of `count` bytes from an address on, and then the error of the first that is not there. An
@@ -111,15 +139,14 @@ pub trait GuestMemory: Named {
 
     /// The backend, where addresses are physical: where no IOMMU is on.
     fn physical_memory(&self) -> Option<&Self::PhysicalMemory>
-        ensures { MatchOption result (IsSome (memory self.now).iommu) (λ backend. memory self.now ≡ record {
-          regions = map Self.PhysicalMemory.R.region (Self.PhysicalMemory.regions backend.now);
-          iommu = None;
-        }) };
+        ensures { let m = memory self.now in
+            MatchOption result (IsOn m) (λ backend. (behind_of m.iommu ≡ None)
+            × (m.regions ≡ map Self.PhysicalMemory.R.region (Self.PhysicalMemory.regions backend.now))) };
 
     /// Its regions' addresses and offsets fit 64 bits.
     ghost each_fits: { (m : Self) → All IsRegion (memory m).regions };
 
-    /// It names the places of its regions' bytes, and its table and space where its IOMMU is on.
+    /// It names the places of its regions' bytes, and its table and space, also where its IOMMU is off.
     ghost names_memory: { (m : Self) → Self.names m ≡ memory_names (memory m) };
 }
 
@@ -147,6 +174,7 @@ impl<M: GuestMemoryBackend> GuestMemory for M {
         let _ = self.num_regions();
         Ok(IommuMemorySliceIterator {
             walk: GuestMemoryBackend::get_slices(self, addr, count),
+            behind: None,
         })
     }
 

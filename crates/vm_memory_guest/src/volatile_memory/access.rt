@@ -6,11 +6,13 @@ ghost use Rattle.vm_memory_base.specs.declared.iotlb.Permissions.TheVariants.{Re
 ghost use Rattle.vm_memory_guest.specs.Host.{shape_of, bytes_at, Holds};
 ghost use Rattle.vm_memory_guest.specs.Window.{Window, span, cells, cells_of, Writes};
 ghost use Rattle.vm_memory_guest.specs.Answer.{Reach, Outcome, counted, exactly, filled};
+ghost use Rattle.vm_memory_guest.specs.Transfer.{Moving, Once, UntilWhole, Fills, Takes, InOrder, Transfers, all_of, beside};
 ghost use Rattle.vm_memory_guest.specs.Typed.{answered, given};
+ghost use Rattle.vm_memory_base.specs.declared.io.VolatileMemoryError.{VolatileMemoryError};
 
 use super::host::{HostMemory, Named};
 use std::sync::atomic::Ordering;
-use vm_memory_base::{AtomicAccess, Bitmap, ByteValued};
+use vm_memory_base::{AtomicAccess, Bitmap, ByteValued, ReadVolatile, WriteVolatile};
 
 /// Access to bytes by addresses of type `A`: an offset of a window, or an address of guest memory.
 ///
@@ -41,6 +43,22 @@ pub trait Bytes<A>: Named {
 
     /// When a call may want memory.
     ghost may_want: { Self → Type 0 };
+
+    /// The windows that a transfer of at most so many bytes at an address moves, in a host with these tables,
+    /// and what keeps it from moving more.
+    ghost moved: { Self → List Table → A → ℕ → Permissions → Reach Self.E };
+
+    /// Those of a transfer that is to move all of so many bytes.
+    ghost moved_whole: { Self → List Table → A → ℕ → Permissions → Reach Self.E };
+
+    /// How a transfer in that is to fill all bytes fills a window.
+    ghost filling: { Moving };
+
+    /// How a transfer out moves a window.
+    ghost sending: { Moving };
+
+    /// How an error of a source or a sink is told.
+    ghost failure: { VolatileMemoryError → Self.E };
 
     /// Writes the beginning of the buffer that fits, and answers how many bytes that is.
     fn write<B: Bitmap>(
@@ -155,6 +173,73 @@ pub trait Bytes<A>: Named {
             Outcome no_memory (may_want self.now)
             (answered (λ v. T.value_of (bytes_at host.now.blocks (cells_of v))) w)
             (Unit {0}) (Unit {0}) result };
+
+    /// Lends a source the windows of at most `count` bytes one after the other, up to the first that it does not
+    /// fill, and answers how many bytes came. An error of the source is answered at once. Each try marks what it
+    /// filled, or all that was lent where it failed.
+    fn read_volatile_from<F: ReadVolatile, B: Bitmap>(
+        &self,
+        host: &mut HostMemory<B>,
+        addr: A,
+        src: &mut F,
+        count: usize,
+    ) -> Result<usize, Self::E>
+        requires { Holds (shape_of host.old) (Self.names self.now) }
+        ensures answer { let r = moved self.now host.old.tables addr count Write in
+            Transfers no_memory (may_want self.now) (beside src.old host.old) result (beside src.new host.new)
+            (InOrder failure r.fault (Fills F.source F.known_left B.marks Once) r.windows 0
+            (beside src.old host.old) result (beside src.new host.new)) }
+        ensures at_most { IfOk result (λ total. total ≤ count) }
+        ensures shape { shape_of host.new ≡ shape_of host.old };
+
+    /// Fills `count` bytes from a source. Where it ends before, or not all bytes are there, the error says how
+    /// many came.
+    fn read_exact_volatile_from<F: ReadVolatile, B: Bitmap>(
+        &self,
+        host: &mut HostMemory<B>,
+        addr: A,
+        src: &mut F,
+        count: usize,
+    ) -> Result<(), Self::E>
+        requires { Holds (shape_of host.old) (Self.names self.now) }
+        ensures answer { let r = moved_whole self.now host.old.tables addr count Write in
+            Transfers no_memory (may_want self.now) (beside src.old host.old) result (beside src.new host.new)
+            ((total : Result ℕ Self.E) × (result ≡ all_of partial count total)
+            × InOrder failure r.fault (Fills F.source F.known_left B.marks filling) r.windows 0
+            (beside src.old host.old) total (beside src.new host.new)) }
+        ensures shape { shape_of host.new ≡ shape_of host.old };
+
+    /// Offers a sink the bytes of the windows of at most `count` bytes, one window after the other, and answers
+    /// how many it took. An error of the sink is answered at once. No byte and no mark changes.
+    fn write_volatile_to<F: WriteVolatile, B: Bitmap>(
+        &self,
+        host: &HostMemory<B>,
+        addr: A,
+        dst: &mut F,
+        count: usize,
+    ) -> Result<usize, Self::E>
+        requires { Holds (shape_of host.now) (Self.names self.now) }
+        ensures answer { let r = moved self.now host.now.tables addr count Read in
+            Transfers no_memory (may_want self.now) dst.old result dst.new
+            (InOrder failure r.fault (Takes F.sink F.taken F.may_want host.now.blocks sending) r.windows 0
+            dst.old result dst.new) }
+        ensures at_most { IfOk result (λ total. total ≤ count) };
+
+    /// Offers a sink `count` bytes until it has taken them. Where not all bytes are there, the error says how
+    /// many it took. No byte and no mark changes.
+    fn write_all_volatile_to<F: WriteVolatile, B: Bitmap>(
+        &self,
+        host: &HostMemory<B>,
+        addr: A,
+        dst: &mut F,
+        count: usize,
+    ) -> Result<(), Self::E>
+        requires { Holds (shape_of host.now) (Self.names self.now) }
+        ensures answer { let r = moved_whole self.now host.now.tables addr count Read in
+            Transfers no_memory (may_want self.now) dst.old result dst.new
+            ((total : Result ℕ Self.E) × (result ≡ all_of partial count total)
+            × InOrder failure r.fault (Takes F.sink F.taken F.may_want host.now.blocks UntilWhole) r.windows 0
+            dst.old total dst.new) };
 
     /// A load or a store of so many bytes takes as many.
     ghost place_has_all: { (m : Self) (tables : List Table) (addr : A) (n : ℕ) (access : Permissions)

@@ -6,6 +6,7 @@ ghost use Rattle.vm_memory_guest.specs.Host.{shape_of, bytes_at, Holds};
 ghost use Rattle.vm_memory_guest.specs.Window.{window_names, cells_of, part, offset_of, subslice_of, Writes};
 ghost use Rattle.vm_memory_guest.specs.Answer.{window_reach};
 ghost use Rattle.vm_memory_guest.specs.Copy.{front, Copies};
+ghost use Rattle.vm_memory_guest.specs.Transfer.{Alone, Once, cut_of, exact_of, only};
 ghost use Rattle.vm_memory_guest.specs.Typed.{aligned_of, answered, size_of};
 ghost use Rattle.vm_memory_guest.specs.TypedFacts.{aligned-sized};
 ghost use Rattle.vm_memory_base.specs.declared.io.VolatileMemoryError.TheVariants.{PartialBuffer, Memory};
@@ -16,7 +17,8 @@ use super::host_address::HostAddress;
 use std::marker::Model;
 use std::sync::atomic::Ordering;
 use vm_memory_base::{
-    AtomicAccess, Bitmap, BitmapRef, ByteValued, VolatileMemoryError, VolatileMemoryResult,
+    AtomicAccess, Bitmap, BitmapRef, ByteValued, ReadVolatile, VolatileMemoryError,
+    VolatileMemoryResult, WriteVolatile, offer_again,
 };
 
 /// A window: so many bytes of a block from an offset on, and the view of a bitmap that writes mark.
@@ -164,6 +166,14 @@ impl VolatileSlice {
             bitmap: self.bitmap.slice_at(offset),
         }
     }
+
+    // The same bytes, of which writes mark another view of a bitmap.
+    #[inline]
+    pub(crate) fn marking(&self, bitmap: BitmapRef) -> Self
+        ensures { result ≡ record self.now { bitmap = bitmap } }
+    {
+        VolatileSlice { bitmap, ..*self }
+    }
 }
 
 impl Named for VolatileSlice {
@@ -188,6 +198,17 @@ impl VolatileSlice {
             return Err(VolatileMemoryError::OutOfBounds { addr: offset });
         }
         Ok(self.part(offset, count.min(self.size - offset)))
+    }
+}
+
+impl VolatileSlice {
+    // At most `count` of the bytes from an offset on.
+    fn cut(&self, offset: usize, count: usize) -> VolatileMemoryResult<VolatileSlice>
+        ensures cut { only result ≡ cut_of self.now offset count }
+        ensures at_most { IfOk result (λ w. w.size ≤ count) }
+    {
+        let window = self.offset(offset)?;
+        Ok(window.front(count.min(window.len())))
     }
 }
 
@@ -230,6 +251,16 @@ impl Bytes<usize> for VolatileSlice {
     ghost no_memory = { Memory };
 
     ghost may_want = { λ w. ⊥ };
+
+    ghost moved = { λ w tables offset count access. cut_of w offset count };
+
+    ghost moved_whole = { λ w tables offset count access. exact_of w offset count };
+
+    ghost filling = { Alone };
+
+    ghost sending = { Once };
+
+    ghost failure = { λ e. e };
 
     #[inline]
     fn write<B: Bitmap>(
@@ -341,6 +372,51 @@ impl Bytes<usize> for VolatileSlice {
     ) -> VolatileMemoryResult<T> {
         let window = self.aligned(addr, T::size())?;
         Ok(host.value(&window))
+    }
+
+    fn read_volatile_from<F: ReadVolatile, B: Bitmap>(
+        &self,
+        host: &mut HostMemory<B>,
+        addr: usize,
+        src: &mut F,
+        count: usize,
+    ) -> VolatileMemoryResult<usize> {
+        let window = self.cut(addr, count)?;
+        host.read_from(&window, src)
+    }
+
+    fn read_exact_volatile_from<F: ReadVolatile, B: Bitmap>(
+        &self,
+        host: &mut HostMemory<B>,
+        addr: usize,
+        src: &mut F,
+        count: usize,
+    ) -> VolatileMemoryResult<()> {
+        let window = self.subslice(addr, count)?;
+        host.fill_whole(&window, src)?;
+        Ok(())
+    }
+
+    fn write_volatile_to<F: WriteVolatile, B: Bitmap>(
+        &self,
+        host: &HostMemory<B>,
+        addr: usize,
+        dst: &mut F,
+        count: usize,
+    ) -> VolatileMemoryResult<usize> {
+        let window = self.cut(addr, count)?;
+        offer_again(dst, host.bytes(&window))
+    }
+
+    fn write_all_volatile_to<F: WriteVolatile, B: Bitmap>(
+        &self,
+        host: &HostMemory<B>,
+        addr: usize,
+        dst: &mut F,
+        count: usize,
+    ) -> VolatileMemoryResult<()> {
+        let window = self.subslice(addr, count)?;
+        dst.write_all_volatile(host.bytes(&window))
     }
 
     ghost place_has_all = { λ w tables offset size access. aligned-sized w offset size };

@@ -8,7 +8,7 @@ use Rattle.vm_memory.proofs.machine.run.Goals as goal
 
 pub loop-command-preserved : goal.loop-command-preserved
 loop-command-preserved g c =
-    let state = state_of g.R.GuestMemoryRegion.region g.B.ExactBitmap.pages in
+    let state = state_of g.R.GuestMemoryRegion.region g.I.Iommu.number g.B.ExactBitmap.pages in
     let i = c.loop-command.command-index in
     let commands = c.args.commands.now in
     let item = c.command-item.result in
@@ -28,7 +28,7 @@ loop-command-preserved g c =
 
 pub returns-clause-ran : goal.returns-clause-ran
 returns-clause-ran g c =
-    let state = state_of g.R.GuestMemoryRegion.region g.B.ExactBitmap.pages in
+    let state = state_of g.R.GuestMemoryRegion.region g.I.Iommu.number g.B.ExactBitmap.pages in
     let before = state c.args.machine.now in
     let after = state c.loop-command.machine in
     let commands = c.args.commands.now in

@@ -7,7 +7,7 @@ use Rattle.vm_memory.proofs.machine.run.Given as goal
 
 abbrev pub invariant-loop-command : goal.invariant-loop-command
 invariant-loop-command g l =
-    let state = state_of g.R.GuestMemoryRegion.region g.B.ExactBitmap.pages in
+    let state = state_of g.R.GuestMemoryRegion.region g.I.Iommu.number g.B.ExactBitmap.pages in
     record {
       room : vec_len l.replies + (length l.commands - l.command-index) ≤ vec_capacity l.replies;
       ran : (new : List Reply) × (l.replies.items ≡ l.fn.replies.items ++ new)

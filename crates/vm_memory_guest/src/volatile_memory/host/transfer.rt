@@ -1,15 +1,14 @@
 //! Windows that are lent to sources of bytes.
-ghost use Rattle.std.specs.Prelude.{◌≡◌, ℕ, ◌+◌, ◌<◌, ◌≤◌, List, length, IfOk};
-ghost use Rattle.vm_memory_base.specs.Transfer.{ReadsAs, is_interrupted};
+ghost use Rattle.std.specs.Prelude.{◌≡◌, ℕ, ◌+◌, ◌<◌, ◌≤◌, List, length, IfOk, IfErr};
+ghost use Rattle.vm_memory_base.specs.Transfer.{ReadsAs, FillsAs};
 ghost use Rattle.vm_memory_guest.specs.Host.{shape_of, Holds, block_at, bytes_at, cells_from, written};
 ghost use Rattle.vm_memory_guest.specs.Inside.{blocks_of};
-ghost use Rattle.vm_memory_guest.specs.Transfer.{Lends, LendsAgain, marked_of};
+ghost use Rattle.vm_memory_guest.specs.Transfer.{Lends, LendsAgain, LendsRest, LendsWhole, Fills, filling, marked_of, touched_of};
 ghost use Rattle.vm_memory_guest.specs.Window.{window_names, cells_of};
 
 use super::HostMemory;
 use crate::volatile_memory::slice::VolatileSlice;
-use std::io::ErrorKind;
-use vm_memory_base::{Bitmap, ReadVolatile, VolatileMemoryError, VolatileMemoryResult};
+use vm_memory_base::{Bitmap, ReadExactFault, ReadVolatile, VolatileMemoryResult, is_interrupted};
 
 // How many times in a row a try is made again after an interruption.
 const RETRIES: usize = 64;
@@ -33,6 +32,37 @@ fn read_in<S: ReadVolatile>(
     let all = &mut blocks[block];
     let place = &mut all.as_mut_slice()[offset..offset + len];
     source.read_volatile(place)
+}
+
+// Lends a source some bytes of a block, which it fills by itself.
+fn fill_in<S: ReadVolatile>(
+    blocks: &mut Vec<Vec<u8>>,
+    block: usize,
+    offset: usize,
+    len: usize,
+    source: &mut S,
+) -> Result<(), ReadExactFault>
+    requires there { block < length blocks.old.items }
+    requires within { offset + len ≤ length (block_at (blocks_of blocks.old) block) }
+    ensures touched { IfErr result (λ fault. fault.touched ≤ len) }
+    ensures tried { (bytes : List ℕ) × (length bytes ≡ len)
+        × FillsAs (S.known_left source.old) (S.source source.old)
+        (bytes_at (blocks_of blocks.old) (cells_from block offset len)) result bytes (S.source source.new)
+        × (blocks_of blocks.new ≡ written (cells_from block offset len) bytes (blocks_of blocks.old)) }
+{
+    let all = &mut blocks[block];
+    let place = &mut all.as_mut_slice()[offset..offset + len];
+    source.read_exact_volatile(place)
+}
+
+// How many bytes of so many that a source was to fill are marked.
+fn touched_of(size: usize, answer: &Result<(), ReadExactFault>) -> usize
+    ensures { result ≡ touched_of size answer.now }
+{
+    match answer {
+        Ok(()) => size,
+        Err(fault) => fault.touched,
+    }
 }
 
 // How many bytes of so many that were lent to a source are marked.
@@ -109,14 +139,96 @@ impl<B> HostMemory<B> {
         }
         self.lend(window, source)
     }
-}
 
-// Whether a try was interrupted.
-fn is_interrupted(answer: &VolatileMemoryResult<usize>) -> bool
-    ensures { result ≡ is_interrupted answer.now }
-{
-    match answer {
-        Err(VolatileMemoryError::IOError(error)) => error.kind() == ErrorKind::Interrupted,
-        _ => false,
+    /// Lends a source the rest of a window that it has not filled, until the window is full or the source
+    /// gives none. Each try marks what it filled, or all that it was lent where it failed.
+    pub(crate) fn fill_from<S: ReadVolatile>(
+        &mut self,
+        window: &VolatileSlice,
+        source: &mut S,
+    ) -> VolatileMemoryResult<usize>
+    where
+        B: Bitmap,
+        requires { Holds (shape_of self.old) (window_names window.now) }
+        ensures count { IfOk result (λ count. count ≤ window.now.size) }
+        ensures lends { LendsRest B.marks window.now window.now.size 0 window.now.size
+            (S.source source.old) self.old result (S.source source.new) self.new }
+        ensures shape { shape_of self.new ≡ shape_of self.old }
+    {
+        let size = window.len();
+        let mut filled = 0;
+        while filled < size {
+            let rest = window.part(filled, size - filled);
+            match self.read_from(&rest, source) {
+                Ok(0) => return Ok(filled),
+                Ok(count) => filled += count,
+                Err(error) => return Err(error),
+            }
+        }
+        Ok(filled)
+    }
+
+    // Lends a source the bytes of a window, which it fills by itself.
+    fn fill_place<S: ReadVolatile>(
+        &mut self,
+        window: &VolatileSlice,
+        source: &mut S,
+    ) -> Result<(), ReadExactFault>
+        requires { Holds (shape_of self.old) (window_names window.now) }
+        ensures touched { IfErr result (λ fault. fault.touched ≤ window.now.size) }
+        ensures tried { (bytes : List ℕ) × (length bytes ≡ window.now.size)
+            × FillsAs (S.known_left source.old) (S.source source.old)
+            (bytes_at self.old.blocks (cells_of window.now)) result bytes (S.source source.new)
+            × (self.new ≡ record self.old { blocks = written (cells_of window.now) bytes self.old.blocks }) }
+        ensures shape { shape_of self.new ≡ shape_of self.old }
+    {
+        let blocks = &mut self.blocks;
+        fill_in(blocks, window.block.0, window.offset, window.size, source)
+    }
+
+    /// Lends a source a window, which it fills by itself. All of the window is marked, or what the source
+    /// touched where it failed.
+    pub(crate) fn fill_whole<S: ReadVolatile>(
+        &mut self,
+        window: &VolatileSlice,
+        source: &mut S,
+    ) -> VolatileMemoryResult<usize>
+    where
+        B: Bitmap,
+        requires { Holds (shape_of self.old) (window_names window.now) }
+        ensures count { IfOk result (λ count. count ≡ window.now.size) }
+        ensures lends { LendsWhole B.marks window.now (S.known_left source.old) (S.source source.old) self.old
+            result (S.source source.new) self.new }
+        ensures shape { shape_of self.new ≡ shape_of self.old }
+    {
+        let filled = self.fill_place(window, source);
+        let marked = touched_of(window.size, &filled);
+        self.mark_window(&window.front(marked));
+        match filled {
+            Ok(()) => Ok(window.size),
+            Err(fault) => Err(fault.error),
+        }
+    }
+
+    /// Lends a source a window of an access: until it is full, or for one try.
+    pub(crate) fn receive<S: ReadVolatile>(
+        &mut self,
+        window: &VolatileSlice,
+        source: &mut S,
+        until_full: bool,
+    ) -> VolatileMemoryResult<usize>
+    where
+        B: Bitmap,
+        requires { Holds (shape_of self.old) (window_names window.now) }
+        ensures count { IfOk result (λ count. count ≤ window.now.size) }
+        ensures fills { Fills S.source S.known_left B.marks (filling until_full) window.now
+            (source.old, self.old) result (source.new, self.new) }
+        ensures shape { shape_of self.new ≡ shape_of self.old }
+    {
+        if until_full {
+            self.fill_from(window, source)
+        } else {
+            self.read_from(window, source)
+        }
     }
 }

@@ -1,7 +1,5 @@
 use Rattle.std.proofs.Common.{◌≡◌, ℕ, List, Some, None, map, slice_get, refl, ap, subst, sym, ◌∙◌}
 use Rattle.std.proofs.lemmas.Option.{slice_get-map}
-use Rattle.std.specs.declared.alloc.Global.{Global}
-use Rattle.std.specs.declared.sync.Arc.{Arc}
 use Rattle.vm_memory_guest.specs.Collection.{regions_of}
 use Rattle.vm_memory_guest.specs.Host.{Holds, shape_of}
 use Rattle.vm_memory_guest.specs.Layout.{inserted, IsFault}
@@ -11,13 +9,8 @@ use Rattle.vm_memory.specs.Parts.{Parts, HoldsRegions, state_of}
 use Rattle.vm_memory.specs.declared.machine.command.Command.TheVariants as command
 use Rattle.vm_memory.specs.declared.machine.command.Reply.{Reply}
 use Rattle.vm_memory.proofs.LayoutLemmas.{All-inserted_values, insert-step, insert-refused}
-use Rattle.vm_memory.proofs.ListLemmas.{item_at, All-slice_get}
+use Rattle.vm_memory.proofs.ListLemmas.{item_at, value_of, All-slice_get}
 use Rattle.vm_memory.proofs.machine.Machine.insert.Goals as goal
-
--- the value of a share that a list of shares has
-value_of : {X : Type 0} (rs : List (Arc X Global)) (i : ℕ) (r : Arc X Global) → slice_get rs i ≡ Some r
-    → slice_get (map (λ (q : Arc X Global). q.value) rs) i ≡ Some r.value
-value_of {X} rs i r at = rw (slice_get-map (λ (q : Arc X Global). q.value) rs i, at) refl
 
 pub add_layout-requires : goal.add_layout-requires
 add_layout-requires g c =
@@ -43,7 +36,7 @@ add_layout-requires g c =
     (All-slice_get P (map region (regions_of inside.regions)) c.args.region (region share.value) one pool) in
     let is = c.in-Ok-insert_region.ensures.1 ∙ ap (λ (r : g.row.R.Denot). inserted region rs r) c.in-Ok.ensures.cases in
     let names = (each (map region (inserted region rs share.value))).1 more in
-    subst (λ (m : Parts g.row.R.Denot g.row.B.Denot). HoldsRegions region m.host c.in-Ok-insert_region.layout) c.self.view_is
+    subst (λ (m : Parts g.row.R.Denot g.row.I.Denot g.row.B.Denot). HoldsRegions region m.host c.in-Ok-insert_region.layout) c.self.view_is
     (subst (λ (ys : List g.row.R.Denot). HoldsRegions region inside.host ys) (sym is) names)
 
 pub returns-in-Ok-insert_region : goal.returns-in-Ok-insert_region
@@ -54,17 +47,17 @@ returns-in-Ok-insert_region g c =
     let rs = c.in-Some-Some.layout.now in
     let share = c.in-Some-Some.region.now in
     let there : slice_get m.layouts c.args.layout ≡ Some rs =
-    subst (λ (p : Parts g.row.R.Denot g.row.B.Denot). slice_get p.layouts c.args.layout ≡ Some rs) c.self.view_is
+    subst (λ (p : Parts g.row.R.Denot g.row.I.Denot g.row.B.Denot). slice_get p.layouts c.args.layout ≡ Some rs) c.self.view_is
     (item_at inside.layouts.items c.deref.result.now c.args.layout c.in-Some-Some.layout
     c.deref.ensures.value c.in-Some-Some.ensures.lookup) in
     let at : slice_get m.regions c.args.region ≡ Some share.value =
-    subst (λ (p : Parts g.row.R.Denot g.row.B.Denot). slice_get p.regions c.args.region ≡ Some share.value) c.self.view_is
+    subst (λ (p : Parts g.row.R.Denot g.row.I.Denot g.row.B.Denot). slice_get p.regions c.args.region ≡ Some share.value) c.self.view_is
     (value_of inside.regions.items c.args.region share
     (item_at inside.regions.items c.deref-2.result.now c.args.region c.in-Some-Some.region
     c.deref-2.ensures.value c.in-Some-Some.ensures'.lookup)) in
     let same = c.in-Ok.ensures.cases in
     let told = c.in-Ok-insert_region.ensures in
-    insert-step region g.B.ExactBitmap.pages m c.args.layout c.args.region rs share.value there at
+    insert-step region g.I.Iommu.number g.B.ExactBitmap.pages m c.args.layout c.args.region rs share.value there at
     c.in-Ok-insert_region.layout c.add_layout.result c.add_layout.new.self
     (told.1 ∙ ap (λ (r : g.row.R.Denot). inserted region rs r) same)
     (subst (λ (r : g.row.R.Denot). layout_error (map region (inserted region rs r)) ≡ None) same told.0)
@@ -78,17 +71,17 @@ returns-in-Err g c =
     let rs = c.in-Some-Some.layout.now in
     let share = c.in-Some-Some.region.now in
     let there : slice_get m.layouts c.args.layout ≡ Some rs =
-    subst (λ (p : Parts g.row.R.Denot g.row.B.Denot). slice_get p.layouts c.args.layout ≡ Some rs) c.self.view_is
+    subst (λ (p : Parts g.row.R.Denot g.row.I.Denot g.row.B.Denot). slice_get p.layouts c.args.layout ≡ Some rs) c.self.view_is
     (item_at inside.layouts.items c.deref.result.now c.args.layout c.in-Some-Some.layout
     c.deref.ensures.value c.in-Some-Some.ensures.lookup) in
     let at : slice_get m.regions c.args.region ≡ Some share.value =
-    subst (λ (p : Parts g.row.R.Denot g.row.B.Denot). slice_get p.regions c.args.region ≡ Some share.value) c.self.view_is
+    subst (λ (p : Parts g.row.R.Denot g.row.I.Denot g.row.B.Denot). slice_get p.regions c.args.region ≡ Some share.value) c.self.view_is
     (value_of inside.regions.items c.args.region share
     (item_at inside.regions.items c.deref-2.result.now c.args.region c.in-Some-Some.region
     c.deref-2.ensures.value c.in-Some-Some.ensures'.lookup)) in
     let same = c.in-Ok.ensures.cases in
-    let before = state_of region g.B.ExactBitmap.pages m in
+    let before = state_of region g.I.Iommu.number g.B.ExactBitmap.pages m in
     let fault = subst (λ (r : g.row.R.Denot). IsFault (layout_error (map region (inserted region rs r))) c.in-Err.error) same
     c.in-Err.ensures in
     subst (λ (r : Reply). Step before (command.Insert c.args.layout c.args.region) r before) (sym c.layout_refused.ensures)
-    (insert-refused region g.B.ExactBitmap.pages m c.args.layout c.args.region rs share.value there at c.in-Err.error fault)
+    (insert-refused region g.I.Iommu.number g.B.ExactBitmap.pages m c.args.layout c.args.region rs share.value there at c.in-Err.error fault)

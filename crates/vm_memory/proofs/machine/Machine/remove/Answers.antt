@@ -24,7 +24,7 @@ add_layout-requires g c =
     let rest = All-removed_values region P rs c.in-Ok.layout c.in-Ok.field-0-1.value c.args.base.0 c.args.size
     c.in-Ok.ensures.ok ((each (map region rs)).0 layout) in
     let names = (each (map region c.in-Ok.layout)).1 rest in
-    subst (λ (m : Parts g.row.R.Denot g.row.B.Denot). HoldsRegions region m.host c.in-Ok.layout) c.self.view_is names
+    subst (λ (m : Parts g.row.R.Denot g.row.I.Denot g.row.B.Denot). HoldsRegions region m.host c.in-Ok.layout) c.self.view_is names
 
 pub returns-in-Ok : goal.returns-in-Ok
 returns-in-Ok g c =
@@ -33,10 +33,10 @@ returns-in-Ok g c =
     let m = c.args.self.now in
     let rs = c.in-Some.old.now in
     let there : slice_get m.layouts c.args.layout ≡ Some rs =
-    subst (λ (p : Parts g.row.R.Denot g.row.B.Denot). slice_get p.layouts c.args.layout ≡ Some rs) c.self.view_is
+    subst (λ (p : Parts g.row.R.Denot g.row.I.Denot g.row.B.Denot). slice_get p.layouts c.args.layout ≡ Some rs) c.self.view_is
     (item_at inside.layouts.items c.deref.result.now c.args.layout c.in-Some.old
     c.deref.ensures.value c.in-Some.ensures.lookup) in
-    remove-step region g.B.ExactBitmap.pages m c.args.layout c.args.base c.args.size rs there
+    remove-step region g.I.Iommu.number g.B.ExactBitmap.pages m c.args.layout c.args.base c.args.size rs there
     c.in-Ok.layout c.in-Ok.field-0-1.value c.add_layout.result c.add_layout.new.self
     c.in-Ok.ensures.ok c.add_layout.ensures
 
@@ -47,12 +47,12 @@ returns g c =
     let m = c.args.self.now in
     let rs = c.in-Some.old.now in
     let there : slice_get m.layouts c.args.layout ≡ Some rs =
-    subst (λ (p : Parts g.row.R.Denot g.row.B.Denot). slice_get p.layouts c.args.layout ≡ Some rs) c.self.view_is
+    subst (λ (p : Parts g.row.R.Denot g.row.I.Denot g.row.B.Denot). slice_get p.layouts c.args.layout ≡ Some rs) c.self.view_is
     (item_at inside.layouts.items c.deref.result.now c.args.layout c.in-Some.old
     c.deref.ensures.value c.in-Some.ensures.lookup) in
-    let before = state_of region g.B.ExactBitmap.pages m in
+    let before = state_of region g.I.Iommu.number g.B.ExactBitmap.pages m in
     let e = c.in-Err.error in
-    let refused = remove-refused region g.B.ExactBitmap.pages m c.args.layout c.args.base c.args.size rs there e
+    let refused = remove-refused region g.I.Iommu.number g.B.ExactBitmap.pages m c.args.layout c.args.base c.args.size rs there e
     (λ is. c.remove_region.ensures.none.0 (c.in-Err.is ∙ ap (λ (x : GuestRegionCollectionError). Err x) is))
     (λ none. let is = c.in-Err.ensures.none.1 none in cc)
     c.in-Err.ensures.errors in

@@ -31,8 +31,8 @@ loop-done-preserved g c =
       wants = λ w. l.invariant.wants (offer.ensures.wants w);
     }
 
-pub returns-in-Ok-eq0 : goal.returns-in-Ok-eq0
-returns-in-Ok-eq0 g c =
+pub returns-in-Ok-eq0-clause-sends : goal.returns-in-Ok-eq0-clause-sends
+returns-in-Ok-eq0-clause-sends g c =
     let sink = g.Self.WriteVolatile.sink in
     let taken = g.Self.WriteVolatile.taken in
     let want = g.Self.WriteVolatile.may_want in
@@ -54,8 +54,8 @@ returns-in-Ok-eq0 g c =
           l.invariant.tells told none),
     )
 
-pub returns-in-Err : goal.returns-in-Err
-returns-in-Err g c =
+pub returns-in-Err-clause-sends : goal.returns-in-Err-clause-sends
+returns-in-Err-clause-sends g c =
     let sink = g.Self.WriteVolatile.sink in
     let taken = g.Self.WriteVolatile.taken in
     let want = g.Self.WriteVolatile.may_want in
@@ -76,8 +76,8 @@ returns-in-Err g c =
           l.invariant.tells told c.in-Err.error c.in-Err.is,
     )
 
-pub returns : goal.returns
-returns g c =
+pub returns-clause-sends : goal.returns-clause-sends
+returns-clause-sends g c =
     let l = c.loop-done in (
       l.done,
       l.invariant.within,

@@ -1,0 +1,51 @@
+-- Memory behind an IOMMU, and what an IOMMU answers.
+use Rattle.std.specs.Prelude.{◌≡◌, ℕ, Bool, true, false, List, [], ◌∷◌, ◌++◌, map, flat_map, Some}
+use Rattle.std.proofs.Common.{ap₂}
+use Rattle.vm_memory_base.specs.Lookup.{mapped_ranges}
+use Rattle.vm_memory_base.specs.Table.{Says, is_allowed, pieces, reason}
+use Rattle.vm_memory_base.specs.declared.iotlb.IommuError.{IommuError}
+use Rattle.vm_memory_base.specs.declared.iotlb.IommuError.TheVariants.{CannotResolve, Fragmented, IommuMisconfigured}
+use Rattle.vm_memory_base.specs.declared.iotlb.IommuError.TheVariants as iommu
+use Rattle.vm_memory_base.specs.declared.iotlb.Permissions.{Permissions}
+use Rattle.vm_memory_base.specs.declared.iotlb.lookup.MappedRange.{MappedRange}
+use Rattle.vm_memory_guest.specs.Host.{Name, Space, Tlb}
+use Rattle.vm_memory_guest.specs.Memory.{Memory}
+use Rattle.vm_memory_guest.specs.Region.{Region, region_names}
+use Rattle.vm_memory_guest.specs.declared.region.GuestMemoryError.{GuestMemoryError}
+use Rattle.vm_memory_guest.specs.declared.region.GuestMemoryError.TheVariants as errors
+
+-- a translation that is allowed gives the pieces of a look-up
+abbrev pub Translates : Says → ℕ → ℕ → Permissions → List MappedRange → Type 0
+Translates f a n access found = (is_allowed f a n access ≡ true) × (found ≡ mapped_ranges (pieces f a n))
+
+-- one that is not allowed is refused with the whole range, and why
+abbrev pub RefusesTranslation : Says → ℕ → ℕ → Permissions → IommuError → Type 0
+RefusesTranslation f a n access e = (is_allowed f a n access ≡ false)
+    × (e ≡ CannotResolve (record { base = record { 0 = a }; length = n }) (reason f a n))
+
+-- the error of guest memory for that of a translation: want of memory is a kind of its own
+abbrev pub of_translation : IommuError → GuestMemoryError
+of_translation (CannotResolve range reason) = errors.IommuError (CannotResolve range reason)
+of_translation (Fragmented range length) = errors.IommuError (Fragmented range length)
+of_translation (IommuMisconfigured reason) = errors.IommuError (IommuMisconfigured reason)
+of_translation iommu.Memory = errors.Memory
+
+-- memory behind an IOMMU: the backend, the IOMMU, whether it is on, and the space that writes through it mark
+pub record Behind (M I : Type 0) : Type 0 where
+  pub backend : M
+  pub iommu : I
+  pub on : Bool
+  pub space : ℕ
+
+-- what it means as guest memory
+abbrev pub memory_of : {R : Type 0} → (R → Region) → List R → ℕ → ℕ → Bool → Memory
+memory_of region rs table space on = record {
+  regions = map region rs;
+  iommu = Some (record { behind = record { table = table; space = space }; on = on });
+}
+
+-- it names what its backend and its IOMMU name, and its space
+pub names-parts : (regions : List Region) {table : ℕ} {backend iommu : List Name} (space : ℕ)
+    → backend ≡ flat_map region_names regions → iommu ≡ Tlb table ∷ []
+    → backend ++ (iommu ++ Space space ∷ []) ≡ flat_map region_names regions ++ Tlb table ∷ Space space ∷ []
+names-parts regions space b i = ap₂ (λ (xs ys : List Name). xs ++ (ys ++ Space space ∷ [])) b i

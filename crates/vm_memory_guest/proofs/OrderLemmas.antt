@@ -1,0 +1,236 @@
+-- Windows that are moved one after the other by a source or to a sink.
+use Rattle.std.proofs.Common.{◌≡◌, ◌≢◌, ◌⊎◌, inl, inr, IfOk, MatchBool, MatchResult, Bool, if◌then◌else◌, ℕ, false, true, ◌+◌, ◌≤◌, ◌==◌, List, [], ◌∷◌, ◌++◌, Option, Some, None, option_map, Result, Ok, Err, refl, sym, ap, subst, ◌∙◌, arith}
+use Rattle.std.proofs.lemmas.Bool.Decides.{nat_tests}
+use Rattle.vm_memory_base.specs.declared.io.VolatileMemoryError.{VolatileMemoryError}
+use Rattle.vm_memory_guest.specs.Access.{Fault}
+use Rattle.vm_memory_guest.specs.Answer.{Reach, told}
+use Rattle.vm_memory_guest.specs.Error.{error_of, of_window}
+use Rattle.vm_memory_base.specs.Table.{Table}
+use Rattle.vm_memory_base.specs.declared.iotlb.Permissions.{Permissions}
+use Rattle.vm_memory_guest.specs.Memory.{Memory, IsOn}
+use Rattle.vm_memory_guest.specs.Transfer.{InOrder, Transfers, all_of, ended}
+use Rattle.vm_memory_guest.specs.Walk.{reached, GivesAccess, RefusesAccess, WantsMemory}
+use Rattle.std.specs.Result.{result_map_both}
+use Rattle.vm_memory_base.specs.declared.io.VolatileMemoryError.TheVariants.{PartialBuffer}
+use Rattle.vm_memory_base.specs.declared.io.VolatileMemoryError.TheVariants as window
+use Rattle.vm_memory_guest.specs.RegionBytes.{as_guest, moved_in}
+use Rattle.vm_memory_guest.specs.Typed.{answered}
+use Rattle.vm_memory_guest.specs.TypedFacts.{subslice-sized}
+use Rattle.vm_memory_guest.specs.Window.{Window, span, subslice_of}
+use Rattle.vm_memory_guest.specs.declared.region.GuestMemoryError.{GuestMemoryError}
+use Rattle.vm_memory_guest.specs.declared.region.GuestMemoryError.TheVariants as errors
+use Rattle.vm_memory_guest.proofs.AccessLemmas.{Came, Gave, Ends, came_first, came_more, came-fits, accessed-refused}
+use Rattle.vm_memory_guest.proofs.WrittenLaws.{span-append}
+
+module _ {X E : Type 0} (failure : VolatileMemoryError → E) (fault : Option E) (Moves : Window → X → Result ℕ VolatileMemoryError → X → Type 0) (w : Window) (ws : List Window) (total : ℕ) (old mid : X) (moved : Result ℕ VolatileMemoryError)
+    (moves : Moves w old moved mid) where
+  -- a window was moved whole, and the others follow
+  pub order_more : (count : ℕ) (answer : Result ℕ E) (new : X) → moved ≡ Ok count → count ≡ w.size → InOrder failure fault Moves ws (total + count) mid answer new → InOrder failure fault Moves (w ∷ ws) total old answer new
+  unfolding InOrder
+  order_more count answer new is all so =
+      let whole : (count == w.size) ≡ true = grind (arith, nat_tests) in
+      (moved, mid, moves, rw (is, whole) so)
+
+  -- a window was moved in part
+  pub order_stops : (count : ℕ) → moved ≡ Ok count → count ≢ w.size → InOrder failure fault Moves (w ∷ ws) total old (Ok (total + count)) mid
+  unfolding InOrder
+  order_stops count is part =
+      let short : (count == w.size) ≡ false = grind (arith, nat_tests) in
+      (moved, mid, moves, rw (is, short) (refl, refl))
+
+  -- a window was not moved
+  pub order_fails : (e : VolatileMemoryError) → moved ≡ Err e → InOrder failure fault Moves (w ∷ ws) total old (Err (failure e)) mid
+  unfolding InOrder
+  order_fails e is = (moved, mid, moves, rw is (refl, refl))
+
+-- no window is left
+pub order_ends : {X E : Type 0} (failure : VolatileMemoryError → E) (fault : Option E) (Moves : Window → X → Result ℕ VolatileMemoryError → X → Type 0) (total : ℕ) (x : X) → InOrder failure fault Moves [] total x (ended total fault) x
+unfolding InOrder
+order_ends failure fault Moves total x = (refl, refl)
+
+ended_none : (total : ℕ) (e : GuestMemoryError) → total ≡ 0 → ended total (Some e) ≡ Err e
+ended_none total e none = grind (arith, nat_tests)
+
+ended_some : (total : ℕ) (e : GuestMemoryError) → total ≢ 0 → ended total (Some e) ≡ Ok total
+ended_some total e some = grind (arith, nat_tests)
+
+-- the windows of a walk, in order
+abbrev pub Walked : {X : Type 0} (Moves : Window → X → Result ℕ VolatileMemoryError → X → Type 0) → Reach Fault → List Window → ℕ → X → Result ℕ GuestMemoryError → X → Type 0
+Walked Moves start ws total old answer new = InOrder of_window (option_map error_of start.fault) Moves ws total old answer new
+
+module _ {X : Type 0} (Moves : Window → X → Result ℕ VolatileMemoryError → X → Type 0) where
+  -- windows of a walk were moved so far, and what follows makes the whole
+  pub record Moved (start left : Reach Fault) (initial now : X) (total : ℕ) : Type 0 where
+    pub done : List Window
+    pub came : Came start left done total
+    pub rest : (answer : Result ℕ GuestMemoryError) (new : X) → Walked Moves start left.windows total now answer new → Walked Moves start start.windows 0 initial answer new
+
+  pub moved_first : (start : Reach Fault) (x : X) → Moved start start x x 0
+  moved_first start x = record { done = []; came = came_first start; rest = λ answer new so. so }
+
+  -- so many bytes are no more than all
+  pub moved_most : {start left : Reach Fault} {initial now : X} {total : ℕ} → Moved start left initial now total → total ≤ span start.windows
+  moved_most {start} {left} m =
+      let all : span start.windows ≡ span m.done + span left.windows = ap span m.came.windows ∙ span-append m.done left.windows in
+      let count = m.came.count in
+      omega arith
+
+  module _ {start left next : Reach Fault} {w : Window} {initial now : X} {total : ℕ} (m : Moved start left initial now total) (gives : Gave left next w) (mid : X) (moved : Result ℕ VolatileMemoryError) (moves : Moves w now moved mid) where
+    to_left : (answer : Result ℕ GuestMemoryError) (new : X) → Walked Moves start (w ∷ next.windows) total now answer new → Walked Moves start start.windows 0 initial answer new
+    to_left answer new so = m.rest answer new (subst (λ (ws : List Window). Walked Moves start ws total now answer new) (sym gives.windows) so)
+
+    pub moved_next : (count : ℕ) → moved ≡ Ok count → count ≡ w.size → Moved start next initial mid (total + count)
+    moved_next count is all = record {
+      done = m.done ++ w ∷ [];
+      came = came_more m.came gives count all;
+      rest = λ answer new so. to_left answer new (order_more of_window (option_map error_of start.fault) Moves w next.windows total now mid moved moves count answer new is all so);
+    }
+
+    pub moved_part : (count : ℕ) → moved ≡ Ok count → count ≢ w.size → Walked Moves start start.windows 0 initial (Ok (total + count)) mid
+    moved_part count is part = to_left (Ok (total + count)) mid (order_stops of_window (option_map error_of start.fault) Moves w next.windows total now mid moved moves count is part)
+
+    pub moved_fails : (e : VolatileMemoryError) → moved ≡ Err e → Walked Moves start start.windows 0 initial (Err (of_window e)) mid
+    moved_fails e is = to_left (Err (of_window e)) mid (order_fails of_window (option_map error_of start.fault) Moves w next.windows total now mid moved moves e is)
+
+    pub moved_within : (count : ℕ) → count ≤ w.size → total + count ≤ span start.windows
+    moved_within count within = let a = came-fits m.came gives (span start.windows) (omega arith) in omega arith
+
+  module _ {start left : Reach Fault} {initial now : X} {total : ℕ} (m : Moved start left initial now total) where
+    ends_as : {error : Option GuestMemoryError} → Ends left error → Walked Moves start start.windows 0 initial (ended total error) now
+    ends_as {error} ends =
+        let fault : option_map error_of start.fault ≡ error = m.came.fault ∙ ends.fault in
+        let here : Walked Moves start [] total now (ended total error) now = subst (λ (o : Option GuestMemoryError). Walked Moves start [] total now (ended total o) now) fault (order_ends of_window (option_map error_of start.fault) Moves total now) in
+        m.rest (ended total error) now (subst (λ (ws : List Window). Walked Moves start ws total now (ended total error) now) (sym ends.windows) here)
+
+    pub moved_whole : Ends left None → Walked Moves start start.windows 0 initial (Ok total) now
+    moved_whole ends = ends_as ends
+
+    pub moved_none : {e : GuestMemoryError} → Ends left (Some e) → total ≡ 0 → Walked Moves start start.windows 0 initial (Err e) now
+    moved_none {e} ends none = subst (λ (r : Result ℕ GuestMemoryError). Walked Moves start start.windows 0 initial r now) (ended_none total e none) (ends_as ends)
+
+    pub moved_some : {e : GuestMemoryError} → Ends left (Some e) → total ≢ 0 → Walked Moves start start.windows 0 initial (Ok total) now
+    moved_some {e} ends some = subst (λ (r : Result ℕ GuestMemoryError). Walked Moves start start.windows 0 initial r now) (ended_some total e some) (ends_as ends)
+
+-- a transfer without a walk moved nothing
+module _ (memory : Memory) (tables : List Table) (a n : ℕ) (access : Permissions) {X : Type 0} (Moves : Window → X → Result ℕ VolatileMemoryError → X → Type 0) (x : X) (e : GuestMemoryError) where
+  refused_order : RefusesAccess memory tables a n access e → let r = told error_of (reached memory tables a n access) in InOrder of_window r.fault Moves r.windows 0 x (Err e) x
+  refused_order refused = subst (λ (r : Reach GuestMemoryError). InOrder of_window r.fault Moves r.windows 0 x (Err e) x) (sym (accessed-refused memory tables a n access e refused)) (order_ends of_window (Some e) Moves 0 x)
+
+  pub transfers-refused : (WantsMemory memory e ⊎ RefusesAccess memory tables a n access e) → Transfers {T = ℕ} errors.Memory (IsOn memory) x (Err e) x (let r = told error_of (reached memory tables a n access) in InOrder of_window r.fault Moves r.windows 0 x (Err e) x)
+  transfers-refused why = elim why [
+    | inl wanted ↦ inl (ap (λ (f : GuestMemoryError). Err f) wanted.0, wanted.1, refl)
+    | inr refused ↦ inr (refused_order refused)
+  ]
+
+  pub transfers-refused-whole : (WantsMemory memory e ⊎ RefusesAccess memory tables a n access e) → Transfers {T = Unit {0}} errors.Memory (IsOn memory) x (Err e) x
+      ((total : Result ℕ GuestMemoryError) × (Err e ≡ all_of errors.PartialBuffer n total) × (let r = told error_of (reached memory tables a n access) in InOrder of_window r.fault Moves r.windows 0 x total x))
+  transfers-refused-whole why = elim why [
+    | inl wanted ↦ inl (ap (λ (f : GuestMemoryError). Err f) wanted.0, wanted.1, refl)
+    | inr refused ↦ inr (Err e, refl, refused_order refused)
+  ]
+
+-- what is at most the bytes of windows is at most what they are at most
+pub at_most-all : {E : Type 0} (r : Result ℕ E) (k n : ℕ) → IfOk r (λ total. total ≤ k) → k ≤ n → IfOk r (λ total. total ≤ n)
+at_most-all (Ok total) k n most within = omega arith
+at_most-all (Err e) k n most within = tt
+
+-- the windows of a walk in order are those of its access
+pub walk-order : (memory : Memory) (tables : List Table) (a n : ℕ) (access : Permissions) (walk : Reach Fault) → GivesAccess memory tables a n access walk → {X : Type 0} (Moves : Window → X → Result ℕ VolatileMemoryError → X → Type 0) (old : X) (answer : Result ℕ GuestMemoryError) (new : X)
+    → Walked Moves walk walk.windows 0 old answer new → let r = told error_of (reached memory tables a n access) in InOrder of_window r.fault Moves r.windows 0 old answer new
+walk-order memory tables a n access walk gives Moves old answer new so = subst (λ (y : Reach Fault). InOrder of_window (option_map error_of y.fault) Moves y.windows 0 old answer new) gives.1 so
+
+-- a window alone: the answer is that of its move
+module _ {X : Type 0} (Moves : Window → X → Result ℕ VolatileMemoryError → X → Type 0) (w : Window) (old mid : X) where
+  ends_one : (count : ℕ) (b : Bool) → MatchBool b (InOrder (λ e. e) None Moves [] (0 + count) mid (Ok count) mid) (◌≡◌ {A = Result ℕ VolatileMemoryError} (Ok count) (Ok (0 + count)) × (mid ≡ mid))
+  unfolding InOrder
+  ends_one count true = (ap (λ (n : ℕ). Ok n) (omega arith), refl)
+  ends_one count false = (ap (λ (n : ℕ). Ok n) (omega arith), refl)
+
+  pub order_one : (moved : Result ℕ VolatileMemoryError) → Moves w old moved mid → InOrder (λ e. e) None Moves (w ∷ []) 0 old moved mid
+  unfolding InOrder
+  order_one (Ok count) moves = (Ok count, mid, moves, ends_one count (count == w.size))
+  order_one (Err e) moves = (Err e, mid, moves, (refl, refl))
+
+  -- the same where this is what is moved, and where nothing is
+  pub order_only : (r : Reach VolatileMemoryError) → r ≡ record { windows = w ∷ []; fault = None } → (moved : Result ℕ VolatileMemoryError) → Moves w old moved mid → InOrder (λ e. e) r.fault Moves r.windows 0 old moved mid
+  order_only r is moved moves = subst (λ (y : Reach VolatileMemoryError). InOrder (λ e. e) y.fault Moves y.windows 0 old moved mid) (sym is) (order_one moved moves)
+
+pub order_none : {X E : Type 0} (failure : VolatileMemoryError → E) (Moves : Window → X → Result ℕ VolatileMemoryError → X → Type 0) (x : X) (e : E) (r : Reach E) → r ≡ record { windows = []; fault = Some e } → InOrder failure r.fault Moves r.windows 0 x (Err e) x
+order_none failure Moves x e r is = subst (λ (y : Reach _). InOrder failure y.fault Moves y.windows 0 x (Err e) x) (sym is) (order_ends failure (Some e) Moves 0 x)
+
+-- an answer of a window alone, where all n bytes are wanted and it has as many
+pub all_of_one : (n : ℕ) (w : Window) (moved : Result ℕ VolatileMemoryError) → IfOk moved (λ count. count ≡ w.size) → w.size ≡ n → answered (λ all. tt) moved ≡ all_of PartialBuffer n moved
+all_of_one n w (Ok count) all size =
+    let same : (count == n) ≡ true = let c = all in grind (arith, nat_tests) in
+    rw same refl
+all_of_one n w (Err e) all size = refl
+
+-- moves of windows in order, with their errors told otherwise
+module _ {X E : Type 0} (failure : VolatileMemoryError → E) (fault : Option VolatileMemoryError) (Moves : Window → X → Result ℕ VolatileMemoryError → X → Type 0) where
+  ended_told : (total : ℕ) (o : Option VolatileMemoryError) → result_map_both (λ x. x) failure (ended total o) ≡ ended total (option_map failure o)
+  ended_told total None = refl
+  ended_told total (Some e) = go (total == 0)
+    where
+      go : (b : Bool) → result_map_both (λ x. x) failure (if b then Err e else Ok total) ≡ (if b then Err (failure e) else Ok total)
+      go true = refl
+      go false = refl
+
+  abbrev Goes : {E : Type 0} → (VolatileMemoryError → E) → Option E → Window → List Window → ℕ → Result ℕ E → X → X → Result ℕ VolatileMemoryError → Type 0
+  Goes failure fault w ws total answer new mid moved = MatchResult moved (λ count. MatchBool (count == w.size) (InOrder failure fault Moves ws (total + count) mid answer new) ((answer ≡ Ok (total + count)) × (new ≡ mid))) (λ e. (answer ≡ Err (failure e)) × (new ≡ mid))
+
+  told_whole : (ws : List Window) (total : ℕ) (answer : Result ℕ VolatileMemoryError) (new mid : X) (count : ℕ) → (InOrder (λ e. e) fault Moves ws (total + count) mid answer new → InOrder failure (option_map failure fault) Moves ws (total + count) mid (result_map_both (λ x. x) failure answer) new)
+      → (b : Bool) → MatchBool b (InOrder (λ e. e) fault Moves ws (total + count) mid answer new) ((answer ≡ Ok (total + count)) × (new ≡ mid))
+      → MatchBool b (InOrder failure (option_map failure fault) Moves ws (total + count) mid (result_map_both (λ x. x) failure answer) new) ((result_map_both (λ x. x) failure answer ≡ Ok (total + count)) × (new ≡ mid))
+  told_whole ws total answer new mid count more true h = more h
+  told_whole ws total answer new mid count more false h = (ap (result_map_both (λ x. x) failure) h.0, h.1)
+
+  told_more : (w : Window) (ws : List Window) (total : ℕ) (answer : Result ℕ VolatileMemoryError) (new mid : X) → ((count : ℕ) → InOrder (λ e. e) fault Moves ws (total + count) mid answer new → InOrder failure (option_map failure fault) Moves ws (total + count) mid (result_map_both (λ x. x) failure answer) new)
+      → (moved : Result ℕ VolatileMemoryError) → Goes (λ e. e) fault w ws total answer new mid moved → Goes failure (option_map failure fault) w ws total (result_map_both (λ x. x) failure answer) new mid moved
+  told_more w ws total answer new mid more (Ok count) h = told_whole ws total answer new mid count (more count) (count == w.size) h
+  told_more w ws total answer new mid more (Err e) h = (ap (result_map_both (λ x. x) failure) h.0, h.1)
+
+  pub order_told : (ws : List Window) (total : ℕ) (old : X) (answer : Result ℕ VolatileMemoryError) (new : X) → InOrder (λ e. e) fault Moves ws total old answer new
+      → InOrder failure (option_map failure fault) Moves ws total old (result_map_both (λ x. x) failure answer) new
+  unfolding InOrder
+  order_told [] total old answer new so = (ap (result_map_both (λ x. x) failure) so.0 ∙ ended_told total fault, so.1)
+  order_told (w ∷ ws) total old answer new so =
+      (so.0, so.1, so.2, told_more w ws total answer new so.1 (λ count h. order_told ws (total + count) so.1 answer new h) so.0 so.3)
+
+-- the answer of a window where all bytes are wanted, as guest memory tells it
+pub all_of_told : (n : ℕ) (total : Result ℕ VolatileMemoryError) → as_guest (all_of PartialBuffer n total) ≡ all_of errors.PartialBuffer n (as_guest total)
+all_of_told n (Err e) = refl
+all_of_told n (Ok total) = go (total == n)
+  where
+    go : (b : Bool) → as_guest (if b then Ok (tt {0}) else Err (PartialBuffer n total)) ≡ (if b then Ok (tt {0}) else Err (errors.PartialBuffer n total))
+    go true = refl
+    go false = refl
+
+-- a part of a window has as many bytes as were asked for
+pub size-given : (w v : Window) (offset n : ℕ) (r : Result Window VolatileMemoryError) → r ≡ subslice_of w offset n → r ≡ Ok v → v.size ≡ n
+size-given w v offset n r is ok = subst (λ (x : Result Window VolatileMemoryError). IfOk x (λ u. u.size ≡ n)) (sym is ∙ ok) (subslice-sized w offset n)
+
+pub all_of_sent : (n : ℕ) (w : Window) (sent : Result (Unit {0}) VolatileMemoryError) → w.size ≡ n → sent ≡ all_of PartialBuffer n (answered (λ all. w.size) sent)
+all_of_sent n w (Ok all) size =
+    let same : (w.size == n) ≡ true = grind (arith, nat_tests) in
+    rw same refl
+all_of_sent n w (Err e) size = refl
+
+-- transfers of a region are those of its window
+module _ {X : Type 0} (Moves : Window → X → Result ℕ VolatileMemoryError → X → Type 0) (f : Window → Reach VolatileMemoryError) (o : Result Window GuestMemoryError) where
+  -- it has none
+  pub region_refused : (x : X) (e : GuestMemoryError) → o ≡ Err e → InOrder of_window (moved_in o f).fault Moves (moved_in o f).windows 0 x (Err e) x
+  region_refused x e is = order_none of_window Moves x e (moved_in o f) (ap (λ (p : Result Window GuestMemoryError). moved_in p f) is)
+
+  module _ (w : Window) (is : o ≡ Ok w) (old new : X) where
+    in_region : (total : Result ℕ VolatileMemoryError) → InOrder (λ e. e) (f w).fault Moves (f w).windows 0 old total new → InOrder of_window (moved_in o f).fault Moves (moved_in o f).windows 0 old (as_guest total) new
+    in_region total so = subst (λ (y : Reach GuestMemoryError). InOrder of_window y.fault Moves y.windows 0 old (as_guest total) new) (sym (ap (λ (p : Result Window GuestMemoryError). moved_in p f) is)) (order_told of_window (f w).fault Moves (f w).windows 0 old total new so)
+
+    pub region_moved : (r : Result ℕ VolatileMemoryError) → Transfers window.Memory ⊥ old r new (InOrder (λ e. e) (f w).fault Moves (f w).windows 0 old r new)
+        → Transfers errors.Memory ⊥ old (as_guest r) new (InOrder of_window (moved_in o f).fault Moves (moved_in o f).windows 0 old (as_guest r) new)
+    region_moved r (inl wanted) = absurd wanted.1
+    region_moved r (inr so) = inr (in_region r so)
+
+    pub region_moved-whole : (n : ℕ) (r : Result (Unit {0}) VolatileMemoryError) → Transfers window.Memory ⊥ old r new ((total : Result ℕ VolatileMemoryError) × (r ≡ all_of PartialBuffer n total) × InOrder (λ e. e) (f w).fault Moves (f w).windows 0 old total new)
+        → Transfers errors.Memory ⊥ old (as_guest r) new ((total : Result ℕ GuestMemoryError) × (as_guest r ≡ all_of errors.PartialBuffer n total) × InOrder of_window (moved_in o f).fault Moves (moved_in o f).windows 0 old total new)
+    region_moved-whole n r (inl wanted) = absurd wanted.1
+    region_moved-whole n r (inr so) = inr (as_guest so.0, ap (λ (x : Result (Unit {0}) VolatileMemoryError). as_guest x) so.1 ∙ all_of_told n so.0, in_region so.0 so.2)

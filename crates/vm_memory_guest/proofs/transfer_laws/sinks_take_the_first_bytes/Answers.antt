@@ -1,0 +1,7 @@
+use Rattle.vm_memory_guest.specs.Error.{of_window}
+use Rattle.vm_memory_guest.proofs.GivenLaws.{taken_is}
+use Rattle.vm_memory_guest.proofs.transfer_laws.sinks_take_the_first_bytes.Goals as goal
+
+pub returns : goal.returns
+returns g c fault ws total before old new blocks answer keeps so =
+    taken_is g.S.WriteVolatile.sink g.S.WriteVolatile.taken g.S.WriteVolatile.may_want blocks of_window fault ws total before old answer new keeps so

@@ -1,0 +1,84 @@
+//! Transfers between the windows of a walk and sources or sinks of bytes.
+ghost use Rattle.std.specs.Prelude.{◌≡◌, ◌^◌, ◌<◌, ◌≤◌, IfOk, option_map};
+ghost use Rattle.std.specs.List.{AllByRecursion};
+ghost use Rattle.vm_memory_guest.specs.Error.{error_of, of_window};
+ghost use Rattle.vm_memory_guest.specs.Host.{shape_of, Holds};
+ghost use Rattle.vm_memory_guest.specs.Transfer.{Fills, InOrder, Takes, UntilWhole, filling};
+ghost use Rattle.vm_memory_guest.specs.Window.{span, window_names};
+
+use super::backend::GuestMemoryBackend;
+use super::memory::IommuMemorySliceIterator;
+use crate::region::GuestMemoryResult;
+use crate::volatile_memory::host::HostMemory;
+use vm_memory_base::{Bitmap, ReadVolatile, WriteVolatile};
+
+// Lends a source the windows that a walk gives, one after the other, up to the first that it does not fill.
+// Each is lent until it is full, or for one try.
+pub(super) fn receive_windows<M: GuestMemoryBackend, S: ReadVolatile, B: Bitmap>(
+    walk: IommuMemorySliceIterator<'_, M>,
+    host: &mut HostMemory<B>,
+    source: &mut S,
+    until_full: bool,
+) -> GuestMemoryResult<usize>
+    requires held { AllByRecursion (λ w. Holds (shape_of host.old) (window_names w)) walk.windows }
+    requires fits { span walk.windows < 2 ^ 64 }
+    ensures answer { let walk = walk.entry in
+        InOrder of_window (option_map error_of walk.fault)
+        (Fills S.source S.known_left B.marks (filling until_full)) walk.windows 0
+        (source.old, host.old) result (source.new, host.new) }
+    ensures at_most { IfOk result (λ total. total ≤ span walk.entry.windows) }
+    ensures shape { shape_of host.new ≡ shape_of host.old }
+{
+    let mut total = 0;
+    for item in walk {
+        match item {
+            Ok(window) => {
+                let count = host.receive(&window, source, until_full)?;
+                total += count;
+                if count != window.len() {
+                    return Ok(total);
+                }
+            }
+            Err(error) => {
+                if total == 0 {
+                    return Err(error);
+                }
+                return Ok(total);
+            }
+        }
+    }
+    Ok(total)
+}
+
+// Offers a sink the bytes of the windows that a walk gives, one window after the other, each until all of its
+// bytes are taken.
+pub(super) fn send_windows<M: GuestMemoryBackend, S: WriteVolatile, B: Bitmap>(
+    walk: IommuMemorySliceIterator<'_, M>,
+    host: &HostMemory<B>,
+    sink: &mut S,
+) -> GuestMemoryResult<usize>
+    requires held { AllByRecursion (λ w. Holds (shape_of host.now) (window_names w)) walk.windows }
+    requires fits { span walk.windows < 2 ^ 64 }
+    ensures answer { let walk = walk.entry in
+        InOrder of_window (option_map error_of walk.fault)
+        (Takes S.sink S.taken S.may_want host.now.blocks UntilWhole) walk.windows 0
+        sink.old result sink.new }
+    ensures at_most { IfOk result (λ total. total ≤ span walk.entry.windows) }
+{
+    let mut total = 0;
+    for item in walk {
+        match item {
+            Ok(window) => {
+                sink.write_all_volatile(host.bytes(&window))?;
+                total += window.len();
+            }
+            Err(error) => {
+                if total == 0 {
+                    return Err(error);
+                }
+                return Ok(total);
+            }
+        }
+    }
+    Ok(total)
+}

@@ -1,0 +1,62 @@
+//! What a transfer of guest memory is, where the source or the sink tells what it does: each function here is a
+//! theorem, and does nothing. It calls the theorems that it follows from.
+ghost use Rattle.std.specs.Prelude.{◌≡◌, ◌⊎◌, ℕ, ◌+◌, ◌++◌, ◌≤◌, Bool, List, Option, Some, Result, Err, IfOk, take};
+ghost use Rattle.vm_memory_base.specs.Transfer.{Next, Sink};
+ghost use Rattle.vm_memory_guest.specs.Dealt.{given_out, received};
+ghost use Rattle.vm_memory_guest.specs.Dirt.{with_pages};
+ghost use Rattle.vm_memory_guest.specs.Error.{of_window};
+ghost use Rattle.vm_memory_guest.specs.Host.{Host, bytes_at};
+ghost use Rattle.vm_memory_guest.specs.Transfer.{Fills, InOrder, Takes, UntilWhole, beside, filling};
+ghost use Rattle.vm_memory_guest.specs.Window.{Window, cells, span};
+ghost use Rattle.vm_memory_guest.specs.declared.region.GuestMemoryError.{GuestMemoryError};
+
+use vm_memory_base::laws::pages::empty_mark;
+use vm_memory_base::{ExactBitmap, ReadVolatile, WriteVolatile};
+
+/// A transfer in from a source that tells what it does, into a host with exact bitmaps: its answer, what the
+/// source does next, and the bytes and the pages of the host are computed from what the source was to do.
+pub fn transfers_in_are_computed<S: ReadVolatile, B: ExactBitmap>()
+    ensures { (until_full : Bool) (fault : Option GuestMemoryError) (ws : List Window) (total : ℕ)
+        (next : List Next) (source after : S) (old new : Host B) (answer : Result ℕ GuestMemoryError)
+        → S.source source ≡ Some next
+        → InOrder of_window fault (Fills S.source S.known_left B.marks (filling until_full)) ws total
+        (beside source old) answer (beside after new)
+        → let dealt = received of_window fault until_full ws total next (with_pages B.pages old) in
+        (answer ≡ dealt.answer) × (S.source after ≡ Some dealt.left) × (with_pages B.pages new ≡ dealt.host) }
+{
+    empty_mark();
+}
+
+/// A transfer out to a sink that tells what it does: its answer and what the sink does next are computed from
+/// what the sink was to do. Or the sink wanted memory, where it may.
+pub fn transfers_out_are_computed<S: WriteVolatile>()
+    ensures { (fault : Option GuestMemoryError) (ws : List Window) (total : ℕ) (state : Sink) (old new : S)
+        (blocks : List (List ℕ)) (answer : Result ℕ GuestMemoryError) → S.sink old ≡ Some state
+        → InOrder of_window fault (Takes S.sink S.taken S.may_want blocks UntilWhole) ws total old answer new
+        → let given = given_out of_window fault ws total state in
+        ((answer ≡ Err GuestMemoryError.Memory) × S.may_want old)
+        ⊎ ((answer ≡ given.answer) × (S.sink new ≡ Some given.left)) }
+{}
+
+/// A transfer out to a sink that tells what it does and keeps what it takes: it took as many of the windows' first
+/// bytes as is computed from what the sink was to do. Or the sink wanted memory, where it may.
+pub fn sinks_take_what_is_computed<S: WriteVolatile>()
+    ensures { (fault : Option GuestMemoryError) (ws : List Window) (total : ℕ) (state : Sink) (before : List ℕ)
+        (old new : S) (blocks : List (List ℕ)) (answer : Result ℕ GuestMemoryError) → S.sink old ≡ Some state
+        → S.taken old ≡ Some before
+        → InOrder of_window fault (Takes S.sink S.taken S.may_want blocks UntilWhole) ws total old answer new
+        → let given = given_out of_window fault ws total state in
+        ((answer ≡ Err GuestMemoryError.Memory) × S.may_want old)
+        ⊎ ((count : ℕ) × (given.taken ≡ total + count)
+        × (S.taken new ≡ Some (before ++ take count (bytes_at blocks (cells ws))))) }
+{}
+
+/// A transfer out to a sink that keeps what it takes: it took the first bytes of the windows, in order, and as
+/// many as were answered.
+pub fn sinks_take_the_first_bytes<S: WriteVolatile>()
+    ensures { (fault : Option GuestMemoryError) (ws : List Window) (total : ℕ) (before : List ℕ) (old new : S)
+        (blocks : List (List ℕ)) (answer : Result ℕ GuestMemoryError) → S.taken old ≡ Some before
+        → InOrder of_window fault (Takes S.sink S.taken S.may_want blocks UntilWhole) ws total old answer new
+        → (count : ℕ) × (count ≤ span ws) × (S.taken new ≡ Some (before ++ take count (bytes_at blocks (cells ws))))
+        × IfOk answer (λ n. n ≡ total + count) }
+{}

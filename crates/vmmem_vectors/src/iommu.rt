@@ -1,0 +1,266 @@
+//! Guest memory behind an IOMMU: each access of it, on and off.
+
+use crate::support::expect_text;
+use std::alloc::Global;
+use std::sync::Arc;
+use std::sync::atomic::Ordering;
+use std::test::Fail;
+use vm_memory::{
+    Bitmap, BitmapId, Bytes, ExclusiveBitmap, GuestAddress, GuestMemory, GuestMemoryBackend,
+    GuestMemoryMmap, HostMemory, Iommu, IommuMemory, NewBitmap, Permissions, SpaceId, TableIommu,
+    TlbId,
+};
+
+type Host = HostMemory<ExclusiveBitmap>;
+
+type Memory = IommuMemory<GuestMemoryMmap, TableIommu>;
+
+// An address, where it leads, so many bytes, and the accesses that are permitted.
+type Mapping = (u64, u64, usize, Permissions);
+
+// Each of these accesses of 2 bytes at an address, and the dirty pages of the block and the space then.
+#[derive(Clone, Copy)]
+struct Case {
+    mappings: &'static [Mapping],
+    on: bool,
+    addr: u64,
+    told: &'static str,
+}
+
+const TWO_PERMISSIONS: [Mapping; 2] = [
+    (0, 0, 0x1000, Permissions::ReadWrite),
+    (0x1000, 0x1000, 0x1000, Permissions::Read),
+];
+
+const ONE_PAGE: [Mapping; 1] = [(0x5000, 0, 0x1000, Permissions::ReadWrite)];
+
+const PAGES_THE_OTHER_WAY: [Mapping; 2] = [
+    (0x2000, 0x1000, 0x1000, Permissions::ReadWrite),
+    (0x3000, 0, 0x1000, Permissions::ReadWrite),
+];
+
+const PAST_THE_REGION: [Mapping; 1] = [(0x8000, 0x1000, 0x2000, Permissions::ReadWrite)];
+
+const CASES: [Case; 6] = [
+    // Reads cross two mappings, and writes may not.
+    Case {
+        mappings: &TWO_PERMISSIONS,
+        on: true,
+        addr: 0xfff,
+        told: "write Err(IommuError(CannotResolve { iova_range: IovaRange { base: GuestAddress(4095), length: 2 }, reason: AccessNotAllowed }))
+write_slice Err(IommuError(CannotResolve { iova_range: IovaRange { base: GuestAddress(4095), length: 2 }, reason: AccessNotAllowed }))
+write_obj Err(IommuError(CannotResolve { iova_range: IovaRange { base: GuestAddress(4095), length: 2 }, reason: AccessNotAllowed }))
+store Err(IommuError(CannotResolve { iova_range: IovaRange { base: GuestAddress(4095), length: 2 }, reason: AccessNotAllowed }))
+read Ok(2) [0, 0]
+read_slice Ok(()) [0, 0]
+read_obj Ok(0)
+load Err(InvalidBackendAddress)
+check_range Ok(false) Ok(true)
+block [] space []",
+    },
+    // An address that is not mapped.
+    Case {
+        mappings: &TWO_PERMISSIONS,
+        on: true,
+        addr: 0x1fff,
+        told: "write Err(IommuError(CannotResolve { iova_range: IovaRange { base: GuestAddress(8191), length: 2 }, reason: MissingMapping }))
+write_slice Err(IommuError(CannotResolve { iova_range: IovaRange { base: GuestAddress(8191), length: 2 }, reason: MissingMapping }))
+write_obj Err(IommuError(CannotResolve { iova_range: IovaRange { base: GuestAddress(8191), length: 2 }, reason: MissingMapping }))
+store Err(IommuError(CannotResolve { iova_range: IovaRange { base: GuestAddress(8191), length: 2 }, reason: MissingMapping }))
+read Err(IommuError(CannotResolve { iova_range: IovaRange { base: GuestAddress(8191), length: 2 }, reason: MissingMapping })) [0, 0]
+read_slice Err(IommuError(CannotResolve { iova_range: IovaRange { base: GuestAddress(8191), length: 2 }, reason: MissingMapping })) [0, 0]
+read_obj Err(IommuError(CannotResolve { iova_range: IovaRange { base: GuestAddress(8191), length: 2 }, reason: MissingMapping }))
+load Err(IommuError(CannotResolve { iova_range: IovaRange { base: GuestAddress(8191), length: 2 }, reason: MissingMapping }))
+check_range Ok(false) Ok(false)
+block [] space []",
+    },
+    // A write marks the space at the I/O address.
+    Case {
+        mappings: &ONE_PAGE,
+        on: true,
+        addr: 0x5000,
+        told: "write Ok(2)
+write_slice Ok(())
+write_obj Ok(())
+store Ok(())
+read Ok(2) [7, 8]
+read_slice Ok(()) [7, 8]
+read_obj Ok(2055)
+load Ok(2055)
+check_range Ok(true) Ok(true)
+block [] space [5]",
+    },
+    // With the IOMMU off it marks the block.
+    Case {
+        mappings: &ONE_PAGE,
+        on: false,
+        addr: 0x10,
+        told: "write Ok(2)
+write_slice Ok(())
+write_obj Ok(())
+store Ok(())
+read Ok(2) [7, 8]
+read_slice Ok(()) [7, 8]
+read_obj Ok(2055)
+load Ok(2055)
+check_range Ok(true) Ok(true)
+block [0] space []",
+    },
+    // Two mappings with other differences: the last byte of the block, and then its first.
+    Case {
+        mappings: &PAGES_THE_OTHER_WAY,
+        on: true,
+        addr: 0x2fff,
+        told: "write Ok(2)
+write_slice Ok(())
+write_obj Ok(())
+store Err(InvalidBackendAddress)
+read Ok(2) [5, 6]
+read_slice Ok(()) [5, 6]
+read_obj Ok(1541)
+load Err(InvalidBackendAddress)
+check_range Ok(true) Ok(true)
+block [] space [2, 3]",
+    },
+    // A mapping that leads past the region.
+    Case {
+        mappings: &PAST_THE_REGION,
+        on: true,
+        addr: 0x8fff,
+        told: "write Ok(1)
+write_slice Err(PartialBuffer { expected: 2, completed: 1 })
+write_obj Err(PartialBuffer { expected: 2, completed: 1 })
+store Err(InvalidBackendAddress)
+read Ok(1) [5, 0]
+read_slice Err(PartialBuffer { expected: 2, completed: 1 }) [5, 0]
+read_obj Err(PartialBuffer { expected: 2, completed: 1 })
+load Err(InvalidBackendAddress)
+check_range Ok(false) Ok(false)
+block [] space [8]",
+    },
+];
+
+// Sets these mappings of a table.
+fn map_all(host: &mut Host, table: TlbId, mappings: &[Mapping]) -> Result<(), Fail> {
+    for (iova, to, length, access) in mappings {
+        if !host.shape().has_table(table) {
+            return Err(Fail::new("the host has the table"));
+        }
+        if iova.checked_add(*length as u64).is_none() {
+            return Err(Fail::new("the range ends at an address"));
+        }
+        let table = host.table_mut(table);
+        table.set_mapping(GuestAddress(*iova), GuestAddress(*to), *length, *access)?;
+    }
+    Ok(())
+}
+
+// Memory of one region of two pages, behind an IOMMU with these mappings and a space of 16 pages.
+fn memory_behind(alloc: Global, host: &mut Host, mappings: &[Mapping]) -> Result<Memory, Fail> {
+    let layout = GuestMemoryMmap::from_ranges(alloc, host, &[(GuestAddress(0), 0x2000)])?;
+    let table = host.new_table()?;
+    let space = host.new_space(ExclusiveBitmap::with_len(alloc, 0x10000)?)?;
+    map_all(host, table, mappings)?;
+    let iommu = Arc::new(alloc, TableIommu::new(table))?;
+    Ok(IommuMemory::new(alloc, layout, iommu, false, space))
+}
+
+// The dirty pages of a bitmap, of the first 16.
+fn dirty_pages(alloc: Global, host: &Host, bitmap: BitmapId) -> Result<Vec<usize>, Fail> {
+    if !host.shape().has_bitmap(bitmap) {
+        return Err(Fail::new("the host has the bitmap"));
+    }
+    let bitmap = host.bitmap(bitmap);
+    let mut dirty = Vec::new(alloc);
+    for page in 0..16usize {
+        if bitmap.dirty_at(page * 0x1000) {
+            dirty.push(page)?;
+        }
+    }
+    Ok(dirty)
+}
+
+// What each access answers that writes 2 bytes.
+fn writes(alloc: Global, host: &mut Host, memory: &Memory, addr: u64) -> Result<String, Fail> {
+    if !host.holds(memory) {
+        return Err(Fail::new("the host holds the memory"));
+    }
+    let at = GuestAddress(addr);
+    let write = memory.write(host, &[1, 2], at);
+    let write_slice = memory.write_slice(host, &[3, 4], at);
+    let write_obj = memory.write_obj(host, 0x0605u16, at);
+    let store = memory.store(host, 0x0807u16, at, Ordering::SeqCst);
+    Ok(format!(in alloc;
+        "write {write:?}
+write_slice {write_slice:?}
+write_obj {write_obj:?}
+store {store:?}"
+    )?)
+}
+
+// What each access answers that reads 2 bytes, and whether all may be written and read.
+fn reads(alloc: Global, host: &Host, memory: &Memory, addr: u64) -> Result<String, Fail> {
+    if !host.holds(memory) {
+        return Err(Fail::new("the host holds the memory"));
+    }
+    let at = GuestAddress(addr);
+    let mut some = [0; 2];
+    let read = memory.read(host, &mut some, at);
+    let mut all = [0; 2];
+    let read_slice = memory.read_slice(host, &mut all, at);
+    let read_obj = memory.read_obj::<u16, ExclusiveBitmap>(host, at);
+    let load = memory.load::<u16, ExclusiveBitmap>(host, at, Ordering::SeqCst);
+    let written = GuestMemory::check_range(memory, host, at, 2, Permissions::Write);
+    let told = GuestMemory::check_range(memory, host, at, 2, Permissions::Read);
+    Ok(format!(in alloc;
+        "read {read:?} {some:?}
+read_slice {read_slice:?} {all:?}
+read_obj {read_obj:?}
+load {load:?}
+check_range {written:?} {told:?}"
+    )?)
+}
+
+fn expect_case(alloc: Global, case: usize) -> Result<(), Fail> {
+    let Some(wanted) = CASES.get(case) else {
+        return Err(Fail::new("there is such a case"));
+    };
+    let mut host = HostMemory::new(alloc);
+    let mut memory = memory_behind(alloc, &mut host, wanted.mappings)?;
+    memory.set_iommu_enabled(wanted.on);
+    let wrote = writes(alloc, &mut host, &memory, wanted.addr)?;
+    let had = reads(alloc, &host, &memory, wanted.addr)?;
+    let block = dirty_pages(alloc, &host, BitmapId::Block(0))?;
+    let space = dirty_pages(alloc, &host, BitmapId::Space(memory.bitmap().0))?;
+    let text = format!(in alloc; "{wrote}\n{had}\nblock {block:?} space {space:?}")?;
+    expect_text(case, text.as_str(), wanted.told)
+}
+
+#[test]
+fn accesses_are_translated(rt: HostRuntime) -> Result<(), Fail> {
+    for case in 0..CASES.len() {
+        expect_case(rt.alloc(), case)?;
+    }
+    Ok(())
+}
+
+#[test]
+fn a_memory_is_of_its_parts(rt: HostRuntime) -> Result<(), Fail> {
+    let alloc = rt.alloc();
+    let mut host = HostMemory::new(alloc);
+    let mut memory = memory_behind(alloc, &mut host, &ONE_PAGE)?;
+    assert!(rt; memory.bitmap() == SpaceId(0));
+    assert!(rt; memory.iommu().table() == TlbId(0));
+    assert!(rt; memory.get_backend().last_addr() == GuestAddress(0x1fff));
+    assert!(rt; !memory.get_iommu_enabled() && memory.physical_memory().is_some());
+    memory.set_iommu_enabled(true);
+    assert!(rt; memory.get_iommu_enabled() && memory.physical_memory().is_none());
+    let same = memory.clone()?;
+    assert!(rt; same.get_iommu_enabled() && same.bitmap() == SpaceId(0));
+    let other = GuestMemoryMmap::from_ranges(alloc, &mut host, &[(GuestAddress(0), 0x4000)])?;
+    let larger = memory.with_replaced_backend(other)?;
+    assert!(rt; larger.get_backend().last_addr() == GuestAddress(0x3fff));
+    assert!(rt; larger.get_iommu_enabled() && larger.iommu().table() == TlbId(0));
+    assert!(rt; same.get_backend().last_addr() == GuestAddress(0x1fff));
+    Ok(())
+}
