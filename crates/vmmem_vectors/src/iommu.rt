@@ -140,6 +140,41 @@ block [] space [8]",
     },
 ];
 
+// In the same cases each transfer of 2 bytes, with the bytes that the source has left or that the sink took, and
+// the dirty pages of the block and the space then.
+const TRANSFERS: [&str; 6] = [
+    "read_volatile_from Err(IommuError(CannotResolve { iova_range: IovaRange { base: GuestAddress(4095), length: 2 }, reason: AccessNotAllowed })) 2
+read_exact_volatile_from Err(IommuError(CannotResolve { iova_range: IovaRange { base: GuestAddress(4095), length: 2 }, reason: AccessNotAllowed })) 2
+write_volatile_to Ok(2) [0, 0]
+write_all_volatile_to Ok(()) [0, 0]
+block [] space []",
+    "read_volatile_from Err(IommuError(CannotResolve { iova_range: IovaRange { base: GuestAddress(8191), length: 2 }, reason: MissingMapping })) 2
+read_exact_volatile_from Err(IommuError(CannotResolve { iova_range: IovaRange { base: GuestAddress(8191), length: 2 }, reason: MissingMapping })) 2
+write_volatile_to Err(IommuError(CannotResolve { iova_range: IovaRange { base: GuestAddress(8191), length: 2 }, reason: MissingMapping })) []
+write_all_volatile_to Err(IommuError(CannotResolve { iova_range: IovaRange { base: GuestAddress(8191), length: 2 }, reason: MissingMapping })) []
+block [] space []",
+    "read_volatile_from Ok(2) 0
+read_exact_volatile_from Ok(()) 0
+write_volatile_to Ok(2) [11, 12]
+write_all_volatile_to Ok(()) [11, 12]
+block [] space [5]",
+    "read_volatile_from Ok(2) 0
+read_exact_volatile_from Ok(()) 0
+write_volatile_to Ok(2) [11, 12]
+write_all_volatile_to Ok(()) [11, 12]
+block [0] space []",
+    "read_volatile_from Ok(2) 0
+read_exact_volatile_from Ok(()) 0
+write_volatile_to Ok(2) [11, 12]
+write_all_volatile_to Ok(()) [11, 12]
+block [] space [2, 3]",
+    "read_volatile_from Ok(1) 1
+read_exact_volatile_from Err(PartialBuffer { expected: 2, completed: 1 }) 1
+write_volatile_to Ok(1) [11]
+write_all_volatile_to Err(PartialBuffer { expected: 2, completed: 1 }) [11]
+block [] space [8]",
+];
+
 // Sets these mappings of a table.
 fn map_all(host: &mut Host, table: TlbId, mappings: &[Mapping]) -> Result<(), Fail> {
     for (iova, to, length, access) in mappings {
@@ -221,6 +256,32 @@ check_range {written:?} {told:?}"
     )?)
 }
 
+// What each transfer answers that moves 2 bytes.
+fn transfers(alloc: Global, host: &mut Host, memory: &Memory, addr: u64) -> Result<String, Fail> {
+    if !host.holds(memory) {
+        return Err(Fail::new("the host holds the memory"));
+    }
+    let at = GuestAddress(addr);
+    let mut plain: &[u8] = &[9, 10];
+    let from = memory.read_volatile_from(host, at, &mut plain, 2);
+    let mut exact: &[u8] = &[11, 12];
+    let from_exact = memory.read_exact_volatile_from(host, at, &mut exact, 2);
+    let mut some: Vec<u8> = Vec::new(alloc);
+    let to = memory.write_volatile_to(host, at, &mut some, 2);
+    let mut all: Vec<u8> = Vec::new(alloc);
+    let to_all = memory.write_all_volatile_to(host, at, &mut all, 2);
+    Ok(format!(in alloc;
+        "read_volatile_from {from:?} {}
+read_exact_volatile_from {from_exact:?} {}
+write_volatile_to {to:?} {:?}
+write_all_volatile_to {to_all:?} {:?}",
+        plain.len(),
+        exact.len(),
+        some.as_slice(),
+        all.as_slice()
+    )?)
+}
+
 fn expect_case(alloc: Global, case: usize) -> Result<(), Fail> {
     let Some(wanted) = CASES.get(case) else {
         return Err(Fail::new("there is such a case"));
@@ -240,6 +301,28 @@ fn expect_case(alloc: Global, case: usize) -> Result<(), Fail> {
 fn accesses_are_translated(rt: HostRuntime) -> Result<(), Fail> {
     for case in 0..CASES.len() {
         expect_case(rt.alloc(), case)?;
+    }
+    Ok(())
+}
+
+fn expect_transfers(alloc: Global, case: usize) -> Result<(), Fail> {
+    let (Some(wanted), Some(told)) = (CASES.get(case), TRANSFERS.get(case)) else {
+        return Err(Fail::new("there is such a case"));
+    };
+    let mut host = HostMemory::new(alloc);
+    let mut memory = memory_behind(alloc, &mut host, wanted.mappings)?;
+    memory.set_iommu_enabled(wanted.on);
+    let moved = transfers(alloc, &mut host, &memory, wanted.addr)?;
+    let block = dirty_pages(alloc, &host, BitmapId::Block(0))?;
+    let space = dirty_pages(alloc, &host, BitmapId::Space(memory.bitmap().0))?;
+    let text = format!(in alloc; "{moved}\nblock {block:?} space {space:?}")?;
+    expect_text(case, text.as_str(), told)
+}
+
+#[test]
+fn transfers_are_translated(rt: HostRuntime) -> Result<(), Fail> {
+    for case in 0..CASES.len() {
+        expect_transfers(rt.alloc(), case)?;
     }
     Ok(())
 }
