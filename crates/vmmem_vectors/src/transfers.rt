@@ -165,6 +165,53 @@ fn expect_passed<W: WriteVolatile, S: ReadVolatile>(
     Ok(())
 }
 
+// Fails where what one guest memory gives to a sink is not what another one gets from a source.
+fn expect_carried<W: WriteVolatile, S: ReadVolatile>(
+    alloc: Global,
+    case: u8,
+    sink: &mut W,
+    source: &mut S,
+) -> Result<(), Fail> {
+    let mut host = HostMemory::<()>::new(alloc);
+    let from = two_regions(alloc, &mut host)?;
+    let to = two_regions(alloc, &mut host)?;
+    if !host.holds(&from) || !host.holds(&to) {
+        return Err(Fail::new("the host holds the memories"));
+    }
+    let start = GuestAddress(0);
+    let sent = [case, 2, 3, 4, 5, 6, 7, 8];
+    from.write_slice(&mut host, &sent, start)?;
+    from.write_all_volatile_to(&host, start, sink, 8)?;
+    to.read_exact_volatile_from(&mut host, start, source, 8)?;
+    let mut came = [0u8; 8];
+    to.read_slice(&host, &mut came, start)?;
+    if came != sent {
+        return Err(Fail::new(format_args!("case {case}: {came:?}")));
+    }
+    Ok(())
+}
+
+#[test]
+fn guest_memory_goes_through_sockets(rt: HostRuntime) -> Result<(), Fail> {
+    let (mut one, mut other) = UnixStream::pair(&rt)?;
+    expect_carried(rt.alloc(), 0, &mut one, &mut other)?;
+    expect_carried(rt.alloc(), 1, &mut other, &mut one)?;
+    let listener = TcpListener::bind(&rt, "127.0.0.1:0")?;
+    let mut one = TcpStream::connect(&rt, listener.local_addr()?)?;
+    let (mut other, _) = listener.accept()?;
+    expect_carried(rt.alloc(), 2, &mut one, &mut other)?;
+    expect_carried(rt.alloc(), 3, &mut other, &mut one)
+}
+
+#[test]
+fn guest_memory_goes_through_a_file(rt: HostRuntime) -> Result<(), Fail> {
+    let path = "vmmem-guest-memory-test";
+    let mut file = File::create(&rt, path)?;
+    let mut back = File::open(&rt, path)?;
+    fs::remove_file(&rt, path)?;
+    expect_carried(rt.alloc(), 0, &mut file, &mut back)
+}
+
 #[test]
 fn sockets_carry_bytes_each_way(rt: HostRuntime) -> Result<(), Fail> {
     let (mut one, mut other) = UnixStream::pair(&rt)?;
