@@ -7,7 +7,8 @@ use Rattle.vm_memory_guest.specs.Host.{Host}
 use Rattle.vm_memory_guest.specs.Memory as guest
 use Rattle.vm_memory_guest.specs.Region.{Region}
 use Rattle.vm_memory.specs.Iommu.{Behind}
-use Rattle.vm_memory.specs.Machine.{Step, MayWant, new_memory, outcome}
+use Rattle.vm_memory.specs.Machine.{Step, MayWant, outcome}
+use Rattle.vm_memory.specs.Made.{new_memory}
 use Rattle.vm_memory.proofs.BitmapLemmas.{set-same}
 use Rattle.vm_memory.specs.Memories.{memory_meant, turned_memory}
 use Rattle.vm_memory.specs.Parts.{Parts, state_of}

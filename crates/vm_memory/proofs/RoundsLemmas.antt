@@ -35,7 +35,8 @@ use Rattle.vm_memory_guest.specs.declared.region.GuestMemoryError.TheVariants as
 use Rattle.vm_memory_guest.specs.declared.region.GuestRegionCollectionError.{GuestRegionCollectionError}
 use Rattle.vm_memory_base.specs.Table as table
 use Rattle.vm_memory.specs.Copy.{copied, has_block, ends_inside}
-use Rattle.vm_memory.specs.Machine.{Step, Run, if_there, new_layout, rest_layout, with_host, outcome}
+use Rattle.vm_memory.specs.Machine.{Step, Run, outcome}
+use Rattle.vm_memory.specs.Made.{if_there, new_layout, rest_layout, with_host}
 use Rattle.vm_memory.specs.Tables.{changed_table}
 use Rattle.vm_memory.specs.Reply.{reached_by, answer_of, reply_of, writes, writes_whole}
 use Rattle.vm_memory.specs.Rounds.{patched, patched_by, patched_with, bytes_of, pages_of, image_now, image_after, MirrorsBlock, Cover, IsTracked, IsDirect, RunsDirectly, KeepsImage}

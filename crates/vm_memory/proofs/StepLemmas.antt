@@ -20,7 +20,8 @@ use Rattle.vm_memory_guest.specs.declared.region.GuestMemoryError.{GuestMemoryEr
 use Rattle.vm_memory_guest.specs.declared.region.GuestMemoryError.TheVariants as errors
 use Rattle.vm_memory_guest.specs.declared.region.GuestRegionCollectionError.{GuestRegionCollectionError}
 use Rattle.vm_memory.specs.State.{State, named, plain, behind}
-use Rattle.vm_memory.specs.Machine.{Step, Run, if_there, new_layout, rest_layout, new_memory, turned, with_host, outcome}
+use Rattle.vm_memory.specs.Machine.{Step, Run, outcome}
+use Rattle.vm_memory.specs.Made.{if_there, new_layout, rest_layout, new_memory, turned, with_host}
 use Rattle.vm_memory.specs.Reply.{reply_of, reached_by, writes, writes_whole, is_partial}
 use Rattle.vm_memory_base.specs.Table as table
 use Rattle.vm_memory_guest.specs.Host.{with_table_at}

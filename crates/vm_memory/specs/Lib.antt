@@ -5,6 +5,7 @@ pub mod Examples
 pub mod Inside
 pub mod Iommu
 pub mod Machine
+pub mod Made
 pub mod Memories
 pub mod Parts
 pub mod Reply

@@ -1,19 +1,18 @@
 -- A machine as a model: what a command answers and leaves, a step of it, and a run of steps.
-use Rattle.std.specs.Prelude.{◌≡◌, ◌⊎◌, ◌<◌, ℕ, Bool, false, IsTrue, List, [], ◌∷◌, ◌++◌, length, slice_get, slice_set}
-use Rattle.std.specs.Prelude.{Option, Some, None, IsSome, IsSomeAnd}
-use Rattle.vm_memory_base.specs.Pages.{PageSet, dirty_pages, cleaned}
+use Rattle.std.specs.Prelude.{◌≡◌, ◌⊎◌, ◌<◌, false, IsTrue, List, [], ◌∷◌, slice_get}
+use Rattle.std.specs.Prelude.{Some, IsSome, IsSomeAnd}
+use Rattle.vm_memory_base.specs.Pages.{dirty_pages, cleaned}
 use Rattle.vm_memory_base.specs.Table as table
 use Rattle.vm_memory_base.specs.Table.{says, overruns}
-use Rattle.vm_memory_guest.specs.Host.{Host}
 use Rattle.vm_memory_guest.specs.Layout.{inserted, removed}
-use Rattle.vm_memory_guest.specs.Memory as guest
-use Rattle.vm_memory_guest.specs.Memory.{IsOn, Switched}
-use Rattle.vm_memory_guest.specs.Region.{Region, layout_error}
+use Rattle.vm_memory_guest.specs.Memory.{IsOn}
+use Rattle.vm_memory_guest.specs.Region.{layout_error}
 use Rattle.vm_memory_guest.specs.Window.{bitmap_of, with_bitmap}
-use Rattle.vm_memory_guest.specs.declared.region.GuestRegionCollectionError.{GuestRegionCollectionError}
 use Rattle.vm_memory.specs.State.{State, plain, behind, named}
 use Rattle.vm_memory.specs.Copy.{copies}
-use Rattle.vm_memory.specs.Reply.{reads, writes, reads_whole, writes_whole, checks, reply_of_layout_error}
+use Rattle.vm_memory.specs.Made.{if_there, new_layout, rest_layout, new_memory, turned, with_host}
+use Rattle.vm_memory.specs.Reply.{reads, writes, reads_whole, writes_whole, checks}
+use Rattle.vm_memory.specs.Tables.{changes, looks_up}
 use Rattle.vm_memory.specs.Typed.{integer_of, fits_width, loads, stores}
 use Rattle.vm_memory.specs.declared.machine.command.Command.{Command}
 use Rattle.vm_memory.specs.declared.machine.command.Command.TheVariants.{FromRegions, Insert, Remove, Plain}
@@ -22,41 +21,8 @@ use Rattle.vm_memory.specs.declared.machine.command.Command.TheVariants.{Read, W
 use Rattle.vm_memory.specs.declared.machine.command.Command.TheVariants.{Store, Load, Copy, Dirty}
 use Rattle.vm_memory.specs.declared.machine.command.Command.TheVariants.{Harvest, CheckRange, Set, Invalidate}
 use Rattle.vm_memory.specs.declared.machine.command.Command.TheVariants.{InvalidateAll, Lookup}
-use Rattle.vm_memory.specs.Tables.{changes, looks_up}
 use Rattle.vm_memory.specs.declared.machine.command.Reply.{Reply}
-use Rattle.vm_memory.specs.declared.machine.command.Reply.TheVariants.{LayoutMade, MemoryMade, Pages, Done}
-use Rattle.vm_memory.specs.declared.machine.command.Reply.TheVariants.{Fault, NoSuch, Memory}
-use Rattle.vm_memory.specs.declared.machine.command.Fault.TheVariants.{NoMemoryRegion}
-
--- a number that names nothing is told, and changes nothing
-abbrev pub if_there : {X : Type 0} → State → Option X → (X → Reply × State) → Reply × State
-if_there old None answer = (NoSuch, old)
-if_there old (Some x) answer = answer x
-
--- a layout of these regions is the next, unless they make none
-abbrev pub new_layout : State → List Region → Option GuestRegionCollectionError → Reply × State
-new_layout old rs None = (LayoutMade (length old.layouts), record old { layouts = old.layouts ++ rs ∷ [] })
-new_layout old rs (Some e) = (reply_of_layout_error e, old)
-
--- a layout of the regions that are left when one is taken out is the next, unless none is
-abbrev pub rest_layout : State → Option (List Region × Region) → Reply × State
-rest_layout old None = (Fault NoMemoryRegion, old)
-rest_layout old (Some p) = new_layout old p.0 None
-
--- a memory is the next
-abbrev pub new_memory : State → guest.Memory → Reply × State
-new_memory old m = (MemoryMade (length old.memories), record old { memories = old.memories ++ m ∷ [] })
-
--- the IOMMU of a memory is turned on or off, and nothing else changes
-abbrev pub turned : State → ℕ → guest.Memory → Switched → Bool → Reply × State
-turned old memory m s on = (
-  Done,
-  record old { memories = slice_set old.memories memory (record m { iommu = Some (record s { on = on }) }) },
-)
-
--- the reply and the host that a command leaves: all else stays
-abbrev pub with_host : State → Reply × Host PageSet → Reply × State
-with_host old (r, host) = (r, record old { host = host })
+use Rattle.vm_memory.specs.declared.machine.command.Reply.TheVariants.{Pages, Memory}
 
 -- what a command answers and leaves, where memory is not wanting
 abbrev pub outcome : State → Command → Reply × State
