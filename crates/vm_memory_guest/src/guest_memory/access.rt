@@ -49,7 +49,7 @@ impl<T: GuestMemory> Bytes<GuestAddress> for T {
 
     ghost failure = { of_window };
 
-    #[inline]
+    #[inline(always)]
     fn write<B: Bitmap>(
         &self,
         host: &mut HostMemory<B>,
@@ -60,7 +60,7 @@ impl<T: GuestMemory> Bytes<GuestAddress> for T {
         write_windows(walk, host, buf)
     }
 
-    #[inline]
+    #[inline(always)]
     fn read<B: Bitmap>(
         &self,
         host: &HostMemory<B>,
@@ -200,7 +200,7 @@ impl<T: GuestMemory> Bytes<GuestAddress> for T {
 }
 
 // Moves the buffer into the windows that a walk gives, one after the other, up to an error.
-#[inline]
+#[inline(always)]
 fn write_windows<M: GuestMemoryBackend, B: Bitmap>(
     walk: IommuMemorySliceIterator<'_, M>,
     host: &mut HostMemory<B>,
@@ -233,7 +233,7 @@ fn write_windows<M: GuestMemoryBackend, B: Bitmap>(
 }
 
 // Fills the buffer from the windows that a walk gives, one after the other, up to an error.
-#[inline]
+#[inline(always)]
 fn read_windows<M: GuestMemoryBackend, B: Bitmap>(
     walk: IommuMemorySliceIterator<'_, M>,
     host: &HostMemory<B>,

@@ -74,7 +74,7 @@ impl<'a, M: GuestMemoryBackend> Iterator for IommuMemorySliceIterator<'a, M> {
 
     ghost remaining = { item_count items_of };
 
-    #[inline]
+    #[inline(always)]
     fn next(&mut self) -> Option<GuestMemoryResult<VolatileSlice>> {
         match &mut self.behind {
             None => self.walk.next(),
@@ -162,7 +162,7 @@ impl<M: GuestMemoryBackend> GuestMemory for M {
 
     ghost names_memory = { λ m. M.names_regions m ∙ sym (append-nil _) };
 
-    #[inline]
+    #[inline(always)]
     fn get_slices<B: Bitmap>(
         &self,
         _host: &HostMemory<B>,
