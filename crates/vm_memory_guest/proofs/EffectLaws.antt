@@ -57,7 +57,7 @@ same_id (Space m) (Space n) = elim (cases_eq m n) [
 ]
 
 -- a mark of a bitmap, seen at that bitmap
-pages_at-marks : (id : BitmapId) (offset len : ℕ) (host : Host PageSet)
+pub pages_at-marks : (id : BitmapId) (offset len : ℕ) (host : Host PageSet)
     → pages_at id (marks_pages id offset len host) ≡ marked offset len (pages_at id host)
 pages_at-marks (Block block) offset len host = get_or-changed (marked offset len) None refl host.bitmaps block
 pages_at-marks (Space space) offset len host = get_or-changed (marked offset len) None refl host.spaces space
@@ -73,7 +73,7 @@ pages_at-marks_other (Space m) (Space n) offset len host h =
     get_or-changed_other (marked offset len) None host.spaces n m (λ (e : m ≡ n). h (ap (λ (k : ℕ). Space k) (sym e)))
 
 -- bytes in the blocks are no matter to the bitmaps
-pages_at-with_blocks : (id : BitmapId) (host : Host PageSet) (blocks : List (List ℕ))
+pub pages_at-with_blocks : (id : BitmapId) (host : Host PageSet) (blocks : List (List ℕ))
     → pages_at id (record host { blocks = blocks }) ≡ pages_at id host
 pages_at-with_blocks (Block block) host blocks = refl
 pages_at-with_blocks (Space space) host blocks = refl
@@ -147,7 +147,7 @@ abbrev OwnPageIsDirty : Type 0
 OwnPageIsDirty = (x offset : ℕ) (p : Pages) → x < 2 ^ 64 → x / p.page_size ≡ offset / p.page_size
     → offset / p.page_size < length p.flags → is_dirty_at (marked x 1 (Some p)) offset ≡ true
 
-abbrev DirtyPagesStay : Type 0
+abbrev pub DirtyPagesStay : Type 0
 DirtyPagesStay = (start len offset : ℕ) (set : PageSet) → is_dirty_at set offset ≡ true
     → is_dirty_at (marked start len set) offset ≡ true
 
@@ -156,12 +156,13 @@ PagesStay = (start len : ℕ) (p : Pages) → (q : Pages) × (marked start len (
     × (q.page_size ≡ p.page_size) × (length q.flags ≡ length p.flags)
 
 module _ (stays : DirtyPagesStay) where
-  is_dirty_at-marks_stays : (other id : BitmapId) (x offset : ℕ) (host : Host PageSet)
+  -- no mark makes a page clean
+  pub is_dirty_at-marks_stays : (other id : BitmapId) (x len offset : ℕ) (host : Host PageSet)
       → is_dirty_at (pages_at id host) offset ≡ true
-      → is_dirty_at (pages_at id (marks_pages other x 1 host)) offset ≡ true
-  is_dirty_at-marks_stays other id x offset host h = elim (same_id other id) [
-    | inl e ↦ rw (e, pages_at-marks id x 1 host) (stays x 1 offset (pages_at id host) h)
-    | inr e ↦ rw (pages_at-marks_other id other x 1 host e) h
+      → is_dirty_at (pages_at id (marks_pages other x len host)) offset ≡ true
+  is_dirty_at-marks_stays other id x len offset host h = elim (same_id other id) [
+    | inl e ↦ rw (e, pages_at-marks id x len host) (stays x len offset (pages_at id host) h)
+    | inr e ↦ rw (pages_at-marks_other id other x len host e) h
   ]
 
   is_dirty_at-dirtied_stays : (xs : List Reached) (id : BitmapId) (offset : ℕ) (host : Host PageSet)
@@ -169,7 +170,7 @@ module _ (stays : DirtyPagesStay) where
   is_dirty_at-dirtied_stays [] id offset host h = h
   is_dirty_at-dirtied_stays (x ∷ xs) id offset host h =
       is_dirty_at-dirtied_stays xs id offset (marks_pages x.bitmap x.mark 1 host)
-      (is_dirty_at-marks_stays x.bitmap id x.mark offset host h)
+      (is_dirty_at-marks_stays x.bitmap id x.mark 1 offset host h)
 
   -- a write makes no page clean
   pub is_dirty_at-after_write_stays : (xs : List Reached) (bytes : List ℕ) (id : BitmapId) (offset : ℕ) (host : Host PageSet)
@@ -212,7 +213,9 @@ module _ (own : OwnPageIsDirty) (stays : DirtyPagesStay) (as_many : PagesStay) w
 
 -- ---- what a write keeps
 
-blocks-marks_pages : (id : BitmapId) (offset len : ℕ) (host : Host PageSet) → (marks_pages id offset len host).blocks ≡ host.blocks
+-- marks leave the blocks
+pub blocks-marks_pages : (id : BitmapId) (offset len : ℕ) (host : Host PageSet)
+    → (marks_pages id offset len host).blocks ≡ host.blocks
 blocks-marks_pages (Block block) offset len host = refl
 blocks-marks_pages (Space space) offset len host = refl
 
@@ -241,17 +244,19 @@ bytes_read-after_write xs bytes host once inside enough =
     ∙ ap (λ (n : ℕ). take n bytes) count
 
 -- what is taken from the laws of page sets: a mark keeps the page size and the number of pages
-abbrev ShapeStays : Type 0
+abbrev pub ShapeStays : Type 0
 ShapeStays = (start len : ℕ) (set : PageSet) → shape (marked start len set) ≡ shape set
 
 module _ (shape_stays : ShapeStays) where
   -- what dirt keeps of a host, besides the blocks
-  record Kept (old new : Host PageSet) : Type 0 where
-    bitmaps : map shape new.bitmaps ≡ map shape old.bitmaps
-    spaces : map shape new.spaces ≡ map shape old.spaces
-    tables : new.tables ≡ old.tables
+  pub record Kept (old new : Host PageSet) : Type 0 where
+    pub bitmaps : map shape new.bitmaps ≡ map shape old.bitmaps
+    pub spaces : map shape new.spaces ≡ map shape old.spaces
+    pub tables : new.tables ≡ old.tables
 
-  Kept-marks_pages : (id : BitmapId) (offset len : ℕ) (host : Host PageSet) → Kept host (marks_pages id offset len host)
+  -- a mark keeps them
+  pub Kept-marks_pages : (id : BitmapId) (offset len : ℕ) (host : Host PageSet)
+      → Kept host (marks_pages id offset len host)
   Kept-marks_pages (Block block) offset len host = record {
     bitmaps = map-changed_kept shape (marked offset len) (shape_stays offset len) host.bitmaps block;
     spaces = refl;

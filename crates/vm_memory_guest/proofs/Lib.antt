@@ -28,3 +28,4 @@ pub mod AccessLemmas
 pub mod OrderLemmas
 pub mod DealtLaws
 pub mod GivenLaws
+pub mod LentLaws

@@ -23,3 +23,4 @@ pub mod Volatile
 pub mod Walk
 pub mod Window
 pub mod Dealt
+pub mod Lent

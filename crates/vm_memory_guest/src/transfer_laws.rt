@@ -1,16 +1,18 @@
 //! What a transfer of guest memory is, where the source or the sink tells what it does: each function here is a
 //! theorem, and does nothing. It calls the theorems that it follows from.
 ghost use Rattle.std.specs.Prelude.{◌≡◌, ◌⊎◌, ℕ, ◌+◌, ◌++◌, ◌≤◌, Bool, List, Option, Some, Result, Err, IfOk, take};
+ghost use Rattle.vm_memory_base.specs.Pages.{PageSet};
 ghost use Rattle.vm_memory_base.specs.Transfer.{Next, Sink};
 ghost use Rattle.vm_memory_guest.specs.Dealt.{given_out, received};
 ghost use Rattle.vm_memory_guest.specs.Dirt.{with_pages};
 ghost use Rattle.vm_memory_guest.specs.Error.{of_window};
 ghost use Rattle.vm_memory_guest.specs.Host.{Host, bytes_at};
+ghost use Rattle.vm_memory_guest.specs.Lent.{MarksChanges};
 ghost use Rattle.vm_memory_guest.specs.Transfer.{Fills, InOrder, Takes, UntilWhole, beside, filling};
 ghost use Rattle.vm_memory_guest.specs.Window.{Window, cells, span};
 ghost use Rattle.vm_memory_guest.specs.declared.region.GuestMemoryError.{GuestMemoryError};
 
-use vm_memory_base::laws::pages::empty_mark;
+use vm_memory_base::laws::pages::{empty_mark, mark_keeps_shape, marked_bytes_are_dirty};
 use vm_memory_base::{ExactBitmap, ReadVolatile, WriteVolatile};
 
 /// A transfer in from a source that tells what it does, into a host with exact bitmaps: its answer, what the
@@ -25,6 +27,16 @@ pub fn transfers_in_are_computed<S: ReadVolatile, B: ExactBitmap>()
         (answer ≡ dealt.answer) × (S.source after ≡ Some dealt.left) × (with_pages B.pages new ≡ dealt.host) }
 {
     empty_mark();
+}
+
+/// A transfer in changes only bytes of the windows that it was lent, and marks each that it changes.
+pub fn transfers_in_mark_what_they_change()
+    ensures { (fault : Option GuestMemoryError) (until_full : Bool) (ws : List Window) (total : ℕ)
+        (next : List Next) (host : Host PageSet)
+        → MarksChanges ws host (received of_window fault until_full ws total next host).host }
+{
+    mark_keeps_shape();
+    marked_bytes_are_dirty();
 }
 
 /// A transfer out to a sink that tells what it does: its answer and what the sink does next are computed from

@@ -1,0 +1,390 @@
+-- What transfers in leave of a host, and how they fail.
+use Rattle.std.proofs.Common.{◌≡◌, ◌≢◌, ◌⊎◌, inl, inr, ℕ, zero, suc, ◌+◌, ◌-◌, ◌*◌, ◌/◌, ◌%◌, ◌^◌, ◌<◌, ◌≤◌, ◌==◌, Bool, true, false, if◌then◌else◌, List, [], ◌∷◌, map, length, get_or, set, Option, Some, None, Result, Ok, Err, Contains, refl, sym, ap, ap₂, subst, ◌∙◌, arith}
+use Rattle.std.proofs.Math.Nat.{div-lt_iff_lt-mul, mod-eq_of_lt}
+use Rattle.std.proofs.lemmas.Bool.{cases_eq}
+use Rattle.std.proofs.lemmas.Bool.Decides.{nat_tests}
+use Rattle.std.proofs.lemmas.List.{length-take, set-get_or}
+use Rattle.vm_memory_base.specs.Address.{is_within}
+use Rattle.vm_memory_base.specs.Pages.{Pages, PageSet, shape, is_dirty_at, in_view, marked}
+use Rattle.vm_memory_base.specs.Transfer.{Next, Gives, Fails, is_interrupted, tried, with_front}
+use Rattle.vm_memory_base.specs.declared.bitmap.BitmapId.{BitmapId}
+use Rattle.vm_memory_base.specs.declared.bitmap.BitmapId.TheVariants.{Block, Space}
+use Rattle.vm_memory_base.specs.declared.io.VolatileMemoryError.{VolatileMemoryError}
+use Rattle.vm_memory_guest.specs.Copy.{front}
+use Rattle.vm_memory_guest.specs.Dealt.{Dealt, after_answer, answering, dealt, lent, lent_again, lent_rest, received}
+use Rattle.vm_memory_guest.specs.Dirt.{marks_pages, pages_at}
+use Rattle.vm_memory_guest.specs.Host.{Host, Cell, block_at, byte_at, bytes_at, cells_from, with_byte, written}
+use Rattle.vm_memory_guest.specs.Lent.{IsDirty, IsMarked, MarksChanges}
+use Rattle.vm_memory_guest.specs.Transfer.{marked_of}
+use Rattle.vm_memory_guest.specs.Window.{Window, cells_of, part}
+use Rattle.vm_memory_guest.proofs.EffectLaws.{DirtyPagesStay, ShapeStays, Kept-marks_pages, blocks-marks_pages, is_dirty_at-marks_stays, pages_at-marks, pages_at-with_blocks}
+use Rattle.vm_memory_guest.proofs.HostLemmas.{length-bytes}
+use Rattle.vm_memory_guest.proofs.WrittenLaws.{byte_at-with_byte_other, lengths-written}
+
+-- ---- bytes that come to the front of a window
+
+-- bytes that are written where they stand change nothing
+written_same : (cs : List Cell) (blocks : List (List ℕ)) → written cs (bytes_at blocks cs) blocks ≡ blocks
+written_same [] blocks = refl
+written_same (c ∷ cs) blocks =
+    let same : with_byte blocks c (byte_at blocks c) ≡ blocks =
+    ap (λ (bs : List ℕ). set blocks c.block bs) (set-get_or (block_at blocks c.block) c.offset 0)
+    ∙ set-get_or blocks c.block [] in
+    ap (λ (now : List (List ℕ)). written cs (bytes_at blocks cs) now) same ∙ written_same cs blocks
+
+-- a byte that is written is none of those behind it
+bytes_at-behind : (b o k n x : ℕ) (blocks : List (List ℕ)) → o < k
+    → bytes_at (with_byte blocks (record { block = b; offset = o }) x) (cells_from b k n)
+    ≡ bytes_at blocks (cells_from b k n)
+bytes_at-behind b o k zero x blocks l = refl
+bytes_at-behind b o k (suc n) x blocks l =
+    let c : Cell = record { block = b; offset = o } in
+    let d : Cell = record { block = b; offset = k } in
+    let other : d ≡ c → ⊥ = λ (p : d ≡ c). let e : k ≡ o = ap (λ (z : Cell). z.offset) p in absurd (omega arith) in
+    ap₂ (λ (y : ℕ) (ys : List ℕ). y ∷ ys) (byte_at-with_byte_other blocks d c x other)
+    (bytes_at-behind b o (k + 1) n x blocks (omega arith))
+
+same_or_not : (c d : Cell) → (c ≡ d) ⊎ (c ≢ d)
+same_or_not c d = elim (cases_eq c.block d.block) [
+  | inl p ↦ elim (cases_eq c.offset d.offset) [
+    | inl q ↦ inl (ap₂ (λ (b o : ℕ). record { block = b; offset = o }) p q)
+    | inr q ↦ inr (λ (e : c ≡ d). q (ap (λ (z : Cell). z.offset) e))
+  ]
+  | inr p ↦ inr (λ (e : c ≡ d). p (ap (λ (z : Cell). z.block) e))
+]
+
+-- one of the first count cells, and of the n cells from an offset of a block on
+record Covers (b o n count : ℕ) (cell : Cell) : Type 0 where
+  at : ℕ
+  is : cell ≡ record { block = b; offset = o + at }
+  within : at < n
+  covered : at < count
+
+-- bytes that come to the front of cells change no byte behind them, and none beside the cells
+written_front : (b o n : ℕ) (xs : List ℕ) (blocks : List (List ℕ)) (cell : Cell)
+    → (byte_at (written (cells_from b o n) (with_front xs (bytes_at blocks (cells_from b o n))) blocks) cell
+    ≡ byte_at blocks cell) ⊎ Covers b o n (length xs) cell
+written_front b o zero xs blocks cell = inl refl
+written_front b o (suc n) [] blocks cell =
+    inl (ap (λ (now : List (List ℕ)). byte_at now cell) (written_same (cells_from b o (suc n)) blocks))
+written_front b o (suc n) (x ∷ xs) blocks cell =
+    let c : Cell = record { block = b; offset = o } in
+    let next : List (List ℕ) = with_byte blocks c x in
+    let cs : List Cell = cells_from b (o + 1) n in
+    let same : bytes_at next cs ≡ bytes_at blocks cs = bytes_at-behind b o (o + 1) n x blocks (omega arith) in
+    elim (written_front b (o + 1) n xs next cell) [
+      | inl e ↦
+          (let now = subst (λ (bs : List ℕ). byte_at (written cs (with_front xs bs) next) cell ≡ byte_at next cell)
+          same e in
+          elim (same_or_not cell c) [
+            | inl p ↦
+                (let here : o ≡ o + 0 = omega arith in
+                let first : cell ≡ record { block = b; offset = o + 0 } =
+                p ∙ ap (λ (k : ℕ). record { block = b; offset = k }) here in
+                inr (record { at = 0; is = first; within = omega arith; covered = omega arith }))
+            | inr p ↦ inl (now ∙ byte_at-with_byte_other blocks cell c x p)
+          ])
+      | inr f ↦
+          (let there : o + 1 + f.at ≡ o + suc f.at = omega arith in
+          let later : cell ≡ record { block = b; offset = o + suc f.at } =
+          f.is ∙ ap (λ (k : ℕ). record { block = b; offset = k }) there in
+          let within : suc f.at < suc n = omega (arith, f.within) in
+          inr (record { at = suc f.at; is = later; within = within; covered = omega (arith, f.covered) }))
+    ]
+
+-- what a try brings is no more than what is marked
+length-tried : (n : ℕ) (source : List Next) → length (tried n source).bytes ≤ marked_of n (tried n source).answer
+length-tried zero source = omega arith
+length-tried (suc n) [] = omega arith
+length-tried (suc n) (Gives bs ∷ rest) = let l = length-take (suc n) bs in omega arith
+length-tried (suc n) (Fails bs e ∷ rest) = let l = length-take (suc n) bs in omega arith
+
+-- ---- hosts whose changes are marked
+
+-- what is seen of each is seen of one
+map_at : {X Y : Type 0} (h : X → Y) (d : X) (xs : List X) (i : ℕ) → h (get_or xs i d) ≡ get_or (map h xs) i (h d)
+map_at h d [] i = refl
+map_at h d (x ∷ xs) zero = refl
+map_at h d (x ∷ xs) (suc i) = map_at h d xs i
+
+shape_at : (id : BitmapId) (old new : Host PageSet) → map shape new.bitmaps ≡ map shape old.bitmaps
+    → map shape new.spaces ≡ map shape old.spaces → shape (pages_at id new) ≡ shape (pages_at id old)
+shape_at (Block b) old new h k =
+    map_at shape None new.bitmaps b ∙ ap (λ (ss : List (Option (ℕ × ℕ))). get_or ss b None) h
+    ∙ sym (map_at shape None old.bitmaps b)
+shape_at (Space s) old new h k =
+    map_at shape None new.spaces s ∙ ap (λ (ss : List (Option (ℕ × ℕ))). get_or ss s None) k
+    ∙ sym (map_at shape None old.spaces s)
+
+-- a set of the same shape has as many pages, and as large
+as_many : (set : PageSet) (p : Pages) → shape set ≡ shape (Some p)
+    → (q : Pages) × (set ≡ Some q) × (q.page_size ≡ p.page_size) × (length q.flags ≡ length p.flags)
+as_many None p h = absurd (cc)
+as_many (Some q) p h =
+    let both : (q.page_size, length q.flags) ≡ (p.page_size, length p.flags) = cc in
+    (q, refl, ap (λ (t : ℕ × ℕ). t.0) both, ap (λ (t : ℕ × ℕ). t.1) both)
+
+pub same_changes : (ws : List Window) (host : Host PageSet) → MarksChanges ws host host
+same_changes ws host = record {
+  lengths = refl;
+  bitmaps = refl;
+  spaces = refl;
+  tables = refl;
+  dirty = λ id offset h. h;
+  bytes = λ cell. inl refl;
+}
+
+-- what is dirty stays so
+still_dirty : (ws : List Window) (mid new : Host PageSet) → MarksChanges ws mid new → (id : BitmapId) (offset : ℕ)
+    → IsDirty id offset mid → IsDirty id offset new
+still_dirty ws mid new c id offset h p has inside fits =
+    let q = as_many (pages_at id mid) p (sym (shape_at id mid new c.bitmaps c.spaces) ∙ ap shape has) in
+    let inside' : offset < length (q.0).flags * (q.0).page_size = rw (q.2, q.3) inside in
+    let was : is_dirty_at (pages_at id mid) offset ≡ true = rw q.1 (h q.0 q.1 inside' fits) in
+    subst (λ (s : PageSet). is_dirty_at s offset ≡ true) has (c.dirty id offset was)
+
+still_marked : (ws : List Window) (mid new : Host PageSet) → MarksChanges ws mid new → (cell : Cell)
+    → IsMarked ws cell mid → IsMarked ws cell new
+still_marked ws mid new c cell m = record {
+  window = m.window;
+  at = m.at;
+  among = m.among;
+  within = m.within;
+  is = m.is;
+  dirty = still_dirty ws mid new c m.window.bitmap.id (m.window.bitmap.base + m.at) m.dirty;
+}
+
+-- changes one after the other
+both_changes : (ws : List Window) (old mid new : Host PageSet) → MarksChanges ws old mid → MarksChanges ws mid new
+    → MarksChanges ws old new
+both_changes ws old mid new a b = record {
+  lengths = b.lengths ∙ a.lengths;
+  bitmaps = b.bitmaps ∙ a.bitmaps;
+  spaces = b.spaces ∙ a.spaces;
+  tables = b.tables ∙ a.tables;
+  dirty = λ id offset h. b.dirty id offset (a.dirty id offset h);
+  bytes = λ cell. elim (b.bytes cell) [
+    | inl e ↦ elim (a.bytes cell) [
+      | inl f ↦ inl (e ∙ f)
+      | inr m ↦ inr (still_marked ws mid new b cell m)
+    ]
+    | inr m ↦ inr m
+  ];
+}
+
+-- what is marked for some windows is marked for others
+wider_changes : (ws vs : List Window) (old new : Host PageSet)
+    → ((cell : Cell) → IsMarked ws cell new → IsMarked vs cell new) → MarksChanges ws old new
+    → MarksChanges vs old new
+wider_changes ws vs old new each c = record {
+  lengths = c.lengths;
+  bitmaps = c.bitmaps;
+  spaces = c.spaces;
+  tables = c.tables;
+  dirty = c.dirty;
+  bytes = λ cell. elim (c.bytes cell) [
+    | inl e ↦ inl e
+    | inr m ↦ inr (each cell m)
+  ];
+}
+
+-- a window among more
+first_changes : (w : Window) (ws : List Window) (old new : Host PageSet) → MarksChanges (w ∷ []) old new
+    → MarksChanges (w ∷ ws) old new
+first_changes w ws old new = wider_changes (w ∷ []) (w ∷ ws) old new each
+  where
+    among : (v : Window) → Contains (w ∷ []) v → Contains (w ∷ ws) v
+    among v (zero, l, is) = (0, omega arith, is)
+    among v (suc k, l, is) = absurd (omega arith)
+
+    each : (cell : Cell) → IsMarked (w ∷ []) cell new → IsMarked (w ∷ ws) cell new
+    each cell m = record {
+      window = m.window;
+      at = m.at;
+      among = among m.window m.among;
+      within = m.within;
+      is = m.is;
+      dirty = m.dirty;
+    }
+
+other_changes : (w : Window) (ws : List Window) (old new : Host PageSet) → MarksChanges ws old new
+    → MarksChanges (w ∷ ws) old new
+other_changes w ws old new = wider_changes ws (w ∷ ws) old new (λ cell m. record {
+  window = m.window;
+  at = m.at;
+  among = (suc m.among.0, omega (arith, m.among.1), m.among.2);
+  within = m.within;
+  is = m.is;
+  dirty = m.dirty;
+})
+
+-- a part of a window
+part_changes : (w : Window) (filled len : ℕ) (old new : Host PageSet) → filled + len ≤ w.size
+    → MarksChanges (part w filled len ∷ []) old new → MarksChanges (w ∷ []) old new
+part_changes w filled len old new fits = wider_changes (part w filled len ∷ []) (w ∷ []) old new each
+  where
+    same : (v : Window) → Contains (part w filled len ∷ []) v → part w filled len ≡ v
+    same v (zero, l, is) = is
+    same v (suc k, l, is) = absurd (omega arith)
+
+    in_place : (at : ℕ) → w.bitmap.base + (filled + at) < 2 ^ 64
+        → in_view w.bitmap.base filled + at ≡ w.bitmap.base + (filled + at)
+    in_place at l =
+        let e : (w.bitmap.base + filled) % 2 ^ 64 ≡ w.bitmap.base + filled = mod-eq_of_lt (omega arith) in omega arith
+
+    whole : (cell : Cell) (at : ℕ) → at < len
+        → cell ≡ record { block = w.block.0; offset = w.offset + filled + at }
+        → IsDirty w.bitmap.id (in_view w.bitmap.base filled + at) new → IsMarked (w ∷ []) cell new
+    whole cell at within is dirty =
+        let there : w.offset + filled + at ≡ w.offset + (filled + at) = omega arith in
+        record {
+          window = w;
+          at = filled + at;
+          among = (0, omega arith, refl);
+          within = omega arith;
+          is = is ∙ ap (λ (o : ℕ). record { block = w.block.0; offset = o }) there;
+          dirty = λ p has inside l. subst (λ (o : ℕ). is_dirty_at (Some p) o ≡ true) (in_place at l)
+              (dirty p has (rw (in_place at l) inside) (rw (in_place at l) l));
+        }
+
+    each : (cell : Cell) → IsMarked (part w filled len ∷ []) cell new → IsMarked (w ∷ []) cell new
+    each cell m =
+        let p : m.window ≡ part w filled len = sym (same m.window m.among) in
+        whole cell m.at (subst (λ (v : Window). m.at < v.size) p m.within)
+        (subst (λ (v : Window). cell ≡ record { block = v.block.0; offset = v.offset + m.at }) p m.is)
+        (subst (λ (v : Window). IsDirty v.bitmap.id (v.bitmap.base + m.at) new) p m.dirty)
+
+-- ---- one try, and tries one after the other
+
+-- what is taken from the laws of page sets: a mark makes its bytes dirty, where one of the pages has them
+abbrev pub MarkedBytesAreDirty : Type 0
+MarkedBytesAreDirty = (start len offset : ℕ) (p : Pages) → 0 < p.page_size → is_within start len offset ≡ true
+    → offset < 2 ^ 64 → offset / p.page_size < length p.flags → is_dirty_at (marked start len (Some p)) offset ≡ true
+
+-- what holds of both hands of a test, and after each answer
+chosen : {E : Type 0} (P : Dealt E → Type 0) (b : Bool) (d e : Dealt E) → (b ≡ true → P d) → (b ≡ false → P e)
+    → P (if b then d else e)
+chosen P true d e h k = h refl
+chosen P false d e h k = k refl
+
+followed : {E : Type 0} (P : Dealt E → Type 0) (r : Result ℕ VolatileMemoryError) (more : ℕ → Dealt E)
+    (failed : VolatileMemoryError → Dealt E) → ((count : ℕ) → r ≡ Ok count → P (more count))
+    → ((e : VolatileMemoryError) → r ≡ Err e → P (failed e)) → P (after_answer r more failed)
+followed P (Ok count) more failed h k = h count refl
+followed P (Err e) more failed h k = k e refl
+
+module _ (shape_stays : ShapeStays) (stays : DirtyPagesStay) (dirties : MarkedBytesAreDirty) where
+  -- a byte of a mark is dirty
+  dirty_after : (set : PageSet) (start len at : ℕ) (p : Pages) → marked start len set ≡ Some p → at < len
+      → start + at < length p.flags * p.page_size → start + at < 2 ^ 64 → is_dirty_at (Some p) (start + at) ≡ true
+  dirty_after None start len at p is within inside fits = absurd (cc)
+  dirty_after (Some q) start len at p is within inside fits =
+      let r = as_many (Some q) p (sym (shape_stays start len (Some q)) ∙ ap shape is) in
+      let same : r.0 ≡ q = let e : Some q ≡ Some (r.0) = r.1 in cc in
+      let size : q.page_size ≡ p.page_size = ap (λ (x : Pages). x.page_size) (sym same) ∙ r.2 in
+      let count : length q.flags ≡ length p.flags = ap (λ (x : Pages). length x.flags) (sym same) ∙ r.3 in
+      let inside' : start + at < length q.flags * q.page_size = rw (size, count) inside in
+      let some : 0 < q.page_size = positive (length q.flags) q.page_size (start + at) inside' in
+      let among : is_within start len (start + at) ≡ true = grind (arith, nat_tests) in
+      let lies : (start + at) / q.page_size < length q.flags = (div-lt_iff_lt-mul some).1 inside' in
+      subst (λ (s : PageSet). is_dirty_at s (start + at) ≡ true) is
+      (dirties start len (start + at) q some among fits lies)
+    where
+      positive : (n size x : ℕ) → x < n * size → 0 < size
+      positive n zero x h = let e : n * 0 ≡ 0 = omega arith in absurd (omega arith)
+      positive n (suc size) x h = omega arith
+
+  lent_changes : (w : Window) (source : List Next) (host : Host PageSet)
+      → MarksChanges (w ∷ []) host (lent w source host).host
+  lent_changes w source host =
+      let buffer : List ℕ = bytes_at host.blocks (cells_of w) in
+      let t = tried (length buffer) source in
+      let blocks : List (List ℕ) = written (cells_of w) (with_front t.bytes buffer) host.blocks in
+      let mid : Host PageSet = record host { blocks = blocks } in
+      let id = w.bitmap.id in
+      let base = w.bitmap.base in
+      let count : ℕ = marked_of w.size t.answer in
+      let kept = Kept-marks_pages shape_stays id base count mid in
+      let moved = blocks-marks_pages id base count mid in
+      let enough : length t.bytes ≤ count =
+      subst (λ (n : ℕ). length t.bytes ≤ marked_of n t.answer) (length-bytes host.blocks w)
+      (length-tried (length buffer) source) in
+      let now : pages_at id (marks_pages id base count mid) ≡ marked base count (pages_at id host) =
+      pages_at-marks id base count mid ∙ ap (marked base count) (pages_at-with_blocks id host blocks) in
+      record {
+        lengths = ap (λ (bs : List (List ℕ)). map length bs) moved
+            ∙ lengths-written (cells_of w) (with_front t.bytes buffer) host.blocks;
+        bitmaps = kept.bitmaps;
+        spaces = kept.spaces;
+        tables = kept.tables;
+        dirty = λ other offset h. is_dirty_at-marks_stays stays id other base count offset mid
+            (rw (pages_at-with_blocks other host blocks) h);
+        bytes = λ cell. elim (written_front w.block.0 w.offset w.size t.bytes host.blocks cell) [
+          | inl e ↦ inl (ap (λ (bs : List (List ℕ)). byte_at bs cell) moved ∙ e)
+          | inr f ↦ inr (record {
+            window = w;
+            at = f.at;
+            among = (0, omega arith, refl);
+            within = f.within;
+            is = f.is;
+            dirty = λ p has inside fits. dirty_after (pages_at id host) base count f.at p (sym now ∙ has)
+                (omega (arith, f.covered, enough)) inside fits;
+          })
+        ];
+      }
+
+  again_changes : (more : ℕ) (w : Window) (source : List Next) (host : Host PageSet)
+      → MarksChanges (w ∷ []) host (lent_again more w source host).host
+  unfolding lent_again
+  again_changes zero w source host = lent_changes w source host
+  again_changes (suc more) w source host =
+      let d = lent w source host in
+      let next = lent_again more w d.left d.host in
+      let first = lent_changes w source host in
+      chosen (λ (x : Dealt VolatileMemoryError). MarksChanges (w ∷ []) host x.host) (is_interrupted d.answer) next d
+      (λ is. both_changes (w ∷ []) host d.host next.host first (again_changes more w d.left d.host)) (λ is. first)
+
+  rest_changes : (w : Window) (turns filled rest : ℕ) (source : List Next) (host : Host PageSet)
+      → (0 < rest → filled + rest ≤ w.size)
+      → MarksChanges (w ∷ []) host (lent_rest w turns filled rest source host).host
+  unfolding lent_rest
+  rest_changes w turns filled zero source host fits = same_changes (w ∷ []) host
+  rest_changes w zero filled (suc rest) source host fits = same_changes (w ∷ []) host
+  rest_changes w (suc turns) filled (suc rest) source host fits =
+      let v = part w filled (suc rest) in
+      let d = lent_again 64 v source host in
+      let inside : filled + suc rest ≤ w.size = fits (omega arith) in
+      let first = part_changes w filled (suc rest) host d.host inside (again_changes 64 v source host) in
+      let P = λ (x : Dealt VolatileMemoryError). MarksChanges (w ∷ []) host x.host in
+      followed P d.answer
+      (λ count. if count == 0 then answering (Ok filled) d
+      else lent_rest w turns (filled + count) (suc rest - count) d.left d.host) (λ e. d)
+      (λ count is. let next = lent_rest w turns (filled + count) (suc rest - count) d.left d.host in
+      chosen P (count == 0) (answering (Ok filled) d) next (λ none. first)
+      (λ some. both_changes (w ∷ []) host d.host next.host first
+      (rest_changes w turns (filled + count) (suc rest - count) d.left d.host (λ left. omega arith))))
+      (λ e is. first)
+
+  dealt_changes : (until_full : Bool) (w : Window) (source : List Next) (host : Host PageSet)
+      → MarksChanges (w ∷ []) host (dealt until_full w source host).host
+  dealt_changes true w source host = rest_changes w w.size 0 w.size source host (λ some. omega arith)
+  dealt_changes false w source host = again_changes 64 w source host
+
+  module _ {E : Type 0} (failure : VolatileMemoryError → E) (fault : Option E) (until_full : Bool) where
+    -- a transfer in marks what it changes
+    pub received_changes : (ws : List Window) (total : ℕ) (source : List Next) (host : Host PageSet)
+        → MarksChanges ws host (received failure fault until_full ws total source host).host
+    unfolding received
+    received_changes [] total source host = same_changes [] host
+    received_changes (w ∷ ws) total source host =
+        let d = dealt until_full w source host in
+        let first = first_changes w ws host d.host (dealt_changes until_full w source host) in
+        let P = λ (x : Dealt E). MarksChanges (w ∷ ws) host x.host in
+        followed P d.answer
+        (λ count. if count == w.size then received failure fault until_full ws (total + count) d.left d.host
+        else answering (Ok (total + count)) d) (λ e. answering (Err (failure e)) d)
+        (λ count is. let next = received failure fault until_full ws (total + count) d.left d.host in
+        chosen P (count == w.size) next (answering (Ok (total + count)) d)
+        (λ whole. both_changes (w ∷ ws) host d.host next.host first
+        (other_changes w ws d.host next.host (received_changes ws (total + count) d.left d.host))) (λ part. first))
+        (λ e is. first)
