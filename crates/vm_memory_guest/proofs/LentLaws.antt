@@ -1,21 +1,22 @@
 -- What transfers in leave of a host, and how they fail.
-use Rattle.std.proofs.Common.{◌≡◌, ◌≢◌, ◌⊎◌, inl, inr, ℕ, zero, suc, ◌+◌, ◌-◌, ◌*◌, ◌/◌, ◌%◌, ◌^◌, ◌<◌, ◌≤◌, ◌==◌, Bool, true, false, if◌then◌else◌, List, [], ◌∷◌, map, length, get_or, set, Option, Some, None, Result, Ok, Err, Contains, refl, sym, ap, ap₂, subst, ◌∙◌, arith}
+use Rattle.std.proofs.Common.{◌≡◌, ◌≢◌, ◌⊎◌, inl, inr, ℕ, zero, suc, ◌+◌, ◌-◌, ◌*◌, ◌/◌, ◌%◌, ◌^◌, ◌<◌, ◌≤◌, ◌==◌, Bool, true, false, if◌then◌else◌, List, [], ◌∷◌, map, length, get_or, set, Option, Some, None, Result, Ok, Err, All, Contains, drop, refl, sym, ap, ap₂, subst, ◌∙◌, arith}
 use Rattle.std.proofs.Math.Nat.{div-lt_iff_lt-mul, mod-eq_of_lt}
 use Rattle.std.proofs.lemmas.Bool.{cases_eq}
 use Rattle.std.proofs.lemmas.Bool.Decides.{nat_tests}
 use Rattle.std.proofs.lemmas.List.{length-take, set-get_or}
+use Rattle.std.proofs.lemmas.List.Elements.{All-cons, All-head, All-nil, All-tail}
 use Rattle.vm_memory_base.specs.Address.{is_within}
 use Rattle.vm_memory_base.specs.Pages.{Pages, PageSet, shape, is_dirty_at, in_view, marked}
-use Rattle.vm_memory_base.specs.Transfer.{Next, Gives, Fails, is_interrupted, tried, with_front}
+use Rattle.vm_memory_base.specs.Transfer.{Next, Gives, Fails, giving, is_interrupted, tried, with_front}
 use Rattle.vm_memory_base.specs.declared.bitmap.BitmapId.{BitmapId}
 use Rattle.vm_memory_base.specs.declared.bitmap.BitmapId.TheVariants.{Block, Space}
 use Rattle.vm_memory_base.specs.declared.io.VolatileMemoryError.{VolatileMemoryError}
-use Rattle.vm_memory_guest.specs.Copy.{front}
+use Rattle.vm_memory_guest.specs.Access.{Reached, Stretch, is_cut, lengthened, stretches, window_of, windows}
 use Rattle.vm_memory_guest.specs.Dealt.{Dealt, after_answer, answering, dealt, lent, lent_again, lent_rest, received}
 use Rattle.vm_memory_guest.specs.Dirt.{marks_pages, pages_at}
 use Rattle.vm_memory_guest.specs.Host.{Host, Cell, block_at, byte_at, bytes_at, cells_from, with_byte, written}
-use Rattle.vm_memory_guest.specs.Lent.{IsDirty, IsMarked, MarksChanges}
-use Rattle.vm_memory_guest.specs.Transfer.{marked_of}
+use Rattle.vm_memory_guest.specs.Lent.{IsDirty, IsMarked, MarksChanges, fails_as}
+use Rattle.vm_memory_guest.specs.Transfer.{ended, marked_of}
 use Rattle.vm_memory_guest.specs.Window.{Window, cells_of, part}
 use Rattle.vm_memory_guest.proofs.EffectLaws.{DirtyPagesStay, ShapeStays, Kept-marks_pages, blocks-marks_pages, is_dirty_at-marks_stays, pages_at-marks, pages_at-with_blocks}
 use Rattle.vm_memory_guest.proofs.HostLemmas.{length-bytes}
@@ -388,3 +389,143 @@ module _ (shape_stays : ShapeStays) (stays : DirtyPagesStay) (dirties : MarkedBy
         (λ whole. both_changes (w ∷ ws) host d.host next.host first
         (other_changes w ws d.host next.host (received_changes ws (total + count) d.left d.host))) (λ part. first))
         (λ e is. first)
+
+-- ---- transfers in that are refused
+
+-- a stretch of some bytes
+abbrev HasSome : Stretch → Type 0
+HasSome s = 0 < s.len
+
+some-joined : (cut : Bool) (x : Reached) (s : Stretch) (ss : List Stretch) → All HasSome (s ∷ ss)
+    → All HasSome (if cut then record { first = x; len = 1 } ∷ s ∷ ss else record { first = x; len = s.len + 1 } ∷ ss)
+some-joined true x s ss h = All-cons HasSome (record { first = x; len = 1 }) (s ∷ ss) (omega arith) h
+some-joined false x s ss h =
+    All-cons HasSome (record { first = x; len = s.len + 1 }) ss (omega arith) (All-tail HasSome s ss h)
+
+some-lengthened : (x : Reached) (ss : List Stretch) → All HasSome ss → All HasSome (lengthened x ss)
+some-lengthened x [] h = All-cons HasSome (record { first = x; len = 1 }) [] (omega arith) h
+some-lengthened x (s ∷ ss) h = some-joined (is_cut x s.first) x s ss h
+
+some-stretches : (xs : List Reached) → All HasSome (stretches xs)
+unfolding stretches
+some-stretches [] = All-nil HasSome
+some-stretches (x ∷ xs) = some-lengthened x (stretches xs) (some-stretches xs)
+
+some-windows_of : (ss : List Stretch) → All HasSome ss → All (λ (w : Window). 0 < w.size) (map window_of ss)
+some-windows_of [] h = All-nil (λ (w : Window). 0 < w.size)
+some-windows_of (s ∷ ss) h =
+    All-cons (λ (w : Window). 0 < w.size) (window_of s) (map window_of ss) (All-head HasSome s ss h)
+    (some-windows_of ss (All-tail HasSome s ss h))
+
+-- each window of a path has some bytes
+pub some-windows : (xs : List Reached) → All (λ (w : Window). 0 < w.size) (windows xs)
+some-windows xs = some-windows_of (stretches xs) (some-stretches xs)
+
+ended_by : {E : Type 0} (total : ℕ) (f e : E) (b : Bool) → (total == 0) ≡ b
+    → (if b then Err f else Ok total) ≡ Err e → (Some f ≡ Some e) × (total ≡ 0)
+ended_by total f e true none h = (cc, grind (arith, nat_tests))
+ended_by total f e false some h = absurd (cc)
+
+-- an answer that is an error has no byte before it
+ended_refused : {E : Type 0} (total : ℕ) (fault : Option E) (e : E) → ended total fault ≡ Err e
+    → (fault ≡ Some e) × (total ≡ 0)
+ended_refused total None e h = absurd (cc)
+ended_refused total (Some f) e h = ended_by total f e (total == 0) refl h
+
+module _ (test : VolatileMemoryError → Bool) where
+  abbrev Passes : Next → Type 0
+  Passes n = fails_as test n ≡ true
+
+  -- each failure that was dealt passes the test, and so do those that are left
+  record FailsSo (d : Dealt VolatileMemoryError) : Type 0 where
+    left : All Passes d.left
+    failed : (e : VolatileMemoryError) → d.answer ≡ Err e → test e ≡ true
+
+  passes-giving : (bs : List ℕ) (rest : List Next) → All Passes rest → All Passes (giving bs rest)
+  passes-giving [] rest h = h
+  passes-giving (b ∷ bs) rest h = All-cons Passes (Gives (b ∷ bs)) rest refl h
+
+  passes-tried : (n : ℕ) (source : List Next) → All Passes source → All Passes (tried n source).left
+  passes-tried zero source h = h
+  passes-tried (suc n) [] h = h
+  passes-tried (suc n) (Gives bs ∷ rest) h =
+      passes-giving (drop (suc n) bs) rest (All-tail Passes (Gives bs) rest h)
+  passes-tried (suc n) (Fails bs f ∷ rest) h = All-tail Passes (Fails bs f) rest h
+
+  failed-tried : (n : ℕ) (source : List Next) → All Passes source → (e : VolatileMemoryError)
+      → (tried n source).answer ≡ Err e → test e ≡ true
+  failed-tried zero source h e is = absurd (cc)
+  failed-tried (suc n) [] h e is = absurd (cc)
+  failed-tried (suc n) (Gives bs ∷ rest) h e is = absurd (cc)
+  failed-tried (suc n) (Fails bs f ∷ rest) h e is =
+      let same : f ≡ e = cc in
+      subst (λ (x : VolatileMemoryError). test x ≡ true) same (All-head Passes (Fails bs f) rest h)
+
+  lent_fails : (w : Window) (source : List Next) (host : Host PageSet) → All Passes source
+      → FailsSo (lent w source host)
+  lent_fails w source host h =
+      let n = length (bytes_at host.blocks (cells_of w)) in
+      record { left = passes-tried n source h; failed = failed-tried n source h }
+
+  again_fails : (more : ℕ) (w : Window) (source : List Next) (host : Host PageSet) → All Passes source
+      → FailsSo (lent_again more w source host)
+  unfolding lent_again
+  again_fails zero w source host h = lent_fails w source host h
+  again_fails (suc more) w source host h =
+      let d = lent w source host in
+      let first = lent_fails w source host h in
+      chosen FailsSo (is_interrupted d.answer) (lent_again more w d.left d.host) d
+      (λ is. again_fails more w d.left d.host first.left) (λ is. first)
+
+  rest_fails : (w : Window) (turns filled rest : ℕ) (source : List Next) (host : Host PageSet) → All Passes source
+      → FailsSo (lent_rest w turns filled rest source host)
+  unfolding lent_rest
+  rest_fails w turns filled zero source host h = record { left = h; failed = λ e is. absurd (cc) }
+  rest_fails w zero filled (suc rest) source host h = record { left = h; failed = λ e is. absurd (cc) }
+  rest_fails w (suc turns) filled (suc rest) source host h =
+      let v = part w filled (suc rest) in
+      let d = lent_again 64 v source host in
+      let first = again_fails 64 v source host h in
+      followed FailsSo d.answer
+      (λ count. if count == 0 then answering (Ok filled) d
+      else lent_rest w turns (filled + count) (suc rest - count) d.left d.host) (λ e. d)
+      (λ count is. let next = lent_rest w turns (filled + count) (suc rest - count) d.left d.host in
+      chosen FailsSo (count == 0) (answering (Ok filled) d) next
+      (λ none. record { left = first.left; failed = λ e was. absurd (cc) })
+      (λ some. rest_fails w turns (filled + count) (suc rest - count) d.left d.host first.left))
+      (λ e is. first)
+
+  dealt_fails : (until_full : Bool) (w : Window) (source : List Next) (host : Host PageSet) → All Passes source
+      → FailsSo (dealt until_full w source host)
+  dealt_fails true w source host h = rest_fails w w.size 0 w.size source host h
+  dealt_fails false w source host h = again_fails 64 w source host h
+
+  module _ {E : Type 0} (failure : VolatileMemoryError → E) (fault : Option E) (until_full : Bool) where
+    -- why an error was answered
+    abbrev pub Why : ℕ → Host PageSet → E → Dealt E → Type 0
+    Why total host e d = d.answer ≡ Err e
+        → ((v : VolatileMemoryError) × (test v ≡ true) × (e ≡ failure v))
+        ⊎ ((fault ≡ Some e) × (total ≡ 0) × (d.host ≡ host))
+
+    pub received_refused : (ws : List Window) (total : ℕ) (source : List Next) (host : Host PageSet) (e : E)
+        → All (λ (w : Window). 0 < w.size) ws → All Passes source
+        → Why total host e (received failure fault until_full ws total source host)
+    unfolding received
+    received_refused [] total source host e some h = λ is.
+        let r = ended_refused total fault e is in inr (r.0, r.1, refl)
+    received_refused (w ∷ ws) total source host e some h =
+        let d = dealt until_full w source host in
+        let first = dealt_fails until_full w source host h in
+        let here : 0 < w.size = All-head (λ (w : Window). 0 < w.size) w ws some in
+        let others = All-tail (λ (w : Window). 0 < w.size) w ws some in
+        followed (Why total host e) d.answer
+        (λ count. if count == w.size then received failure fault until_full ws (total + count) d.left d.host
+        else answering (Ok (total + count)) d) (λ v. answering (Err (failure v)) d)
+        (λ count was. let next = received failure fault until_full ws (total + count) d.left d.host in
+        chosen (Why total host e) (count == w.size) next (answering (Ok (total + count)) d)
+        (λ whole is. elim (received_refused ws (total + count) d.left d.host e others first.left is) [
+          | inl f ↦ inl f
+          | inr r ↦ (let none : total + count ≡ 0 = r.1 in absurd (grind (arith, nat_tests)))
+        ])
+        (λ part is. absurd (cc)))
+        (λ v was is. inl (v, first.failed v was, cc))

@@ -1,7 +1,9 @@
--- What transfers in leave of a host.
-use Rattle.std.specs.Prelude.{◌≡◌, ◌⊎◌, ℕ, ◌+◌, ◌*◌, ◌^◌, ◌<◌, true, List, length, map, Some, Contains}
+-- What transfers in leave of a host, and how their sources fail.
+use Rattle.std.specs.Prelude.{◌≡◌, ◌⊎◌, ℕ, ◌+◌, ◌*◌, ◌^◌, ◌<◌, Bool, true, List, length, map, Some, Contains}
 use Rattle.vm_memory_base.specs.Pages.{Pages, PageSet, shape, is_dirty_at}
+use Rattle.vm_memory_base.specs.Transfer.{Next, Gives, Fails}
 use Rattle.vm_memory_base.specs.declared.bitmap.BitmapId.{BitmapId}
+use Rattle.vm_memory_base.specs.declared.io.VolatileMemoryError.{VolatileMemoryError}
 use Rattle.vm_memory_guest.specs.Dirt.{pages_at}
 use Rattle.vm_memory_guest.specs.Host.{Host, Cell, byte_at}
 use Rattle.vm_memory_guest.specs.Window.{Window}
@@ -30,3 +32,8 @@ pub record MarksChanges (ws : List Window) (old new : Host PageSet) : Type 0 whe
   pub dirty : (id : BitmapId) (offset : ℕ) → is_dirty_at (pages_at id old) offset ≡ true
       → is_dirty_at (pages_at id new) offset ≡ true
   pub bytes : (cell : Cell) → (byte_at new.blocks cell ≡ byte_at old.blocks cell) ⊎ IsMarked ws cell new
+
+-- whether a step of a source is no failure, or one by an error that passes the test
+abbrev pub fails_as : (VolatileMemoryError → Bool) → Next → Bool
+fails_as test (Gives bytes) = true
+fails_as test (Fails scribble e) = test e

@@ -1,13 +1,15 @@
 //! What a transfer of guest memory is, where the source or the sink tells what it does: each function here is a
 //! theorem, and does nothing. It calls the theorems that it follows from.
-ghost use Rattle.std.specs.Prelude.{◌≡◌, ◌⊎◌, ℕ, ◌+◌, ◌++◌, ◌≤◌, Bool, List, Option, Some, Result, Err, IfOk, take};
+ghost use Rattle.std.specs.Prelude.{◌≡◌, ◌⊎◌, ℕ, ◌+◌, ◌++◌, ◌≤◌, Bool, true, All, List, Option, Some, Result, Err, IfOk, take};
 ghost use Rattle.vm_memory_base.specs.Pages.{PageSet};
 ghost use Rattle.vm_memory_base.specs.Transfer.{Next, Sink};
+ghost use Rattle.vm_memory_base.specs.declared.io.VolatileMemoryError.{VolatileMemoryError};
+ghost use Rattle.vm_memory_guest.specs.Access.{Reached, windows};
 ghost use Rattle.vm_memory_guest.specs.Dealt.{given_out, received};
 ghost use Rattle.vm_memory_guest.specs.Dirt.{with_pages};
 ghost use Rattle.vm_memory_guest.specs.Error.{of_window};
 ghost use Rattle.vm_memory_guest.specs.Host.{Host, bytes_at};
-ghost use Rattle.vm_memory_guest.specs.Lent.{MarksChanges};
+ghost use Rattle.vm_memory_guest.specs.Lent.{MarksChanges, fails_as};
 ghost use Rattle.vm_memory_guest.specs.Transfer.{Fills, InOrder, Takes, UntilWhole, beside, filling};
 ghost use Rattle.vm_memory_guest.specs.Window.{Window, cells, span};
 ghost use Rattle.vm_memory_guest.specs.declared.region.GuestMemoryError.{GuestMemoryError};
@@ -38,6 +40,17 @@ pub fn transfers_in_mark_what_they_change()
     mark_keeps_shape();
     marked_bytes_are_dirty();
 }
+
+/// A transfer in that answers an error answers one of the source's failures, or what kept it from reaching any
+/// byte, and then nothing changed.
+pub fn refused_transfers_in_change_nothing()
+    ensures { (test : VolatileMemoryError → Bool) (fault : Option GuestMemoryError) (until_full : Bool)
+        (xs : List Reached) (next : List Next) (host : Host PageSet) (e : GuestMemoryError)
+        → All (λ n. fails_as test n ≡ true) next
+        → let dealt = received of_window fault until_full (windows xs) 0 next host in dealt.answer ≡ Err e
+        → ((v : VolatileMemoryError) × (test v ≡ true) × (e ≡ of_window v))
+        ⊎ ((fault ≡ Some e) × (dealt.host ≡ host)) }
+{}
 
 /// A transfer out to a sink that tells what it does: its answer and what the sink does next are computed from
 /// what the sink was to do. Or the sink wanted memory, where it may.
