@@ -12,3 +12,4 @@ pub mod PatchLemmas
 pub mod RoundsLemmas
 pub mod StepLemmas
 pub mod TypedLemmas
+pub mod TransferLemmas

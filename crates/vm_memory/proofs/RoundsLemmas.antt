@@ -3,7 +3,7 @@ use Rattle.std.proofs.Common.{◌≡◌, ◌↔◌, Bool, ◌&&◌, ℕ, zero, s
 use Rattle.std.proofs.lemmas.Bool.{eqb-true, eqb-false, cases_Bool, true≢false, cond-true, cond-false, false_from_ne_true}
 use Rattle.std.proofs.lemmas.Cmp.{nat_eq_equiv}
 use Rattle.std.proofs.lemmas.List.{length-map, get_or-map, get_or-set_same, get_or-set_other, ext_get_or}
-use Rattle.std.proofs.lemmas.List.Elements.{All-nil, All-cons, All-head, All-tail, All-contains}
+use Rattle.std.proofs.lemmas.List.Elements.{All-nil, All-cons, All-head, All-tail, All-map, All-contains}
 use Rattle.std.proofs.lemmas.List.FromFn.{length-range_with_len, get_or-range_with_len}
 use Rattle.std.proofs.lemmas.Map.Views.{list_any-from_Contains, Contains-from_any}
 use Rattle.std.proofs.lemmas.Nat.{div_below}
@@ -14,22 +14,28 @@ use Rattle.std.specs.Int.{to_le_bytes}
 use Rattle.std.specs.List.{list_any, range_with_len, slice_get}
 use Rattle.vm_memory_base.specs.Address.{numbers}
 use Rattle.vm_memory_base.specs.Pages.{Pages, PageSet, shape, is_dirty_at, dirty_pages, cleaned}
+use Rattle.vm_memory_base.specs.Script.{next_of}
 use Rattle.vm_memory_base.specs.Table.{Table}
+use Rattle.vm_memory_base.specs.Transfer.{Next}
 use Rattle.vm_memory_base.specs.declared.address.GuestAddress.{GuestAddress}
 use Rattle.vm_memory_base.specs.declared.bitmap.BitmapId.{BitmapId}
 use Rattle.vm_memory_base.specs.declared.bitmap.BitmapId.TheVariants.{Block, Space}
+use Rattle.vm_memory_base.specs.declared.io.script.SourceStep.{SourceStep}
 use Rattle.vm_memory_base.specs.declared.iotlb.Permissions.{Permissions}
 use Rattle.vm_memory_base.specs.declared.iotlb.Permissions.TheVariants as permissions
-use Rattle.vm_memory_guest.specs.Access.{Reached, onto, meets, meets_at, path, access_of}
+use Rattle.vm_memory_guest.specs.Access.{Reached, Stretch, onto, meets, meets_at, path, access_of, is_cut, lengthened, stretches, window_of, windows}
 use Rattle.vm_memory_guest.specs.Copy.{after_copy, dirtied_cells}
 use Rattle.vm_memory_guest.specs.Dirt.{pages_at, path_cells, after_write, bytes_read, dirtied, marks_pages}
-use Rattle.vm_memory_guest.specs.Error.{error_of}
+use Rattle.vm_memory_guest.specs.Dealt.{received}
+use Rattle.vm_memory_guest.specs.Error.{error_of, of_window}
 use Rattle.vm_memory_guest.specs.Host.{Host, Cell, block_at, byte_at, bytes_at, cells_from, written}
 use Rattle.vm_memory_guest.specs.Layout.{inserted, removed}
+use Rattle.vm_memory_guest.specs.Lent.{IsMarked, MarksChanges}
 use Rattle.vm_memory_guest.specs.Memory.{Memory, IsOn, Behind, Direct, behind_of, physical, route_behind}
 use Rattle.vm_memory_guest.specs.Region.{Region, Lies, Byte, Bare, Hole, cell, layout_error}
+use Rattle.vm_memory_guest.specs.Transfer.{all_of}
 use Rattle.vm_memory_guest.specs.Typed.{path_given, typed_path, whole_path}
-use Rattle.vm_memory_guest.specs.Window.{bitmap_of, with_bitmap}
+use Rattle.vm_memory_guest.specs.Window.{Window, bitmap_of, with_bitmap}
 use Rattle.vm_memory_guest.specs.declared.region.GuestMemoryError.{GuestMemoryError}
 use Rattle.vm_memory_guest.specs.declared.region.GuestMemoryError.TheVariants as errors
 use Rattle.vm_memory_guest.specs.declared.region.GuestRegionCollectionError.{GuestRegionCollectionError}
@@ -41,6 +47,7 @@ use Rattle.vm_memory.specs.Tables.{changed_table}
 use Rattle.vm_memory.specs.Reply.{reached_by, answer_of, reply_of, writes, writes_whole}
 use Rattle.vm_memory.specs.Rounds.{patched, patched_by, patched_with, bytes_of, pages_of, image_now, image_after, MirrorsBlock, Cover, IsTracked, IsDirect, RunsDirectly, KeepsImage}
 use Rattle.vm_memory.specs.State.{State, named}
+use Rattle.vm_memory.specs.Transfers.{dealt_to}
 use Rattle.vm_memory.specs.Typed.{integer_of, fits_width, stores, stores_bytes}
 use Rattle.vm_memory.specs.declared.machine.command.BlockRange.{BlockRange}
 use Rattle.vm_memory.specs.declared.machine.command.Command.{Command}
@@ -162,6 +169,37 @@ whole_marks size [] None own = All-nil MarksItsCell
 whole_marks size [] (Some e) own = All-nil MarksItsCell
 whole_marks size (x ∷ xs) fault own = taken_marks _ (x ∷ xs) _ own
 
+-- and so do the windows of a path
+marks_stretch : (x : Reached) (ss : List Stretch) → MarksItsCell x → All (λ s. MarksItsCell s.first) ss
+    → All (λ s. MarksItsCell s.first) (lengthened x ss)
+marks_stretch x [] own others = All-cons (λ (s : Stretch). MarksItsCell s.first) _ [] own others
+marks_stretch x (s ∷ ss) own others = go (is_cut x s.first)
+  where
+    one : Stretch
+    one = record { first = x; len = 1 }
+
+    more : Stretch
+    more = record { first = x; len = s.len + 1 }
+
+    rest : All (λ (t : Stretch). MarksItsCell t.first) ss
+    rest = All-tail (λ (t : Stretch). MarksItsCell t.first) s ss others
+
+    go : (b : Bool) → All (λ (t : Stretch). MarksItsCell t.first) (cond b (one ∷ s ∷ ss) (more ∷ ss))
+    go true = All-cons (λ (t : Stretch). MarksItsCell t.first) one (s ∷ ss) own others
+    go false = All-cons (λ (t : Stretch). MarksItsCell t.first) more ss own rest
+
+marks_stretches : (xs : List Reached) → All MarksItsCell xs → All (λ s. MarksItsCell s.first) (stretches xs)
+unfolding stretches
+marks_stretches [] own = All-nil (λ (s : Stretch). MarksItsCell s.first)
+marks_stretches (x ∷ xs) own =
+    marks_stretch x (stretches xs) (All-head MarksItsCell x xs own) (marks_stretches xs (All-tail MarksItsCell x xs own))
+
+abbrev MarksItself : Window → Type 0
+MarksItself w = (w.bitmap.id ≡ Block w.block.0) × (w.bitmap.base ≡ w.offset)
+
+windows_mark : (xs : List Reached) → All MarksItsCell xs → All MarksItself (windows xs)
+windows_mark xs own = All-map MarksItself window_of (stretches xs) (marks_stretches xs own)
+
 -- the path of cells that mark their own places
 abbrev itself : Cell → Reached
 itself c = record {
@@ -232,6 +270,8 @@ pub record WriteLaws : Type 0 where
       → is_dirty_at (pages_at id host) offset ≡ true → is_dirty_at (pages_at id (after_write xs bytes host)) offset ≡ true
   pub shapes_stay : (xs : List Reached) (bytes : List ℕ) (host : Host PageSet)
       → map shape (after_write xs bytes host).bitmaps ≡ map shape host.bitmaps
+  pub lent_mark : (fault : Option GuestMemoryError) (until_full : Bool) (ws : List Window) (total : ℕ) (next : List Next)
+      (host : Host PageSet) → MarksChanges ws host (received of_window fault until_full ws total next host).host
 
 module _ (laws : WriteLaws) (xs : List Reached) (own : All MarksItsCell xs) (bytes : List ℕ) (host : Host PageSet) where
   -- a byte of a path makes its page dirty, where the block's bitmap covers the byte
@@ -293,6 +333,53 @@ module _ (laws : WriteLaws) (xs : List Reached) (own : All MarksItsCell xs) (byt
             ∙ sym (laws.bytes_stay (path_cells xs) bytes host.blocks (record { block = block; offset = k })
             (untouched k l e (pages_of block host) refl kept.cover))
             ∙ ap (λ (bs : List (List ℕ)). get_or (get_or bs block []) k 0) (sym (laws.blocks_are xs bytes host))
+      ]
+
+-- and what is received
+module _ (block : ℕ) (image : List ℕ) (host after : Host PageSet) (ws : List Window) (own : All MarksItself ws)
+    (changes : MarksChanges ws host after) (kept : KeepsBlock block image host) where
+  -- a byte of the block that changes lies in a dirty page
+  marked_is_dirty : (k : ℕ) (set : PageSet) → pages_of block after ≡ set → Cover (shape set) (length (bytes_of block host))
+      → k < length (bytes_of block host) → IsMarked ws (record { block = block; offset = k }) after
+      → is_dirty_at set k ≡ true
+  marked_is_dirty k None is cover l m = absurd (omega (arith, cover, l))
+  marked_is_dirty k (Some p) is cover l m =
+      let w = m.window in
+      let marks = All-contains MarksItself ws w own m.among in
+      let id : w.bitmap.id ≡ Block block = marks.0 ∙ ap (λ (c : Cell). Block c.block) (sym m.is) in
+      let at : w.bitmap.base + m.at ≡ k = ap (λ (b : ℕ). b + m.at) marks.1 ∙ ap (λ (c : Cell). c.offset) (sym m.is) in
+      let pages : pages_at w.bitmap.id after ≡ Some p = ap (λ (i : BitmapId). pages_at i after) id ∙ is in
+      subst (λ (o : ℕ). is_dirty_at (Some p) o ≡ true) at
+      (m.dirty p pages (rw at (omega (arith, cover, l))) (rw at (omega (arith, kept.short, l))))
+
+  pub lent_keeps : KeepsBlock block image after
+  lent_keeps = record {
+    cover = rw len covers;
+    short = rw len kept.short;
+    clean = record { len = kept.clean.len ∙ sym len; bytes = λ k l e. same k (rw (← len) l) e };
+  }
+    where
+      len : length (bytes_of block after) ≡ length (bytes_of block host)
+      len = same_at (λ (b : List ℕ). length b) [] after.blocks host.blocks block changes.lengths
+
+      shapes : shape (pages_of block after) ≡ shape (pages_of block host)
+      shapes = same_at shape None after.bitmaps host.bitmaps block changes.bitmaps
+
+      covers : Cover (shape (pages_of block after)) (length (bytes_of block host))
+      covers = subst (λ (s : Option (ℕ × ℕ)). Cover s (length (bytes_of block host))) (sym shapes) kept.cover
+
+      stays : (k : ℕ) → k < length (bytes_of block host) → is_dirty_at (pages_of block after) k ≡ false
+          → get_or (bytes_of block after) k 0 ≡ get_or (bytes_of block host) k 0
+      stays k l e = elim (changes.bytes (record { block = block; offset = k })) [
+        | inl byte ↦ byte
+        | inr marked ↦ absurd (true≢false (sym (marked_is_dirty k (pages_of block after) refl covers l marked) ∙ e))
+      ]
+
+      same : (k : ℕ) → k < length (bytes_of block host) → is_dirty_at (pages_of block after) k ≡ false
+          → get_or image k 0 ≡ get_or (bytes_of block after) k 0
+      same k l e = elim (cases_Bool (is_dirty_at (pages_of block host) k)) [
+        | inl dirty ↦ absurd (true≢false (sym (changes.dirty (Block block) k dirty) ∙ e))
+        | inr before ↦ kept.clean.bytes k l before ∙ sym (stays k l e)
       ]
 
 -- ---- what a harvest keeps
@@ -393,6 +480,19 @@ module _ (are_listed : AreListed) (cleaned_stay : CleanedStay) (laws : WriteLaws
         leaves r (writes_whole m old.host a bytes) e
         (write_keeps laws reached.path (reached_marks m off a (length bytes)) bytes old.host block image kept)
 
+    got : (a n : ℕ) (until_full : Bool) (source : List SourceStep) (told : Result ℕ GuestMemoryError → Reply) (r : Reply)
+        (o : Option Memory) → IfSome o (λ m. IsOn m → ⊥)
+        → (r, new) ≡ if_there old o (λ m. let d = dealt_to until_full m old.host a n source in with_host old (told d.answer, d.host))
+        → KeepsBlock block image new.host
+    got a n until_full source told r None off e = stays r (reply.NoSuch, old) e refl
+    got a n until_full source told r (Some m) off e =
+        let reached = reached_by m old.host.tables a n permissions.Write in
+        let d = dealt_to until_full m old.host a n source in
+        let own = windows_mark reached.path (reached_marks m off a n) in
+        let changes = laws.lent_mark (option_map error_of reached.fault) until_full (windows reached.path) 0 (map next_of source)
+        old.host in
+        leaves r (told d.answer, d.host) e (lent_keeps block image old.host d.host (windows reached.path) own changes kept)
+
     -- the bytes of a store, if its value fits
     fitting : (m : Memory) → (IsOn m → ⊥) → (a : ℕ) (bytes : List ℕ) (b : Bool)
         → KeepsBlock block image (cond b (stores_bytes m old.host a bytes) (reply.BadRange, old.host)).1
@@ -481,6 +581,17 @@ module _ (are_listed : AreListed) (cleaned_stay : CleanedStay) (laws : WriteLaws
     answered (command.Store memory width addr value) r direct e =
         stored addr.0 (integer_of width) value r (slice_get old.memories memory) direct e
     answered (command.Load memory width addr) r direct e =
+        stays r _ e (same_host old (slice_get old.memories memory) _ (λ m. refl))
+    answered (command.ReadFrom memory addr n source) r direct e =
+        got addr.0 n false source (reply_of reply.Count) r (slice_get old.memories memory) direct e
+    answered (command.ReadExactFrom memory addr n source) r direct e =
+        got addr.0 n true source
+        (λ answer. reply_of (λ (done : Unit {0}). reply.Done)
+        (all_of (λ (expected completed : ℕ). errors.PartialBuffer expected completed) n answer))
+        r (slice_get old.memories memory) direct e
+    answered (command.WriteTo memory addr n sink) r direct e =
+        stays r _ e (same_host old (slice_get old.memories memory) _ (λ m. refl))
+    answered (command.WriteAllTo memory addr n sink) r direct e =
         stays r _ e (same_host old (slice_get old.memories memory) _ (λ m. refl))
     answered (command.CheckRange memory addr n access) r direct e =
         stays r _ e (same_host old (slice_get old.memories memory) _ (λ m. refl))

@@ -1,20 +1,24 @@
 -- Steps and runs of the model.
-use Rattle.std.proofs.Common.{◌≡◌, ℕ, List, [], ◌∷◌, ◌++◌, length, Bool, true, false, ◌&&◌, ◌==◌, nat_lt, cond, Option, Some, None, Result, Ok, Err, subst, ap, ◌∙◌, refl, inl, inr, arith, slice_get, option_map}
+use Rattle.std.proofs.Common.{◌≡◌, ℕ, List, [], ◌∷◌, ◌++◌, map, length, Bool, true, false, ◌&&◌, ◌==◌, nat_lt, cond, Option, Some, None, Result, Ok, Err, subst, ap, ◌∙◌, refl, inl, inr, arith, slice_get, option_map}
 use Rattle.std.proofs.lemmas.Bool.{eqb-true, true≢false}
 use Rattle.vm_memory_base.specs.Pages.{dirty_pages, cleaned}
 use Rattle.std.specs.Int as int
 use Rattle.std.specs.Int.{to_le_bytes}
 use Rattle.vm_memory_base.specs.declared.iotlb.Permissions.TheVariants as permissions
 use Rattle.vm_memory_base.specs.Pages.{PageSet}
-use Rattle.vm_memory_guest.specs.Access.{Reached}
+use Rattle.vm_memory_base.specs.Script.{next_of}
+use Rattle.vm_memory_base.specs.declared.io.script.SourceStep.{SourceStep}
+use Rattle.vm_memory_guest.specs.Access.{Reached, windows}
 use Rattle.vm_memory_guest.specs.Answer.{counted, exactly}
+use Rattle.vm_memory_guest.specs.Dealt.{received}
 use Rattle.vm_memory_guest.specs.Dirt.{after_write}
-use Rattle.vm_memory_guest.specs.Error.{error_of}
+use Rattle.vm_memory_guest.specs.Error.{error_of, of_window}
 use Rattle.vm_memory_guest.specs.Host.{Host}
 use Rattle.vm_memory_guest.specs.Layout.{inserted, removed}
 use Rattle.vm_memory_guest.specs.Memory.{Memory, Switched}
 use Rattle.vm_memory_guest.specs.Region.{Region, layout_error}
 use Rattle.vm_memory_guest.specs.Window.{bitmap_of, with_bitmap}
+use Rattle.vm_memory_guest.specs.Transfer.{all_of}
 use Rattle.vm_memory_guest.specs.Typed.{path_given}
 use Rattle.vm_memory_guest.specs.declared.region.GuestMemoryError.{GuestMemoryError}
 use Rattle.vm_memory_guest.specs.declared.region.GuestMemoryError.TheVariants as errors
@@ -22,7 +26,9 @@ use Rattle.vm_memory_guest.specs.declared.region.GuestRegionCollectionError.{Gue
 use Rattle.vm_memory.specs.State.{State, named, plain, behind}
 use Rattle.vm_memory.specs.Machine.{Step, Run, outcome}
 use Rattle.vm_memory.specs.Made.{if_there, new_layout, rest_layout, new_memory, turned, with_host}
-use Rattle.vm_memory.specs.Reply.{reply_of, reached_by, writes, writes_whole, is_partial}
+use Rattle.vm_memory.specs.Reply.{reply_of, reply_of_error, reached_by, writes, writes_whole, is_partial}
+use Rattle.vm_memory.specs.Transfers.{dealt_to, receives, receives_whole}
+use Rattle.vm_memory.proofs.TransferLemmas.{RefusedLaw, io_of_window, is_io, scripts_fail_so}
 use Rattle.vm_memory_base.specs.Table as table
 use Rattle.vm_memory_guest.specs.Host.{with_table_at}
 use Rattle.vm_memory.specs.Copy as copy
@@ -52,6 +58,7 @@ IsStill reply.Done = ⊥
 IsStill (reply.Count n) = ⊥
 IsStill (reply.Pages pages) = ⊥
 IsStill (reply.Fault (fault.PartialBuffer expected completed)) = ⊥
+IsStill (reply.Fault (fault.IOError kind)) = ⊥
 IsStill r = Unit {0}
 
 there : {X : Type 0} (old new : State) (o : Option X) (answer : X → Reply × State) (r : Reply)
@@ -105,9 +112,43 @@ not_stored : (t : Result (List Reached) GuestMemoryError) (r : Reply) → IsStil
 not_stored (Ok xs) r still e = absurd (subst IsStill e still)
 not_stored (Err d) r still e = refl
 
+-- a transfer in that replies no count and no failure of its source received nothing
+module _ (refused : RefusedLaw) (fault : Option GuestMemoryError) (xs : List Reached) (source : List SourceStep)
+    (host : Host PageSet) (r : Reply) (still : IsStill r) where
+  not_received_by : (until_full : Bool) (x : GuestMemoryError)
+      → (received of_window fault until_full (windows xs) 0 (map next_of source) host).answer ≡ Err x
+      → r ≡ reply_of_error x → (received of_window fault until_full (windows xs) 0 (map next_of source) host).host ≡ host
+  not_received_by until_full x same e =
+      elim (refused is_io fault until_full xs (map next_of source) host x (scripts_fail_so source) same) [
+        | inl failed ↦
+            absurd (io_of_window failed.0 x (λ (y : GuestMemoryError). IsStill (reply_of_error y)) failed.1 failed.2
+            (subst IsStill e still) (λ kind h. h))
+        | inr kept ↦ kept.1
+      ]
+
+  not_received : (answer : Result ℕ GuestMemoryError)
+      → (received of_window fault false (windows xs) 0 (map next_of source) host).answer ≡ answer
+      → r ≡ reply_of reply.Count answer
+      → (received of_window fault false (windows xs) 0 (map next_of source) host).host ≡ host
+  not_received (Ok total) same e = absurd (subst IsStill e still)
+  not_received (Err x) same e = not_received_by false x same e
+
+  not_all_received : (n : ℕ) (answer : Result ℕ GuestMemoryError)
+      → (received of_window fault true (windows xs) 0 (map next_of source) host).answer ≡ answer
+      → r ≡ reply_of (λ (done : Unit {0}). reply.Done)
+      (all_of (λ (expected completed : ℕ). errors.PartialBuffer expected completed) n answer)
+      → (received of_window fault true (windows xs) 0 (map next_of source) host).host ≡ host
+  not_all_received n (Err x) same e = not_received_by true x same e
+  not_all_received n (Ok total) same e = go (total == n) e
+    where
+      go : (b : Bool) → r ≡ reply_of (λ (done : Unit {0}). reply.Done) (cond b (Ok tt) (Err (errors.PartialBuffer n total)))
+          → (received of_window fault true (windows xs) 0 (map next_of source) host).host ≡ host
+      go true e = absurd (subst IsStill e still)
+      go false e = absurd (subst IsStill e still)
+
 -- and a step that tells of no change makes none
-pub still-step : (old new : State) (c : Command) (r : Reply) → IsStill r → Step old c r new → new ≡ old
-still-step old new c r still step = elim step [ inl e ↦ go c e | inr want ↦ want.2 ]
+pub still-step : RefusedLaw → (old new : State) (c : Command) (r : Reply) → IsStill r → Step old c r new → new ≡ old
+still-step refused old new c r still step = elim step [ inl e ↦ go c e | inr want ↦ want.2 ]
   where
     after : (a : Reply × State) → (r, new) ≡ a → new ≡ a.1
     after a e = ap (λ (p : Reply × State). p.1) e
@@ -155,6 +196,25 @@ still-step old new c r still step = elim step [ inl e ↦ go c e | inr want ↦ 
             let none = not_stored taken r still (ap (λ (p : Reply × State). p.0) e) in
             after (with_host old (stores_bytes m old.host a bytes)) e
             ∙ ap (λ (xs : List Reached). record old { host = after_write xs bytes old.host }) none
+
+    got : (m : Memory) (a n : ℕ) (source : List SourceStep)
+        → (r, new) ≡ with_host old (receives m old.host a n source) → new ≡ old
+    got m a n source e =
+        let reached = reached_by m old.host.tables a n permissions.Write in
+        let d = dealt_to false m old.host a n source in
+        let none = not_received refused (option_map error_of reached.fault) reached.path source old.host r still d.answer
+        refl (ap (λ (p : Reply × State). p.0) e) in
+        after (with_host old (receives m old.host a n source)) e ∙ ap (λ (h : Host PageSet). record old { host = h }) none
+
+    got_whole : (m : Memory) (a n : ℕ) (source : List SourceStep)
+        → (r, new) ≡ with_host old (receives_whole m old.host a n source) → new ≡ old
+    got_whole m a n source e =
+        let reached = reached_by m old.host.tables a n permissions.Write in
+        let d = dealt_to true m old.host a n source in
+        let none = not_all_received refused (option_map error_of reached.fault) reached.path source old.host r still n
+        d.answer refl (ap (λ (p : Reply × State). p.0) e) in
+        after (with_host old (receives_whole m old.host a n source)) e
+        ∙ ap (λ (h : Host PageSet). record old { host = h }) none
 
     copied : (there fits : Bool) (host : Host PageSet)
         → (r, new) ≡ with_host old
@@ -211,6 +271,14 @@ still-step old new c r still step = elim step [ inl e ↦ go c e | inr want ↦ 
         there old new (slice_get old.memories memory) _ r (λ m. stored m addr.0 (integer_of width) value) e
     go (command.Load memory width addr) e =
         there old new (slice_get old.memories memory) _ r (λ m f. ap (λ (p : Reply × State). p.1) f) e
+    go (command.ReadFrom memory addr n source) e =
+        there old new (slice_get old.memories memory) _ r (λ m. got m addr.0 n source) e
+    go (command.ReadExactFrom memory addr n source) e =
+        there old new (slice_get old.memories memory) _ r (λ m. got_whole m addr.0 n source) e
+    go (command.WriteTo memory addr n sink) e =
+        there old new (slice_get old.memories memory) _ r (λ m f. ap (λ (p : Reply × State). p.1) f) e
+    go (command.WriteAllTo memory addr n sink) e =
+        there old new (slice_get old.memories memory) _ r (λ m f. ap (λ (p : Reply × State). p.1) f) e
     go (command.CheckRange memory addr n access) e =
         there old new (slice_get old.memories memory) _ r (λ m f. ap (λ (p : Reply × State). p.1) f) e
     go (command.Set number iova to len perm) e =
@@ -229,7 +297,7 @@ still-step old new c r still step = elim step [ inl e ↦ go c e | inr want ↦ 
 pub still-fault : (f : Fault) → is_partial f ≡ false → IsStill (reply.Fault f)
 still-fault (fault.PartialBuffer expected completed) e = absurd (true≢false e)
 still-fault (fault.InvalidGuestAddress addr) e = tt
-still-fault (fault.IOError kind) e = tt
+still-fault (fault.IOError kind) e = absurd (true≢false e)
 still-fault fault.InvalidBackendAddress e = tt
 still-fault fault.HostAddressNotAvailable e = tt
 still-fault fault.CallbackOutOfRange e = tt

@@ -1,5 +1,6 @@
 pub mod Copy
 pub mod Tables
+pub mod Transfers
 pub mod Pieces
 pub mod Examples
 pub mod Inside

@@ -13,6 +13,7 @@ use Rattle.vm_memory.specs.Copy.{copies}
 use Rattle.vm_memory.specs.Made.{if_there, new_layout, rest_layout, new_memory, turned, with_host}
 use Rattle.vm_memory.specs.Reply.{reads, writes, reads_whole, writes_whole, checks}
 use Rattle.vm_memory.specs.Tables.{changes, looks_up}
+use Rattle.vm_memory.specs.Transfers.{receives, receives_whole, sends, sends_whole}
 use Rattle.vm_memory.specs.Typed.{integer_of, fits_width, loads, stores}
 use Rattle.vm_memory.specs.declared.machine.command.Command.{Command}
 use Rattle.vm_memory.specs.declared.machine.command.Command.TheVariants.{FromRegions, Insert, Remove, Plain}
@@ -21,6 +22,8 @@ use Rattle.vm_memory.specs.declared.machine.command.Command.TheVariants.{Read, W
 use Rattle.vm_memory.specs.declared.machine.command.Command.TheVariants.{Store, Load, Copy, Dirty}
 use Rattle.vm_memory.specs.declared.machine.command.Command.TheVariants.{Harvest, CheckRange, Set, Invalidate}
 use Rattle.vm_memory.specs.declared.machine.command.Command.TheVariants.{InvalidateAll, Lookup}
+use Rattle.vm_memory.specs.declared.machine.command.Command.TheVariants.{ReadFrom, ReadExactFrom}
+use Rattle.vm_memory.specs.declared.machine.command.Command.TheVariants.{WriteTo, WriteAllTo}
 use Rattle.vm_memory.specs.declared.machine.command.Reply.{Reply}
 use Rattle.vm_memory.specs.declared.machine.command.Reply.TheVariants.{Pages, Memory}
 
@@ -66,6 +69,16 @@ outcome old (Store memory width addr value) =
 outcome old (Load memory width addr) =
     if_there old (slice_get old.memories memory)
     (λ m. (loads m old.host addr.0 (integer_of width), old))
+outcome old (ReadFrom memory addr count source) =
+    if_there old (slice_get old.memories memory)
+    (λ m. with_host old (receives m old.host addr.0 count source))
+outcome old (ReadExactFrom memory addr count source) =
+    if_there old (slice_get old.memories memory)
+    (λ m. with_host old (receives_whole m old.host addr.0 count source))
+outcome old (WriteTo memory addr count sink) =
+    if_there old (slice_get old.memories memory) (λ m. (sends m old.host addr.0 count sink, old))
+outcome old (WriteAllTo memory addr count sink) =
+    if_there old (slice_get old.memories memory) (λ m. (sends_whole m old.host addr.0 count sink, old))
 outcome old (CheckRange memory addr count access) =
     if_there old (slice_get old.memories memory)
     (λ m. (checks m old.host addr.0 count access, old))
@@ -103,6 +116,10 @@ MayWant old (WriteSlice memory addr bytes) = IsSomeAnd (slice_get old.memories m
 MayWant old (Store memory width addr value) =
     IsSomeAnd (slice_get old.memories memory) (λ m. IsOn m × IsTrue (fits_width (integer_of width) value))
 MayWant old (Load memory width addr) = IsSomeAnd (slice_get old.memories memory) IsOn
+MayWant old (ReadFrom memory addr n source) = IsSomeAnd (slice_get old.memories memory) IsOn
+MayWant old (ReadExactFrom memory addr n source) = IsSomeAnd (slice_get old.memories memory) IsOn
+MayWant old (WriteTo memory addr n sink) = IsSome (slice_get old.memories memory)
+MayWant old (WriteAllTo memory addr n sink) = IsSome (slice_get old.memories memory)
 MayWant old (CheckRange memory addr count access) = IsSomeAnd (slice_get old.memories memory) IsOn
 MayWant old (Dirty id) = IsSome (bitmap_of old.host id)
 MayWant old (Harvest id) = IsSome (bitmap_of old.host id)

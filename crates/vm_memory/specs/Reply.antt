@@ -33,9 +33,11 @@ reply_of_error errors.GuestAddressOverflow = Fault fault.GuestAddressOverflow
 reply_of_error (errors.IommuError e) = Fault (fault.IommuError e)
 reply_of_error errors.Memory = reply.Memory
 
--- whether an access is told to have moved fewer bytes than it was to move
+-- whether a fault tells of an access that may have moved bytes: fewer than it was to move, or those up to where
+-- a source failed
 abbrev pub is_partial : faults.Fault → Bool
 is_partial (fault.PartialBuffer expected completed) = true
+is_partial (fault.IOError kind) = true
 is_partial f = false
 
 -- an error of regions that make no layout, likewise

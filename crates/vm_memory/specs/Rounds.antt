@@ -13,7 +13,7 @@ use Rattle.vm_memory_guest.specs.Window.{with_bitmap}
 use Rattle.vm_memory.specs.Machine.{Run}
 use Rattle.vm_memory.specs.State.{State}
 use Rattle.vm_memory.specs.declared.machine.command.Command.{Command}
-use Rattle.vm_memory.specs.declared.machine.command.Command.TheVariants.{Write, WriteSlice, Store, Harvest}
+use Rattle.vm_memory.specs.declared.machine.command.Command.TheVariants.{Write, WriteSlice, Store, ReadFrom, ReadExactFrom, Harvest}
 use Rattle.vm_memory.specs.declared.machine.command.Reply.{Reply}
 use Rattle.vm_memory.specs.declared.machine.command.Reply.TheVariants.{Pages}
 
@@ -68,6 +68,8 @@ abbrev pub written_memory : Command → Option ℕ
 written_memory (Write memory addr bytes) = Some memory
 written_memory (WriteSlice memory addr bytes) = Some memory
 written_memory (Store memory width addr value) = Some memory
+written_memory (ReadFrom memory addr count source) = Some memory
+written_memory (ReadExactFrom memory addr count source) = Some memory
 written_memory c = None
 
 -- a command does not write to a memory whose IOMMU is on

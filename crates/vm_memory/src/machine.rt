@@ -17,6 +17,7 @@ pub mod memory;
 mod pages;
 mod rounds;
 mod tables;
+mod transfers;
 mod typed;
 
 use crate::iommu::Iommu;
@@ -148,6 +149,30 @@ impl<R: GuestMemoryRegion, I: Iommu, B: ExactBitmap> Machine<R, I, B> {
                 width,
                 addr,
             } => self.load(*memory, *width, *addr),
+            Command::ReadFrom {
+                memory,
+                addr,
+                count,
+                source,
+            } => self.read_from(*memory, *addr, *count, source.as_slice()),
+            Command::ReadExactFrom {
+                memory,
+                addr,
+                count,
+                source,
+            } => self.read_exact_from(*memory, *addr, *count, source.as_slice()),
+            Command::WriteTo {
+                memory,
+                addr,
+                count,
+                sink,
+            } => self.write_to(*memory, *addr, *count, sink.as_slice()),
+            Command::WriteAllTo {
+                memory,
+                addr,
+                count,
+                sink,
+            } => self.write_all_to(*memory, *addr, *count, sink.as_slice()),
             Command::CheckRange {
                 memory,
                 addr,

@@ -1,9 +1,13 @@
 //! What a machine answers and leaves in small cases: each function here is a theorem, and does nothing.
-#![tactic(auto, unfolding(vm_memory_base::specs::Runs::runs, vm_memory_base::specs::Table::each, vm_memory_guest::specs::Access::path, vm_memory_guest::specs::Access::first_fault))]
+#![tactic(auto, unfolding(vm_memory_base::specs::Runs::runs, vm_memory_base::specs::Table::each, vm_memory_base::specs::Transfer::offers, vm_memory_base::specs::Transfer::sent, vm_memory_guest::specs::Access::path, vm_memory_guest::specs::Access::first_fault, vm_memory_guest::specs::Access::stretches, vm_memory_guest::specs::Dealt::received, vm_memory_guest::specs::Dealt::lent_again, vm_memory_guest::specs::Dealt::lent_rest, vm_memory_guest::specs::Dealt::given_out))]
 
 ghost use Rattle.std.specs.Prelude.{◌≡◌, ℕ, ◌-◌, ◌^◌, [], ◌∷◌, ◌++◌, None, true, false};
 ghost use Rattle.vm_memory_base.specs.Pages.{PageSet};
+ghost use Rattle.std.specs.declared.io.ErrorKind.TheVariants.{Other, WriteZero};
 ghost use Rattle.vm_memory_base.specs.declared.bitmap.BitmapId.TheVariants.{Block, Space};
+ghost use Rattle.vm_memory_base.specs.declared.io.script.SinkStep.TheVariants as sink;
+ghost use Rattle.vm_memory_base.specs.declared.io.script.SourceStep.TheVariants.{Give};
+ghost use Rattle.vm_memory_base.specs.declared.io.script.SourceStep.TheVariants as source;
 ghost use Rattle.vm_memory_base.specs.declared.iotlb.Permissions.TheVariants.{No};
 ghost use Rattle.vm_memory_base.specs.declared.iotlb.Permissions.TheVariants as permissions;
 ghost use Rattle.vm_memory_base.specs.declared.iotlb.Reason.TheVariants.{MissingMapping, AccessNotAllowed};
@@ -24,10 +28,12 @@ ghost use Rattle.vm_memory.specs.declared.machine.command.Command.TheVariants.{N
 ghost use Rattle.vm_memory.specs.declared.machine.command.Command.TheVariants.{Plain, Read, Write, Store, Load};
 ghost use Rattle.vm_memory.specs.declared.machine.command.Command.TheVariants.{Copy, Dirty, Harvest};
 ghost use Rattle.vm_memory.specs.declared.machine.command.Command.TheVariants.{CheckRange, Set, InvalidateAll};
-ghost use Rattle.vm_memory.specs.declared.machine.command.Command.TheVariants.{Lookup};
+ghost use Rattle.vm_memory.specs.declared.machine.command.Command.TheVariants.{Lookup, ReadFrom, ReadExactFrom};
+ghost use Rattle.vm_memory.specs.declared.machine.command.Command.TheVariants.{WriteTo, WriteAllTo};
+ghost use Rattle.vm_memory.specs.declared.machine.command.Ending.TheVariants as ending;
 ghost use Rattle.vm_memory.specs.declared.machine.command.Reply.TheVariants.{LayoutMade, MemoryMade, Count, Bytes, Pages};
 ghost use Rattle.vm_memory.specs.declared.machine.command.Reply.TheVariants.{Fault, NoSuch, Memory, Truth};
-ghost use Rattle.vm_memory.specs.declared.machine.command.Reply.TheVariants.{Done, Value, BadRange, Pieces, Fails};
+ghost use Rattle.vm_memory.specs.declared.machine.command.Reply.TheVariants.{Done, Value, BadRange, Pieces, Fails, Sent};
 ghost use Rattle.vm_memory.specs.declared.machine.command.Width.TheVariants.{One, Two, Four, Eight};
 ghost use Rattle.vm_memory.specs.declared.machine.command.Fault.TheVariants as fault;
 
@@ -219,6 +225,88 @@ pub fn whole_writes_are_answered()
     ensures never_wants { MayWant machine (WriteSlice 0 (at 0) (9 ∷ [])) → ⊥ }
 {}
 
+/// A transfer in leaves what its source gave, up to the first window that is not filled, or of all bytes until the
+/// windows are full. A failed try leaves its scribble, and marks all of its window. A transfer that reaches nothing
+/// asks nothing of its source.
+pub fn transfers_in_are_answered()
+    ensures short { outcome machine (ReadFrom 0 (at 2) 4 (Give (9 ∷ []) ∷ Give (10 ∷ []) ∷ []))
+        ≡ (
+          Count 1,
+          record machine {
+            host = record host {
+              blocks = (1 ∷ 2 ∷ 9 ∷ 4 ∷ []) ∷ (5 ∷ 6 ∷ 7 ∷ 8 ∷ []) ∷ [];
+              bitmaps = block_pages false true ∷ block_pages false false ∷ [];
+            };
+          },
+        ) }
+    ensures whole { outcome machine (ReadExactFrom 0 (at 2) 4 (Give (9 ∷ []) ∷ Give (10 ∷ 11 ∷ 12 ∷ []) ∷ []))
+        ≡ (
+          Done,
+          record machine {
+            host = record host {
+              blocks = (1 ∷ 2 ∷ 9 ∷ 10 ∷ []) ∷ (11 ∷ 12 ∷ 7 ∷ 8 ∷ []) ∷ [];
+              bitmaps = block_pages false true ∷ block_pages true false ∷ [];
+            };
+          },
+        ) }
+    ensures ended { outcome machine (ReadExactFrom 0 (at 2) 4 (Give (9 ∷ []) ∷ []))
+        ≡ (
+          Fault (fault.PartialBuffer 4 1),
+          record machine {
+            host = record host {
+              blocks = (1 ∷ 2 ∷ 9 ∷ 4 ∷ []) ∷ (5 ∷ 6 ∷ 7 ∷ 8 ∷ []) ∷ [];
+              bitmaps = block_pages false true ∷ block_pages false false ∷ [];
+            };
+          },
+        ) }
+    ensures failed { outcome machine (ReadFrom 0 (at 0) 4 (source.Fail (9 ∷ []) ∷ []))
+        ≡ (
+          Fault (fault.IOError Other),
+          record machine {
+            host = record host {
+              blocks = (9 ∷ 2 ∷ 3 ∷ 4 ∷ []) ∷ (5 ∷ 6 ∷ 7 ∷ 8 ∷ []) ∷ [];
+              bitmaps = block_pages true true ∷ block_pages false false ∷ [];
+            };
+          },
+        ) }
+    ensures in_a_hole { outcome machine (ReadFrom 0 (at 8) 1 (Give (9 ∷ []) ∷ [])) ≡ (Fault (no_region_at 8), machine) }
+    ensures translated { outcome machine (ReadFrom 1 (at 16) 1 (Give (9 ∷ []) ∷ []))
+        ≡ (
+          Count 1,
+          record machine {
+            host = record host {
+              blocks = (1 ∷ 2 ∷ 9 ∷ 4 ∷ []) ∷ (5 ∷ 6 ∷ 7 ∷ 8 ∷ []) ∷ [];
+              spaces = space_pages false true ∷ [];
+            };
+          },
+        ) }
+    ensures not_allowed { outcome machine (ReadExactFrom 1 (at 20) 1 (Give (9 ∷ []) ∷ []))
+        ≡ (Fault (not_translated 20 1 AccessNotAllowed), machine) }
+    ensures no_such { outcome machine (ReadFrom 3 (at 0) 1 (Give (9 ∷ []) ∷ [])) ≡ (NoSuch, machine) }
+    ensures never_wants { MayWant machine (ReadExactFrom 0 (at 0) 1 []) → ⊥ }
+    ensures may_want { MayWant machine (ReadFrom 1 (at 16) 1 []) }
+{}
+
+/// A transfer out replies how it ended, and the bytes that its sink took, also where it failed. It changes nothing,
+/// and may want memory for what the sink takes.
+pub fn transfers_out_are_answered()
+    ensures over_two_regions { outcome machine (WriteTo 0 (at 2) 4 (sink.Take 3 ∷ []))
+        ≡ (Sent (ending.Count 4) (3 ∷ 4 ∷ 5 ∷ 6 ∷ []), machine) }
+    ensures failed { outcome machine (WriteTo 0 (at 2) 4 (sink.Take 1 ∷ sink.Fail ∷ []))
+        ≡ (Sent (ending.Fault (fault.IOError Other)) (3 ∷ []), machine) }
+    ensures none_taken { outcome machine (WriteTo 0 (at 0) 1 (sink.Take 0 ∷ []))
+        ≡ (Sent (ending.Fault (fault.IOError WriteZero)) [], machine) }
+    ensures whole { outcome machine (WriteAllTo 0 (at 4) 2 []) ≡ (Sent ending.Done (5 ∷ 6 ∷ []), machine) }
+    ensures up_to_a_hole { outcome machine (WriteAllTo 0 (at 7) 2 [])
+        ≡ (Sent (ending.Fault (fault.PartialBuffer 2 1)) (8 ∷ []), machine) }
+    ensures in_a_hole { outcome machine (WriteTo 0 (at 8) 1 []) ≡ (Sent (ending.Fault (no_region_at 8)) [], machine) }
+    ensures translated { outcome machine (WriteTo 1 (at 19) 2 []) ≡ (Sent (ending.Count 2) (6 ∷ 5 ∷ []), machine) }
+    ensures not_mapped { outcome machine (WriteAllTo 1 (at 2) 1 [])
+        ≡ (Sent (ending.Fault (not_translated 2 1 MissingMapping)) [], machine) }
+    ensures no_such { outcome machine (WriteAllTo 3 (at 0) 1 []) ≡ (NoSuch, machine) }
+    ensures may_want { MayWant machine (WriteTo 0 (at 0) 1 []) }
+{}
+
 /// With an IOMMU that is on an access goes where its addresses are mapped, and a write marks the space.
 /// Where one address has no mapping that grants the access, nothing is reached.
 pub fn accesses_are_translated()
@@ -383,6 +471,8 @@ pub fn direct_commands()
     ensures off { IsDirect machine (Write 2 (at 0) (9 ∷ [])) }
     ensures on { IsDirect machine (Write 1 (at 0) (9 ∷ [])) → ⊥ }
     ensures store { IsDirect machine (Store 1 One (at 16) 9) → ⊥ }
+    ensures transfer_in { IsDirect machine (ReadFrom 1 (at 16) 1 []) → ⊥ }
+    ensures transfer_out { IsDirect machine (WriteTo 1 (at 16) 1 []) }
     ensures read { IsDirect machine (Read 1 (at 16) 1) }
     ensures no_memory { IsDirect machine (Write 3 (at 0) (9 ∷ [])) }
 {}

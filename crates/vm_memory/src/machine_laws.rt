@@ -20,7 +20,8 @@ ghost use Rattle.vm_memory.specs.declared.machine.command.Command.TheVariants as
 ghost use Rattle.vm_memory.specs.declared.machine.command.Command.TheVariants.{Harvest};
 ghost use Rattle.vm_memory.specs.declared.machine.command.Reply.{Reply};
 ghost use Rattle.vm_memory.specs.declared.machine.command.Reply.TheVariants.{Bytes, Value, Truth, NoSuch};
-ghost use Rattle.vm_memory.specs.declared.machine.command.Reply.TheVariants.{BadRange, Memory, Pieces, Fails};
+ghost use Rattle.vm_memory.specs.declared.machine.command.Ending.{Ending};
+ghost use Rattle.vm_memory.specs.declared.machine.command.Reply.TheVariants.{BadRange, Memory, Pieces, Fails, Sent};
 ghost use Rattle.vm_memory.specs.declared.machine.command.Reply.TheVariants as reply;
 ghost use Rattle.vm_memory.specs.declared.machine.command.Fault.{Fault};
 
@@ -28,9 +29,13 @@ use vm_memory_base::laws::pages::{cleaned_is_clean, dirty_pages_are_listed};
 use vm_memory_guest::effect_laws::{
     dirt_stays, named_pages_are_dirty, other_bytes_stay, path_writes_keep_shapes,
 };
+use vm_memory_guest::transfer_laws::{
+    refused_transfers_in_change_nothing, transfers_in_mark_what_they_change,
+};
 
-/// A command that is refused, or finds no memory, changes nothing, and neither does a read, a load, a check or
-/// a look-up. A write of all bytes that replies how many fitted is not refused: these were written.
+/// A command that is refused, or finds no memory, changes nothing, and neither does a read, a load, a transfer to a
+/// sink, a check or a look-up. A write of all bytes that replies how many fitted is not refused, and neither is a
+/// transfer whose source failed: these were written.
 pub fn refusals_change_nothing()
     ensures fault { (old new : State) (c : Command) (f : Fault) → is_partial f ≡ false
         → Step old c (reply.Fault f) new → new ≡ old }
@@ -44,8 +49,12 @@ pub fn refusals_change_nothing()
         → new ≡ old }
     ensures fails { (old new : State) (c : Command) (fails : IotlbFails) → Step old c (Fails fails) new
         → new ≡ old }
+    ensures sent { (old new : State) (c : Command) (ending : Ending) (taken : List ℕ)
+        → Step old c (Sent ending taken) new → new ≡ old }
     ensures bad_range { (old new : State) (c : Command) → Step old c BadRange new → new ≡ old }
-{}
+{
+    refused_transfers_in_change_nothing();
+}
 
 /// An image that mirrors a block which its bitmap covers is kept by every run: at each state of it, patched
 /// by the harvests before, it mirrors the block. A copy of the block is such an image.
@@ -68,6 +77,7 @@ pub fn runs_keep_images()
     named_pages_are_dirty();
     dirt_stays();
     path_writes_keep_shapes();
+    transfers_in_mark_what_they_change();
 }
 
 /// An image that mirrors a block is the block after the next `sync`, if no harvest took the pages of the

@@ -2,12 +2,16 @@
 //!
 //! A line is a word and its arguments, with one space between any two, and ends with a line feed, which
 //! the last line may lack. An empty line and a line that begins with `#` do nothing. `block SIZE PAGE`,
-//! `space SIZE PAGE`, `table` and `region B A` come first and fill the pools; the first command makes the
-//! machine. The commands are `layout R ..` of none or more regions, `insert L R`, `remove L A N`, `plain L`,
-//! `read M A N`, `write M A BYTES`, `store M W A VALUE` and `load M W A`, where `W` is 1, 2, 4 or 8 bytes,
-//! `check M A N PERM`, `copy B A N B2 A2 N2` of windows of two blocks, `dirty` and `harvest`, each of
-//! `block B` or `space S`, and on a table `T` `set T A TARGET N PERM`, `invalidate T A N`, `clear T` and
-//! `lookup T A N PERM`, where `PERM` is `no`, `r`, `w` or `rw`.
+//! `space SIZE PAGE`, `table`, `region B A` and `translator T` come first and fill the host and the pools; the first
+//! command makes the machine. On layouts the commands are `layout R ..` of none or more regions, `insert L R` and
+//! `remove L A N`; on memories `plain L`, `memory L X S SWITCH` with a translator `X` and a space `S`, `replace M L`
+//! and `enable M SWITCH`, where `SWITCH` is `on` or `off`; by address `read M A N`, `write M A BYTES`, and of all bytes
+//! `readx` and `writex`, `store M W A VALUE` and `load M W A`, where `W` is 1, 2, 4 or 8 bytes, `from M A N SOURCE`
+//! and `to M A N SINK`, and of all bytes `fromx` and `tox`, and `check M A N PERM`; of windows of two blocks
+//! `copy B A N B2 A2 N2`; of bitmaps `dirty` and `harvest`, each of `block B` or `space S`; and on a table `T`
+//! `set T A TARGET N PERM`, `invalidate T A N`, `clear T` and `lookup T A N PERM`, where `PERM` is `no`, `r`, `w` or
+//! `rw`. A `SOURCE` is `g:BYTES`, `i:BYTES` and `f:BYTES` with commas between, a `SINK` `t:NUMBER`, `i` and `f`, and
+//! either is `-` for no step.
 
 ghost use Rattle.std.specs.Prelude.{◌≡◌};
 ghost use Rattle.vm_memory.specs.Script.{status_of};

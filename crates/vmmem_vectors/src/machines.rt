@@ -10,10 +10,12 @@ use crate::support::{Place, expect_text, regions_of};
 use std::alloc::{AllocError, Global};
 use std::sync::Arc;
 use std::test::Fail;
-use vm_memory::machine::command::{Command, Fault, Reply};
-use vm_memory::machine::list::{ByteList, NumberList};
+use vm_memory::machine::command::{Command, Ending, Fault, Reply};
+use vm_memory::machine::list::{ByteList, NumberList, SinkList, SourceList};
 use vm_memory::machine::{Machine, run};
-use vm_memory::{GuestAddress, HostMemory, IommuError, IovaRange, Reason, TableIommu};
+use vm_memory::{
+    GuestAddress, HostMemory, IommuError, IovaRange, Reason, SinkStep, SourceStep, TableIommu,
+};
 use vm_memory_guest::host_laws::regions_are_held_one_by_one;
 
 type TestMachine = Machine<TestRegion, TableIommu, ()>;
@@ -379,6 +381,79 @@ fn a_mebibyte_is_written_and_read_whole(rt: HostRuntime) -> Result<(), Fail> {
     }
     wanted.push('\n')?;
     expect_replies(rt.alloc(), &TWICE, commands.as_slice(), 5, wanted.as_str())
+}
+
+fn given_in_two(alloc: Global, bytes: &[u8]) -> Result<SourceList, AllocError> {
+    let half = bytes.len() / 2;
+    let mut steps = Vec::new(alloc);
+    for part in [&bytes[..half], &bytes[half..]] {
+        let part = Vec::from_slice(alloc, part)?;
+        steps.push(SourceStep::Give(ByteList::from_vec(part)))?;
+        let scribble = Vec::from_slice(alloc, &[0xee; 3])?;
+        steps.push(SourceStep::Interrupted(ByteList::from_vec(scribble)))?;
+    }
+    Ok(SourceList::from_vec(steps))
+}
+
+fn transfers_of(alloc: Global, bytes: &[u8]) -> Result<Vec<Command>, AllocError> {
+    let (memory, addr, count) = (0, GuestAddress(0x1000), bytes.len());
+    let mut commands = Vec::new(alloc);
+    commands.push(layout_of(alloc, &[0])?)?;
+    commands.push(Command::Plain(0))?;
+    let source = given_in_two(alloc, bytes)?;
+    commands.push(Command::ReadExactFrom {
+        memory,
+        addr,
+        count,
+        source,
+    })?;
+    let steps = vec![in alloc; SinkStep::Take(0x7_ffff), SinkStep::Interrupted]?;
+    let sink = SinkList::from_vec(steps);
+    commands.push(Command::WriteTo {
+        memory,
+        addr,
+        count,
+        sink,
+    })?;
+    let sink = SinkList::from_vec(Vec::new(alloc));
+    commands.push(Command::WriteAllTo {
+        memory,
+        addr,
+        count,
+        sink,
+    })?;
+    let source = given_in_two(alloc, bytes)?;
+    commands.push(Command::ReadFrom {
+        memory,
+        addr,
+        count,
+        source,
+    })?;
+    Ok(commands)
+}
+
+fn has_sent(reply: Option<&Reply>, wanted: Ending, bytes: &[u8]) -> bool {
+    match reply {
+        Some(Reply::Sent { ending, taken }) => *ending == wanted && taken.as_slice() == bytes,
+        _ => false,
+    }
+}
+
+#[test]
+fn a_mebibyte_comes_and_goes(rt: HostRuntime) -> Result<(), Fail> {
+    let bytes = pattern(rt.alloc(), 0x10_0000)?;
+    let commands = transfers_of(rt.alloc(), bytes.as_slice())?;
+    let mut machine = machine_of(rt.alloc(), &TWICE)?;
+    let mut replies = Vec::new(rt.alloc());
+    run_on(&mut machine, commands.as_slice(), &mut replies)?;
+    let all_came = matches!(replies.get(2), Some(Reply::Done));
+    let half_came = matches!(replies.get(5), Some(Reply::Count(0x8_0000)));
+    let counted = has_sent(replies.get(3), Ending::Count(0x10_0000), bytes.as_slice());
+    let whole = has_sent(replies.get(4), Ending::Done, bytes.as_slice());
+    if all_came && half_came && counted && whole {
+        return Ok(());
+    }
+    Err(Fail::new("the bytes are another"))
 }
 
 static FAULTS: [Fault; 11] = [

@@ -8,7 +8,7 @@ use std::test::Fail;
 use vm_memory::{DriveFault, drive};
 
 // Scripts, and what they tell: their replies, and then the status and the text of a fault.
-const SCRIPTS: [(&[u8], &str); 31] = [
+const SCRIPTS: [(&[u8], &str); 35] = [
     (b"", ""),
     (b"\n\n# nothing\n#\xff\x00\r  \n", ""),
     (
@@ -236,6 +236,60 @@ const SCRIPTS: [(&[u8], &str); 31] = [
          error G8 I1 0x11+0x2 missing\nok\nerror G8 I1 0x13+0x1 missing\nerror G8 I1 0x1f+0x1 missing\n\
          false\ntrue\npages 4\npages -\nok\nbytes 01020304\n",
     ),
+    // What a source gives comes to a region after the other, up to the first that is not filled, and of all bytes
+    // until each region is full. A sink is offered what is left until it has taken a region whole.
+    (
+        b"block 4 1\nblock 4 1\nregion 0 0\nregion 1 4\nlayout 0 1\nplain 0\nfrom 0 0 8 g:0102,g:03040506\n\
+          read 0 0 8\nfromx 0 0 8 g:0102,g:0304,g:0506\nfrom 0 0 8 g:01020304,f:09\ndirty block 1\n\
+          to 0 0 8 t:3\ntox 0 2 8 -\nto 0 0 8 t:3,t:0\nto 0 8 1 -\nfrom 0 8 0 g:01\n",
+        "block 0\nblock 1\nregion 0\nregion 1\nlayout 0\nmemory 0\ncount 2\nbytes 0102000000000000\n\
+         error G3 8 6\nerror G2 Other\npages 0 1 2 3\nsent count 8 taken 0102030409060000\n\
+         sent error G3 8 6 taken 030409060000\nsent error G2 WriteZero taken 010203\n\
+         sent error G1 0x8 taken -\ncount 0\n",
+    ),
+    // A try that is interrupted or fails leaves its scribble, and marks all that it was lent. A source that gives
+    // none ends a transfer of all bytes. Nothing is asked of a source or a sink where no byte is there.
+    (
+        b"block 4 1\nblock 4 1\nregion 0 0\nregion 1 4\nlayout 0 1\nplain 0\n\
+          fromx 0 0 4 i:0a,g:01,i:0b,g:0203,g:04\nfrom 0 4 4 i:0a0b,g:01,f:0c\nread 0 0 8\n\
+          fromx 0 4 8 g:0102030405\nfromx 0 2 4 g:-,g:0506\nfrom 0 2 4 g:-,g:0506\nfromx 0 0 8 f:0d0e\n\
+          read 0 0 8\nfrom 0 0 8 -\nfromx 0 8 1 g:01\nfromx 0 8 0 g:01\n\
+          from 0 0 0xffffffffffffffff g:01020304,g:05\nharvest block 0\nharvest block 1\n\
+          from 0 1 2 g:07\nfromx 0 5 2 g:08\ndirty block 0\ndirty block 1\nread 0 0 8\n\
+          from 1 0 1 g:01\nfromx 1 0 1 g:01\n",
+        "block 0\nblock 1\nregion 0\nregion 1\nlayout 0\nmemory 0\nok\ncount 1\nbytes 01020304010b0000\n\
+         error G3 8 4\nerror G3 4 0\ncount 0\nerror G2 Other\nbytes 0d0e030401020304\ncount 0\n\
+         error G1 0x8\nok\ncount 5\npages 0 1 2 3\npages 0 1 2 3\ncount 1\nerror G3 2 1\npages 1\n\
+         pages 1\nbytes 0107030405080304\nerror NoSuch\nerror NoSuch\n",
+    ),
+    // A sink has taken the first bytes of what was offered, however the transfer ended. It has room for as many
+    // as are asked for, and without that nothing is sent.
+    (
+        b"block 4 1\nblock 4 1\nregion 0 0\nregion 1 4\nlayout 0 1\nplain 0\nwrite 0 0 0102030405020304\n\
+          harvest block 0\nto 0 0 8 i,t:1,i,i,t:2,t:9,t:0x2,t:2\nto 0 3 9 t:1,f\ntox 0 0 4 -\ntox 0 4 8 -\n\
+          tox 0 9 0 f\nto 0 9 0 f\ntox 0 9 1 -\nto 0 7 2 t:0\nto 0 0 0xffffffffffffffff -\n\
+          tox 0 0 0xffffffffffffffff -\nto 1 0 1 -\ntox 1 0 1 -\ndirty block 0\n",
+        "block 0\nblock 1\nregion 0\nregion 1\nlayout 0\nmemory 0\ncount 8\npages 0 1 2 3\n\
+         sent count 8 taken 0102030405020304\nsent error G2 Other taken 04\nsent ok taken 01020304\n\
+         sent error G3 8 4 taken 05020304\nsent ok taken -\nsent count 0 taken -\n\
+         sent error G1 0x9 taken -\nsent error G2 WriteZero taken -\nerror Memory\nerror Memory\n\
+         error NoSuch\nerror NoSuch\npages -\n",
+    ),
+    // A transfer in asks for leave to write, one out for leave to read. A refused one asks no source and no sink.
+    (
+        b"block 0x10 4\nregion 0 0\nspace 0x40 4\ntable\ntranslator 0\nlayout 0\nmemory 0 0 0 on\n\
+          set 0 0x20 8 4 rw\nset 0 0x24 0 4 r\nset 0 0x28 4 4 w\nfrom 0 0x20 8 g:0102030405060708\n\
+          from 0 0x20 4 g:01020304,g:05\nfromx 0 0x28 4 g:0506,g:0708\nfrom 0 0x2a 4 g:09\n\
+          to 0 0x20 8 t:3\nto 0 0x26 4 -\ntox 0 0x28 1 -\ntox 0 0x1f 2 -\nfromx 0 0x20 4 g:0a,f:0b0c\n\
+          dirty space 0\ndirty block 0\nenable 0 off\nread 0 4 8\nfrom 0 0xc 8 g:1112131415\n\
+          harvest block 0\nharvest space 0\n",
+        "block 0\nregion 0\nspace 0\ntable 0\ntranslator 0\nlayout 0\nmemory 0\nok\nok\nok\n\
+         error G8 I1 0x20+0x8 access\ncount 4\nok\nerror G8 I1 0x2a+0x4 missing\n\
+         sent count 8 taken 0102030400000000\nsent error G8 I1 0x26+0x4 access taken -\n\
+         sent error G8 I1 0x28+0x1 access taken -\nsent error G8 I1 0x1f+0x2 missing taken -\n\
+         error G2 Other\npages 8 10\npages -\nok\nbytes 050607080a0b0c04\ncount 4\npages 3\n\
+         pages 8 10\n",
+    ),
     (
         b"block 1 1\ntable\nplain 0\ntranslator 0\n",
         "block 0\ntable 0\nerror NoSuch\n1 line 4: bad line",
@@ -273,7 +327,7 @@ fn each_line_has_its_reply(rt: HostRuntime) -> Result<(), Fail> {
 }
 
 // Lines that are bad before the first command and after it.
-const BAD_LINES: [&[u8]; 116] = [
+const BAD_LINES: [&[u8]; 152] = [
     // tables and accesses
     b"table 0",
     b"set 0 0 0 1",
@@ -395,6 +449,43 @@ const BAD_LINES: [&[u8]; 116] = [
     b"write 0 0 --",
     b"write 0 0 0-",
     b"write 0 0 ",
+    // sources and sinks
+    b"from 0 0 4",
+    b"from 0 0 4 ",
+    b"from 0 0 4 g",
+    b"from 0 0 4 g:",
+    b"from 0 0 4 g:0",
+    b"from 0 0 4 g:01,",
+    b"from 0 0 4 ,g:01",
+    b"from 0 0 4 g:01,,g:02",
+    b"from 0 0 4 G:01",
+    b"from 0 0 4 t:1",
+    b"from 0 0 4 i",
+    b"from 0 0 4 f:0g",
+    b"from 0 0 4 -,g:01",
+    b"from 0 0 4 g:01:02",
+    b"from 0 0 4 g:01 g:02",
+    b"from 0 0 - g:01",
+    b"fromx 0 0 4",
+    b"fromx 0 0 4 x:01",
+    b"fromx 0 0 4 g:01 -",
+    b"to 0 0 4",
+    b"to 0 0 4 t",
+    b"to 0 0 4 t:",
+    b"to 0 0 4 t:-",
+    b"to 0 0 4 t:0x",
+    b"to 0 0 4 t:1,",
+    b"to 0 0 4 T:1",
+    b"to 0 0 4 t:18446744073709551616",
+    b"to 0 0 4 i:",
+    b"to 0 0 4 i:01",
+    b"to 0 0 4 f:-",
+    b"to 0 0 4 g:01",
+    b"to 0 0 4 -,i",
+    b"to 0 0 4 - -",
+    b"tox 0 0 4",
+    b"tox 0 0 - -",
+    b"tox 0 0 4 x",
     // permissions
     b"check 0 0 1",
     b"check 0 0 1 x",
@@ -446,6 +537,37 @@ fn a_mebibyte_goes_through_a_script(rt: HostRuntime) -> Result<(), Fail> {
     )?;
     let text = told(rt.alloc(), script.as_bytes())?;
     expect_text(0, text.as_str(), wanted.as_str())
+}
+
+// How often a source and a sink are interrupted in a row before four bytes go, and what is told.
+const INTERRUPTIONS: [(usize, &str); 2] = [
+    (64, "count 4\nok\nsent count 4 taken 01020304\nsent ok taken 01020304\n"),
+    (
+        65,
+        "error G2 Interrupted\nerror G2 Interrupted\nsent error G2 Interrupted taken -\n\
+         sent error G2 Interrupted taken -\n",
+    ),
+];
+
+#[test]
+fn sixty_four_interruptions_are_tried_again(rt: HostRuntime) -> Result<(), Fail> {
+    for (count, wanted) in INTERRUPTIONS {
+        let mut source = String::new(rt.alloc());
+        let mut sink = String::new(rt.alloc());
+        for _ in 0..count {
+            source.push_str("i:-,")?;
+            sink.push_str("i,")?;
+        }
+        let script = format!(in rt.alloc();
+            "block 8 1\nregion 0 0\nlayout 0\nplain 0\nfrom 0 0 4 {source}g:01020304\n\
+             fromx 0 0 4 {source}g:01,{source}g:020304\nto 0 0 4 {sink}t:4\ntox 0 0 4 {sink}t:1,{sink}t:3\n"
+        )?;
+        let before = "block 0\nregion 0\nlayout 0\nmemory 0\n";
+        let wanted = format!(in rt.alloc(); "{before}{wanted}")?;
+        let text = told(rt.alloc(), script.as_bytes())?;
+        expect_text(count, text.as_str(), wanted.as_str())?;
+    }
+    Ok(())
 }
 
 // Gives its text a byte at a time, and fails once, after `cut` bytes.

@@ -2,7 +2,7 @@
 ghost use Rattle.std.specs.Prelude.{◌≡◌};
 ghost use Rattle.vm_memory.specs.Typed.{fits_width, integer_of};
 
-use super::list::{ByteList, NumberList, PieceList};
+use super::list::{ByteList, NumberList, PieceList, SinkList, SourceList};
 use std::io::ErrorKind;
 use vm_memory_base::{BitmapId, GuestAddress, GuestUsize, IommuError, IotlbFails, Permissions};
 
@@ -77,6 +77,36 @@ pub enum Command {
         memory: usize,
         width: Width,
         addr: GuestAddress,
+    },
+    /// Receives at most `count` bytes of a memory from a source, up to the first window that it does not fill
+    /// at one try.
+    ReadFrom {
+        memory: usize,
+        addr: GuestAddress,
+        count: usize,
+        source: SourceList,
+    },
+    /// Receives `count` bytes of a memory from a source. Where it ends before, those that came are there.
+    ReadExactFrom {
+        memory: usize,
+        addr: GuestAddress,
+        count: usize,
+        source: SourceList,
+    },
+    /// Sends at most `count` bytes of a memory to a sink.
+    WriteTo {
+        memory: usize,
+        addr: GuestAddress,
+        count: usize,
+        sink: SinkList,
+    },
+    /// Sends `count` bytes of a memory to a sink. Where not all are there, those before the first that is not
+    /// are sent.
+    WriteAllTo {
+        memory: usize,
+        addr: GuestAddress,
+        count: usize,
+        sink: SinkList,
     },
     /// Asks whether each of `count` bytes of a memory may be accessed so, and has a byte of the host.
     CheckRange {
@@ -178,6 +208,17 @@ pub enum Fault {
     UnsortedMemoryRegions,
 }
 
+/// How a transfer to a sink ended.
+#[derive(Clone, Copy, Debug, PartialEq, Eq)]
+pub enum Ending {
+    /// How many bytes the sink took.
+    Count(usize),
+    /// It took all.
+    Done,
+    /// The call was refused, or the sink failed.
+    Fault(Fault),
+}
+
 /// What a machine answers to a command. `NoSuch`, `BadRange` and `Memory` changed nothing.
 #[derive(Debug, Drop)]
 pub enum Reply {
@@ -195,6 +236,8 @@ pub enum Reply {
     Truth(bool),
     /// The bytes that were read.
     Bytes(ByteList),
+    /// How a transfer to a sink ended, and all bytes that the sink took.
+    Sent { ending: Ending, taken: ByteList },
     /// The numbers of the dirty pages, ascending.
     Pages(NumberList),
     /// Where the addresses of a look-up lead, in order.

@@ -4,7 +4,7 @@ ghost use Rattle.vm_memory.specs.Pieces.{range_of_piece};
 
 use std::marker::Model;
 pub use vm_memory_base::ByteList;
-use vm_memory_base::MappedRange;
+use vm_memory_base::{MappedRange, SinkStep, SourceStep};
 
 /// Numbers of a pool or of a list of a machine.
 #[derive(Debug, Drop)]
@@ -81,5 +81,67 @@ impl PieceList {
     {
         let PieceList { pieces } = self;
         pieces
+    }
+}
+
+/// What a source does at its tries.
+#[derive(Debug, Drop)]
+pub struct SourceList {
+    steps: Vec<SourceStep>,
+}
+
+impl Model for SourceList {
+    ghost use Rattle.std.specs.Prelude.{List};
+    ghost use Rattle.vm_memory_base.specs.declared.io.script.SourceStep.{SourceStep};
+
+    ghost Value = { List SourceStep };
+
+    ghost view = { λ l. l.steps.items };
+}
+
+impl SourceList {
+    /// The steps of a vector. It takes no memory.
+    pub fn from_vec(steps: Vec<SourceStep>) -> SourceList
+        ensures { result ≡ steps.items }
+    {
+        SourceList { steps }
+    }
+
+    /// The steps.
+    pub fn as_slice(&self) -> &[SourceStep]
+        ensures { result.now ≡ self.now }
+    {
+        self.steps.as_slice()
+    }
+}
+
+/// What a sink does at its tries.
+#[derive(Debug, Drop)]
+pub struct SinkList {
+    steps: Vec<SinkStep>,
+}
+
+impl Model for SinkList {
+    ghost use Rattle.std.specs.Prelude.{List};
+    ghost use Rattle.vm_memory_base.specs.declared.io.script.SinkStep.{SinkStep};
+
+    ghost Value = { List SinkStep };
+
+    ghost view = { λ l. l.steps.items };
+}
+
+impl SinkList {
+    /// The steps of a vector. It takes no memory.
+    pub fn from_vec(steps: Vec<SinkStep>) -> SinkList
+        ensures { result ≡ steps.items }
+    {
+        SinkList { steps }
+    }
+
+    /// The steps.
+    pub fn as_slice(&self) -> &[SinkStep]
+        ensures { result.now ≡ self.now }
+    {
+        self.steps.as_slice()
     }
 }

@@ -68,6 +68,30 @@ pub(super) fn parse(
             width: words.width()?,
             addr: words.address()?,
         },
+        "from" => Command::ReadFrom {
+            memory: words.index()?,
+            addr: words.address()?,
+            count: words.index()?,
+            source: words.source(alloc)?,
+        },
+        "fromx" => Command::ReadExactFrom {
+            memory: words.index()?,
+            addr: words.address()?,
+            count: words.index()?,
+            source: words.source(alloc)?,
+        },
+        "to" => Command::WriteTo {
+            memory: words.index()?,
+            addr: words.address()?,
+            count: words.index()?,
+            sink: words.sink(alloc)?,
+        },
+        "tox" => Command::WriteAllTo {
+            memory: words.index()?,
+            addr: words.address()?,
+            count: words.index()?,
+            sink: words.sink(alloc)?,
+        },
         "check" => Command::CheckRange {
             memory: words.index()?,
             addr: words.address()?,

@@ -1,6 +1,6 @@
 //! Reply lines.
 
-use crate::machine::command::{Fault, Reply};
+use crate::machine::command::{Ending, Fault, Reply};
 use std::fmt;
 use vm_memory_base::{IommuError, IovaRange, MappedRange, Reason};
 
@@ -53,6 +53,9 @@ impl fmt::Display for Reply {
             Reply::Value(value) => write!(f, "value {value}"),
             Reply::Truth(truth) => write!(f, "{truth}"),
             Reply::Bytes(bytes) => write!(f, "bytes {}", Hex(bytes.as_slice())),
+            Reply::Sent { ending, taken } => {
+                write!(f, "sent {ending} taken {}", Hex(taken.as_slice()))
+            }
             Reply::Pages(pages) => write!(f, "pages {}", Numbers(pages.as_slice())),
             Reply::Pieces(pieces) => write!(f, "pieces {}", Pieces(pieces.as_slice())),
             Reply::Fails(fails) => write!(
@@ -65,6 +68,16 @@ impl fmt::Display for Reply {
             Reply::NoSuch => write!(f, "error NoSuch"),
             Reply::BadRange => write!(f, "error BadRange"),
             Reply::Memory => write!(f, "error Memory"),
+        }
+    }
+}
+
+impl fmt::Display for Ending {
+    fn fmt<W: fmt::Write>(&self, f: &mut fmt::Formatter<W>) -> fmt::Result {
+        match self {
+            Ending::Count(count) => write!(f, "count {count}"),
+            Ending::Done => write!(f, "ok"),
+            Ending::Fault(fault) => write!(f, "error {fault}"),
         }
     }
 }

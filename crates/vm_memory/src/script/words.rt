@@ -3,10 +3,10 @@ ghost use Rattle.std.specs.Prelude.{◌≡◌};
 ghost use Rattle.vm_memory.specs.declared.script.words.LineError.TheVariants as error;
 
 use crate::machine::command::{BlockRange, Width};
-use crate::machine::list::ByteList;
+use crate::machine::list::{ByteList, SinkList, SourceList};
 use std::alloc::{AllocError, AllocFailed, Global};
 use std::num::NonZeroUsize;
-use vm_memory_base::{BitmapId, GuestAddress, Permissions};
+use vm_memory_base::{BitmapId, GuestAddress, Permissions, SinkStep, SourceStep};
 
 /// Why there is no line.
 #[derive(Clone, Copy)]
@@ -136,6 +136,32 @@ impl<'a> Words<'a> {
         bytes(alloc, self.word()?)
     }
 
+    /// The next word as what a source does: steps with one comma between any two, or a dash for none. `g:` gives
+    /// bytes, `i:` is interrupted and `f:` fails, each after a scribble of bytes.
+    pub(super) fn source(&mut self, alloc: Global) -> Result<SourceList, LineError> {
+        let word = self.word()?;
+        let mut steps = Vec::new(alloc);
+        if word != "-" {
+            for step in word.split(',') {
+                steps.push(source_step(alloc, step)?)?;
+            }
+        }
+        Ok(SourceList::from_vec(steps))
+    }
+
+    /// The next word as what a sink does: steps with one comma between any two, or a dash for none. `t:` takes at
+    /// most a number of bytes, `i` is interrupted and `f` fails.
+    pub(super) fn sink(&mut self, alloc: Global) -> Result<SinkList, LineError> {
+        let word = self.word()?;
+        let mut steps = Vec::new(alloc);
+        if word != "-" {
+            for step in word.split(',') {
+                steps.push(sink_step(step)?)?;
+            }
+        }
+        Ok(SinkList::from_vec(steps))
+    }
+
     /// Whether no word is left.
     pub(super) fn is_empty(&self) -> bool {
         self.rest.is_none()
@@ -147,6 +173,27 @@ impl<'a> Words<'a> {
             return Err(LineError::Bad);
         }
         Ok(())
+    }
+}
+
+fn source_step(alloc: Global, word: &str) -> Result<SourceStep, LineError> {
+    match word.split_once(':') {
+        Some(("g", word)) => Ok(SourceStep::Give(bytes(alloc, word)?)),
+        Some(("i", word)) => Ok(SourceStep::Interrupted(bytes(alloc, word)?)),
+        Some(("f", word)) => Ok(SourceStep::Fail(bytes(alloc, word)?)),
+        _ => Err(LineError::Bad),
+    }
+}
+
+fn sink_step(word: &str) -> Result<SinkStep, LineError> {
+    match word.split_once(':') {
+        Some(("t", word)) => {
+            let most = number(word).ok_or(LineError::Bad)?;
+            Ok(SinkStep::Take(most as usize))
+        }
+        None if word == "i" => Ok(SinkStep::Interrupted),
+        None if word == "f" => Ok(SinkStep::Fail),
+        _ => Err(LineError::Bad),
     }
 }
 

@@ -13,6 +13,7 @@ returns c =
       blocks_are = c.dirt_stays.ensures.bytes;
       dirty_stay = c.dirt_stays.ensures.pages;
       shapes_stay = c.path_writes_keep_shapes.ensures.bitmaps;
+      lent_mark = c.transfers_in_mark_what_they_change.ensures;
     } in
     record {
       copy = copy_mirrors are_listed;

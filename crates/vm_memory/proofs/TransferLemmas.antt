@@ -1,0 +1,98 @@
+-- Transfers of a machine: what they reply, and where they leave the host.
+use Rattle.std.proofs.Common.{◌≡◌, ◌⊎◌, ℕ, ◌+◌, Bool, true, false, ◌==◌, cond, List, [], ◌∷◌, ◌++◌, map, length, take, Option, Some, Result, Ok, Err, All, refl, ap, subst, ◌∙◌, sym, zero-add}
+use Rattle.std.proofs.lemmas.Bool.{true≢false}
+use Rattle.std.proofs.lemmas.List.Elements.{All-nil, All-cons}
+use Rattle.vm_memory_base.specs.Pages.{PageSet}
+use Rattle.vm_memory_base.specs.Script.{next_of}
+use Rattle.vm_memory_base.specs.Transfer.{Next}
+use Rattle.vm_memory_base.specs.declared.io.VolatileMemoryError.{VolatileMemoryError}
+use Rattle.vm_memory_base.specs.declared.io.VolatileMemoryError.TheVariants.{OutOfBounds, Overflow, TooBig, Misaligned, IOError, PartialBuffer}
+use Rattle.vm_memory_base.specs.declared.io.VolatileMemoryError.TheVariants as window_errors
+use Rattle.vm_memory_base.specs.declared.io.script.SourceStep.{SourceStep}
+use Rattle.vm_memory_base.specs.declared.io.script.SourceStep.TheVariants.{Give, Interrupted, Fail}
+use Rattle.vm_memory_base.specs.declared.iotlb.Permissions.{Permissions}
+use Rattle.vm_memory_base.specs.declared.iotlb.Permissions.TheVariants as permissions
+use Rattle.vm_memory_guest.specs.Access.{Access, Reached, access_of, allowed, first_fault, meets, path, refusal, stretches, windows}
+use Rattle.vm_memory_guest.specs.Dealt.{received}
+use Rattle.vm_memory_guest.specs.Dirt.{bytes_read, path_cells}
+use Rattle.vm_memory_guest.specs.Error.{of_window}
+use Rattle.vm_memory_guest.specs.Host.{Cell, Host, bytes_at}
+use Rattle.vm_memory_guest.specs.Lent.{fails_as}
+use Rattle.vm_memory_guest.specs.Memory.{Memory, Route, route}
+use Rattle.vm_memory_guest.specs.Region.{Region, IsRegion}
+use Rattle.vm_memory_guest.specs.Window.{cells}
+use Rattle.vm_memory_guest.specs.declared.region.GuestMemoryError.{GuestMemoryError}
+use Rattle.vm_memory_guest.specs.declared.region.GuestMemoryError.TheVariants as errors
+use Rattle.vm_memory.specs.Reply.{reached_by}
+
+-- whether a source or a sink failed
+abbrev pub is_io : VolatileMemoryError → Bool
+is_io (IOError kind) = true
+is_io e = false
+
+-- a script fails in no other way
+pub scripts_fail_so : (source : List SourceStep) → All (λ (n : Next). fails_as is_io n ≡ true) (map next_of source)
+scripts_fail_so [] = All-nil (λ (n : Next). fails_as is_io n ≡ true)
+scripts_fail_so (Give bytes ∷ ss) =
+    All-cons (λ (n : Next). fails_as is_io n ≡ true) (next_of (Give bytes)) (map next_of ss) refl (scripts_fail_so ss)
+scripts_fail_so (Interrupted bytes ∷ ss) =
+    All-cons (λ (n : Next). fails_as is_io n ≡ true) (next_of (Interrupted bytes)) (map next_of ss) refl (scripts_fail_so ss)
+scripts_fail_so (Fail bytes ∷ ss) =
+    All-cons (λ (n : Next). fails_as is_io n ≡ true) (next_of (Fail bytes)) (map next_of ss) refl (scripts_fail_so ss)
+
+-- what is taken from the laws of transfers
+abbrev pub RefusedLaw : Type 0
+RefusedLaw = (test : VolatileMemoryError → Bool) (fault : Option GuestMemoryError) (until_full : Bool) (xs : List Reached)
+    (next : List Next) (host : Host PageSet) (e : GuestMemoryError)
+    → All (λ (n : Next). fails_as test n ≡ true) next
+    → (received of_window fault until_full (windows xs) 0 next host).answer ≡ Err e
+    → ((v : VolatileMemoryError) × (test v ≡ true) × (e ≡ of_window v))
+    ⊎ ((fault ≡ Some e) × ((received of_window fault until_full (windows xs) 0 next host).host ≡ host))
+
+-- a failure of a source or a sink keeps its kind
+pub io_of_window : (v : VolatileMemoryError) (e : GuestMemoryError) (P : GuestMemoryError → Type 0) → is_io v ≡ true
+    → e ≡ of_window v → P e → ((kind : _) → P (errors.IOError kind) → ⊥) → ⊥
+io_of_window (IOError kind) e P t same p none = none kind (subst P same p)
+io_of_window (OutOfBounds addr) e P t same p none = absurd (true≢false (sym t))
+io_of_window (Overflow base offset) e P t same p none = absurd (true≢false (sym t))
+io_of_window (TooBig nelements size) e P t same p none = absurd (true≢false (sym t))
+io_of_window (Misaligned addr alignment) e P t same p none = absurd (true≢false (sym t))
+io_of_window (PartialBuffer expected completed) e P t same p none = absurd (true≢false (sym t))
+io_of_window window_errors.Memory e P t same p none = absurd (true≢false (sym t))
+
+-- what is taken from the laws of paths
+abbrev CellsLaw : Type 0
+CellsLaw = (regions : List Region) (way : Route) (a n : ℕ) → All IsRegion regions
+    → cells (windows (path (meets regions way a) 0 n)) ≡ path_cells (path (meets regions way a) 0 n)
+
+access_cells : CellsLaw → (regions : List Region) (way : Route) (a n : ℕ) (access : Permissions) → All IsRegion regions
+    → cells (windows (access_of regions way a n access).path) ≡ path_cells (access_of regions way a n access).path
+unfolding stretches
+access_cells law regions way a n access each = go (allowed way a n access)
+  where
+    found : Access
+    found = record {
+      path = path (meets regions way a) 0 n;
+      fault = first_fault (meets regions way a) 0 n;
+    }
+
+    none : Access
+    none = record { path = []; fault = Some (refusal way a n) }
+
+    go : (b : Bool) → cells (windows (cond b found none).path) ≡ path_cells (cond b found none).path
+    go true = law regions way a n each
+    go false = refl
+
+-- a sink that took the first bytes of the windows of an access took those of its path
+pub taken_is : CellsLaw → (m : Memory) (host : Host PageSet) (a n : ℕ) → All IsRegion m.regions
+    → (given count : ℕ) (taken : List ℕ) → given ≡ 0 + count
+    → let xs = (reached_by m host.tables a n permissions.Read).path in
+    Some taken ≡ Some ([] ++ take count (bytes_at host.blocks (cells (windows xs))))
+    → taken ≡ take given (bytes_read xs host)
+taken_is law m host a n each given count taken counts so =
+    let xs = (reached_by m host.tables a n permissions.Read).path in
+    let is : taken ≡ take count (bytes_at host.blocks (cells (windows xs))) = cc in
+    is
+    ∙ ap (λ (cs : List Cell). take count (bytes_at host.blocks cs))
+    (access_cells law m.regions (route m host.tables) a n permissions.Read each)
+    ∙ ap (λ (k : ℕ). take k (bytes_read xs host)) (sym (counts ∙ zero-add count))

@@ -1,0 +1,69 @@
+-- What a machine replies to transfers from sources and to sinks that follow a script, and what these leave.
+use Rattle.std.specs.Prelude.{ℕ, Bool, true, false, List, map, take, Some, option_map}
+use Rattle.vm_memory_base.specs.Pages.{PageSet}
+use Rattle.vm_memory_base.specs.Script.{next_of, taking_of}
+use Rattle.vm_memory_base.specs.declared.io.script.SinkStep.{SinkStep}
+use Rattle.vm_memory_base.specs.declared.io.script.SourceStep.{SourceStep}
+use Rattle.vm_memory_base.specs.declared.iotlb.Permissions.TheVariants as permissions
+use Rattle.vm_memory_guest.specs.Access.{Access, windows}
+use Rattle.vm_memory_guest.specs.Dealt.{Dealt, Given, received, given_out}
+use Rattle.vm_memory_guest.specs.Dirt.{bytes_read}
+use Rattle.vm_memory_guest.specs.Error.{error_of, of_window}
+use Rattle.vm_memory_guest.specs.Host.{Host}
+use Rattle.vm_memory_guest.specs.Memory.{Memory}
+use Rattle.vm_memory_guest.specs.Transfer.{all_of}
+use Rattle.vm_memory_guest.specs.declared.region.GuestMemoryError.{GuestMemoryError}
+use Rattle.vm_memory_guest.specs.declared.region.GuestMemoryError.TheVariants as errors
+use Rattle.vm_memory.specs.Reply.{reached_by, reply_of}
+use Rattle.vm_memory.specs.declared.machine.command.Ending.TheVariants as ending
+use Rattle.vm_memory.specs.declared.machine.command.Reply.{Reply}
+use Rattle.vm_memory.specs.declared.machine.command.Reply.TheVariants.{Count, Done, Fault, Sent}
+
+-- what a source does is dealt to the windows of an access of n bytes at a: each is lent until it is full, or for
+-- one try
+abbrev pub dealt_to : Bool → Memory → Host PageSet → ℕ → ℕ → List SourceStep → Dealt GuestMemoryError
+dealt_to until_full m host a n source =
+    let reached = reached_by m host.tables a n permissions.Write in
+    received of_window (option_map error_of reached.fault) until_full (windows reached.path) 0
+    (map next_of source) host
+
+-- a transfer in replies how many bytes came
+abbrev pub receives : Memory → Host PageSet → ℕ → ℕ → List SourceStep → Reply × Host PageSet
+receives m host a n source = let d = dealt_to false m host a n source in (reply_of Count d.answer, d.host)
+
+-- one of all bytes replies whether all came
+abbrev pub receives_whole : Memory → Host PageSet → ℕ → ℕ → List SourceStep → Reply × Host PageSet
+receives_whole m host a n source =
+    let d = dealt_to true m host a n source in
+    (
+      reply_of (λ done. Done) (all_of (λ expected completed. errors.PartialBuffer expected completed) n d.answer),
+      d.host,
+    )
+
+-- the bytes of windows are offered to a sink that has room for n
+abbrev pub given_by : Access → ℕ → List SinkStep → Given GuestMemoryError
+given_by reached n sink =
+    given_out of_window (option_map error_of reached.fault) (windows reached.path) 0
+    (record { next = map taking_of sink; room = Some n })
+
+-- how a transfer out ended is replied beside the bytes that the sink took. Want of memory is told as such
+abbrev pub beside_taken : List ℕ → Reply → Reply
+beside_taken taken (Count n) = Sent (ending.Count n) taken
+beside_taken taken Done = Sent ending.Done taken
+beside_taken taken (Fault f) = Sent (ending.Fault f) taken
+beside_taken taken r = r
+
+-- a transfer out replies how many bytes the sink took, and these: the first of the access
+abbrev pub sends : Memory → Host PageSet → ℕ → ℕ → List SinkStep → Reply
+sends m host a n sink =
+    let reached = reached_by m host.tables a n permissions.Read in
+    let g = given_by reached n sink in
+    beside_taken (take g.taken (bytes_read reached.path host)) (reply_of Count g.answer)
+
+-- one of all bytes replies whether it took all
+abbrev pub sends_whole : Memory → Host PageSet → ℕ → ℕ → List SinkStep → Reply
+sends_whole m host a n sink =
+    let reached = reached_by m host.tables a n permissions.Read in
+    let g = given_by reached n sink in
+    beside_taken (take g.taken (bytes_read reached.path host))
+    (reply_of (λ done. Done) (all_of (λ expected completed. errors.PartialBuffer expected completed) n g.answer))

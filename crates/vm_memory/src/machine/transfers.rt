@@ -1,0 +1,203 @@
+//! The commands that transfer between memories and sources or sinks that follow a script.
+ghost use Rattle.std.specs.Prelude.{◌≡◌, ◌⊎◌};
+ghost use Rattle.vm_memory_guest.specs.Dirt.{with_pages};
+ghost use Rattle.vm_memory_guest.specs.Host.{shape_of, Holds};
+ghost use Rattle.vm_memory_guest.specs.Memory.{IsOn};
+ghost use Rattle.vm_memory.specs.Machine.{Step};
+ghost use Rattle.vm_memory.specs.Parts.{state_of};
+ghost use Rattle.vm_memory.specs.Reply.{reply_of};
+ghost use Rattle.vm_memory.specs.Transfers.{beside_taken, receives, receives_whole, sends, sends_whole};
+ghost use Rattle.vm_memory.specs.declared.machine.command.Command.TheVariants as command;
+
+use super::Machine;
+use super::accesses::{done, refused};
+use super::command::{Ending, Reply};
+use super::list::ByteList;
+use crate::iommu::Iommu;
+use std::alloc::Global;
+use vm_memory_base::{ExactBitmap, GuestAddress, ScriptSink, ScriptSource, SinkStep, SourceStep};
+use vm_memory_guest::path_laws::windows_are_the_path;
+use vm_memory_guest::transfer_laws::{
+    sinks_take_what_is_computed, transfers_in_are_computed, transfers_out_are_computed,
+};
+use vm_memory_guest::{Bytes, GuestMemory, GuestMemoryRegion, GuestMemoryResult, HostMemory};
+
+impl<R: GuestMemoryRegion, I: Iommu, B: ExactBitmap> Machine<R, I, B> {
+    pub(super) fn read_from(
+        &mut self,
+        memory: usize,
+        addr: GuestAddress,
+        count: usize,
+        source: &[SourceStep],
+    ) -> Reply
+        ensures { let before = state_of R.region I.number B.pages self.old in
+            Step before (command.ReadFrom memory addr count source.now) result
+            (state_of R.region I.number B.pages self.new) }
+    {
+        let Some(memory) = self.memories.get(memory) else {
+            return Reply::NoSuch;
+        };
+        receive(memory, &mut self.host, addr, count, source)
+    }
+
+    pub(super) fn read_exact_from(
+        &mut self,
+        memory: usize,
+        addr: GuestAddress,
+        count: usize,
+        source: &[SourceStep],
+    ) -> Reply
+        ensures { let before = state_of R.region I.number B.pages self.old in
+            Step before (command.ReadExactFrom memory addr count source.now) result
+            (state_of R.region I.number B.pages self.new) }
+    {
+        let Some(memory) = self.memories.get(memory) else {
+            return Reply::NoSuch;
+        };
+        receive_whole(memory, &mut self.host, addr, count, source)
+    }
+
+    pub(super) fn write_to(
+        &mut self,
+        memory: usize,
+        addr: GuestAddress,
+        count: usize,
+        sink: &[SinkStep],
+    ) -> Reply
+        ensures { let before = state_of R.region I.number B.pages self.old in
+            Step before (command.WriteTo memory addr count sink.now) result
+            (state_of R.region I.number B.pages self.new) }
+    {
+        let Some(memory) = self.memories.get(memory) else {
+            return Reply::NoSuch;
+        };
+        send(self.alloc, memory, &self.host, addr, count, sink)
+    }
+
+    pub(super) fn write_all_to(
+        &mut self,
+        memory: usize,
+        addr: GuestAddress,
+        count: usize,
+        sink: &[SinkStep],
+    ) -> Reply
+        ensures { let before = state_of R.region I.number B.pages self.old in
+            Step before (command.WriteAllTo memory addr count sink.now) result
+            (state_of R.region I.number B.pages self.new) }
+    {
+        let Some(memory) = self.memories.get(memory) else {
+            return Reply::NoSuch;
+        };
+        send_whole(self.alloc, memory, &self.host, addr, count, sink)
+    }
+}
+
+// Receives bytes of a memory from a source, up to the first window that it does not fill.
+fn receive<M: GuestMemory, B: ExactBitmap>(
+    memory: &M,
+    host: &mut HostMemory<B>,
+    addr: GuestAddress,
+    count: usize,
+    steps: &[SourceStep],
+) -> Reply
+    requires { Holds (shape_of host.old) (M.names memory.now) }
+    ensures received { let m = M.memory memory.now in let before = with_pages B.pages host.old in
+        let after = with_pages B.pages host.new in
+        ((result, after) ≡ receives m before addr.0 count steps.now)
+        ⊎ ((result ≡ Reply.Memory) × IsOn m × (after ≡ before)) }
+    ensures shape { shape_of host.new ≡ shape_of host.old }
+{
+    transfers_in_are_computed::<ScriptSource, B>();
+    let mut source = ScriptSource::new(steps);
+    counted(memory.read_volatile_from(host, addr, &mut source, count))
+}
+
+// Receives all of the bytes.
+fn receive_whole<M: GuestMemory, B: ExactBitmap>(
+    memory: &M,
+    host: &mut HostMemory<B>,
+    addr: GuestAddress,
+    count: usize,
+    steps: &[SourceStep],
+) -> Reply
+    requires { Holds (shape_of host.old) (M.names memory.now) }
+    ensures received { let m = M.memory memory.now in let before = with_pages B.pages host.old in
+        let after = with_pages B.pages host.new in
+        ((result, after) ≡ receives_whole m before addr.0 count steps.now)
+        ⊎ ((result ≡ Reply.Memory) × IsOn m × (after ≡ before)) }
+    ensures shape { shape_of host.new ≡ shape_of host.old }
+{
+    transfers_in_are_computed::<ScriptSource, B>();
+    let mut source = ScriptSource::new(steps);
+    done(memory.read_exact_volatile_from(host, addr, &mut source, count))
+}
+
+// Sends bytes of a memory to a sink that has room for as many.
+fn send<M: GuestMemory, B: ExactBitmap>(
+    alloc: Global,
+    memory: &M,
+    host: &HostMemory<B>,
+    addr: GuestAddress,
+    count: usize,
+    steps: &[SinkStep],
+) -> Reply
+    requires { Holds (shape_of host.now) (M.names memory.now) }
+    ensures { let m = M.memory memory.now in let before = with_pages B.pages host.now in
+        (result ≡ sends m before addr.0 count steps.now) ⊎ (result ≡ Reply.Memory) }
+{
+    let Ok(mut sink) = ScriptSink::new(alloc, steps, count) else {
+        return Reply::Memory;
+    };
+    transfers_out_are_computed::<ScriptSink>();
+    sinks_take_what_is_computed::<ScriptSink>();
+    windows_are_the_path();
+    let reply = counted(memory.write_volatile_to(host, addr, &mut sink, count));
+    with_taken(reply, sink.into_taken())
+}
+
+// Sends all of the bytes.
+fn send_whole<M: GuestMemory, B: ExactBitmap>(
+    alloc: Global,
+    memory: &M,
+    host: &HostMemory<B>,
+    addr: GuestAddress,
+    count: usize,
+    steps: &[SinkStep],
+) -> Reply
+    requires { Holds (shape_of host.now) (M.names memory.now) }
+    ensures { let m = M.memory memory.now in let before = with_pages B.pages host.now in
+        (result ≡ sends_whole m before addr.0 count steps.now) ⊎ (result ≡ Reply.Memory) }
+{
+    let Ok(mut sink) = ScriptSink::new(alloc, steps, count) else {
+        return Reply::Memory;
+    };
+    transfers_out_are_computed::<ScriptSink>();
+    sinks_take_what_is_computed::<ScriptSink>();
+    windows_are_the_path();
+    let reply = done(memory.write_all_volatile_to(host, addr, &mut sink, count));
+    with_taken(reply, sink.into_taken())
+}
+
+// The reply to a transfer out, beside the bytes that its sink took.
+fn with_taken(reply: Reply, taken: Vec<u8>) -> Reply
+    ensures { result ≡ beside_taken taken.items reply }
+{
+    let ending = match reply {
+        Reply::Count(count) => Ending::Count(count),
+        Reply::Done => Ending::Done,
+        Reply::Fault(fault) => Ending::Fault(fault),
+        other => return other,
+    };
+    let taken = ByteList::from_vec(taken);
+    Reply::Sent { ending, taken }
+}
+
+// The reply to a transfer that tells how many bytes it moved.
+fn counted(answer: GuestMemoryResult<usize>) -> Reply
+    ensures { result ≡ reply_of Reply.Count answer }
+{
+    match answer {
+        Ok(count) => Reply::Count(count),
+        Err(error) => refused(error),
+    }
+}
