@@ -3,6 +3,7 @@ pub mod AccessLemmas
 pub mod BitmapLemmas
 pub mod BlockLemmas
 pub mod CopyLemmas
+pub mod HistoryLemmas
 pub mod LayoutLemmas
 pub mod TableLemmas
 pub mod ListLemmas

@@ -3,6 +3,7 @@ pub mod Tables
 pub mod Transfers
 pub mod Pieces
 pub mod Examples
+pub mod History
 pub mod Inside
 pub mod Iommu
 pub mod Machine

@@ -4,6 +4,7 @@
 ghost use Rattle.std.specs.Prelude.{◌≡◌, ℕ, ◌-◌, ◌^◌, [], ◌∷◌, ◌++◌, None, true, false};
 ghost use Rattle.vm_memory_base.specs.Pages.{PageSet};
 ghost use Rattle.std.specs.declared.io.ErrorKind.TheVariants.{Other, WriteZero};
+ghost use Rattle.vm_memory_base.specs.Table as table;
 ghost use Rattle.vm_memory_base.specs.declared.bitmap.BitmapId.TheVariants.{Block, Space};
 ghost use Rattle.vm_memory_base.specs.declared.io.script.SinkStep.TheVariants as sink;
 ghost use Rattle.vm_memory_base.specs.declared.io.script.SourceStep.TheVariants.{Give};
@@ -17,6 +18,7 @@ ghost use Rattle.vm_memory_guest.specs.declared.region.GuestRegionCollectionErro
 ghost use Rattle.vm_memory.specs.Examples.{at, low, high, bare, block_pages, space_pages, host, machine, translated};
 ghost use Rattle.vm_memory.specs.Examples.{marked_host, marked, range, failed};
 ghost use Rattle.vm_memory.specs.Examples.{no_region_at, not_translated, in_block};
+ghost use Rattle.vm_memory.specs.History.{table_calls};
 ghost use Rattle.vm_memory.specs.Machine.{outcome, MayWant, Step, Run};
 ghost use Rattle.vm_memory.specs.Parts.{Parts, AreHeld, HoldsMemory, state_of};
 ghost use Rattle.vm_memory.specs.Reply.{reply_of_error, reply_of_layout_error};
@@ -29,7 +31,7 @@ ghost use Rattle.vm_memory.specs.declared.machine.command.Command.TheVariants.{P
 ghost use Rattle.vm_memory.specs.declared.machine.command.Command.TheVariants.{Copy, Dirty, Harvest};
 ghost use Rattle.vm_memory.specs.declared.machine.command.Command.TheVariants.{CheckRange, Set, InvalidateAll};
 ghost use Rattle.vm_memory.specs.declared.machine.command.Command.TheVariants.{Lookup, ReadFrom, ReadExactFrom};
-ghost use Rattle.vm_memory.specs.declared.machine.command.Command.TheVariants.{WriteTo, WriteAllTo};
+ghost use Rattle.vm_memory.specs.declared.machine.command.Command.TheVariants.{Invalidate, WriteTo, WriteAllTo};
 ghost use Rattle.vm_memory.specs.declared.machine.command.Ending.TheVariants as ending;
 ghost use Rattle.vm_memory.specs.declared.machine.command.Reply.TheVariants.{LayoutMade, MemoryMade, Count, Bytes, Pages};
 ghost use Rattle.vm_memory.specs.declared.machine.command.Reply.TheVariants.{Fault, NoSuch, Memory, Truth};
@@ -586,4 +588,19 @@ pub fn what_a_machine_stands_for()
     }) → ⊥ }
     ensures no_space { HoldsMemory {R = Region} {I = ℕ} {B = PageSet} (λ r. r) (λ i. i) host
         (memory.Translated (record { backend = []; iommu = 0; on = false; space = 1 })) → ⊥ }
+{}
+
+/// Of the commands on a table those are its calls that were done: not one past the last address, nor one for
+/// which memory was wanting, nor one of another table.
+pub fn calls_of_a_table()
+    ensures own { table_calls 0
+        (Set 0 (at 16) (at 2) 4 permissions.Read ∷ Set 0 (at (2 ^ 64 - 1)) (at 0) 1 permissions.Read
+        ∷ Set 1 (at 0) (at 8) 4 permissions.Write ∷ Invalidate 0 (at 18) 1 ∷ InvalidateAll 0 ∷ [])
+        (Done ∷ BadRange ∷ Done ∷ Memory ∷ Done ∷ [])
+        ≡ table.Set 16 2 4 permissions.Read ∷ table.InvalidateAll ∷ [] }
+    ensures of_another { table_calls 1
+        (InvalidateAll 0 ∷ Set 1 (at 0) (at 8) 4 permissions.Write ∷ Invalidate 1 (at 1) 2 ∷ [])
+        (Done ∷ Done ∷ Done ∷ [])
+        ≡ table.Set 0 8 4 permissions.Write ∷ table.Invalidate 1 2 ∷ [] }
+    ensures of_a_write { table_calls 0 (Write 1 (at 16) (9 ∷ []) ∷ []) (Count 1 ∷ []) ≡ [] }
 {}

@@ -1,15 +1,24 @@
 //! What holds of every step and every run of a machine: each function here is a theorem, and does nothing.
 //! It calls the theorems that it follows from.
 ghost use Rattle.std.specs.Prelude.{◌≡◌, ◌≢◌, Bool, false, ℕ, ◌^◌, ◌<◌, List, length, slice_get, slice_index, All, Some};
+ghost use Rattle.std.specs.Prelude.{◌+◌, ◌-◌, ◌++◌, ◌∷◌, true, None};
+ghost use Rattle.vm_memory_base.specs.Address.{step};
 ghost use Rattle.vm_memory_base.specs.Pages.{PageSet};
+ghost use Rattle.vm_memory_base.specs.Permissions.{allow};
+ghost use Rattle.vm_memory_base.specs.Table as table;
+ghost use Rattle.vm_memory_base.specs.Table.{Table, TableCall, says, says_after, says_after_all, covers};
 ghost use Rattle.vm_memory_base.specs.Table.{Range};
 ghost use Rattle.vm_memory_base.specs.declared.address.GuestAddress.{GuestAddress};
 ghost use Rattle.vm_memory_base.specs.declared.bitmap.BitmapId.TheVariants.{Block};
+ghost use Rattle.vm_memory_base.specs.declared.iotlb.Permissions.{Permissions};
 ghost use Rattle.vm_memory_base.specs.declared.iotlb.Permissions.TheVariants as permissions;
 ghost use Rattle.vm_memory_base.specs.declared.iotlb.lookup.IotlbFails.{IotlbFails};
 ghost use Rattle.vm_memory_guest.specs.Access.{Reached};
 ghost use Rattle.vm_memory_guest.specs.Host.{Host};
 ghost use Rattle.vm_memory_guest.specs.Memory as guest;
+ghost use Rattle.vm_memory_guest.specs.Memory.{Behind, behind_of};
+ghost use Rattle.vm_memory_guest.specs.Region.{Byte, cell};
+ghost use Rattle.vm_memory.specs.History.{AnsweredIn, table_calls, IsLast, GoesThrough};
 ghost use Rattle.vm_memory.specs.Machine.{Step, Run};
 ghost use Rattle.vm_memory.specs.Reply.{reached_by, is_partial};
 ghost use Rattle.vm_memory.specs.Rounds.{MirrorsBlock, IsTracked, RunsDirectly, KeepsImage};
@@ -26,6 +35,10 @@ ghost use Rattle.vm_memory.specs.declared.machine.command.Reply.TheVariants as r
 ghost use Rattle.vm_memory.specs.declared.machine.command.Fault.{Fault};
 
 use vm_memory_base::laws::pages::{cleaned_is_clean, dirty_pages_are_listed};
+use vm_memory_base::laws::table::{
+    allowed_where_each_address_grants, canonical_list_decides_the_table, last_call_decides,
+    targets_follow_addresses,
+};
 use vm_memory_guest::effect_laws::{
     dirt_stays, named_pages_are_dirty, other_bytes_stay, path_writes_keep_shapes,
 };
@@ -103,3 +116,64 @@ pub fn reads_are_of_the_image()
         → x.cell.block ≡ block
         → slice_get bytes k ≡ Some (slice_index (image_now block old.host image) x.cell.offset) }
 {}
+
+/// Each command of a run is answered in the state that the commands before it left.
+pub fn runs_go_on()
+    ensures { (old new : State) (before after : List Command) (c : Command) (rs : List Reply)
+        → Run old (before ++ c ∷ after) rs new → AnsweredIn old before c after rs new }
+{}
+
+/// After a run a table says of each address what the last call that covers it made of it, and, where no call
+/// covers it, what the table said before the run. No table is made or taken away.
+pub fn tables_say_what_was_set_last()
+    ensures all { (old new : State) (cs : List Command) (rs : List Reply) (number x : ℕ) (t : Table)
+        → Run old cs rs new → slice_get old.host.tables number ≡ Some t → x < 2 ^ 64
+        → (u : Table) × (slice_get new.host.tables number ≡ Some u)
+        × (says u x ≡ says_after_all (table_calls number cs rs) x (says t x)) }
+    ensures last { (old new : State) (cs : List Command) (rs : List Reply) (number x : ℕ) (u : Table)
+        (call : TableCall) → Run old cs rs new → slice_get new.host.tables number ≡ Some u → x < 2 ^ 64
+        → IsLast x (table_calls number cs rs) call → says u x ≡ says_after call x None }
+    ensures opening { (old new : State) (cs : List Command) (rs : List Reply) (number x : ℕ) (t u : Table)
+        → Run old cs rs new → slice_get old.host.tables number ≡ Some t
+        → slice_get new.host.tables number ≡ Some u → x < 2 ^ 64
+        → All (λ call. covers call x ≡ false) (table_calls number cs rs) → says u x ≡ says t x }
+    ensures count { (old new : State) (cs : List Command) (rs : List Reply) → Run old cs rs new
+        → length new.host.tables ≡ length old.host.tables }
+{
+    canonical_list_decides_the_table();
+    last_call_decides();
+    path_writes_keep_shapes();
+}
+
+/// In the state that a run leaves, an access behind an IOMMU that is on reaches each byte through the mapping
+/// that was set last for its address and not invalidated since. What the table said before the run counts as
+/// set before it.
+pub fn accesses_go_through_what_was_set_last()
+    ensures all { (old now : State) (cs : List Command) (rs : List Reply) (m : guest.Memory) (b : Behind)
+        (t : Table) (a n i : ℕ) (access : Permissions) (x : Reached) → Run old cs rs now
+        → behind_of m.iommu ≡ Some b → slice_get old.host.tables b.table ≡ Some t
+        → slice_get (reached_by m now.host.tables a n access).path i ≡ Some x
+        → GoesThrough m.regions (a + i) (says_after_all (table_calls b.table cs rs) (a + i) (says t (a + i)))
+        access x }
+    ensures set { (old now : State) (cs : List Command) (rs : List Reply) (m : guest.Memory) (b : Behind)
+        (a n i iova to len : ℕ) (access perm : Permissions) (x : Reached) → Run old cs rs now
+        → behind_of m.iommu ≡ Some b → slice_get (reached_by m now.host.tables a n access).path i ≡ Some x
+        → IsLast (a + i) (table_calls b.table cs rs) (table.Set iova to len perm)
+        → (allow perm access ≡ true) × (cell m.regions (step to (a + i - iova)) ≡ Byte x.home x.cell) }
+    ensures invalidated { (old now : State) (cs : List Command) (rs : List Reply) (m : guest.Memory) (b : Behind)
+        (a n i : ℕ) (access : Permissions) (x : Reached) (call : TableCall) → Run old cs rs now
+        → behind_of m.iommu ≡ Some b → slice_get (reached_by m now.host.tables a n access).path i ≡ Some x
+        → IsLast (a + i) (table_calls b.table cs rs) call → says_after call (a + i) None ≡ None → ⊥ }
+    ensures opening { (old now : State) (cs : List Command) (rs : List Reply) (m : guest.Memory) (b : Behind)
+        (t : Table) (a n i : ℕ) (access : Permissions) (x : Reached) → Run old cs rs now
+        → behind_of m.iommu ≡ Some b → slice_get old.host.tables b.table ≡ Some t
+        → slice_get (reached_by m now.host.tables a n access).path i ≡ Some x
+        → All (λ call. covers call (a + i) ≡ false) (table_calls b.table cs rs)
+        → GoesThrough m.regions (a + i) (says t (a + i)) access x }
+{
+    canonical_list_decides_the_table();
+    last_call_decides();
+    targets_follow_addresses();
+    allowed_where_each_address_grants();
+    path_writes_keep_shapes();
+}

@@ -1,0 +1,20 @@
+use Rattle.vm_memory.proofs.HistoryLemmas.{HistoryLaws, CallLaws, run_leaves, run_says, run_says_last}
+use Rattle.vm_memory.proofs.HistoryLemmas.{run_says_as_before}
+use Rattle.vm_memory.proofs.machine_laws.tables_say_what_was_set_last.Goals as goal
+
+pub returns : goal.returns
+returns c =
+    let laws : HistoryLaws = record {
+      kept_says = c.canonical_list_decides_the_table.ensures.values;
+      writes_keep = c.path_writes_keep_shapes.ensures.tables;
+    } in
+    let calls : CallLaws = record {
+      last = c.last_call_decides.ensures.last;
+      none = c.last_call_decides.ensures.none;
+    } in
+    record {
+      all = λ old new cs rs number x t. run_says laws number old cs rs new x t;
+      last = run_says_last laws calls;
+      opening = run_says_as_before laws calls;
+      count = λ old new cs rs run. (run_leaves laws 0 old cs rs new run).count;
+    }
