@@ -1,7 +1,7 @@
 -- What the commands of a run made of tables, and what accesses reach through them.
 use Rattle.std.proofs.Common.{◌≡◌, ◌≢◌, ◌↔◌, ◌⊎◌, Bool, true, false, cond, ◌&&◌, ◌==◌, ℕ, zero, suc, ◌+◌, ◌-◌, ◌^◌, ◌<◌}
 use Rattle.std.proofs.Common.{◌≤◌, min, List, [], ◌∷◌, ◌++◌, length, set, Option, Some, None, All, refl, sym, ap, subst}
-use Rattle.std.proofs.Common.{◌∙◌, inl, inr, arith, zero-add, add-zero, slice_get}
+use Rattle.std.proofs.Common.{◌∙◌, inl, inr, arith, zero-add, add-zero, slice_get, map, option_map}
 use Rattle.std.proofs.lemmas.Bool.{cases_Bool, cond-true, cond-false, eqb-true, eqb-false, leb-true, and_parts}
 use Rattle.std.proofs.lemmas.Bool.{true≢false}
 use Rattle.std.proofs.lemmas.List.{length-set}
@@ -11,23 +11,29 @@ use Rattle.vm_memory_base.specs.Address.{step, difference}
 use Rattle.vm_memory_base.specs.Pages.{PageSet, cleaned}
 use Rattle.vm_memory_base.specs.Permissions.{allow}
 use Rattle.vm_memory_base.specs.Runs.{value_at}
+use Rattle.vm_memory_base.specs.Script.{next_of}
 use Rattle.vm_memory_base.specs.Table as table
 use Rattle.vm_memory_base.specs.Table.{Mapping, target, Says, TableCall, covers, says_after, says_after_all, Table}
 use Rattle.vm_memory_base.specs.Table.{says, canonical_list, changed, grants, is_allowed, overruns}
+use Rattle.vm_memory_base.specs.Transfer.{Next}
 use Rattle.vm_memory_base.specs.declared.bitmap.BitmapId.{BitmapId}
 use Rattle.vm_memory_base.specs.declared.bitmap.BitmapId.TheVariants.{Block, Space}
+use Rattle.vm_memory_base.specs.declared.io.script.SourceStep.{SourceStep}
 use Rattle.vm_memory_base.specs.declared.iotlb.Permissions.{Permissions}
 use Rattle.vm_memory_base.specs.declared.iotlb.Permissions.TheVariants as permissions
 use Rattle.vm_memory_guest.specs.Access.{Reached, Meets, Reaches, Stops, meets_at, meets, onto, path, first_fault}
-use Rattle.vm_memory_guest.specs.Access.{Access, refusal, access_of}
+use Rattle.vm_memory_guest.specs.Access.{Access, refusal, access_of, windows}
 use Rattle.vm_memory_guest.specs.Copy.{dirtied_cells}
+use Rattle.vm_memory_guest.specs.Dealt.{received}
 use Rattle.vm_memory_guest.specs.Dirt.{after_write, marks_pages}
+use Rattle.vm_memory_guest.specs.Error.{error_of, of_window}
 use Rattle.vm_memory_guest.specs.Host.{Host, Cell, bytes_at, cells_from, written}
 use Rattle.vm_memory_guest.specs.Layout.{inserted, removed}
 use Rattle.vm_memory_guest.specs.Memory.{Memory, Behind, behind_of, Route, Through, says_of, route_behind}
 use Rattle.vm_memory_guest.specs.Region.{Region, Lies, Byte, Bare, Hole, cell, layout_error}
 use Rattle.vm_memory_guest.specs.Typed.{path_given}
-use Rattle.vm_memory_guest.specs.Window.{bitmap_of, with_bitmap}
+use Rattle.vm_memory_guest.specs.Window.{Window, bitmap_of, with_bitmap}
+use Rattle.vm_memory_guest.specs.declared.region.GuestMemoryError.{GuestMemoryError}
 use Rattle.vm_memory_guest.specs.declared.region.GuestRegionCollectionError.{GuestRegionCollectionError}
 use Rattle.vm_memory.specs.Copy.{copies, copied, has_block, ends_inside}
 use Rattle.vm_memory.specs.History.{AnsweredIn, table_call, table_calls, IsLast, GoesThrough}
@@ -36,6 +42,7 @@ use Rattle.vm_memory.specs.Made.{if_there, new_layout, rest_layout, with_host}
 use Rattle.vm_memory.specs.Reply.{reached_by}
 use Rattle.vm_memory.specs.State.{State, named}
 use Rattle.vm_memory.specs.Tables.{changed_table}
+use Rattle.vm_memory.specs.Transfers.{dealt_to}
 use Rattle.vm_memory.specs.Typed.{fits_width, integer_of, stores, stores_bytes, taken_by}
 use Rattle.vm_memory.specs.declared.machine.command.BlockRange.{BlockRange}
 use Rattle.vm_memory.specs.declared.machine.command.Command.{Command}
@@ -120,6 +127,8 @@ pub record HistoryLaws : Type 0 where
   pub kept_says : (f : Says) (x : ℕ) → x < 2 ^ 64 → value_at (canonical_list f) x ≡ f x
   pub writes_keep : (xs : List Reached) (bytes : List ℕ) (host : Host PageSet)
       → (after_write xs bytes host).tables ≡ host.tables
+  pub lent_keep : (fault : Option GuestMemoryError) (until_full : Bool) (ws : List Window) (total : ℕ) (next : List Next)
+      (host : Host PageSet) → (received of_window fault until_full ws total next host).host.tables ≡ host.tables
 
 module _ (laws : HistoryLaws) where
   changed_own : (number : ℕ) (call : TableCall) (t : Table) (ts : List Table) → slice_get ts number ≡ Some t
@@ -171,6 +180,12 @@ module _ (laws : HistoryLaws) where
       (after_write reached.path bytes host).tables ≡ host.tables
   write_keeps_tables m host a bytes =
       laws.writes_keep (reached_by m host.tables a (length bytes) permissions.Write).path bytes host
+
+  dealt_keeps_tables : (until_full : Bool) (m : Memory) (host : Host PageSet) (a n : ℕ) (source : List SourceStep)
+      → (dealt_to until_full m host a n source).host.tables ≡ host.tables
+  dealt_keeps_tables until_full m host a n source =
+      let reached = reached_by m host.tables a n permissions.Write in
+      laws.lent_keep (option_map error_of reached.fault) until_full (windows reached.path) 0 (map next_of source) host
 
   store_keeps_tables : (m : Memory) (host : Host PageSet) (a : ℕ) (w : Width) (value : ℕ)
       → (stores m host a w value).1.tables ≡ host.tables
@@ -261,6 +276,16 @@ module _ (laws : HistoryLaws) where
         (same_tables old (slice_get old.memories memory) _
         (λ m. store_keeps_tables m old.host addr.0 (integer_of width) value))
     answered (command.Load memory width addr) =
+        same number _ _ (same_tables old (slice_get old.memories memory) _ (λ m. refl))
+    answered (command.ReadFrom memory addr n source) =
+        same number _ _
+        (same_tables old (slice_get old.memories memory) _ (λ m. dealt_keeps_tables false m old.host addr.0 n source))
+    answered (command.ReadExactFrom memory addr n source) =
+        same number _ _
+        (same_tables old (slice_get old.memories memory) _ (λ m. dealt_keeps_tables true m old.host addr.0 n source))
+    answered (command.WriteTo memory addr n sink) =
+        same number _ _ (same_tables old (slice_get old.memories memory) _ (λ m. refl))
+    answered (command.WriteAllTo memory addr n sink) =
         same number _ _ (same_tables old (slice_get old.memories memory) _ (λ m. refl))
     answered (command.CheckRange memory addr n access) =
         same number _ _ (same_tables old (slice_get old.memories memory) _ (λ m. refl))

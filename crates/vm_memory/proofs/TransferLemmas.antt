@@ -1,5 +1,5 @@
 -- Transfers of a machine: what they reply, and where they leave the host.
-use Rattle.std.proofs.Common.{◌≡◌, ◌⊎◌, ℕ, ◌+◌, Bool, true, false, ◌==◌, cond, List, [], ◌∷◌, ◌++◌, map, length, take, Option, Some, Result, Ok, Err, All, refl, ap, subst, ◌∙◌, sym, zero-add}
+use Rattle.std.proofs.Common.{◌≡◌, ◌⊎◌, ℕ, ◌+◌, Bool, true, false, cond, List, [], ◌∷◌, ◌++◌, map, take, Option, Some, Err, All, refl, ap, subst, ◌∙◌, sym, zero-add}
 use Rattle.std.proofs.lemmas.Bool.{true≢false}
 use Rattle.std.proofs.lemmas.List.Elements.{All-nil, All-cons}
 use Rattle.vm_memory_base.specs.Pages.{PageSet}

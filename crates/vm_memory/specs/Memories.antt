@@ -1,5 +1,5 @@
 -- The memories of a machine, as guest memory.
-use Rattle.std.specs.Prelude.{ℕ, Bool, List, map, All}
+use Rattle.std.specs.Prelude.{ℕ, Bool, map, All}
 use Rattle.vm_memory_guest.specs.Collection.{each_is_region}
 use Rattle.vm_memory_guest.specs.Memory.{Memory}
 use Rattle.vm_memory_guest.specs.Region.{Region, IsRegion}

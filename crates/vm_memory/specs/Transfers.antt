@@ -34,8 +34,7 @@ receives m host a n source = let d = dealt_to false m host a n source in (reply_
 -- one of all bytes replies whether all came
 abbrev pub receives_whole : Memory → Host PageSet → ℕ → ℕ → List SourceStep → Reply × Host PageSet
 receives_whole m host a n source =
-    let d = dealt_to true m host a n source in
-    (
+    let d = dealt_to true m host a n source in (
       reply_of (λ done. Done) (all_of (λ expected completed. errors.PartialBuffer expected completed) n d.answer),
       d.host,
     )

@@ -143,6 +143,7 @@ pub fn tables_say_what_was_set_last()
     canonical_list_decides_the_table();
     last_call_decides();
     path_writes_keep_shapes();
+    transfers_in_mark_what_they_change();
 }
 
 /// In the state that a run leaves, an access behind an IOMMU that is on reaches each byte through the mapping
@@ -176,4 +177,5 @@ pub fn accesses_go_through_what_was_set_last()
     targets_follow_addresses();
     allowed_where_each_address_grants();
     path_writes_keep_shapes();
+    transfers_in_mark_what_they_change();
 }

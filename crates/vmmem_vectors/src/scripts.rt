@@ -541,7 +541,10 @@ fn a_mebibyte_goes_through_a_script(rt: HostRuntime) -> Result<(), Fail> {
 
 // How often a source and a sink are interrupted in a row before four bytes go, and what is told.
 const INTERRUPTIONS: [(usize, &str); 2] = [
-    (64, "count 4\nok\nsent count 4 taken 01020304\nsent ok taken 01020304\n"),
+    (
+        64,
+        "count 4\nok\nsent count 4 taken 01020304\nsent ok taken 01020304\n",
+    ),
     (
         65,
         "error G2 Interrupted\nerror G2 Interrupted\nsent error G2 Interrupted taken -\n\

@@ -7,6 +7,8 @@ returns c =
     let laws : HistoryLaws = record {
       kept_says = c.canonical_list_decides_the_table.ensures.values;
       writes_keep = c.path_writes_keep_shapes.ensures.tables;
+      lent_keep = λ fault until_full ws total next host.
+          (c.transfers_in_mark_what_they_change.ensures fault until_full ws total next host).tables;
     } in
     let calls : CallLaws = record {
       last = c.last_call_decides.ensures.last;

@@ -3,7 +3,7 @@ use Rattle.std.specs.List.{slice_get}
 use Rattle.vm_memory.specs.Parts.{Parts}
 use Rattle.vm_memory.specs.declared.machine.memory.MachineMemory.TheVariants.{Plain}
 use Rattle.vm_memory.proofs.ListLemmas.{item_at}
-use Rattle.vm_memory.proofs.MemoryLemmas.{Added, plain-step, plain-wants}
+use Rattle.vm_memory.proofs.MemoryLemmas.{Added, plain-step}
 use Rattle.vm_memory.proofs.machine.Machine.plain.Goals as goal
 
 pub returns : goal.returns

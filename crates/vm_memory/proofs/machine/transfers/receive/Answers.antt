@@ -1,4 +1,4 @@
-use Rattle.std.proofs.Common.{◌≡◌, false, List, map, option_map, ap, ap₂, ◌∙◌, inl, inr, Some}
+use Rattle.std.proofs.Common.{false, List, map, option_map, ap, ap₂, ◌∙◌, inl, inr, Some}
 use Rattle.vm_memory_base.specs.Pages.{PageSet}
 use Rattle.vm_memory_base.specs.Script.{next_of}
 use Rattle.vm_memory_base.specs.Transfer.{Next}

@@ -1,4 +1,4 @@
-use Rattle.std.proofs.Common.{◌≡◌, List, [], map, take, option_map, ap, ap₂, ◌∙◌, inl, inr, Some}
+use Rattle.std.proofs.Common.{[], map, option_map, ap, ap₂, ◌∙◌, inl, inr, Some}
 use Rattle.vm_memory_base.specs.Script.{TakenSoFar, taking_of}
 use Rattle.vm_memory_base.specs.Transfer.{Sink}
 use Rattle.vm_memory_base.specs.declared.iotlb.Permissions.TheVariants as permissions
@@ -7,7 +7,6 @@ use Rattle.vm_memory_guest.specs.Dirt.{with_pages}
 use Rattle.vm_memory_guest.specs.Error.{error_of}
 use Rattle.vm_memory.specs.Reply.{reached_by, reply_of}
 use Rattle.vm_memory.specs.Transfers.{beside_taken, given_by}
-use Rattle.vm_memory.specs.declared.machine.command.Reply.{Reply}
 use Rattle.vm_memory.specs.declared.machine.command.Reply.TheVariants as reply
 use Rattle.vm_memory.proofs.TransferLemmas.{taken_is}
 use Rattle.vm_memory.proofs.machine.transfers.send.Goals as goal

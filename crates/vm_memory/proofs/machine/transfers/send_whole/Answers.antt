@@ -1,4 +1,4 @@
-use Rattle.std.proofs.Common.{◌≡◌, ℕ, Result, List, [], map, take, option_map, ap, ap₂, ◌∙◌, inl, inr, Some}
+use Rattle.std.proofs.Common.{ℕ, Result, [], map, option_map, ap, ap₂, ◌∙◌, inl, inr, Some}
 use Rattle.vm_memory_base.specs.Script.{TakenSoFar, taking_of}
 use Rattle.vm_memory_base.specs.Transfer.{Sink}
 use Rattle.vm_memory_base.specs.declared.iotlb.Permissions.TheVariants as permissions
