@@ -95,8 +95,8 @@ outcome old (InvalidateAll number) = with_host old (changes old.host number 0 0 
 outcome old (Lookup number iova len access) =
     if_there old (slice_get old.host.tables number) (λ t. (looks_up (says t) iova.0 len access, old))
 
--- where memory may be wanting: for what is made or mapped, for the bytes, the pages and the ranges that a reply
--- lists, and for a translation
+-- where memory may be wanting: for what is made, for a range that is mapped or no longer is, for the bytes, the pages
+-- and the ranges that a reply lists, for the room of a sink, and for a translation
 abbrev pub MayWant : State → Command → Type 0
 MayWant old (FromRegions numbers) = IsSome (named old.regions numbers)
 MayWant old (Insert layout region) =
