@@ -15,7 +15,7 @@ use Rattle.vm_memory_guest.specs.Region.{Region}
 use Rattle.vm_memory_guest.specs.Walk.{reach_of, GivesAccess, RefusesAccess, WantsMemory}
 use Rattle.vm_memory_guest.specs.declared.region.GuestMemoryError.{GuestMemoryError}
 use Rattle.vm_memory_base.specs.declared.iotlb.IommuError.TheVariants as iommu
-use Rattle.vm_memory.specs.Iommu.{Translates, RefusesTranslation, memory_of, of_translation}
+use Rattle.vm_memory.specs.Iommu.{Translates, RefusesTranslation, behind, of_translation}
 
 -- what is taken from the laws of hosts
 abbrev Joined : Type 0
@@ -43,12 +43,12 @@ PiecesAreTheAccess = (regions : List Region) (f : Says) (space a n : ℕ) (acces
     → marking space a (walk_of_pieces regions (mapped_ranges (pieces f a n))) ≡ reach_of (access_of regions (Through f space) a n access)
 
 module _ {R : Type 0} (region : R → Region) (rs : List R) (table space : ℕ) (on : Bool) (is_on : on ≡ true) (tables : List Table) (t : Table) (there : slice_get tables table ≡ Some t) (a n : ℕ) (access : Permissions) where
-  route-on : route (memory_of region rs table space on) tables ≡ Through (says t) space
+  route-on : route (behind (map region rs) table space on) tables ≡ Through (says t) space
   route-on =
       ap (λ (b : Bool). route_behind (behind_if b (record { table = table; space = space })) tables) is_on
       ∙ ap (λ (o : Option Table). Through (says_of o) space) there
 
-  pub gives-on : PiecesAreTheAccess → (found : List MappedRange) → Translates (says t) a n access found → (walk : Reach Fault) → walk ≡ marking space a (walk_of_pieces (map region rs) found) → GivesAccess (memory_of region rs table space on) tables a n access walk
+  pub gives-on : PiecesAreTheAccess → (found : List MappedRange) → Translates (says t) a n access found → (walk : Reach Fault) → walk ≡ marking space a (walk_of_pieces (map region rs) found) → GivesAccess (behind (map region rs) table space on) tables a n access walk
   gives-on law found gives walk is = (
     ap (λ (w : Route). allowed w a n access) route-on ∙ gives.0,
     is ∙ (ap (λ (ps : List MappedRange). marking space a (walk_of_pieces (map region rs) ps)) gives.1
@@ -56,17 +56,17 @@ module _ {R : Type 0} (region : R → Region) (rs : List R) (table space : ℕ) 
         ∙ sym (ap (λ (w : Route). reach_of (access_of (map region rs) w a n access)) route-on))),
   )
 
-  refuses-on : (e : IommuError) → RefusesTranslation (says t) a n access e → RefusesAccess (memory_of region rs table space on) tables a n access (of_translation e)
+  refuses-on : (e : IommuError) → RefusesTranslation (says t) a n access e → RefusesAccess (behind (map region rs) table space on) tables a n access (of_translation e)
   refuses-on e refused = (
     ap (λ (w : Route). allowed w a n access) route-on ∙ refused.0,
     ap of_translation refused.1 ∙ sym (ap (λ (w : Route). error_of (refusal w a n)) route-on),
   )
 
-  wants-on : (e : IommuError) → e ≡ iommu.Memory → WantsMemory (memory_of region rs table space on) (of_translation e)
+  wants-on : (e : IommuError) → e ≡ iommu.Memory → WantsMemory (behind (map region rs) table space on) (of_translation e)
   wants-on e is = (ap of_translation is, subst (λ (b : Bool). IsSome (behind_if b (record { table = table; space = space }))) (sym is_on) refl)
 
   pub fails-on : (e : IommuError) → ((e ≡ iommu.Memory) ⊎ RefusesTranslation (says t) a n access e) → (d : GuestMemoryError) → d ≡ of_translation e
-      → WantsMemory (memory_of region rs table space on) d ⊎ RefusesAccess (memory_of region rs table space on) tables a n access d
+      → WantsMemory (behind (map region rs) table space on) d ⊎ RefusesAccess (behind (map region rs) table space on) tables a n access d
   fails-on e why d is = rw is (elim why [
     | inl wanted ↦ inl (wants-on e wanted)
     | inr refused ↦ inr (refuses-on e refused)

@@ -12,7 +12,8 @@ use Rattle.vm_memory.specs.Made.{new_memory}
 use Rattle.vm_memory.proofs.BitmapLemmas.{set-same}
 use Rattle.vm_memory.specs.Memories.{memory_meant, turned_memory}
 use Rattle.vm_memory.specs.Parts.{Parts, state_of}
-use Rattle.vm_memory.specs.State.{State, plain, behind}
+use Rattle.vm_memory.specs.Iommu.{behind}
+use Rattle.vm_memory.specs.State.{State, plain}
 use Rattle.vm_memory.specs.declared.machine.command.Command.{Command}
 use Rattle.vm_memory.specs.declared.machine.command.Command.TheVariants as command
 use Rattle.vm_memory.specs.declared.machine.command.Reply.{Reply}

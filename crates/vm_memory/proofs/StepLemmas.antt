@@ -23,7 +23,8 @@ use Rattle.vm_memory_guest.specs.Typed.{path_given}
 use Rattle.vm_memory_guest.specs.declared.region.GuestMemoryError.{GuestMemoryError}
 use Rattle.vm_memory_guest.specs.declared.region.GuestMemoryError.TheVariants as errors
 use Rattle.vm_memory_guest.specs.declared.region.GuestRegionCollectionError.{GuestRegionCollectionError}
-use Rattle.vm_memory.specs.State.{State, named, plain, behind}
+use Rattle.vm_memory.specs.Iommu.{behind}
+use Rattle.vm_memory.specs.State.{State, named, plain}
 use Rattle.vm_memory.specs.Machine.{Step, Run, outcome}
 use Rattle.vm_memory.specs.Made.{if_there, new_layout, rest_layout, new_memory, turned, with_host}
 use Rattle.vm_memory.specs.Reply.{reply_of, reply_of_error, reached_by, writes, writes_whole, is_partial}

@@ -1,5 +1,5 @@
 -- Memory behind an IOMMU, and what an IOMMU answers.
-use Rattle.std.specs.Prelude.{◌≡◌, ℕ, Bool, true, false, List, [], ◌∷◌, ◌++◌, map, flat_map, Some}
+use Rattle.std.specs.Prelude.{◌≡◌, ℕ, Bool, true, false, List, [], ◌∷◌, ◌++◌, flat_map, Some}
 use Rattle.std.proofs.Common.{ap₂}
 use Rattle.vm_memory_base.specs.Lookup.{mapped_ranges}
 use Rattle.vm_memory_base.specs.Table.{Says, is_allowed, pieces, reason}
@@ -37,10 +37,10 @@ pub record Behind (M I : Type 0) : Type 0 where
   pub on : Bool
   pub space : ℕ
 
--- what it means as guest memory
-abbrev pub memory_of : {R : Type 0} → (R → Region) → List R → ℕ → ℕ → Bool → Memory
-memory_of region rs table space on = record {
-  regions = map region rs;
+-- what it means as guest memory, with the table of its IOMMU
+abbrev pub behind : List Region → ℕ → ℕ → Bool → Memory
+behind regions table space on = record {
+  regions = regions;
   iommu = Some (record { behind = record { table = table; space = space }; on = on });
 }
 

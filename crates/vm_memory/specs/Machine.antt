@@ -8,9 +8,10 @@ use Rattle.vm_memory_guest.specs.Layout.{inserted, removed}
 use Rattle.vm_memory_guest.specs.Memory.{IsOn}
 use Rattle.vm_memory_guest.specs.Region.{layout_error}
 use Rattle.vm_memory_guest.specs.Window.{bitmap_of, with_bitmap}
-use Rattle.vm_memory.specs.State.{State, plain, behind, named}
+use Rattle.vm_memory.specs.Iommu.{behind}
+use Rattle.vm_memory.specs.State.{State, plain, named}
 use Rattle.vm_memory.specs.Copy.{copies}
-use Rattle.vm_memory.specs.Made.{if_there, new_layout, rest_layout, new_memory, turned, with_host}
+use Rattle.vm_memory.specs.Made.{if_there, new_layout, rest_layout, new_memory, turned, with_host, asks, changes_by}
 use Rattle.vm_memory.specs.Reply.{reads, writes, reads_whole, writes_whole, checks}
 use Rattle.vm_memory.specs.Tables.{changes, looks_up}
 use Rattle.vm_memory.specs.Transfers.{receives, receives_whole, sends, sends_whole}
@@ -51,37 +52,20 @@ outcome old (ReplaceBackend memory layout) =
     (λ rs. new_memory old (record { regions = rs; iommu = Some s }))))
 outcome old (Enable memory on) =
     if_there old (slice_get old.memories memory) (λ m. if_there old m.iommu (λ s. turned old memory m s on))
-outcome old (Read memory addr count) =
-    if_there old (slice_get old.memories memory)
-    (λ m. (reads m old.host addr.0 count, old))
-outcome old (Write memory addr bytes) =
-    if_there old (slice_get old.memories memory)
-    (λ m. with_host old (writes m old.host addr.0 bytes))
-outcome old (ReadSlice memory addr count) =
-    if_there old (slice_get old.memories memory)
-    (λ m. (reads_whole m old.host addr.0 count, old))
-outcome old (WriteSlice memory addr bytes) =
-    if_there old (slice_get old.memories memory)
-    (λ m. with_host old (writes_whole m old.host addr.0 bytes))
+outcome old (Read memory addr count) = asks old memory (λ m host. reads m host addr.0 count)
+outcome old (Write memory addr bytes) = changes_by old memory (λ m host. writes m host addr.0 bytes)
+outcome old (ReadSlice memory addr count) = asks old memory (λ m host. reads_whole m host addr.0 count)
+outcome old (WriteSlice memory addr bytes) = changes_by old memory (λ m host. writes_whole m host addr.0 bytes)
 outcome old (Store memory width addr value) =
-    if_there old (slice_get old.memories memory)
-    (λ m. with_host old (stores m old.host addr.0 (integer_of width) value))
-outcome old (Load memory width addr) =
-    if_there old (slice_get old.memories memory)
-    (λ m. (loads m old.host addr.0 (integer_of width), old))
+    changes_by old memory (λ m host. stores m host addr.0 (integer_of width) value)
+outcome old (Load memory width addr) = asks old memory (λ m host. loads m host addr.0 (integer_of width))
 outcome old (ReadFrom memory addr count source) =
-    if_there old (slice_get old.memories memory)
-    (λ m. with_host old (receives m old.host addr.0 count source))
+    changes_by old memory (λ m host. receives m host addr.0 count source)
 outcome old (ReadExactFrom memory addr count source) =
-    if_there old (slice_get old.memories memory)
-    (λ m. with_host old (receives_whole m old.host addr.0 count source))
-outcome old (WriteTo memory addr count sink) =
-    if_there old (slice_get old.memories memory) (λ m. (sends m old.host addr.0 count sink, old))
-outcome old (WriteAllTo memory addr count sink) =
-    if_there old (slice_get old.memories memory) (λ m. (sends_whole m old.host addr.0 count sink, old))
-outcome old (CheckRange memory addr count access) =
-    if_there old (slice_get old.memories memory)
-    (λ m. (checks m old.host addr.0 count access, old))
+    changes_by old memory (λ m host. receives_whole m host addr.0 count source)
+outcome old (WriteTo memory addr count sink) = asks old memory (λ m host. sends m host addr.0 count sink)
+outcome old (WriteAllTo memory addr count sink) = asks old memory (λ m host. sends_whole m host addr.0 count sink)
+outcome old (CheckRange memory addr count access) = asks old memory (λ m host. checks m host addr.0 count access)
 outcome old (Dirty id) = if_there old (bitmap_of old.host id) (λ set. (Pages (dirty_pages set), old))
 outcome old (Harvest id) =
     if_there old (bitmap_of old.host id)

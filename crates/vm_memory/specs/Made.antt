@@ -1,5 +1,5 @@
 -- What commands make and change, as replies and states.
-use Rattle.std.specs.Prelude.{ℕ, Bool, List, [], ◌∷◌, ◌++◌, length, slice_set, Option, Some, None}
+use Rattle.std.specs.Prelude.{ℕ, Bool, List, [], ◌∷◌, ◌++◌, length, slice_get, slice_set, Option, Some, None}
 use Rattle.vm_memory_base.specs.Pages.{PageSet}
 use Rattle.vm_memory_guest.specs.Host.{Host}
 use Rattle.vm_memory_guest.specs.Memory as guest
@@ -41,3 +41,10 @@ turned old memory m s on = (
 -- the reply and the host that a command leaves: all else stays
 abbrev pub with_host : State → Reply × Host PageSet → Reply × State
 with_host old (r, host) = (r, record old { host = host })
+
+-- the reply to an access of a memory, which leaves the state, or that and the host that it leaves
+abbrev pub asks : State → ℕ → (guest.Memory → Host PageSet → Reply) → Reply × State
+asks old memory answer = if_there old (slice_get old.memories memory) (λ m. (answer m old.host, old))
+
+abbrev pub changes_by : State → ℕ → (guest.Memory → Host PageSet → Reply × Host PageSet) → Reply × State
+changes_by old memory answer = if_there old (slice_get old.memories memory) (λ m. with_host old (answer m old.host))

@@ -3,7 +3,8 @@ use Rattle.std.specs.Prelude.{ℕ, Bool, map, All}
 use Rattle.vm_memory_guest.specs.Collection.{each_is_region}
 use Rattle.vm_memory_guest.specs.Memory.{Memory}
 use Rattle.vm_memory_guest.specs.Region.{Region, IsRegion}
-use Rattle.vm_memory.specs.State.{plain, behind}
+use Rattle.vm_memory.specs.Iommu.{behind}
+use Rattle.vm_memory.specs.State.{plain}
 use Rattle.vm_memory.specs.declared.machine.command.Reply.{Reply}
 use Rattle.vm_memory.specs.declared.machine.command.Reply.TheVariants.{Done, NoSuch}
 use Rattle.vm_memory.specs.declared.machine.memory.MachineMemory.{MachineMemory}

@@ -1,19 +1,13 @@
 -- The state of a machine as a model.
-use Rattle.std.specs.Prelude.{ℕ, Bool, List, [], ◌∷◌, slice_get, Option, Some, None}
+use Rattle.std.specs.Prelude.{ℕ, List, [], ◌∷◌, slice_get, Option, Some, None}
 use Rattle.vm_memory_base.specs.Pages.{PageSet}
 use Rattle.vm_memory_guest.specs.Host.{Host}
 use Rattle.vm_memory_guest.specs.Region.{Region}
 use Rattle.vm_memory_guest.specs.Memory.{Memory}
 
--- a memory of these regions, without an IOMMU and behind one
+-- a memory of these regions, without an IOMMU
 abbrev pub plain : List Region → Memory
 plain regions = record { regions = regions; iommu = None }
-
-abbrev pub behind : List Region → ℕ → ℕ → Bool → Memory
-behind regions table space on = record {
-  regions = regions;
-  iommu = Some (record { behind = record { table = table; space = space }; on = on });
-}
 
 -- the pool of regions, the tables of the translators, what was made, and the host
 pub record State : Type 0 where

@@ -3,7 +3,7 @@ ghost use Rattle.std.specs.Prelude.{◌≡◌, ◌⊎◌, ◌∷◌, ◌++◌, [
 ghost use Rattle.vm_memory_base.specs.Lookup.{mapped_ranges};
 ghost use Rattle.vm_memory_base.specs.Table.{says};
 ghost use Rattle.vm_memory_guest.specs.Host as names;
-ghost use Rattle.vm_memory.specs.Iommu.{Translates, RefusesTranslation, memory_of, of_translation};
+ghost use Rattle.vm_memory.specs.Iommu.{Translates, RefusesTranslation, behind, of_translation};
 
 use std::alloc::{AllocError, Global};
 use std::marker::Model;
@@ -289,7 +289,7 @@ impl<M: GuestMemoryBackend, I: Iommu> GuestMemory for IommuMemory<M, I> {
 
     type PhysicalMemory = M;
 
-    ghost memory = { λ m. memory_of M.R.region (M.regions m.backend) (I.number m.iommu) m.space m.on };
+    ghost memory = { λ m. behind (map M.R.region (M.regions m.backend)) (I.number m.iommu) m.space m.on };
 
     ghost each_fits = { λ m. each_is_region M.R.region M.R.fits (M.regions m.backend) };
 
