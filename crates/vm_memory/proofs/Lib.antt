@@ -14,3 +14,4 @@ pub mod RoundsLemmas
 pub mod StepLemmas
 pub mod TypedLemmas
 pub mod TransferLemmas
+pub mod WantLemmas

@@ -19,7 +19,7 @@ ghost use Rattle.vm_memory_guest.specs.Memory as guest;
 ghost use Rattle.vm_memory_guest.specs.Memory.{Behind, behind_of};
 ghost use Rattle.vm_memory_guest.specs.Region.{Byte, cell};
 ghost use Rattle.vm_memory.specs.History.{AnsweredIn, table_calls, IsLast, GoesThrough};
-ghost use Rattle.vm_memory.specs.Machine.{Step, Run};
+ghost use Rattle.vm_memory.specs.Machine.{MayWant, Step, Run};
 ghost use Rattle.vm_memory.specs.Reply.{reached_by, is_partial};
 ghost use Rattle.vm_memory.specs.Rounds.{MirrorsBlock, IsTracked, RunsDirectly, KeepsImage};
 ghost use Rattle.vm_memory.specs.Rounds.{image_now, bytes_of, IsSynced};
@@ -178,4 +178,11 @@ pub fn accesses_go_through_what_was_set_last()
     allowed_where_each_address_grants();
     path_writes_keep_shapes();
     transfers_in_mark_what_they_change();
+}
+
+/// A command replies want of memory only where memory may be wanting.
+pub fn memory_is_wanted_only_where_it_may_be()
+    ensures { (old new : State) (c : Command) → Step old c Memory new → MayWant old c }
+{
+    refused_transfers_in_change_nothing();
 }
