@@ -55,7 +55,7 @@ removed-map region (x ∷ xs) base size =
 
 -- ---- what holds of each region
 
-All-inserted : (P : Region → Type 0) (rs : List Region) (r : Region) → All P rs → P r
+pub All-inserted : (P : Region → Type 0) (rs : List Region) (r : Region) → All P rs → P r
     → All P (inserted (λ q. q) rs r)
 All-inserted P [] r all p = All-cons P r [] p (All-nil P)
 All-inserted P (x ∷ xs) r all p =
@@ -71,32 +71,34 @@ pub All-inserted_values : {R : Type 0} (region : R → Region) (P : Region → T
 All-inserted_values region P rs r all p =
     subst (All P) (sym (inserted-map region rs r)) (All-inserted P (map region rs) (region r) all p)
 
-abbrev AllLeft : (Region → Type 0) → Option (List Region × Region) → Type 0
-AllLeft P None = Unit {0}
-AllLeft P (Some p) = All P p.0
+-- what holds of the regions that are left, if one was taken out
+abbrev pub OfLeft : (List Region → Type 0) → Option (List Region × Region) → Type 0
+OfLeft P None = Unit {0}
+OfLeft P (Some p) = P p.0
 
-AllLeft-behind : (P : Region → Type 0) (x : Region) (o : Option (List Region × Region)) → P x → AllLeft P o
-    → AllLeft P (behind_first x o)
-AllLeft-behind P x None p all = tt
-AllLeft-behind P x (Some q) p all = All-cons P x q.0 p all
+-- and of those with one before them
+pub OfLeft-behind : (P Q : List Region → Type 0) (x : Region) (o : Option (List Region × Region))
+    → ((xs : List Region) → P xs → Q (x ∷ xs)) → OfLeft P o → OfLeft Q (behind_first x o)
+OfLeft-behind P Q x None more left = tt
+OfLeft-behind P Q x (Some p) more left = more p.0 left
 
-All-removed : (P : Region → Type 0) (rs : List Region) (base size : ℕ) → All P rs
-    → AllLeft P (removed (λ q. q) rs base size)
+pub All-removed : (P : Region → Type 0) (rs : List Region) (base size : ℕ) → All P rs
+    → OfLeft (All P) (removed (λ q. q) rs base size)
 All-removed P [] base size all = tt
 All-removed P (x ∷ xs) base size all =
     elim (is_exactly base size x) as (λ b.
-    AllLeft P (cond b (Some (xs, x)) (behind_first x (removed (λ q. q) xs base size)))) [
+    OfLeft (All P) (cond b (Some (xs, x)) (behind_first x (removed (λ q. q) xs base size)))) [
       | true ↦ All-tail P x xs all
       | false ↦
-          AllLeft-behind P x (removed (λ q. q) xs base size) (All-head P x xs all)
-          (All-removed P xs base size (All-tail P x xs all))
+          OfLeft-behind (All P) (All P) x (removed (λ q. q) xs base size)
+          (λ ys. All-cons P x ys (All-head P x xs all)) (All-removed P xs base size (All-tail P x xs all))
     ]
 
 pub All-removed_values : {R : Type 0} (region : R → Region) (P : Region → Type 0) (rs others : List R) (r : R)
     (base size : ℕ) → removed region rs base size ≡ Some (others, r) → All P (map region rs)
     → All P (map region others)
 All-removed_values region P rs others r base size e all =
-    subst (AllLeft P) (removed-map region rs base size ∙ ap (means region) e) (All-removed P (map region rs) base size all)
+    subst (OfLeft (All P)) (removed-map region rs base size ∙ ap (means region) e) (All-removed P (map region rs) base size all)
 
 -- ---- steps
 

@@ -4,6 +4,7 @@ pub mod BitmapLemmas
 pub mod BlockLemmas
 pub mod CopyLemmas
 pub mod HistoryLemmas
+pub mod LawfulLemmas
 pub mod LayoutLemmas
 pub mod TableLemmas
 pub mod ListLemmas

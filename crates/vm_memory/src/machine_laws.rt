@@ -1,7 +1,7 @@
 //! What holds of every step and every run of a machine: each function here is a theorem, and does nothing.
 //! It calls the theorems that it follows from.
 ghost use Rattle.std.specs.Prelude.{◌≡◌, ◌≢◌, Bool, false, ℕ, ◌^◌, ◌<◌, List, length, slice_get, slice_index, All, Some};
-ghost use Rattle.std.specs.Prelude.{◌+◌, ◌-◌, ◌++◌, ◌∷◌, true, None};
+ghost use Rattle.std.specs.Prelude.{◌+◌, ◌-◌, ◌++◌, ◌∷◌, [], get_or, true, None};
 ghost use Rattle.vm_memory_base.specs.Address.{step};
 ghost use Rattle.vm_memory_base.specs.Pages.{PageSet};
 ghost use Rattle.vm_memory_base.specs.Permissions.{allow};
@@ -17,9 +17,11 @@ ghost use Rattle.vm_memory_guest.specs.Access.{Reached};
 ghost use Rattle.vm_memory_guest.specs.Host.{Host};
 ghost use Rattle.vm_memory_guest.specs.Memory as guest;
 ghost use Rattle.vm_memory_guest.specs.Memory.{Behind, behind_of};
-ghost use Rattle.vm_memory_guest.specs.Region.{Byte, cell};
+ghost use Rattle.vm_memory_guest.specs.Region.{Byte, Region, cell, has_address};
 ghost use Rattle.vm_memory.specs.History.{AnsweredIn, table_calls, IsLast, GoesThrough};
+ghost use Rattle.vm_memory.specs.Lawful.{IsLawful};
 ghost use Rattle.vm_memory.specs.Machine.{MayWant, Step, Run};
+ghost use Rattle.vm_memory.specs.Parts.{state_of};
 ghost use Rattle.vm_memory.specs.Reply.{reached_by, is_partial};
 ghost use Rattle.vm_memory.specs.Rounds.{MirrorsBlock, IsTracked, RunsDirectly, KeepsImage};
 ghost use Rattle.vm_memory.specs.Rounds.{image_now, bytes_of, IsSynced};
@@ -34,14 +36,18 @@ ghost use Rattle.vm_memory.specs.declared.machine.command.Reply.TheVariants.{Bad
 ghost use Rattle.vm_memory.specs.declared.machine.command.Reply.TheVariants as reply;
 ghost use Rattle.vm_memory.specs.declared.machine.command.Fault.{Fault};
 
+use crate::iommu::Iommu;
+use vm_memory_base::ExactBitmap;
 use vm_memory_base::laws::pages::{cleaned_is_clean, dirty_pages_are_listed};
 use vm_memory_base::laws::table::{
     allowed_where_each_address_grants, canonical_list_decides_the_table, last_call_decides,
     targets_follow_addresses,
 };
+use vm_memory_guest::GuestMemoryRegion;
 use vm_memory_guest::effect_laws::{
     dirt_stays, named_pages_are_dirty, other_bytes_stay, path_writes_keep_shapes,
 };
+use vm_memory_guest::region_laws::{layouts_pass_the_tests, one_region_holds_an_address};
 use vm_memory_guest::transfer_laws::{
     refused_transfers_in_change_nothing, transfers_in_mark_what_they_change,
 };
@@ -185,4 +191,31 @@ pub fn memory_is_wanted_only_where_it_may_be()
     ensures { (old new : State) (c : Command) → Step old c Memory new → MayWant old c }
 {
     refused_transfers_in_change_nothing();
+}
+
+/// A new machine is lawful: it has no layouts and no memories, and each of its regions fits.
+pub fn new_machines_are_lawful<R: GuestMemoryRegion, I: Iommu, B: ExactBitmap>()
+    ensures { (host : Host B) (regions : List R) (translators : List I)
+        → IsLawful (state_of R.region I.number B.pages (record {
+          host = host;
+          regions = regions;
+          translators = translators;
+          layouts = [];
+          memories = [];
+        })) }
+{}
+
+/// A run keeps the layouts of a machine layouts, and so the regions of its memories, and `sync` does: at most one
+/// region of a memory has an address.
+pub fn runs_keep_layouts()
+    ensures kept { (old new : State) (cs : List Command) (rs : List Reply) → IsLawful old → Run old cs rs new
+        → IsLawful new }
+    ensures synced { (block : ℕ) (image synced : List ℕ) (old new : State) → IsLawful old
+        → IsSynced block old image new synced → IsLawful new }
+    ensures one_region { (s : State) (m : guest.Memory) (memory a i j : ℕ) (d : Region) → IsLawful s
+        → slice_get s.memories memory ≡ Some m → i < length m.regions → j < length m.regions
+        → has_address (get_or m.regions i d) a ≡ true → has_address (get_or m.regions j d) a ≡ true → i ≡ j }
+{
+    layouts_pass_the_tests();
+    one_region_holds_an_address();
 }
