@@ -58,7 +58,8 @@ impl<R: GuestMemoryRegion, I: Iommu, B: ExactBitmap> Machine<R, I, B> {
 
     pub(super) fn write_slice(&mut self, memory: usize, addr: GuestAddress, bytes: &[u8]) -> Reply
         ensures { let before = state_of R.region I.number B.pages self.old in
-            Step before (command.WriteSlice memory addr bytes.now) result (state_of R.region I.number B.pages self.new) }
+            Step before (command.WriteSlice memory addr bytes.now) result
+            (state_of R.region I.number B.pages self.new) }
     {
         let Some(memory) = self.memories.get(memory) else {
             return Reply::NoSuch;

@@ -29,7 +29,8 @@ impl<R: GuestMemoryRegion, I: Iommu, B: ExactBitmap> Machine<R, I, B> {
         perm: Permissions,
     ) -> Reply
         ensures { let before = state_of R.region I.number B.pages self.old in
-            Step before (command.Set table iova map_to length perm) result (state_of R.region I.number B.pages self.new) }
+            Step before (command.Set table iova map_to length perm) result
+            (state_of R.region I.number B.pages self.new) }
     {
         set_in(&mut self.host, table, iova, map_to, length, perm)
     }
