@@ -41,8 +41,8 @@ pub fn transfers_in_mark_what_they_change()
     marked_bytes_are_dirty();
 }
 
-/// A transfer in that answers an error answers one of the source's failures, or what kept it from reaching any
-/// byte, and then nothing changed.
+/// A transfer in that answers an error answers a failure of its source, or what kept it from reaching any byte. In
+/// the second case nothing changed. After a failure, what came before it and what it wrote over stay.
 pub fn refused_transfers_in_change_nothing()
     ensures { (test : VolatileMemoryError → Bool) (fault : Option GuestMemoryError) (until_full : Bool)
         (xs : List Reached) (next : List Next) (host : Host PageSet) (e : GuestMemoryError)
