@@ -3,7 +3,6 @@ use Rattle.std.proofs.Common.{◌≡◌, ◌⊎◌, ◌++◌, ◌∷◌, [], ℕ
 use Rattle.std.proofs.lemmas.List.{length-map, map-append, map-set}
 use Rattle.std.proofs.lemmas.Option.{slice_get-map, slice_get_cases}
 use Rattle.vm_memory_base.specs.Pages.{PageSet}
-use Rattle.vm_memory_guest.specs.Host.{Host}
 use Rattle.vm_memory_guest.specs.Memory as guest
 use Rattle.vm_memory_guest.specs.Region.{Region}
 use Rattle.vm_memory.specs.Iommu.{Behind}
@@ -63,27 +62,29 @@ module _ {R I B : Type 0} (region : R → Region) (number_of : I → ℕ) (pages
         → Step before (command.Plain place) r (state_of region number_of pages new)
     plain-step r new added = step-added (command.Plain place) (Plain rs) r new (rw layout-there refl) plain-wants added
 
-    module _ (translator space : ℕ) (on : Bool) (i : I) (b : B)
-        (translator-there : slice_get m.translators translator ≡ Some i)
-        (space-there : slice_get m.host.spaces space ≡ Some b) where
+    module _ (translator space : ℕ) (on : Bool) (i : I)
+        (translator-there : slice_get m.translators translator ≡ Some i) (below : space < length m.host.spaces) where
       abbrev made : Command
       made = command.NewMemory place translator space on
 
       table-there : slice_get before.translators translator ≡ Some (number_of i)
       table-there = rw (slice_get-map number_of m.translators translator, translator-there) refl
 
-      pages-there : slice_get before.host.spaces space ≡ Some (pages b)
-      pages-there = rw (slice_get-map pages m.host.spaces space, space-there) refl
+      pages-there : (s : PageSet) × (slice_get before.host.spaces space ≡ Some s)
+      pages-there = elim (slice_get_cases before.host.spaces space).1 [
+        | inl found ↦ (found.0, found.2)
+        | inr past ↦ absurd (omega (arith, past.0, length-map m.host.spaces pages, below))
+      ]
 
       pub made-wants : MayWant before made
-      made-wants = rw (layout-there, table-there, pages-there) (refl, refl, refl)
+      made-wants = rw (layout-there, table-there, pages-there.1) (refl, refl, refl)
 
       pub made-step : (r : Reply) (new : Parts R I B)
           → Added (Translated (record { backend = rs; iommu = i; on = on; space = space })) r new
           → Step before made r (state_of region number_of pages new)
       made-step r new added =
           step-added made (Translated (record { backend = rs; iommu = i; on = on; space = space })) r new
-          (rw (layout-there, table-there, pages-there) refl) made-wants added
+          (rw (layout-there, table-there, pages-there.1) refl) made-wants added
 
     module _ (number : ℕ) (x : Behind (List R) I) (memory-there : slice_get m.memories number ≡ Some (Translated x)) where
       abbrev replaced : Command
@@ -121,11 +122,3 @@ module _ {R I B : Type 0} (region : R → Region) (number_of : I → ℕ) (pages
       map-set (memory_meant region number_of) m.memories memory y
       ∙ ap (λ (p : Reply × MachineMemory R I). slice_set before.memories memory (memory_meant region number_of p.1)) is in
       inl (rw (here, turned, ap (λ (p : Reply × MachineMemory R I). p.0) is) refl)
-
--- a space that is there
-pub space_at : {B : Type 0} (host : Host B) (space : ℕ) → space < length host.spaces
-    → (b : B) × (slice_get host.spaces space ≡ Some b)
-space_at host space below = elim (slice_get_cases host.spaces space).1 [
-  | inl found ↦ (found.0, found.2)
-  | inr past ↦ absurd (omega (arith, past.0, below))
-]

@@ -1,5 +1,5 @@
 -- Transfers of a machine: what they reply, and where they leave the host.
-use Rattle.std.proofs.Common.{◌≡◌, ◌⊎◌, ℕ, ◌+◌, Bool, true, false, cond, List, [], ◌∷◌, ◌++◌, map, take, Option, Some, Err, All, refl, ap, subst, ◌∙◌, sym, zero-add}
+use Rattle.std.proofs.Common.{◌≡◌, ◌⊎◌, ℕ, ◌+◌, Bool, true, false, cond, List, [], ◌∷◌, ◌++◌, map, take, Option, Some, Result, Err, inl, inr, All, refl, ap, subst, ◌∙◌, sym, zero-add}
 use Rattle.std.proofs.lemmas.Bool.{true≢false}
 use Rattle.std.proofs.lemmas.List.Elements.{All-nil, All-cons}
 use Rattle.vm_memory_base.specs.Pages.{PageSet}
@@ -8,6 +8,7 @@ use Rattle.vm_memory_base.specs.Transfer.{Next}
 use Rattle.vm_memory_base.specs.declared.io.VolatileMemoryError.{VolatileMemoryError}
 use Rattle.vm_memory_base.specs.declared.io.VolatileMemoryError.TheVariants.{OutOfBounds, Overflow, TooBig, Misaligned, IOError, PartialBuffer}
 use Rattle.vm_memory_base.specs.declared.io.VolatileMemoryError.TheVariants as window_errors
+use Rattle.vm_memory_base.specs.declared.io.script.SinkStep.{SinkStep}
 use Rattle.vm_memory_base.specs.declared.io.script.SourceStep.{SourceStep}
 use Rattle.vm_memory_base.specs.declared.io.script.SourceStep.TheVariants.{Give, Interrupted, Fail}
 use Rattle.vm_memory_base.specs.declared.iotlb.Permissions.{Permissions}
@@ -24,6 +25,7 @@ use Rattle.vm_memory_guest.specs.Window.{cells}
 use Rattle.vm_memory_guest.specs.declared.region.GuestMemoryError.{GuestMemoryError}
 use Rattle.vm_memory_guest.specs.declared.region.GuestMemoryError.TheVariants as errors
 use Rattle.vm_memory.specs.Reply.{reached_by}
+use Rattle.vm_memory.specs.Transfers.{given_by}
 
 -- whether a source or a sink failed
 abbrev pub is_io : VolatileMemoryError → Bool
@@ -84,7 +86,7 @@ access_cells law regions way a n access each = go (allowed way a n access)
     go false = refl
 
 -- a sink that took the first bytes of the windows of an access took those of its path
-pub taken_is : CellsLaw → (m : Memory) (host : Host PageSet) (a n : ℕ) → All IsRegion m.regions
+taken_is : CellsLaw → (m : Memory) (host : Host PageSet) (a n : ℕ) → All IsRegion m.regions
     → (given count : ℕ) (taken : List ℕ) → given ≡ 0 + count
     → let xs = (reached_by m host.tables a n permissions.Read).path in
     Some taken ≡ Some ([] ++ take count (bytes_at host.blocks (cells (windows xs))))
@@ -96,3 +98,22 @@ taken_is law m host a n each given count taken counts so =
     ∙ ap (λ (cs : List Cell). take count (bytes_at host.blocks cs))
     (access_cells law m.regions (route m host.tables) a n permissions.Read each)
     ∙ ap (λ (k : ℕ). take k (bytes_read xs host)) (sym (counts ∙ zero-add count))
+
+-- what a sink that follows a script was sent, and what it took
+pub sent_is : CellsLaw → (m : Memory) (host : Host PageSet) (a n : ℕ) → All IsRegion m.regions → (sink : List SinkStep)
+    → let reached = reached_by m host.tables a n permissions.Read in let given = given_by reached n sink in
+    (X : Type 0) (answer : Result ℕ GuestMemoryError) (taken : List ℕ)
+    → ((answer ≡ Err errors.Memory) × ⊥) ⊎ ((answer ≡ given.answer) × X)
+    → ((answer ≡ Err errors.Memory) × ⊥)
+    ⊎ ((count : ℕ) × (given.taken ≡ 0 + count)
+    × (Some taken ≡ Some ([] ++ take count (bytes_at host.blocks (cells (windows reached.path))))))
+    → (answer ≡ given.answer) × (taken ≡ take given.taken (bytes_read reached.path host))
+sent_is law m host a n each sink X answer taken computed took =
+    let given = given_by (reached_by m host.tables a n permissions.Read) n sink in
+    elim computed [
+      | inl wanted ↦ absurd wanted.1
+      | inr is ↦ elim took [
+        | inl wanted ↦ absurd wanted.1
+        | inr t ↦ (is.0, taken_is law m host a n each given.taken t.0 taken t.1 t.2)
+      ]
+    ]

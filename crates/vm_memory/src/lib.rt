@@ -16,7 +16,7 @@ pub use vm_memory_base::{
     IotlbFails, IotlbIterator, IovaRange, IovaRangeList, Le16, Le32, Le64, LeSize, LittleEndian,
     LookupError, MappedRange, MemoryRegionAddress, NewBitmap, Permissions, ReadExactFault,
     ReadVolatile, Reason, ScriptSink, ScriptSource, SinkStep, SourceStep, VolatileMemoryError,
-    VolatileMemoryResult, WriteVolatile,
+    VolatileMemoryResult, WriteVolatile, is_interrupted, offer_again,
 };
 pub use vm_memory_guest::{
     BlockId, Bytes, FromRangesError, GuestMemory, GuestMemoryBackend,

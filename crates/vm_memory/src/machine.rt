@@ -15,6 +15,7 @@ pub mod list;
 mod memories;
 pub mod memory;
 mod pages;
+mod parts;
 mod rounds;
 mod tables;
 mod transfers;

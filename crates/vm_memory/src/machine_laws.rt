@@ -53,8 +53,8 @@ use vm_memory_guest::transfer_laws::{
 };
 
 /// A command that is refused, or finds no memory, changes nothing, and neither does a read, a load, a transfer to a
-/// sink, a check or a look-up. A write of all bytes that replies how many fitted is not refused, and neither is a
-/// transfer whose source failed: these were written.
+/// sink, a check or a look-up. A write, a read or a transfer in of all bytes that replies how many fitted is not
+/// refused here, and neither is a transfer whose source failed: bytes may have been written.
 pub fn refusals_change_nothing()
     ensures fault { (old new : State) (c : Command) (f : Fault) → is_partial f ≡ false
         → Step old c (reply.Fault f) new → new ≡ old }

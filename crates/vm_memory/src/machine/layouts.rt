@@ -40,8 +40,7 @@ impl<R: GuestMemoryRegion, I: Iommu, B: ExactBitmap> Machine<R, I, B> {
             Step before (command.Insert layout region) result (state_of R.region I.number B.pages self.new) }
     {
         regions_are_held_one_by_one();
-        let (Some(layout), Some(region)) = (self.layouts.get(layout), self.regions.get(region))
-        else {
+        let (Some(layout), Some(region)) = (self.layout_at(layout), self.region_at(region)) else {
             return Reply::NoSuch;
         };
         let Ok(region) = region.clone() else {
@@ -58,7 +57,7 @@ impl<R: GuestMemoryRegion, I: Iommu, B: ExactBitmap> Machine<R, I, B> {
             Step before (command.Remove layout base size) result (state_of R.region I.number B.pages self.new) }
     {
         regions_are_held_one_by_one();
-        let Some(old) = self.layouts.get(layout) else {
+        let Some(old) = self.layout_at(layout) else {
             return Reply::NoSuch;
         };
         match old.remove_region(base, size) {

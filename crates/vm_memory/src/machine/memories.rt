@@ -19,7 +19,7 @@ impl<R: GuestMemoryRegion, I: Iommu, B: ExactBitmap> Machine<R, I, B> {
         ensures { let before = state_of R.region I.number B.pages self.old in
             Step before (command.Plain layout) result (state_of R.region I.number B.pages self.new) }
     {
-        let Some(layout) = self.layouts.get(layout) else {
+        let Some(layout) = self.layout_at(layout) else {
             return Reply::NoSuch;
         };
         let Ok(layout) = layout.clone() else {
@@ -41,12 +41,12 @@ impl<R: GuestMemoryRegion, I: Iommu, B: ExactBitmap> Machine<R, I, B> {
     {
         names_are_held_one_by_one();
         let (Some(layout), Some(translator)) = (
-            self.layouts.get(layout),
-            self.translators.get(translator),
+            self.layout_at(layout),
+            self.translator_at(translator),
         ) else {
             return Reply::NoSuch;
         };
-        if !self.host.shape().has_space(SpaceId(space)) {
+        if !self.has_space(space) {
             return Reply::NoSuch;
         }
         let Ok(layout) = layout.clone() else {
@@ -65,8 +65,7 @@ impl<R: GuestMemoryRegion, I: Iommu, B: ExactBitmap> Machine<R, I, B> {
             (state_of R.region I.number B.pages self.new) }
     {
         names_are_held_one_by_one();
-        let (Some(memory), Some(layout)) = (self.memories.get(memory), self.layouts.get(layout))
-        else {
+        let (Some(memory), Some(layout)) = (self.memory_at(memory), self.layout_at(layout)) else {
             return Reply::NoSuch;
         };
         let Some(memory) = memory.translated() else {

@@ -37,6 +37,13 @@ pub(super) fn parse(
             memory: words.index()?,
             on: words.switch()?,
         },
+        _ => return access(alloc, word, words),
+    })
+}
+
+// A command that moves bytes of a memory.
+fn access(alloc: Global, word: &str, words: &mut Words<'_>) -> Result<Command, LineError> {
+    Ok(match word {
         "read" => Command::Read {
             memory: words.index()?,
             addr: words.address()?,
@@ -68,6 +75,13 @@ pub(super) fn parse(
             width: words.width()?,
             addr: words.address()?,
         },
+        _ => return transfer(alloc, word, words),
+    })
+}
+
+// A command that moves bytes between a memory and a source or a sink.
+fn transfer(alloc: Global, word: &str, words: &mut Words<'_>) -> Result<Command, LineError> {
+    Ok(match word {
         "from" => Command::ReadFrom {
             memory: words.index()?,
             addr: words.address()?,
@@ -92,6 +106,13 @@ pub(super) fn parse(
             count: words.index()?,
             sink: words.sink(alloc)?,
         },
+        _ => return other(word, words),
+    })
+}
+
+// A command on a range, a copy between blocks, or one on a table or a bitmap.
+fn other(word: &str, words: &mut Words<'_>) -> Result<Command, LineError> {
+    Ok(match word {
         "check" => Command::CheckRange {
             memory: words.index()?,
             addr: words.address()?,

@@ -1,58 +1,39 @@
-use Rattle.std.proofs.Common.{◌≡◌, Some, Err, map, slice_get, ap, subst, sym, ◌∙◌}
+use Rattle.std.proofs.Common.{Err, map, ap, subst, sym, ◌∙◌}
 use Rattle.vm_memory_guest.specs.Host.{Holds, shape_of}
 use Rattle.vm_memory_guest.specs.Region.{Region, region_names}
 use Rattle.vm_memory_guest.specs.declared.region.GuestRegionCollectionError.{GuestRegionCollectionError}
 use Rattle.vm_memory.specs.Machine.{Step}
-use Rattle.vm_memory.specs.Parts.{Parts, HoldsRegions, state_of}
+use Rattle.vm_memory.specs.Parts.{state_of}
 use Rattle.vm_memory.specs.declared.machine.command.Command.TheVariants as command
 use Rattle.vm_memory.specs.declared.machine.command.Reply.{Reply}
 use Rattle.vm_memory.proofs.LayoutLemmas.{All-removed_values, remove-step, remove-refused}
-use Rattle.vm_memory.proofs.ListLemmas.{item_at, All-slice_get}
 use Rattle.vm_memory.proofs.machine.Machine.remove.Goals as goal
 
 pub add_layout-requires : goal.add_layout-requires
 add_layout-requires g c =
-    let inside = c.self.inside in
+    let m = c.args.self.now in
     let region = g.R.GuestMemoryRegion.region in
-    let each = c.regions_are_held_one_by_one.ensures.each (shape_of inside.host) in
-    let P : Region → Type 0 = λ r. Holds (shape_of inside.host) (region_names r) in
+    let each = c.regions_are_held_one_by_one.ensures.each (shape_of m.host) in
+    let P : Region → Type 0 = λ r. Holds (shape_of m.host) (region_names r) in
     let rs = c.in-Some.old.now in
-    let there : slice_get inside.layouts.items c.args.layout ≡ Some rs =
-    item_at inside.layouts.items c.deref.result.now c.args.layout c.in-Some.old
-    c.deref.ensures.value c.in-Some.ensures.lookup in
-    let layout = All-slice_get (HoldsRegions region inside.host) inside.layouts.items c.args.layout rs there c.self.invariant.layouts in
     let rest = All-removed_values region P rs c.in-Ok.layout c.in-Ok.field-0-1.value c.args.base.0 c.args.size
-    c.in-Ok.ensures.ok ((each (map region rs)).0 layout) in
-    let names = (each (map region c.in-Ok.layout)).1 rest in
-    subst (λ (m : Parts g.row.R.Denot g.row.I.Denot g.row.B.Denot). HoldsRegions region m.host c.in-Ok.layout) c.self.view_is names
+    c.in-Ok.ensures.ok ((each (map region rs)).0 c.in-Some.ensures.held) in
+    (each (map region c.in-Ok.layout)).1 rest
 
 pub returns-in-Ok : goal.returns-in-Ok
 returns-in-Ok g c =
-    let inside = c.self.inside in
-    let region = g.R.GuestMemoryRegion.region in
-    let m = c.args.self.now in
-    let rs = c.in-Some.old.now in
-    let there : slice_get m.layouts c.args.layout ≡ Some rs =
-    subst (λ (p : Parts g.row.R.Denot g.row.I.Denot g.row.B.Denot). slice_get p.layouts c.args.layout ≡ Some rs) c.self.view_is
-    (item_at inside.layouts.items c.deref.result.now c.args.layout c.in-Some.old
-    c.deref.ensures.value c.in-Some.ensures.lookup) in
-    remove-step region g.I.Iommu.number g.B.ExactBitmap.pages m c.args.layout c.args.base c.args.size rs there
-    c.in-Ok.layout c.in-Ok.field-0-1.value c.add_layout.result c.add_layout.new.self
-    c.in-Ok.ensures.ok c.add_layout.ensures
+    remove-step g.R.GuestMemoryRegion.region g.I.Iommu.number g.B.ExactBitmap.pages c.args.self.now c.args.layout
+    c.args.base c.args.size c.in-Some.old.now (sym c.in-Some.ensures.found) c.in-Ok.layout c.in-Ok.field-0-1.value
+    c.add_layout.result c.add_layout.new.self c.in-Ok.ensures.ok c.add_layout.ensures
 
 pub returns : goal.returns
 returns g c =
-    let inside = c.self.inside in
     let region = g.R.GuestMemoryRegion.region in
     let m = c.args.self.now in
-    let rs = c.in-Some.old.now in
-    let there : slice_get m.layouts c.args.layout ≡ Some rs =
-    subst (λ (p : Parts g.row.R.Denot g.row.I.Denot g.row.B.Denot). slice_get p.layouts c.args.layout ≡ Some rs) c.self.view_is
-    (item_at inside.layouts.items c.deref.result.now c.args.layout c.in-Some.old
-    c.deref.ensures.value c.in-Some.ensures.lookup) in
     let before = state_of region g.I.Iommu.number g.B.ExactBitmap.pages m in
     let e = c.in-Err.error in
-    let refused = remove-refused region g.I.Iommu.number g.B.ExactBitmap.pages m c.args.layout c.args.base c.args.size rs there e
+    let refused = remove-refused region g.I.Iommu.number g.B.ExactBitmap.pages m c.args.layout c.args.base c.args.size
+    c.in-Some.old.now (sym c.in-Some.ensures.found) e
     (λ is. c.remove_region.ensures.none.0 (c.in-Err.is ∙ ap (λ (x : GuestRegionCollectionError). Err x) is))
     (λ none. let is = c.in-Err.ensures.none.1 none in cc)
     c.in-Err.ensures.errors in

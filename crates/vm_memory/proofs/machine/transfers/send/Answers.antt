@@ -6,9 +6,9 @@ use Rattle.vm_memory_guest.specs.Access.{windows}
 use Rattle.vm_memory_guest.specs.Dirt.{with_pages}
 use Rattle.vm_memory_guest.specs.Error.{error_of}
 use Rattle.vm_memory.specs.Reply.{reached_by, reply_of}
-use Rattle.vm_memory.specs.Transfers.{beside_taken, given_by}
+use Rattle.vm_memory.specs.Transfers.{beside_taken}
 use Rattle.vm_memory.specs.declared.machine.command.Reply.TheVariants as reply
-use Rattle.vm_memory.proofs.TransferLemmas.{taken_is}
+use Rattle.vm_memory.proofs.TransferLemmas.{sent_is}
 use Rattle.vm_memory.proofs.machine.transfers.send.Goals as goal
 
 pub returns : goal.returns
@@ -32,18 +32,14 @@ returns g c =
           inr
           (c.with_taken.ensures
           ∙ ap (beside_taken c.into_taken.result.items) (c.counted-reply.ensures ∙ ap (reply_of reply.Count) wanted.0))
-      | inr so ↦ elim (c.transfers_out_are_computed.ensures fault ws 0 state sink sent host.blocks c.write_volatile_to.result tells so) [
-        | inl wanted ↦ absurd wanted.1
-        | inr is ↦ elim (c.sinks_take_what_is_computed.ensures fault ws 0 state [] sink sent host.blocks c.write_volatile_to.result tells keeps so) [
-          | inl wanted ↦ absurd wanted.1
-          | inr took ↦
-              (let given = given_by reached n c.args.steps.now in
-              let taken = taken_is c.windows_are_the_path.ensures.bytes m before a n each given.taken took.0 sent.taken
-              took.1 took.2 in
-              inl
-              (c.with_taken.ensures
-              ∙ ap₂ beside_taken (c.into_taken.ensures ∙ taken)
-              (c.counted-reply.ensures ∙ ap (reply_of reply.Count) is.0)))
-        ]
-      ]
+      | inr so ↦
+          (let sent_so = sent_is c.windows_are_the_path.ensures.bytes m before a n each c.args.steps.now _
+          c.write_volatile_to.result sent.taken
+          (c.transfers_out_are_computed.ensures fault ws 0 state sink sent host.blocks c.write_volatile_to.result tells so)
+          (c.sinks_take_what_is_computed.ensures fault ws 0 state [] sink sent host.blocks c.write_volatile_to.result tells
+          keeps so) in
+          inl
+          (c.with_taken.ensures
+          ∙ ap₂ beside_taken (c.into_taken.ensures ∙ sent_so.1)
+          (c.counted-reply.ensures ∙ ap (reply_of reply.Count) sent_so.0)))
     ]

@@ -9,10 +9,10 @@ use Rattle.vm_memory_guest.specs.Transfer.{all_of}
 use Rattle.vm_memory_guest.specs.declared.region.GuestMemoryError.{GuestMemoryError}
 use Rattle.vm_memory_guest.specs.declared.region.GuestMemoryError.TheVariants as errors
 use Rattle.vm_memory.specs.Reply.{reached_by, reply_of}
-use Rattle.vm_memory.specs.Transfers.{beside_taken, given_by}
+use Rattle.vm_memory.specs.Transfers.{beside_taken}
 use Rattle.vm_memory.specs.declared.machine.command.Reply.{Reply}
 use Rattle.vm_memory.specs.declared.machine.command.Reply.TheVariants as reply
-use Rattle.vm_memory.proofs.TransferLemmas.{taken_is}
+use Rattle.vm_memory.proofs.TransferLemmas.{sent_is}
 use Rattle.vm_memory.proofs.machine.transfers.send_whole.Goals as goal
 
 pub returns : goal.returns
@@ -39,18 +39,12 @@ returns g c =
           inr
           (c.with_taken.ensures
           ∙ ap (beside_taken c.into_taken.result.items) (c.done-reply.ensures ∙ ap told wanted.0))
-      | inr so ↦ elim (c.transfers_out_are_computed.ensures fault ws 0 state sink sent host.blocks so.0 tells so.2) [
-        | inl wanted ↦ absurd wanted.1
-        | inr is ↦ elim (c.sinks_take_what_is_computed.ensures fault ws 0 state [] sink sent host.blocks so.0 tells keeps so.2) [
-          | inl wanted ↦ absurd wanted.1
-          | inr took ↦
-              (let given = given_by reached n c.args.steps.now in
-              let taken = taken_is c.windows_are_the_path.ensures.bytes m before a n each given.taken took.0 sent.taken
-              took.1 took.2 in
-              inl
-              (c.with_taken.ensures
-              ∙ ap₂ beside_taken (c.into_taken.ensures ∙ taken)
-              (c.done-reply.ensures ∙ ap told so.1 ∙ ap whole is.0)))
-        ]
-      ]
+      | inr so ↦
+          (let sent_so = sent_is c.windows_are_the_path.ensures.bytes m before a n each c.args.steps.now _ so.0 sent.taken
+          (c.transfers_out_are_computed.ensures fault ws 0 state sink sent host.blocks so.0 tells so.2)
+          (c.sinks_take_what_is_computed.ensures fault ws 0 state [] sink sent host.blocks so.0 tells keeps so.2) in
+          inl
+          (c.with_taken.ensures
+          ∙ ap₂ beside_taken (c.into_taken.ensures ∙ sent_so.1)
+          (c.done-reply.ensures ∙ ap told so.1 ∙ ap whole sent_so.0)))
     ]
