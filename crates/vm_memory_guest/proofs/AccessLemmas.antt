@@ -1,7 +1,7 @@
 -- Moves between a buffer and the windows of a walk, one after the other, and what they answer.
 use Rattle.std.specs.List.{AllByRecursion}
 use Rattle.std.specs.Prelude.{is_none}
-use Rattle.std.proofs.Common.{◌≡◌, ◌⊎◌, ℕ, Bool, true, false, ◌+◌, ◌-◌, ◌<◌, ◌≤◌, ◌≢◌, List, [], ◌∷◌, ◌++◌, map, take, drop, length, All, Option, Some, None, option_map, Result, Ok, Err, OnSome, MatchOption, IfOk, refl, sym, ap, ap₂, subst, ◌∙◌, inl, inr, append_assoc, append-nil, take-append-drop, length-take-le, length-drop, arith}
+use Rattle.std.proofs.Common.{MatchResult, ◌≡◌, ◌⊎◌, ℕ, Bool, true, false, ◌+◌, ◌-◌, ◌<◌, ◌≤◌, ◌≢◌, List, [], ◌∷◌, ◌++◌, map, take, drop, length, All, Option, Some, None, option_map, Result, Ok, Err, OnSome, MatchOption, IfOk, refl, sym, ap, ap₂, subst, ◌∙◌, inl, inr, append_assoc, append-nil, take-append-drop, length-take-le, length-drop, arith}
 use Rattle.std.proofs.lemmas.Bool.{cond_both}
 use Rattle.std.proofs.lemmas.Bool.Decides.{nat_tests}
 use borrow.Rule.Slice.PartMut.{put_mid}
@@ -304,6 +304,12 @@ outcome-refused memory tables a n access unchanged Effect e why kept done = elim
       let some = asked_some (reached memory tables a n access).fault n e (reached-asked memory tables a n access) (ap (λ (r : Reach GuestMemoryError). r.fault) is) in
       inr (subst (λ (r : Reach GuestMemoryError). Err e ≡ counted (span r.windows) r.fault n) (sym is) (counted-none 0 n e refl some), subst (λ (y : Reach GuestMemoryError). Effect y.windows) (sym is) done)
 ]
+
+-- what holds of each walk that an access gives holds of the walk in an answer
+pub of_given : (G P : Reach Fault → Type 0) (R : GuestMemoryError → Type 0) (r : Result (Reach Fault) GuestMemoryError)
+    → MatchResult r G R → ((walk : Reach Fault) → G walk → P walk) → IfOk r P
+of_given G P R (Ok walk) gives all = all walk gives
+of_given G P R (Err e) gives all = tt
 
 -- what a walk gave first
 pub gave-window : (walk next : Reach Fault) (w : Window) → items_of walk ≡ Ok w ∷ items_of next → walk.windows ≡ w ∷ next.windows

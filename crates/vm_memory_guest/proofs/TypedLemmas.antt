@@ -11,7 +11,7 @@ use Rattle.vm_memory_guest.specs.Host.{Cell, Host, Shape, shape_of, block_at, by
 use Rattle.vm_memory_guest.specs.Inside.{IsSound, blocks_of}
 use Rattle.vm_memory_guest.specs.Window.{Window, MarksWindow, Writes, cells, cells_of, span}
 use Rattle.vm_memory_guest.proofs.MarkLaws.{Writes-one}
-use Rattle.vm_memory_guest.proofs.WrittenLaws.{written-block, written-take, lengths-written, length-cells_from}
+use Rattle.vm_memory_guest.proofs.WrittenLaws.{bytes_at-block, written-block, written-take, lengths-written, length-cells_from}
 
 -- a block of which a part is replaced by as many bytes
 block-put : (blocks : Vec (Vec ℕ Global) Global) (block offset len : ℕ) (all : Vec ℕ Global) (old bytes : List ℕ)
@@ -39,23 +39,32 @@ block-put blocks block offset len all old bytes there is same long within =
     ∙ ap (set (blocks_of blocks) block) (with_items_is all new kept)
     ∙ (sym (written-block block offset bytes (blocks_of blocks) there here) ∙ ap (λ (n : ℕ). written (cells_from block offset n) bytes (blocks_of blocks)) long))
 
--- the part of a block that lies at a place has as many bytes
-pub place-long : (block : List ℕ) (offset len : ℕ) → offset + len ≤ length block → length (take (offset + len - offset) (drop offset block)) ≡ len
-place-long block offset len within =
-    let rest = length-drop offset block in
-    let enough : offset + len - offset ≤ length (drop offset block) = omega arith in
-    let long = length-take-le (offset + len - offset) (drop offset block) enough in
-    omega arith
+-- a part of a block that is lent to change: its bytes, how many, and what the blocks are once it was changed
+module _ (blocks : Vec (Vec ℕ Global) Global) (block offset len : ℕ) (all : Vec ℕ Global) (old : List ℕ) where
+  abbrev there_lent : List ℕ
+  there_lent = take (offset + len - offset) (drop offset old)
 
--- a block whose part at a place was changed
-pub place-put : (blocks : Vec (Vec ℕ Global) Global) (block offset len : ℕ) (all : Vec ℕ Global) (old bytes : List ℕ)
-    → block < length (blocks_of blocks) → all.items ≡ block_at (blocks_of blocks) block → old ≡ all.items
-    → offset + len ≤ length (block_at (blocks_of blocks) block) → length bytes ≡ length (take (offset + len - offset) (drop offset old))
-    → blocks_of (with_item blocks block (with_items all (take offset old ++ (bytes ++ drop (offset + len - offset) (drop offset old)))))
-    ≡ written (cells_from block offset len) bytes (blocks_of blocks)
-place-put blocks block offset len all old bytes there is same within kept =
-    let whole : length old ≡ length (block_at (blocks_of blocks) block) = ap length (same ∙ is) in
-    block-put blocks block offset len all old bytes there is same (kept ∙ place-long old offset len (omega arith)) within
+  pub record Place : Type 0 where
+    pub lent : there_lent ≡ bytes_at (blocks_of blocks) (cells_from block offset len)
+    pub long : length there_lent ≡ len
+    pub put : (bytes : List ℕ) → length bytes ≡ length there_lent
+        → blocks_of (with_item blocks block (with_items all (take offset old ++ (bytes ++ drop (offset + len - offset) (drop offset old)))))
+        ≡ written (cells_from block offset len) bytes (blocks_of blocks)
+
+  pub place : block < length (blocks_of blocks) → all.items ≡ block_at (blocks_of blocks) block → old ≡ all.items
+      → offset + len ≤ length (block_at (blocks_of blocks) block) → Place
+  place there is same within =
+      let whole : length old ≡ length (block_at (blocks_of blocks) block) = ap length (same ∙ is) in
+      let rest = length-drop offset old in
+      let enough : offset + len - offset ≤ length (drop offset old) = omega arith in
+      let taken = length-take-le (offset + len - offset) (drop offset old) enough in
+      let long : length there_lent ≡ len = omega arith in
+      let count : offset + len - offset ≡ len = omega arith in
+      record {
+        lent = rw (count, same, is) (sym (bytes_at-block block offset len (blocks_of blocks) within));
+        long = long;
+        put = λ bytes kept. block-put blocks block offset len all old bytes there is same (kept ∙ long) within;
+      }
 
 -- a host whose blocks are as long as before is as sound
 pub sound-put : {B : Type 0} (shape : Shape) (old new : List (List ℕ)) (bitmaps spaces : List B) (tables : List Table) → map length new ≡ map length old

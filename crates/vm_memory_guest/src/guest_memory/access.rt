@@ -1,5 +1,5 @@
 //! Access to bytes of guest memory, by guest address.
-ghost use Rattle.std.specs.Prelude.{◌≡◌, ◌-◌, ◌^◌, ◌<◌, ◌≤◌, min, length, OnSome, Ok, Err, option_map, ◌==◌, if◌then◌else◌};
+ghost use Rattle.std.specs.Prelude.{◌≡◌, ◌⊎◌, ◌-◌, ◌^◌, ◌<◌, ◌≤◌, min, length, IfOk, MatchResult, OnSome, Ok, Err, option_map, ◌==◌, if◌then◌else◌};
 ghost use Rattle.std.specs.List.{AllByRecursion};
 ghost use Rattle.vm_memory_guest.specs.Access.{access_of, windows};
 ghost use Rattle.vm_memory_guest.specs.Host.{shape_of, Holds};
@@ -9,7 +9,7 @@ ghost use Rattle.vm_memory_guest.specs.Memory.{IsOn, route};
 ghost use Rattle.vm_memory_guest.specs.Transfer.{UntilWhole};
 ghost use Rattle.vm_memory_guest.specs.Typed.{first_aligned, place_of};
 ghost use Rattle.vm_memory_guest.specs.TypedFacts.{first-sized};
-ghost use Rattle.vm_memory_guest.specs.Walk.{reached};
+ghost use Rattle.vm_memory_guest.specs.Walk.{reached, GivesAccess, RefusesAccess, WantsMemory};
 ghost use Rattle.vm_memory_guest.specs.Window.{span, cells, window_names, Writes};
 ghost use Rattle.vm_memory_guest.specs.declared.region.GuestMemoryError.TheVariants as errors;
 
@@ -56,7 +56,7 @@ impl<T: GuestMemory> Bytes<GuestAddress> for T {
         buf: &[u8],
         addr: GuestAddress,
     ) -> GuestMemoryResult<usize> {
-        let walk = self.get_slices(host, addr, buf.len(), Permissions::Write)?;
+        let walk = windows_of(self, host, addr, buf.len(), Permissions::Write)?;
         write_windows(walk, host, buf)
     }
 
@@ -67,7 +67,7 @@ impl<T: GuestMemory> Bytes<GuestAddress> for T {
         buf: &mut [u8],
         addr: GuestAddress,
     ) -> GuestMemoryResult<usize> {
-        let walk = self.get_slices(host, addr, buf.len(), Permissions::Read)?;
+        let walk = windows_of(self, host, addr, buf.len(), Permissions::Read)?;
         read_windows(walk, host, buf)
     }
 
@@ -101,7 +101,7 @@ impl<T: GuestMemory> Bytes<GuestAddress> for T {
         val: V,
         addr: GuestAddress,
     ) -> GuestMemoryResult<()> {
-        let walk = self.get_slices(host, addr, V::size(), Permissions::Write)?;
+        let walk = windows_of(self, host, addr, V::size(), Permissions::Write)?;
         let completed = write_value(walk, host, &val)?;
         whole(V::size(), completed)
     }
@@ -112,7 +112,7 @@ impl<T: GuestMemory> Bytes<GuestAddress> for T {
         host: &HostMemory<B>,
         addr: GuestAddress,
     ) -> GuestMemoryResult<V> {
-        let walk = self.get_slices(host, addr, V::size(), Permissions::Read)?;
+        let walk = windows_of(self, host, addr, V::size(), Permissions::Read)?;
         let mut value = V::zeroed();
         let completed = read_value(walk, host, &mut value)?;
         whole(V::size(), completed)?;
@@ -129,7 +129,7 @@ impl<T: GuestMemory> Bytes<GuestAddress> for T {
         _order: Ordering,
     ) -> GuestMemoryResult<()> {
         let size = V::size();
-        let walk = self.get_slices(host, addr, size, Permissions::Write)?;
+        let walk = windows_of(self, host, addr, size, Permissions::Write)?;
         let window = first_window(walk, size)?;
         host.write_value(&window, &val, 0);
         Ok(())
@@ -143,7 +143,7 @@ impl<T: GuestMemory> Bytes<GuestAddress> for T {
         _order: Ordering,
     ) -> GuestMemoryResult<V> {
         let size = V::size();
-        let walk = self.get_slices(host, addr, size, Permissions::Read)?;
+        let walk = windows_of(self, host, addr, size, Permissions::Read)?;
         let window = first_window(walk, size)?;
         Ok(host.value(&window))
     }
@@ -155,7 +155,7 @@ impl<T: GuestMemory> Bytes<GuestAddress> for T {
         src: &mut F,
         count: usize,
     ) -> GuestMemoryResult<usize> {
-        let walk = self.get_slices(host, addr, count, Permissions::Write)?;
+        let walk = windows_of(self, host, addr, count, Permissions::Write)?;
         receive_windows(walk, host, src, false)
     }
 
@@ -166,7 +166,7 @@ impl<T: GuestMemory> Bytes<GuestAddress> for T {
         src: &mut F,
         count: usize,
     ) -> GuestMemoryResult<()> {
-        let windows = self.get_slices(host, addr, count, Permissions::Write)?;
+        let windows = windows_of(self, host, addr, count, Permissions::Write)?;
         let completed = receive_windows(windows, host, src, true)?;
         whole(count, completed)
     }
@@ -178,7 +178,7 @@ impl<T: GuestMemory> Bytes<GuestAddress> for T {
         dst: &mut F,
         count: usize,
     ) -> GuestMemoryResult<usize> {
-        let walk = self.get_slices(host, addr, count, Permissions::Read)?;
+        let walk = windows_of(self, host, addr, count, Permissions::Read)?;
         send_windows(walk, host, dst)
     }
 
@@ -189,7 +189,7 @@ impl<T: GuestMemory> Bytes<GuestAddress> for T {
         dst: &mut F,
         count: usize,
     ) -> GuestMemoryResult<()> {
-        let walk = self.get_slices(host, addr, count, Permissions::Read)?;
+        let walk = windows_of(self, host, addr, count, Permissions::Read)?;
         let completed = send_windows(walk, host, dst)?;
         whole(count, completed)
     }
@@ -197,6 +197,27 @@ impl<T: GuestMemory> Bytes<GuestAddress> for T {
     ghost place_has_all = { λ m tables addr size access.
         let reached = access_of (T.memory m).regions (route (T.memory m) tables) addr.0 size access in
         first-sized size (windows reached.path) (option_map error_of reached.fault) };
+}
+
+// The walk of an access: at most as many bytes as are asked for, in windows that the host holds.
+#[inline(always)]
+fn windows_of<'m, M: GuestMemory, B: Bitmap>(
+    memory: &'m M,
+    host: &HostMemory<B>,
+    addr: GuestAddress,
+    count: usize,
+    access: Permissions,
+) -> GuestMemoryResult<IommuMemorySliceIterator<'m, M::PhysicalMemory>>
+    requires { Holds (shape_of host.now) (M.names memory.now) }
+    ensures answer { let m = M.memory memory.now in MatchResult result
+        (GivesAccess m host.now.tables addr.0 count access)
+        (λ e. WantsMemory m e ⊎ RefusesAccess m host.now.tables addr.0 count access e) }
+    ensures held { IfOk result
+        (λ walk. AllByRecursion (λ w. Holds (shape_of host.now) (window_names w)) walk.windows) }
+    ensures fits { IfOk result (λ walk. span walk.windows ≤ count) }
+    ensures asked { IfOk result (λ walk. OnSome walk.fault (0 < count)) }
+{
+    memory.get_slices(host, addr, count, access)
 }
 
 // Moves the buffer into the windows that a walk gives, one after the other, up to an error.

@@ -1,10 +1,8 @@
-use Rattle.std.proofs.Common.{◌≡◌, ◌∙◌, Err, ap, inr, sym, arith}
+use Rattle.std.proofs.Common.{◌≡◌, ◌∙◌, Err, ap, inr, sym}
 use Rattle.std.proofs.lemmas.Result.{err_from_is_err_and}
 use Rattle.vm_memory_base.specs.declared.iotlb.Permissions.TheVariants.{Write}
-use Rattle.vm_memory_guest.specs.Host.{shape_of}
 use Rattle.vm_memory_guest.specs.Transfer.{Fills, UntilWhole, all_of}
 use Rattle.vm_memory_guest.specs.declared.region.GuestMemoryError.TheVariants as errors
-use Rattle.vm_memory_guest.proofs.AccessLemmas.{walk-held, walk-fits}
 use Rattle.vm_memory_guest.proofs.OrderLemmas.{transfers-refused-whole, walk-order}
 use Rattle.vm_memory_guest.proofs.guest_memory.access.AnyBytesGuestAddress.read_exact_volatile_from.Goals as goal
 
@@ -12,15 +10,6 @@ pub returns-in_err-windows-clause-answer : goal.returns-in_err-windows-clause-an
 returns-in_err-windows-clause-answer g c =
     let p = err_from_is_err_and c.from_residual.result c.from_residual.ensures.1 in
     rw (p.1, p.2) (transfers-refused-whole (g.T.GuestMemory.memory c.args.self.now) c.args.host.now.tables c.args.addr.0 c.args.count Write (Fills g.F.ReadVolatile.source g.F.ReadVolatile.known_left g.B.Bitmap.marks UntilWhole) (c.args.src.now, c.args.host.now) c.in_err-windows.field-0.0 c.in_err-windows.ensures.answer)
-
-pub receive_windows-requires-clause-held : goal.receive_windows-requires-clause-held
-receive_windows-requires-clause-held g c =
-    walk-held (g.T.GuestMemory.memory c.args.self.now) c.args.host.now.tables c.args.addr.0 c.args.count Write c.in_ok-windows.windows c.in_ok-windows.ensures.answer (shape_of c.args.host.now) (g.T.Named.names c.args.self.now) (g.met.T.GuestMemory.each_fits c.args.self.now) (g.met.T.GuestMemory.names_memory c.args.self.now) c.requires
-
-pub receive_windows-requires-clause-fits : goal.receive_windows-requires-clause-fits
-receive_windows-requires-clause-fits g c =
-    let fits = walk-fits (g.T.GuestMemory.memory c.args.self.now) c.args.host.now.tables c.args.addr.0 c.args.count Write c.in_ok-windows.windows c.in_ok-windows.ensures.answer in
-    omega (arith, c.ranges.count.fits)
 
 pub returns-in_err-completed-clause-answer : goal.returns-in_err-completed-clause-answer
 returns-in_err-completed-clause-answer g c =

@@ -1,15 +1,14 @@
-use Rattle.std.proofs.Common.{◌≡◌, ◌⊎◌, ◌≤◌, [], ◌∙◌, ap, sym, subst, arith, length}
+use Rattle.std.proofs.Common.{◌≡◌, ◌⊎◌, [], ◌∙◌, ap, sym, subst, arith, length}
 use Rattle.std.proofs.lemmas.Result.{err_from_is_err_and}
 use Rattle.std.proofs.lemmas.List.{length-replicate}
 use Rattle.vm_memory_base.specs.declared.iotlb.Permissions.TheVariants.{Read}
 use Rattle.vm_memory_guest.specs.Answer.{exactly}
-use Rattle.vm_memory_guest.specs.Host.{bytes_at, shape_of}
+use Rattle.vm_memory_guest.specs.Host.{bytes_at}
 use Rattle.vm_memory_guest.specs.Typed.{answered}
 use Rattle.vm_memory_guest.specs.Walk.{GivesAccess, RefusesAccess, WantsMemory}
 use Rattle.vm_memory_guest.specs.Window.{cells, span}
 use Rattle.vm_memory_guest.specs.declared.region.GuestMemoryError.TheVariants.{PartialBuffer}
-use Rattle.vm_memory_guest.proofs.AccessLemmas.{walk-held, walk-fits, walk-asked}
-use Rattle.vm_memory_guest.proofs.TypedWalk.{asked-of, exactly-none, completed-whole, value-read, value-refused}
+use Rattle.vm_memory_guest.proofs.TypedWalk.{exactly-none, completed-whole, value-read, value-refused}
 use Rattle.vm_memory_guest.proofs.guest_memory.access.AnyBytesGuestAddress.read_obj.Goals as goal
 
 pub returns-in_err-walk : goal.returns-in_err-walk
@@ -21,17 +20,6 @@ returns-in_err-walk g c short =
     let width : c.size.result ≡ g.V.ByteSized.width = omega (arith, c.size.ensures) in
     let why = subst (λ n. WantsMemory memory e ⊎ RefusesAccess memory host.tables c.args.addr.0 n Read e) width c.in_err-walk.ensures.answer in
     rw (p.1, p.2) (value-refused memory host.tables c.args.addr.0 g.V.ByteSized.width Read (λ r. answered (λ done. g.V.ByteValued.value_of (bytes_at host.blocks (cells r.windows))) (exactly PartialBuffer (span r.windows) r.fault g.V.ByteSized.width)) (Unit {0}) (λ ws. Unit {0}) e why (λ some. ap (answered (λ done. g.V.ByteValued.value_of [])) (exactly-none g.V.ByteSized.width e some)) tt tt)
-
-pub read_value-requires-clause-held : goal.read_value-requires-clause-held
-read_value-requires-clause-held g c =
-    walk-held (g.T.GuestMemory.memory c.args.self.now) c.args.host.now.tables c.args.addr.0 c.size.result Read c.in_ok-walk.walk c.in_ok-walk.ensures.answer (shape_of c.args.host.now) (g.T.Named.names c.args.self.now) (g.met.T.GuestMemory.each_fits c.args.self.now) (g.met.T.GuestMemory.names_memory c.args.self.now) c.requires
-
-pub read_value-requires-clause-fits : goal.read_value-requires-clause-fits
-read_value-requires-clause-fits g c = subst (λ n. span c.in_ok-walk.walk.windows ≤ n) c.size.ensures (walk-fits (g.T.GuestMemory.memory c.args.self.now) c.args.host.now.tables c.args.addr.0 c.size.result Read c.in_ok-walk.walk c.in_ok-walk.ensures.answer)
-
-pub read_value-requires-clause-asked : goal.read_value-requires-clause-asked
-read_value-requires-clause-asked g c =
-    asked-of c.in_ok-walk.walk.fault c.size.result g.V.ByteSized.width c.size.ensures (walk-asked (g.T.GuestMemory.memory c.args.self.now) c.args.host.now.tables c.args.addr.0 c.size.result Read c.in_ok-walk.walk c.in_ok-walk.ensures.answer)
 
 pub returns : goal.returns
 returns g c short =

@@ -5,7 +5,6 @@ use Rattle.vm_memory_guest.specs.Error.{error_of}
 use Rattle.vm_memory_guest.specs.Host.{Holds, shape_of}
 use Rattle.vm_memory_guest.specs.Walk.{RefusesAccess, WantsMemory}
 use Rattle.vm_memory_guest.specs.Window.{Writes, window_names}
-use Rattle.vm_memory_guest.proofs.AccessLemmas.{walk-held}
 use Rattle.vm_memory_guest.proofs.TypedWalk.{first-held, typed-refused}
 use Rattle.vm_memory_guest.proofs.guest_memory.access.AnyBytesGuestAddress.store.Goals as goal
 
@@ -24,5 +23,5 @@ write_value-requires-clause-held g c =
     let memory = g.T.GuestMemory.memory c.args.self.now in
     let host = c.args.host.now in
     let walk = c.in_ok-walk.walk in
-    let each = walk-held memory host.tables c.args.addr.0 c.size-size.result Write walk c.in_ok-walk.ensures.answer (shape_of host) (g.T.Named.names c.args.self.now) (g.met.T.GuestMemory.each_fits c.args.self.now) (g.met.T.GuestMemory.names_memory c.args.self.now) c.requires in
+    let each = c.in_ok-walk.ensures.held in
     first-held (λ w. Holds (shape_of host) (window_names w)) c.size-size.result walk.windows (option_map error_of walk.fault) c.in_ok-window.window c.in_ok-window.ensures each

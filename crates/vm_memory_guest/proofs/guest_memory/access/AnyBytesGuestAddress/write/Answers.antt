@@ -1,26 +1,15 @@
 use Rattle.std.proofs.Common.{◌≡◌, length, refl}
 use Rattle.std.proofs.lemmas.Result.{err_from_is_err_and}
 use Rattle.vm_memory_base.specs.declared.iotlb.Permissions.TheVariants.{Write}
-use Rattle.vm_memory_guest.specs.Host.{shape_of}
 use Rattle.vm_memory_guest.specs.Window.{Writes}
 use Rattle.vm_memory_guest.proofs.MarkLaws.{shape_of-Writes}
-use Rattle.vm_memory_guest.proofs.AccessLemmas.{walk-held, walk-fits, walk-asked, outcome-walk, at_most-walk, outcome-refused}
+use Rattle.vm_memory_guest.proofs.AccessLemmas.{outcome-walk, at_most-walk, outcome-refused}
 use Rattle.vm_memory_guest.proofs.guest_memory.access.AnyBytesGuestAddress.write.Goals as goal
 
 pub returns-in_err-walk-clause-answer : goal.returns-in_err-walk-clause-answer
 returns-in_err-walk-clause-answer g c =
     let p = err_from_is_err_and c.from_residual.result c.from_residual.ensures.1 in
     rw (p.1, p.2) (outcome-refused (g.T.GuestMemory.memory c.args.self.now) c.args.host.now.tables c.args.addr.0 (length c.args.buf.now) Write (c.args.host.now ≡ c.args.host.now) (λ ws. Writes g.B.Bitmap.marks ws c.args.buf.now c.args.host.now c.args.host.now) c.in_err-walk.field-0.0 c.in_err-walk.ensures.answer refl refl)
-
-pub write_windows-requires-clause-held : goal.write_windows-requires-clause-held
-write_windows-requires-clause-held g c =
-    walk-held (g.T.GuestMemory.memory c.args.self.now) c.args.host.now.tables c.args.addr.0 (length c.args.buf.now) Write c.in_ok-walk.walk c.in_ok-walk.ensures.answer (shape_of c.args.host.now) (g.T.Named.names c.args.self.now) (g.met.T.GuestMemory.each_fits c.args.self.now) (g.met.T.GuestMemory.names_memory c.args.self.now) c.requires
-
-pub write_windows-requires-clause-fits : goal.write_windows-requires-clause-fits
-write_windows-requires-clause-fits g c = walk-fits (g.T.GuestMemory.memory c.args.self.now) c.args.host.now.tables c.args.addr.0 (length c.args.buf.now) Write c.in_ok-walk.walk c.in_ok-walk.ensures.answer
-
-pub write_windows-requires-clause-asked : goal.write_windows-requires-clause-asked
-write_windows-requires-clause-asked g c = walk-asked (g.T.GuestMemory.memory c.args.self.now) c.args.host.now.tables c.args.addr.0 (length c.args.buf.now) Write c.in_ok-walk.walk c.in_ok-walk.ensures.answer
 
 pub returns-clause-answer : goal.returns-clause-answer
 returns-clause-answer g c =

@@ -1,9 +1,6 @@
-use Rattle.std.proofs.Common.{arith}
 use Rattle.std.proofs.lemmas.Result.{err_from_is_err_and}
 use Rattle.vm_memory_base.specs.declared.iotlb.Permissions.TheVariants.{Read}
-use Rattle.vm_memory_guest.specs.Host.{shape_of}
 use Rattle.vm_memory_guest.specs.Transfer.{Takes, UntilWhole}
-use Rattle.vm_memory_guest.proofs.AccessLemmas.{walk-held, walk-fits}
 use Rattle.vm_memory_guest.proofs.OrderLemmas.{transfers-refused-whole}
 use Rattle.vm_memory_guest.proofs.guest_memory.access.AnyBytesGuestAddress.write_all_volatile_to.Goals as goal
 
@@ -11,12 +8,3 @@ pub returns-in_err-walk : goal.returns-in_err-walk
 returns-in_err-walk g c =
     let p = err_from_is_err_and c.from_residual.result c.from_residual.ensures.1 in
     record { answer = rw (p.1, p.2) (transfers-refused-whole (g.T.GuestMemory.memory c.args.self.now) c.args.host.now.tables c.args.addr.0 c.args.count Read (Takes g.F.WriteVolatile.sink g.F.WriteVolatile.taken g.F.WriteVolatile.may_want c.args.host.now.blocks UntilWhole) c.args.dst.now c.in_err-walk.field-0.0 c.in_err-walk.ensures.answer) }
-
-pub send_windows-requires-clause-held : goal.send_windows-requires-clause-held
-send_windows-requires-clause-held g c =
-    walk-held (g.T.GuestMemory.memory c.args.self.now) c.args.host.now.tables c.args.addr.0 c.args.count Read c.in_ok-walk.walk c.in_ok-walk.ensures.answer (shape_of c.args.host.now) (g.T.Named.names c.args.self.now) (g.met.T.GuestMemory.each_fits c.args.self.now) (g.met.T.GuestMemory.names_memory c.args.self.now) c.requires
-
-pub send_windows-requires-clause-fits : goal.send_windows-requires-clause-fits
-send_windows-requires-clause-fits g c =
-    let fits = walk-fits (g.T.GuestMemory.memory c.args.self.now) c.args.host.now.tables c.args.addr.0 c.args.count Read c.in_ok-walk.walk c.in_ok-walk.ensures.answer in
-    omega (arith, c.ranges.count.fits)

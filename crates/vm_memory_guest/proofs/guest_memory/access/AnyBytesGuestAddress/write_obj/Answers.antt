@@ -1,14 +1,12 @@
-use Rattle.std.proofs.Common.{◌≡◌, ◌⊎◌, ◌≤◌, refl, subst, arith}
+use Rattle.std.proofs.Common.{◌≡◌, ◌⊎◌, refl, subst, arith}
 use Rattle.std.proofs.lemmas.Result.{err_from_is_err_and}
 use Rattle.vm_memory_base.specs.declared.iotlb.Permissions.TheVariants.{Write}
 use Rattle.vm_memory_guest.specs.Answer.{exactly}
-use Rattle.vm_memory_guest.specs.Host.{shape_of}
 use Rattle.vm_memory_guest.specs.Walk.{RefusesAccess, WantsMemory}
 use Rattle.vm_memory_guest.specs.Window.{Writes, span}
 use Rattle.vm_memory_guest.specs.declared.region.GuestMemoryError.TheVariants.{PartialBuffer}
-use Rattle.vm_memory_guest.proofs.AccessLemmas.{walk-held, walk-fits, walk-asked}
 use Rattle.vm_memory_guest.proofs.MarkLaws.{shape_of-Writes}
-use Rattle.vm_memory_guest.proofs.TypedWalk.{asked-of, exactly-none, value-refused}
+use Rattle.vm_memory_guest.proofs.TypedWalk.{exactly-none, value-refused}
 use Rattle.vm_memory_guest.proofs.guest_memory.access.AnyBytesGuestAddress.write_obj.Goals as goal
 
 pub returns-in_err-walk-clause-answer : goal.returns-in_err-walk-clause-answer
@@ -20,17 +18,6 @@ returns-in_err-walk-clause-answer g c short =
     let width : c.size.result ≡ g.V.ByteSized.width = omega (arith, c.size.ensures) in
     let why = subst (λ n. WantsMemory memory e ⊎ RefusesAccess memory host.tables c.args.addr.0 n Write e) width c.in_err-walk.ensures.answer in
     rw (p.1, p.2) (value-refused memory host.tables c.args.addr.0 g.V.ByteSized.width Write (λ r. exactly PartialBuffer (span r.windows) r.fault g.V.ByteSized.width) (host ≡ host) (λ ws. Writes g.B.Bitmap.marks ws (g.V.ByteValued.bytes c.args.val) host host) e why (exactly-none g.V.ByteSized.width e) refl refl)
-
-pub write_value-requires-clause-held : goal.write_value-requires-clause-held
-write_value-requires-clause-held g c =
-    walk-held (g.T.GuestMemory.memory c.args.self.now) c.args.host.now.tables c.args.addr.0 c.size.result Write c.in_ok-walk.walk c.in_ok-walk.ensures.answer (shape_of c.args.host.now) (g.T.Named.names c.args.self.now) (g.met.T.GuestMemory.each_fits c.args.self.now) (g.met.T.GuestMemory.names_memory c.args.self.now) c.requires
-
-pub write_value-requires-clause-fits : goal.write_value-requires-clause-fits
-write_value-requires-clause-fits g c = subst (λ n. span c.in_ok-walk.walk.windows ≤ n) c.size.ensures (walk-fits (g.T.GuestMemory.memory c.args.self.now) c.args.host.now.tables c.args.addr.0 c.size.result Write c.in_ok-walk.walk c.in_ok-walk.ensures.answer)
-
-pub write_value-requires-clause-asked : goal.write_value-requires-clause-asked
-write_value-requires-clause-asked g c =
-    asked-of c.in_ok-walk.walk.fault c.size.result g.V.ByteSized.width c.size.ensures (walk-asked (g.T.GuestMemory.memory c.args.self.now) c.args.host.now.tables c.args.addr.0 c.size.result Write c.in_ok-walk.walk c.in_ok-walk.ensures.answer)
 
 pub returns-in_err-completed-clause-shape : goal.returns-in_err-completed-clause-shape
 returns-in_err-completed-clause-shape g c = shape_of-Writes g.B.Bitmap.marks c.in_ok-walk.walk.windows (g.V.ByteValued.bytes c.args.val) c.args.host.now c.write_value.new.host c.write_value.ensures.bytes
