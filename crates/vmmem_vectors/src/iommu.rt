@@ -7,8 +7,7 @@ use std::sync::atomic::Ordering;
 use std::test::Fail;
 use vm_memory::{
     Bitmap, BitmapId, Bytes, ExclusiveBitmap, GuestAddress, GuestMemory, GuestMemoryBackend,
-    GuestMemoryMmap, HostMemory, Iommu, IommuMemory, NewBitmap, Permissions, SpaceId, TableIommu,
-    TlbId,
+    GuestMemoryMmap, HostMemory, Iommu, IommuMemory, NewBitmap, Permissions, TableIommu, TlbId,
 };
 
 type Host = HostMemory<ExclusiveBitmap>;
@@ -282,6 +281,21 @@ write_all_volatile_to {to_all:?} {:?}",
     )?)
 }
 
+// The dirty pages of the block and of the space.
+fn dirt(alloc: Global, host: &Host, memory: &Memory) -> Result<String, Fail> {
+    let block = dirty_pages(alloc, host, BitmapId::Block(0))?;
+    let space = dirty_pages(alloc, host, BitmapId::Space(memory.bitmap().0))?;
+    Ok(format!(in alloc; "block {block:?} space {space:?}")?)
+}
+
+// What is told of a case of accesses.
+fn accessed(alloc: Global, host: &mut Host, memory: &Memory, addr: u64) -> Result<String, Fail> {
+    let wrote = writes(alloc, host, memory, addr)?;
+    let had = reads(alloc, host, memory, addr)?;
+    let dirt = dirt(alloc, host, memory)?;
+    Ok(format!(in alloc; "{wrote}\n{had}\n{dirt}")?)
+}
+
 fn expect_case(alloc: Global, case: usize) -> Result<(), Fail> {
     let Some(wanted) = CASES.get(case) else {
         return Err(Fail::new("there is such a case"));
@@ -289,11 +303,7 @@ fn expect_case(alloc: Global, case: usize) -> Result<(), Fail> {
     let mut host = HostMemory::new(alloc);
     let mut memory = memory_behind(alloc, &mut host, wanted.mappings)?;
     memory.set_iommu_enabled(wanted.on);
-    let wrote = writes(alloc, &mut host, &memory, wanted.addr)?;
-    let had = reads(alloc, &host, &memory, wanted.addr)?;
-    let block = dirty_pages(alloc, &host, BitmapId::Block(0))?;
-    let space = dirty_pages(alloc, &host, BitmapId::Space(memory.bitmap().0))?;
-    let text = format!(in alloc; "{wrote}\n{had}\nblock {block:?} space {space:?}")?;
+    let text = accessed(alloc, &mut host, &memory, wanted.addr)?;
     expect_text(case, text.as_str(), wanted.told)
 }
 
@@ -305,6 +315,13 @@ fn accesses_are_translated(rt: HostRuntime) -> Result<(), Fail> {
     Ok(())
 }
 
+// What is told of a case of transfers.
+fn transferred(alloc: Global, host: &mut Host, memory: &Memory, addr: u64) -> Result<String, Fail> {
+    let moved = transfers(alloc, host, memory, addr)?;
+    let dirt = dirt(alloc, host, memory)?;
+    Ok(format!(in alloc; "{moved}\n{dirt}")?)
+}
+
 fn expect_transfers(alloc: Global, case: usize) -> Result<(), Fail> {
     let (Some(wanted), Some(told)) = (CASES.get(case), TRANSFERS.get(case)) else {
         return Err(Fail::new("there is such a case"));
@@ -312,10 +329,7 @@ fn expect_transfers(alloc: Global, case: usize) -> Result<(), Fail> {
     let mut host = HostMemory::new(alloc);
     let mut memory = memory_behind(alloc, &mut host, wanted.mappings)?;
     memory.set_iommu_enabled(wanted.on);
-    let moved = transfers(alloc, &mut host, &memory, wanted.addr)?;
-    let block = dirty_pages(alloc, &host, BitmapId::Block(0))?;
-    let space = dirty_pages(alloc, &host, BitmapId::Space(memory.bitmap().0))?;
-    let text = format!(in alloc; "{moved}\nblock {block:?} space {space:?}")?;
+    let text = transferred(alloc, &mut host, &memory, wanted.addr)?;
     expect_text(case, text.as_str(), told)
 }
 
@@ -327,23 +341,39 @@ fn transfers_are_translated(rt: HostRuntime) -> Result<(), Fail> {
     Ok(())
 }
 
+// The space and the table of a memory, its last address, whether its IOMMU is on, and whether it is physical.
+fn parts(alloc: Global, memory: &Memory) -> Result<String, Fail> {
+    let space = memory.bitmap().0;
+    let table = memory.iommu().table().0;
+    let last = memory.get_backend().last_addr().0;
+    let on = memory.get_iommu_enabled();
+    let physical = memory.physical_memory().is_some();
+    Ok(format!(in alloc; "{space} {table} {last:#x} {on} {physical}")?)
+}
+
+// Fails where a copy, or one with another backend, has other parts.
+fn expect_copies(alloc: Global, host: &mut Host, memory: &Memory) -> Result<(), Fail> {
+    let same = memory.clone()?;
+    let other = GuestMemoryMmap::from_ranges(alloc, host, &[(GuestAddress(0), 0x4000)])?;
+    let larger = memory.with_replaced_backend(other)?;
+    expect_text(2, parts(alloc, &larger)?.as_str(), "0 0 0x3fff true false")?;
+    expect_text(3, parts(alloc, &same)?.as_str(), "0 0 0x1fff true false")
+}
+
 #[test]
 fn a_memory_is_of_its_parts(rt: HostRuntime) -> Result<(), Fail> {
-    let alloc = rt.alloc();
-    let mut host = HostMemory::new(alloc);
-    let mut memory = memory_behind(alloc, &mut host, &ONE_PAGE)?;
-    assert!(rt; memory.bitmap() == SpaceId(0));
-    assert!(rt; memory.iommu().table() == TlbId(0));
-    assert!(rt; memory.get_backend().last_addr() == GuestAddress(0x1fff));
-    assert!(rt; !memory.get_iommu_enabled() && memory.physical_memory().is_some());
+    let mut host = HostMemory::new(rt.alloc());
+    let mut memory = memory_behind(rt.alloc(), &mut host, &ONE_PAGE)?;
+    expect_text(
+        0,
+        parts(rt.alloc(), &memory)?.as_str(),
+        "0 0 0x1fff false true",
+    )?;
     memory.set_iommu_enabled(true);
-    assert!(rt; memory.get_iommu_enabled() && memory.physical_memory().is_none());
-    let same = memory.clone()?;
-    assert!(rt; same.get_iommu_enabled() && same.bitmap() == SpaceId(0));
-    let other = GuestMemoryMmap::from_ranges(alloc, &mut host, &[(GuestAddress(0), 0x4000)])?;
-    let larger = memory.with_replaced_backend(other)?;
-    assert!(rt; larger.get_backend().last_addr() == GuestAddress(0x3fff));
-    assert!(rt; larger.get_iommu_enabled() && larger.iommu().table() == TlbId(0));
-    assert!(rt; same.get_backend().last_addr() == GuestAddress(0x1fff));
-    Ok(())
+    expect_text(
+        1,
+        parts(rt.alloc(), &memory)?.as_str(),
+        "0 0 0x1fff true false",
+    )?;
+    expect_copies(rt.alloc(), &mut host, &memory)
 }

@@ -365,24 +365,49 @@ fn has_ranges(memory: &GuestMemoryMmap, ranges: &[(u64, usize)]) -> bool {
         })
 }
 
+// The text of the error, if ranges make no memory, or none.
+fn error_of(
+    alloc: Global,
+    host: &mut HostMemory<()>,
+    ranges: &[(u64, usize)],
+) -> Result<String, Fail> {
+    let all = ranges_of(alloc, ranges)?;
+    let memory = match GuestMemoryMmap::from_ranges(alloc, host, all.as_slice()) {
+        Ok(memory) => memory,
+        Err(refused) => return Ok(format!(in alloc; "{refused:?}")?),
+    };
+    if !has_ranges(&memory, ranges) || !host.holds(&memory) {
+        return Err(Fail::new("the memory has its ranges, and the host holds it"));
+    }
+    Ok(String::new(alloc))
+}
+
 #[test]
 fn ranges_make_a_memory_or_an_error(rt: HostRuntime) -> Result<(), Fail> {
     for (case, (ranges, error, sizes)) in RANGES.iter().enumerate() {
         let mut host: HostMemory<()> = HostMemory::new(rt.alloc());
-        let all = ranges_of(rt.alloc(), ranges)?;
-        match GuestMemoryMmap::from_ranges(rt.alloc(), &mut host, all.as_slice()) {
-            Ok(memory) => {
-                expect_text(case, "", error)?;
-                assert!(rt; has_ranges(&memory, ranges) && host.holds(&memory));
-            }
-            Err(refused) => {
-                let text = format!(in rt.alloc(); "{refused:?}")?;
-                expect_text(case, text.as_str(), error)?;
-            }
-        }
+        let text = error_of(rt.alloc(), &mut host, ranges)?;
+        expect_text(case, text.as_str(), error)?;
         assert!(rt; has_blocks(&host, sizes));
     }
     Ok(())
+}
+
+// The bytes at 0x1000, once 0x1001 bytes were written from 0 on, of which the last is 9.
+fn written_over(
+    alloc: Global,
+    host: &mut HostMemory<()>,
+    memory: &Layout,
+) -> Result<Vec<u8>, Fail> {
+    if !host.holds(memory) {
+        return Err(Fail::new("the host holds the memory"));
+    }
+    let mut bytes = vec![in alloc; 1u8; 0x1000]?;
+    bytes.push(9)?;
+    memory.write_slice(host, bytes.as_slice(), GuestAddress(0))?;
+    bytes.truncate(0x1000);
+    memory.read_slice(host, bytes.as_mut_slice(), GuestAddress(0x1000))?;
+    Ok(bytes)
 }
 
 #[test]
@@ -390,14 +415,8 @@ fn a_block_at_two_addresses_is_written_once(rt: HostRuntime) -> Result<(), Fail>
     let mut host = HostMemory::new(rt.alloc());
     let places = [Place::Block(0, 0x1000), Place::Again(0x1000)];
     let memory = memory_of(rt.alloc(), &mut host, &places)?;
-    assert!(rt; host.holds(&memory));
-    let mut bytes = vec![in rt.alloc(); 1u8; 0x1000]?;
-    bytes.push(9)?;
-    let count = memory.write(&mut host, bytes.as_slice(), GuestAddress(0))?;
-    let mut block = vec![in rt.alloc(); 0u8; 0x1000]?;
-    memory.read_slice(&host, block.as_mut_slice(), GuestAddress(0x1000))?;
-    let first = block.as_slice().first().copied();
-    assert!(rt; count == 0x1001 && first == Some(9));
+    let block = written_over(rt.alloc(), &mut host, &memory)?;
+    assert!(rt; block.len() == 0x1000 && block.as_slice().first().copied() == Some(9));
     assert!(rt; block.iter().skip(1).all(|byte| *byte == 1));
     Ok(())
 }

@@ -311,16 +311,21 @@ const LAYOUTS: [(&[Place], &str); 3] = [
     ),
 ];
 
+fn listed(alloc: Global, layout: &Layout) -> Result<String, Fail> {
+    let mut text = format!(in alloc; "{} ", layout.num_regions())?;
+    for region in layout.iter() {
+        write!(text, "{}; ", region.start_addr().0)?;
+    }
+    write!(text, "{}", layout.last_addr().0)?;
+    Ok(text)
+}
+
 #[test]
 fn regions_are_listed(rt: HostRuntime) -> Result<(), Fail> {
     for (case, (places, wanted)) in LAYOUTS.iter().enumerate() {
         let mut host = HostMemory::new(rt.alloc());
         let layout = memory_of(rt.alloc(), &mut host, places)?;
-        let mut text = format!(in rt.alloc(); "{} ", layout.num_regions())?;
-        for region in layout.iter() {
-            write!(text, "{}; ", region.start_addr().0)?;
-        }
-        write!(text, "{}", layout.last_addr().0)?;
+        let text = listed(rt.alloc(), &layout)?;
         expect_text(case, text.as_str(), wanted)?;
     }
     Ok(())

@@ -110,37 +110,55 @@ fn is_as_wanted(
     Ok(true)
 }
 
-#[test]
-fn an_image_follows_its_block(rt: HostRuntime) -> Result<(), Fail> {
-    let mut machine = machine_of(rt.alloc(), 5, 2)?;
-    let layout = NumberList::from_vec(vec![in rt.alloc(); 0usize, 1]?);
-    let _ = run_one(&mut machine, rt.alloc(), Command::FromRegions(layout))?;
-    let _ = run_one(&mut machine, rt.alloc(), Command::Plain(0))?;
-    let mut image = [0u8; 5];
-    for (number, step) in STEPS.iter().enumerate() {
-        let good = is_as_wanted(&mut machine, rt.alloc(), &mut image, *step)?;
-        assert!(rt; good, "step {number}");
+// Makes a memory of the two regions.
+fn make_memory(machine: &mut TestMachine, alloc: Global) -> Result<(), Fail> {
+    let layout = NumberList::from_vec(vec![in alloc; 0usize, 1]?);
+    let _ = run_one(machine, alloc, Command::FromRegions(layout))?;
+    let _ = run_one(machine, alloc, Command::Plain(0))?;
+    Ok(())
+}
+
+// Makes the steps one after the other, and fails where the image is not as wanted.
+fn follow(
+    machine: &mut TestMachine,
+    alloc: Global,
+    image: &mut [u8],
+    steps: &[Step],
+) -> Result<(), Fail> {
+    for (number, step) in steps.iter().enumerate() {
+        if !is_as_wanted(machine, alloc, image, *step)? {
+            return Err(Fail::new(format_args!("step {number}")));
+        }
     }
     Ok(())
 }
+
+#[test]
+fn an_image_follows_its_block(rt: HostRuntime) -> Result<(), Fail> {
+    let mut machine = machine_of(rt.alloc(), 5, 2)?;
+    make_memory(&mut machine, rt.alloc())?;
+    follow(&mut machine, rt.alloc(), &mut [0u8; 5], &STEPS)
+}
+
+const LEFT_BY_A_HARVEST: [Step; 3] = [
+    Step::Write(0xfff, &[1, 2]),
+    Step::Harvest,
+    Step::Write(0x2000, &[7]),
+];
 
 // A page that a harvest took stays as it was in the image, and the last page is cut by the block's end.
 #[test]
 fn a_round_copies_the_pages_that_are_left(rt: HostRuntime) -> Result<(), Fail> {
     let alloc = rt.alloc();
     let mut machine = machine_of(alloc, 0x2001, 0x1000)?;
-    let layout = NumberList::from_vec(vec![in alloc; 0usize]?);
-    let _ = run_one(&mut machine, alloc, Command::FromRegions(layout))?;
-    let _ = run_one(&mut machine, alloc, Command::Plain(0))?;
-    let mut image = Vec::new(alloc);
-    image.resize(0x2001, 0u8)?;
-    for step in [
-        Step::Write(0xfff, &[1, 2]),
-        Step::Harvest,
-        Step::Write(0x2000, &[7]),
-    ] {
-        let _ = is_as_wanted(&mut machine, alloc, image.as_mut_slice(), step)?;
-    }
+    make_memory(&mut machine, alloc)?;
+    let mut image = vec![in alloc; 0u8; 0x2001]?;
+    follow(
+        &mut machine,
+        alloc,
+        image.as_mut_slice(),
+        &LEFT_BY_A_HARVEST,
+    )?;
     let _ = is_as_wanted(&mut machine, alloc, image.as_mut_slice(), Step::Sync(&[]))?;
     assert!(rt; image.pop() == Some(7));
     assert!(rt; image.iter().all(|byte| *byte == 0));

@@ -18,19 +18,41 @@ use vm_memory_guest::{
 };
 
 // What a source reads into five bytes, what it fills them with, and what it has left for five more.
-fn reads<S: ReadVolatile>(alloc: Global, source: &mut S, out: &mut String) -> Result<(), Fail> {
+fn reads<S: ReadVolatile>(source: &mut S, out: &mut String) -> Result<(), Fail> {
     let mut lent = [0u8; 5];
     let answer = source.read_volatile(&mut lent);
     writeln!(out, "{answer:?} {lent:?}")?;
     let mut lent = [0u8; 5];
     let answer = source.read_exact_volatile(&mut lent);
     writeln!(out, "{answer:?} {lent:?}")?;
-    let _ = alloc;
     Ok(())
 }
 
-fn give(alloc: Global, bytes: &[u8]) -> Result<SourceStep, Fail> {
-    Ok(SourceStep::Give(ByteList::from_vec(bytes.to_vec(alloc)?)))
+// What a source does at a try.
+#[derive(Clone, Copy)]
+enum Did {
+    Give(&'static [u8]),
+    Interrupted(&'static [u8]),
+    Fail(&'static [u8]),
+}
+
+fn script_of(alloc: Global, tries: &[Did]) -> Result<Vec<SourceStep>, Fail> {
+    let mut steps = Vec::new(alloc);
+    for did in tries {
+        let (Did::Give(bytes) | Did::Interrupted(bytes) | Did::Fail(bytes)) = did;
+        let bytes = ByteList::from_vec(bytes.to_vec(alloc)?);
+        steps.push(match did {
+            Did::Give(_) => SourceStep::Give(bytes),
+            Did::Interrupted(_) => SourceStep::Interrupted(bytes),
+            Did::Fail(_) => SourceStep::Fail(bytes),
+        })?;
+    }
+    Ok(steps)
+}
+
+fn reads_by(alloc: Global, tries: &[Did], out: &mut String) -> Result<(), Fail> {
+    let steps = script_of(alloc, tries)?;
+    reads(&mut ScriptSource::new(steps.as_slice()), out)
 }
 
 const READS: &str = "\
@@ -50,38 +72,30 @@ Ok(1) [1, 0, 0, 0, 0]
 Err(ReadExactFault { touched: 5, error: IOError(Kind(Other)) }) [2, 8, 7, 0, 0]
 ";
 
+const READ_SCRIPTS: [&[Did]; 3] = [
+    &[Did::Give(&[1, 2]), Did::Give(&[3, 4, 5])],
+    &[
+        Did::Interrupted(&[9]),
+        Did::Give(&[1]),
+        Did::Interrupted(&[9]),
+    ],
+    &[Did::Give(&[1]), Did::Give(&[2]), Did::Fail(&[8, 7])],
+];
+
 #[test]
 fn sources_give_what_they_have(rt: HostRuntime) -> Result<(), Fail> {
     let alloc = rt.alloc();
     let mut out = String::new(alloc);
-    reads(alloc, &mut &[1u8, 2][..], &mut out)?;
-    reads(
-        alloc,
-        &mut &[1u8, 2, 3, 4, 5, 6, 7, 8, 9, 10, 11][..],
-        &mut out,
-    )?;
+    reads(&mut &[1u8, 2][..], &mut out)?;
+    reads(&mut &[1u8, 2, 3, 4, 5, 6, 7, 8, 9, 10, 11][..], &mut out)?;
     let mut cursor = Cursor::new(&[1u8, 2, 3, 4, 5][..]);
     cursor.set_position(2);
-    reads(alloc, &mut cursor, &mut out)?;
+    reads(&mut cursor, &mut out)?;
     cursor.set_position(9);
-    reads(alloc, &mut cursor, &mut out)?;
-    let script = vec![in alloc; give(alloc, &[1, 2])?, give(alloc, &[3, 4, 5])?]?;
-    reads(alloc, &mut ScriptSource::new(script.as_slice()), &mut out)?;
-    let nine = ByteList::from_vec(vec![in alloc; 9u8]?);
-    let again = ByteList::from_vec(vec![in alloc; 9u8]?);
-    let script = vec![in alloc;
-        SourceStep::Interrupted(nine),
-        give(alloc, &[1])?,
-        SourceStep::Interrupted(again),
-    ]?;
-    reads(alloc, &mut ScriptSource::new(script.as_slice()), &mut out)?;
-    let scribble = ByteList::from_vec([8u8, 7].to_vec(alloc)?);
-    let script = vec![in alloc;
-        give(alloc, &[1])?,
-        give(alloc, &[2])?,
-        SourceStep::Fail(scribble),
-    ]?;
-    reads(alloc, &mut ScriptSource::new(script.as_slice()), &mut out)?;
+    reads(&mut cursor, &mut out)?;
+    for script in READ_SCRIPTS {
+        reads_by(alloc, script, &mut out)?;
+    }
     expect_text(0, out.as_str(), READS)
 }
 
@@ -165,6 +179,31 @@ fn expect_passed<W: WriteVolatile, S: ReadVolatile>(
     Ok(())
 }
 
+// Sends eight bytes of a memory to a sink, and fails where another memory then gets others from a source.
+fn carry<W: WriteVolatile, S: ReadVolatile>(
+    host: &mut HostMemory<()>,
+    from: &GuestMemoryMmap,
+    to: &GuestMemoryMmap,
+    case: u8,
+    sink: &mut W,
+    source: &mut S,
+) -> Result<(), Fail> {
+    if !host.holds(from) || !host.holds(to) {
+        return Err(Fail::new("the host holds the memories"));
+    }
+    let start = GuestAddress(0);
+    let sent = [case, 2, 3, 4, 5, 6, 7, 8];
+    from.write_slice(host, &sent, start)?;
+    from.write_all_volatile_to(host, start, sink, 8)?;
+    to.read_exact_volatile_from(host, start, source, 8)?;
+    let mut came = [0u8; 8];
+    to.read_slice(host, &mut came, start)?;
+    if came != sent {
+        return Err(Fail::new(format_args!("case {case}: {came:?}")));
+    }
+    Ok(())
+}
+
 // Fails where what one guest memory gives to a sink is not what another one gets from a source.
 fn expect_carried<W: WriteVolatile, S: ReadVolatile>(
     alloc: Global,
@@ -175,20 +214,7 @@ fn expect_carried<W: WriteVolatile, S: ReadVolatile>(
     let mut host = HostMemory::<()>::new(alloc);
     let from = two_regions(alloc, &mut host)?;
     let to = two_regions(alloc, &mut host)?;
-    if !host.holds(&from) || !host.holds(&to) {
-        return Err(Fail::new("the host holds the memories"));
-    }
-    let start = GuestAddress(0);
-    let sent = [case, 2, 3, 4, 5, 6, 7, 8];
-    from.write_slice(&mut host, &sent, start)?;
-    from.write_all_volatile_to(&host, start, sink, 8)?;
-    to.read_exact_volatile_from(&mut host, start, source, 8)?;
-    let mut came = [0u8; 8];
-    to.read_slice(&host, &mut came, start)?;
-    if came != sent {
-        return Err(Fail::new(format_args!("case {case}: {came:?}")));
-    }
-    Ok(())
+    carry(&mut host, &from, &to, case, sink, source)
 }
 
 #[test]
@@ -264,29 +290,29 @@ fn two_regions(alloc: Global, host: &mut HostMemory<()>) -> Result<GuestMemoryMm
     Ok(GuestMemoryMmap::from_arc_regions(regions)?)
 }
 
-// A transfer of eight bytes into the regions, and the bytes that it leaves.
+// A transfer of eight bytes into the regions, which have zeros, and the bytes that it leaves.
 fn comes_in(
-    alloc: Global,
+    host: &mut HostMemory<()>,
+    memory: &GuestMemoryMmap,
     exact: bool,
     steps: &[SourceStep],
     out: &mut String,
 ) -> Result<(), Fail> {
-    let mut host = HostMemory::<()>::new(alloc);
-    let memory = two_regions(alloc, &mut host)?;
-    if !host.holds(&memory) {
+    if !host.holds(memory) {
         return Err(Fail::new("the host holds the memory"));
     }
     let mut source = ScriptSource::new(steps);
     let start = GuestAddress(0);
+    let mut all = [0u8; 8];
+    memory.write_slice(host, &all, start)?;
     if exact {
-        let answer = memory.read_exact_volatile_from(&mut host, start, &mut source, 8);
+        let answer = memory.read_exact_volatile_from(host, start, &mut source, 8);
         write!(out, "{answer:?}")?;
     } else {
-        let answer = memory.read_volatile_from(&mut host, start, &mut source, 8);
+        let answer = memory.read_volatile_from(host, start, &mut source, 8);
         write!(out, "{answer:?}")?;
     }
-    let mut all = [0u8; 8];
-    memory.read_slice(&host, &mut all, start)?;
+    memory.read_slice(host, &mut all, start)?;
     writeln!(out, " {all:?}")?;
     Ok(())
 }
@@ -297,39 +323,51 @@ Err(PartialBuffer { expected: 8, completed: 6 }) [1, 2, 3, 4, 5, 6, 0, 0]
 Err(IOError(Kind(Other))) [1, 2, 3, 4, 9, 0, 0, 0]
 ";
 
+const INTO_MEMORY: [(bool, &[Did]); 3] = [
+    (false, &[Did::Give(&[1, 2]), Did::Give(&[3, 4, 5, 6])]),
+    (true, &[Did::Give(&[1, 2]), Did::Give(&[3, 4, 5, 6])]),
+    (false, &[Did::Give(&[1, 2, 3, 4]), Did::Fail(&[9])]),
+];
+
 #[test]
 fn transfers_come_in(rt: HostRuntime) -> Result<(), Fail> {
     let alloc = rt.alloc();
+    let mut host = HostMemory::<()>::new(alloc);
+    let memory = two_regions(alloc, &mut host)?;
     let mut out = String::new(alloc);
-    let steps = vec![in alloc; give(alloc, &[1, 2])?, give(alloc, &[3, 4, 5, 6])?]?;
-    comes_in(alloc, false, steps.as_slice(), &mut out)?;
-    comes_in(alloc, true, steps.as_slice(), &mut out)?;
-    let scribble = ByteList::from_vec(vec![in alloc; 9u8]?);
-    let steps = vec![in alloc; give(alloc, &[1, 2, 3, 4])?, SourceStep::Fail(scribble)]?;
-    comes_in(alloc, false, steps.as_slice(), &mut out)?;
+    for (exact, script) in INTO_MEMORY {
+        let steps = script_of(alloc, script)?;
+        comes_in(&mut host, &memory, exact, steps.as_slice(), &mut out)?;
+    }
     expect_text(0, out.as_str(), COME_IN)
 }
+
+// Transfers of up to eight bytes from an address on, of all or of some, and what the sink does.
+const OUT_OF_MEMORY: [(bool, u64, &[SinkStep]); 4] = [
+    (false, 0, &[SinkStep::Take(3)]),
+    (true, 2, &[]),
+    (false, 0, &[SinkStep::Take(3), SinkStep::Take(0)]),
+    (false, 8, &[]),
+];
 
 // A transfer of eight bytes out of the regions, and what the sink took.
 fn goes_out(
     alloc: Global,
-    exact: bool,
-    addr: GuestAddress,
-    steps: &[SinkStep],
+    host: &HostMemory<()>,
+    memory: &GuestMemoryMmap,
+    case: (bool, u64, &[SinkStep]),
     out: &mut String,
 ) -> Result<(), Fail> {
-    let mut host = HostMemory::<()>::new(alloc);
-    let memory = two_regions(alloc, &mut host)?;
-    if !host.holds(&memory) {
+    if !host.holds(memory) {
         return Err(Fail::new("the host holds the memory"));
     }
-    memory.write_slice(&mut host, &[1, 2, 3, 4, 5, 6, 7, 8], GuestAddress(0))?;
+    let (exact, addr, steps) = case;
     let mut sink = ScriptSink::new(alloc, steps, 8)?;
     if exact {
-        let answer = memory.write_all_volatile_to(&host, addr, &mut sink, 8);
+        let answer = memory.write_all_volatile_to(host, GuestAddress(addr), &mut sink, 8);
         write!(out, "{answer:?}")?;
     } else {
-        let answer = memory.write_volatile_to(&host, addr, &mut sink, 8);
+        let answer = memory.write_volatile_to(host, GuestAddress(addr), &mut sink, 8);
         write!(out, "{answer:?}")?;
     }
     writeln!(out, " {:?}", sink.taken())?;
@@ -346,13 +384,14 @@ Err(InvalidGuestAddress(GuestAddress(8))) []
 #[test]
 fn transfers_go_out(rt: HostRuntime) -> Result<(), Fail> {
     let alloc = rt.alloc();
+    let mut host = HostMemory::<()>::new(alloc);
+    let memory = two_regions(alloc, &mut host)?;
+    assert!(rt; host.holds(&memory));
+    memory.write_slice(&mut host, &[1, 2, 3, 4, 5, 6, 7, 8], GuestAddress(0))?;
     let mut out = String::new(alloc);
-    let start = GuestAddress(0);
-    goes_out(alloc, false, start, &[SinkStep::Take(3)], &mut out)?;
-    goes_out(alloc, true, GuestAddress(2), &[], &mut out)?;
-    let steps = [SinkStep::Take(3), SinkStep::Take(0)];
-    goes_out(alloc, false, start, &steps, &mut out)?;
-    goes_out(alloc, false, GuestAddress(8), &[], &mut out)?;
+    for case in OUT_OF_MEMORY {
+        goes_out(alloc, &host, &memory, case, &mut out)?;
+    }
     expect_text(0, out.as_str(), GO_OUT)
 }
 

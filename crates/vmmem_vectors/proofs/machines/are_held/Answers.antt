@@ -1,4 +1,4 @@
-use Rattle.std.proofs.Common.{rules, IsTrue, map, All}
+use Rattle.std.proofs.Common.{rules, All}
 use Rattle.std.proofs.lemmas.List.Elements.{All-map}
 use Rattle.std.specs.declared.alloc.Global.{Global}
 use Rattle.std.specs.declared.sync.Arc.{Arc}
