@@ -198,6 +198,3 @@ impl<T: FixedInteger> ByteValued for T {
 
     ghost laws = { T.FixedInteger.laws };
 }
-
-#[cfg(test)]
-mod tests;

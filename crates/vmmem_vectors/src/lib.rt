@@ -2,6 +2,12 @@
 #![tactic(auto)]
 
 #[cfg(test)]
+mod addresses;
+#[cfg(test)]
+mod bitmaps;
+#[cfg(test)]
+mod endian;
+#[cfg(test)]
 mod example;
 #[cfg(test)]
 mod iommu;
@@ -28,5 +34,7 @@ mod texts;
 mod transfers;
 #[cfg(test)]
 mod typed;
+#[cfg(test)]
+mod values;
 #[cfg(test)]
 mod windows;

@@ -228,6 +228,3 @@ impl NewBitmap for ExclusiveBitmap {
         ExclusiveBitmap::new(alloc, len, NonZeroUsize::new(0x1000).unwrap())
     }
 }
-
-#[cfg(test)]
-mod tests;

@@ -1,8 +1,10 @@
-use crate::{Bitmap, ExactBitmap, ExclusiveBitmap, NewBitmap};
+//! Bitmaps with one owner.
+
 use std::alloc::AllocError;
 use std::num::NonZeroUsize;
 use std::process::Abort;
 use std::test::Fail;
+use vm_memory::{Bitmap, ExactBitmap, ExclusiveBitmap, NewBitmap};
 
 #[test]
 fn words_of_marks(rt: HostRuntime) -> Result<(), Fail> {

@@ -1,8 +1,10 @@
-use crate::{AtomicAccess, AtomicInteger, Be16, ByteValued, Le16};
+//! Values and their bytes.
+
 use std::io::ErrorKind;
 use std::process::Abort;
 use std::sync::atomic::Ordering;
 use std::test::Fail;
+use vm_memory::{AtomicAccess, AtomicInteger, Be16, ByteValued, Le16};
 
 // Bytes of which each is another.
 const BYTES: [u8; 48] = [
