@@ -175,8 +175,9 @@ pub trait Bytes<A>: Named {
             (Unit {0}) (Unit {0}) result };
 
     /// Lends a source the windows of at most `count` bytes one after the other, up to the first that it does not
-    /// fill, and answers how many bytes came. An error of the source is answered at once. Each try marks what it
-    /// filled, or all that was lent where it failed.
+    /// fill, and answers how many bytes came. An interrupted try is made again, at most 64 times in a row; any
+    /// other error of the source is answered at once. Each try marks what it filled, or all that was lent where it
+    /// failed.
     fn read_volatile_from<F: ReadVolatile, B: Bitmap>(
         &self,
         host: &mut HostMemory<B>,
@@ -210,7 +211,8 @@ pub trait Bytes<A>: Named {
         ensures shape { shape_of host.new ≡ shape_of host.old };
 
     /// Offers a sink the bytes of the windows of at most `count` bytes, one window after the other, and answers
-    /// how many it took. An error of the sink is answered at once. No byte and no mark changes.
+    /// how many it took. An interrupted try is made again, at most 64 times in a row; any other error of the sink is
+    /// answered at once. No byte and no mark changes.
     fn write_volatile_to<F: WriteVolatile, B: Bitmap>(
         &self,
         host: &HostMemory<B>,
