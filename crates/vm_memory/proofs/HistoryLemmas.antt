@@ -27,6 +27,7 @@ use Rattle.vm_memory_guest.specs.Copy.{dirtied_cells}
 use Rattle.vm_memory_guest.specs.Dealt.{received}
 use Rattle.vm_memory_guest.specs.Dirt.{after_write, marks_pages}
 use Rattle.vm_memory_guest.specs.Error.{error_of, of_window}
+use Rattle.vm_memory_guest.specs.Lent.{MarksChanges}
 use Rattle.vm_memory_guest.specs.Host.{Host, Cell, bytes_at, cells_from, written}
 use Rattle.vm_memory_guest.specs.Layout.{inserted, removed}
 use Rattle.vm_memory_guest.specs.Memory.{Memory, Behind, behind_of, Route, Through, says_of, route_behind}
@@ -129,6 +130,17 @@ pub record HistoryLaws : Type 0 where
       → (after_write xs bytes host).tables ≡ host.tables
   pub lent_keep : (fault : Option GuestMemoryError) (until_full : Bool) (ws : List Window) (total : ℕ) (next : List Next)
       (host : Host PageSet) → (received of_window fault until_full ws total next host).host.tables ≡ host.tables
+
+pub history_laws : ((f : Says) (x : ℕ) → x < 2 ^ 64 → value_at (canonical_list f) x ≡ f x)
+    → ((xs : List Reached) (bytes : List ℕ) (host : Host PageSet) → (after_write xs bytes host).tables ≡ host.tables)
+    → ((fault : Option GuestMemoryError) (until_full : Bool) (ws : List Window) (total : ℕ) (next : List Next)
+    (host : Host PageSet) → MarksChanges ws host (received of_window fault until_full ws total next host).host)
+    → HistoryLaws
+history_laws kept_says writes_keep lent_mark = record {
+  kept_says = kept_says;
+  writes_keep = writes_keep;
+  lent_keep = λ fault until_full ws total next host. (lent_mark fault until_full ws total next host).tables;
+}
 
 module _ (laws : HistoryLaws) where
   changed_own : (number : ℕ) (call : TableCall) (t : Table) (ts : List Table) → slice_get ts number ≡ Some t

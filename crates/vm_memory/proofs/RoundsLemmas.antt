@@ -462,22 +462,16 @@ module _ (are_listed : AreListed) (cleaned_stay : CleanedStay) (laws : WriteLaws
         → All MarksItsCell (reached_by m old.host.tables a n permissions.Write).path
     reached_marks m off a n = direct_marks (behind_of m.iommu) off m.regions old.host.tables a n permissions.Write
 
-    wrote : (a : ℕ) (bytes : List ℕ) (r : Reply) (o : Option Memory) → IfSome o (λ m. IsOn m → ⊥)
-        → (r, new) ≡ if_there old o (λ m. with_host old (writes m old.host a bytes))
+    -- a write, whatever it replies
+    wrote : (a : ℕ) (bytes : List ℕ) (told : Memory → Reply) (r : Reply) (o : Option Memory) → IfSome o (λ m. IsOn m → ⊥)
+        → (r, new)
+        ≡ if_there old o (λ m. let reached = reached_by m old.host.tables a (length bytes) permissions.Write in
+        with_host old (told m, after_write reached.path bytes old.host))
         → KeepsBlock block image new.host
-    wrote a bytes r None off e = stays r (reply.NoSuch, old) e refl
-    wrote a bytes r (Some m) off e =
+    wrote a bytes told r None off e = stays r (reply.NoSuch, old) e refl
+    wrote a bytes told r (Some m) off e =
         let reached = reached_by m old.host.tables a (length bytes) permissions.Write in
-        leaves r (writes m old.host a bytes) e
-        (write_keeps laws reached.path (reached_marks m off a (length bytes)) bytes old.host block image kept)
-
-    wrote_whole : (a : ℕ) (bytes : List ℕ) (r : Reply) (o : Option Memory) → IfSome o (λ m. IsOn m → ⊥)
-        → (r, new) ≡ if_there old o (λ m. with_host old (writes_whole m old.host a bytes))
-        → KeepsBlock block image new.host
-    wrote_whole a bytes r None off e = stays r (reply.NoSuch, old) e refl
-    wrote_whole a bytes r (Some m) off e =
-        let reached = reached_by m old.host.tables a (length bytes) permissions.Write in
-        leaves r (writes_whole m old.host a bytes) e
+        leaves r (told m, after_write reached.path bytes old.host) e
         (write_keeps laws reached.path (reached_marks m off a (length bytes)) bytes old.host block image kept)
 
     got : (a n : ℕ) (until_full : Bool) (source : List SourceStep) (told : Result ℕ GuestMemoryError → Reply) (r : Reply)
@@ -573,11 +567,11 @@ module _ (are_listed : AreListed) (cleaned_stay : CleanedStay) (laws : WriteLaws
     answered (command.Read memory addr n) r direct e =
         stays r _ e (same_host old (slice_get old.memories memory) _ (λ m. refl))
     answered (command.Write memory addr bytes) r direct e =
-        wrote addr.0 bytes r (slice_get old.memories memory) direct e
+        wrote addr.0 bytes (λ m. (writes m old.host addr.0 bytes).0) r (slice_get old.memories memory) direct e
     answered (command.ReadSlice memory addr n) r direct e =
         stays r _ e (same_host old (slice_get old.memories memory) _ (λ m. refl))
     answered (command.WriteSlice memory addr bytes) r direct e =
-        wrote_whole addr.0 bytes r (slice_get old.memories memory) direct e
+        wrote addr.0 bytes (λ m. (writes_whole m old.host addr.0 bytes).0) r (slice_get old.memories memory) direct e
     answered (command.Store memory width addr value) r direct e =
         stored addr.0 (integer_of width) value r (slice_get old.memories memory) direct e
     answered (command.Load memory width addr) r direct e =

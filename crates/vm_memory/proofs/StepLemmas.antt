@@ -165,23 +165,26 @@ still-step refused old new c r still step = elim step [ inl e ↦ go c e | inr w
     left None e = after (rest_layout old None) e
     left (Some p) e = made p.0 None e
 
+    -- a write that reached nothing
+    nothing_written : (xs : List Reached) (bytes : List ℕ) (told : Reply) → xs ≡ []
+        → (r, new) ≡ with_host old (told, after_write xs bytes old.host) → new ≡ old
+    nothing_written xs bytes told none e =
+        after (with_host old (told, after_write xs bytes old.host)) e
+        ∙ ap (λ (ys : List Reached). record old { host = after_write ys bytes old.host }) none
+
     wrote : (m : Memory) (a : ℕ) (bytes : List ℕ)
         → (r, new) ≡ with_host old (writes m old.host a bytes) → new ≡ old
     wrote m a bytes e =
         let reached = reached_by m old.host.tables a (length bytes) permissions.Write in
-        let told = ap (λ (p : Reply × State). p.0) e in
-        let none = reached_none reached.path (option_map error_of reached.fault) (length bytes) r still told in
-        after (with_host old (writes m old.host a bytes)) e
-        ∙ ap (λ (xs : List Reached). record old { host = after_write xs bytes old.host }) none
+        nothing_written reached.path bytes (writes m old.host a bytes).0
+        (reached_none reached.path (option_map error_of reached.fault) (length bytes) r still (ap (λ p. p.0) e)) e
 
     wrote_whole : (m : Memory) (a : ℕ) (bytes : List ℕ)
         → (r, new) ≡ with_host old (writes_whole m old.host a bytes) → new ≡ old
     wrote_whole m a bytes e =
         let reached = reached_by m old.host.tables a (length bytes) permissions.Write in
-        let told = ap (λ (p : Reply × State). p.0) e in
-        let none = reached_none_of_all reached.path (option_map error_of reached.fault) (length bytes) r still told in
-        after (with_host old (writes_whole m old.host a bytes)) e
-        ∙ ap (λ (xs : List Reached). record old { host = after_write xs bytes old.host }) none
+        nothing_written reached.path bytes (writes_whole m old.host a bytes).0
+        (reached_none_of_all reached.path (option_map error_of reached.fault) (length bytes) r still (ap (λ p. p.0) e)) e
 
     stored : (m : Memory) (a : ℕ) (w : int.Width) (value : ℕ)
         → (r, new) ≡ with_host old (stores m old.host a w value) → new ≡ old

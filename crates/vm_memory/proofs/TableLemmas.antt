@@ -1,5 +1,5 @@
 -- Tables of a host by their numbers, and pieces of a look-up as a list.
-use Rattle.std.proofs.Common.{◌≡◌, ℕ, ◌+◌, ◌-◌, ◌^◌, ◌<◌, List, [], ◌∷◌, ◌++◌, map, slice_get, Some, false, refl, sym, ap, ◌∙◌, arith}
+use Rattle.std.proofs.Common.{◌≡◌, ℕ, ◌+◌, ◌-◌, ◌^◌, ◌<◌, List, [], ◌∷◌, ◌++◌, map, slice_get, Some, IsSome, false, refl, sym, ap, ◌∙◌, arith}
 use Rattle.std.proofs.lemmas.Bool.{le-ltb}
 use Rattle.std.proofs.lemmas.List.{map-append, append_assoc}
 use Rattle.vm_memory_base.specs.Lookup.{mapped_ranges}
@@ -9,14 +9,16 @@ use Rattle.vm_memory_guest.specs.Host.{Host, with_table_at}
 use Rattle.vm_memory.specs.Pieces.{range_of_piece}
 use Rattle.vm_memory.proofs.BitmapLemmas.{set-same}
 
--- the table that is there, put there again
-pub same_table : {B : Type 0} (host : Host B) (number : ℕ) (old new : Table) → slice_get host.tables number ≡ Some old → new ≡ old → with_table_at host number new ≡ host
-same_table host number old new there same =
+-- where a change of a table wanted memory, the range was one, and the host is as it was
+module _ {B : Type 0} (host : Host B) (number : ℕ) (old new : Table) (there : slice_get host.tables number ≡ Some old)
+    (same : new ≡ old) (a n : ℕ) (fits : a + n < 2 ^ 64) where
+  pub wanted : IsSome (slice_get host.tables number) × (overruns a n ≡ false) × (with_table_at host number new ≡ host)
+  wanted = (
+    rw there refl,
+    le-ltb (2 ^ 64 - 1) (a + n) (omega arith),
     ap (λ (t : Table). with_table_at host number t) same
-    ∙ ap (λ (ts : List Table). record host { tables = ts }) (set-same host.tables number old there)
-
-pub no_overrun : (a n : ℕ) → a + n < 2 ^ 64 → overruns a n ≡ false
-no_overrun a n fits = le-ltb (2 ^ 64 - 1) (a + n) (omega arith)
+        ∙ ap (λ (ts : List Table). record host { tables = ts }) (set-same host.tables number old there),
+  )
 
 -- pieces as they are given are the pieces
 ranges_back : (rs : List Range) → map range_of_piece (mapped_ranges rs) ≡ rs

@@ -13,10 +13,10 @@ pub use vm_memory_base::{
     Address, AddressValue, AddressWord, AtomicAccess, AtomicInteger, Be16, Be32, Be64, BeSize,
     BigEndian, Bitmap, BitmapId, BitmapRef, ByteList, ByteSized, ByteValued, ExactBitmap,
     ExclusiveBitmap, FixedInteger, GuestAddress, GuestUsize, IoError, IommuError, Iotlb,
-    IotlbFails, IotlbIterator, IovaRange, IovaRangeList, Le16, Le32, Le64, LeSize, LittleEndian,
-    LookupError, MappedRange, MemoryRegionAddress, NewBitmap, Permissions, ReadExactFault,
-    ReadVolatile, Reason, ScriptSink, ScriptSource, SinkStep, SourceStep, VolatileMemoryError,
-    VolatileMemoryResult, WriteVolatile, is_interrupted, offer_again,
+    IotlbFails, IotlbIterator, IovaRange, IovaRangeList, Items, Le16, Le32, Le64, LeSize,
+    LittleEndian, LookupError, MappedRange, MemoryRegionAddress, NewBitmap, Permissions,
+    ReadExactFault, ReadVolatile, Reason, ScriptSink, ScriptSource, SinkStep, SourceStep,
+    VolatileMemoryError, VolatileMemoryResult, WriteVolatile, is_interrupted, offer_again,
 };
 pub use vm_memory_guest::{
     BlockId, Bytes, FromRangesError, GuestMemory, GuestMemoryBackend,

@@ -1,6 +1,7 @@
 -- The flags and words of a bitmap.
-use Rattle.std.proofs.Common.{◌≡◌, ℕ, zero, suc, ◌+◌, ◌-◌, ◌*◌, ◌/◌, ◌%◌, ◌^◌, ◌<◌, ◌≤◌, Bool, true, false, not, ◌&&◌, ◌||◌, cond, ltb, leb, List, [], ◌∷◌, ◌++◌, length, get_or, take, drop, replicate, Option, Some, None, min, refl, subst, sym, ap, inl, inr, ◌∙◌, arith, add-zero, zero-add, length-append, length-drop}
+use Rattle.std.proofs.Common.{◌≡◌, ℕ, zero, suc, ◌+◌, ◌-◌, ◌*◌, ◌/◌, ◌%◌, ◌^◌, ◌<◌, ◌≤◌, Bool, true, false, not, ◌&&◌, ◌||◌, cond, ltb, leb, Vec, List, [], ◌∷◌, ◌++◌, length, get_or, take, drop, replicate, Option, Some, None, min, refl, subst, sym, ap, inl, inr, ◌∙◌, arith, add-zero, zero-add, length-append, length-drop}
 use Rattle.std.specs.Int.{div_ceil}
+use Rattle.std.specs.declared.alloc.Global.{Global}
 use Rattle.std.specs.List.{All, Contains}
 use Rattle.std.proofs.Math.Nat.{pow-suc, pow-succ', div-div-eq-div-mul, zero-div, zero-mul, mul-zero, suc-mul}
 use Rattle.std.proofs.Math.Pow.{pow_mono}
@@ -81,27 +82,43 @@ cleared_if true false = refl
 cleared_if false true = refl
 cleared_if false false = refl
 
--- the flags of the pages that a test takes, set
-pub filled_is-flags_after : (test : ℕ → Bool) (a b : ℕ) (flags : List Bool) → a ≤ b → b ≤ length flags
-    → ((page : ℕ) → page < length flags → test page ≡ (leb a page && ltb page b)) → filled a b true flags ≡ flags_after test 0 flags
-filled_is-flags_after test a b flags h k t =
-    ext_get_or false (filled a b true flags) (flags_after test 0 flags) (length-filled a b true flags h k ∙ sym (length-flags_after test 0 flags))
-    (λ i l.
-    let inside : i < length flags = omega (arith, length-filled a b true flags h k) in
-    let e : 0 + i ≡ i = zero-add i in
-    get_or-filled a b true flags i h k ∙ set_if (leb a i && ltb i b) (get_or flags i false)
-    ∙ sym (get_or-flags_after test 0 flags i ∙ rw (e, lt-ltb i (length flags) inside, t i inside) refl))
+-- of the flags of a vector, those from one page up to another are made alike
+module _ (flags : Vec Bool Global) (a b : ℕ) (ordered : a ≤ b) (inside : b ≤ length flags.items) (test : ℕ → Bool)
+    (taken : (page : ℕ) → page < length flags.items → test page ≡ (leb a page && ltb page b)) where
+  filled_is : (d : Bool) (after : List Bool) → length after ≡ length flags.items
+      → ((i : ℕ) → i < length flags.items → get_or after i false ≡ cond (test i) d (get_or flags.items i false))
+      → filled a b d flags.items ≡ after
+  filled_is d after long each =
+      let same = length-filled a b d flags.items ordered inside in
+      ext_get_or false (filled a b d flags.items) after (same ∙ sym long)
+      (λ i l.
+      let within : i < length flags.items = omega (arith, same) in
+      get_or-filled a b d flags.items i ordered inside
+      ∙ sym (each i within ∙ ap (λ (t : Bool). cond t d (get_or flags.items i false)) (taken i within)))
 
--- the same, cleared
-pub filled_is-flags_without : (test : ℕ → Bool) (a b : ℕ) (flags : List Bool) → a ≤ b → b ≤ length flags
-    → ((page : ℕ) → page < length flags → test page ≡ (leb a page && ltb page b)) → filled a b false flags ≡ flags_without test 0 flags
-filled_is-flags_without test a b flags h k t =
-    ext_get_or false (filled a b false flags) (flags_without test 0 flags) (length-filled a b false flags h k ∙ sym (length-flags_without test 0 flags))
-    (λ i l.
-    let inside : i < length flags = omega (arith, length-filled a b false flags h k) in
-    let e : 0 + i ≡ i = zero-add i in
-    get_or-filled a b false flags i h k ∙ cleared_if (leb a i && ltb i b) (get_or flags i false)
-    ∙ sym (get_or-flags_without test 0 flags i ∙ rw (e, t i inside) refl))
+  -- the pages that a test takes become dirty
+  pub set_is : (lent new : List Bool) → lent ≡ flags.items → new ≡ filled a b true lent
+      → (length new ≡ flags.len) × (new ≡ flags_after test 0 flags.items)
+  set_is lent new is set =
+      let all = set ∙ ap (filled a b true) is
+      ∙ filled_is true (flags_after test 0 flags.items) (length-flags_after test 0 flags.items)
+      (λ i l.
+      let e : 0 + i ≡ i = zero-add i in
+      get_or-flags_after test 0 flags.items i
+      ∙ rw (e, lt-ltb i (length flags.items) l) (sym (set_if (test i) (get_or flags.items i false)))) in
+      (ap length all ∙ length-flags_after test 0 flags.items ∙ sym flags.ok.0, all)
+
+  -- or clean
+  pub cleared_is : (lent new : List Bool) → lent ≡ flags.items → new ≡ filled a b false lent
+      → (length new ≡ flags.len) × (new ≡ flags_without test 0 flags.items)
+  cleared_is lent new is set =
+      let all = set ∙ ap (filled a b false) is
+      ∙ filled_is false (flags_without test 0 flags.items) (length-flags_without test 0 flags.items)
+      (λ i l.
+      let e : 0 + i ≡ i = zero-add i in
+      get_or-flags_without test 0 flags.items i
+      ∙ rw e (sym (cleared_if (test i) (get_or flags.items i false)))) in
+      (ap length all ∙ length-flags_without test 0 flags.items ∙ sym flags.ok.0, all)
 
 pub replicate-all_clean : (flags : List Bool) → replicate (length flags) false ≡ all_clean flags
 replicate-all_clean [] = refl

@@ -1,5 +1,5 @@
 -- Runs before an address and behind it, and the runs of a table after a change.
-use Rattle.std.proofs.Common.{◌≡◌, ℕ, zero, suc, ◌+◌, ◌-◌, ◌^◌, ◌<◌, ◌≤◌, min, max, Bool, true, false, cond, ◌&&◌, ◌||◌, ltb, eqb, List, [], ◌∷◌, ◌++◌, length, get_or, take, drop, Option, Some, None, Result, Ok, Err, OnOk, OnErr, IfSome, refl, sym, ap, subst, inl, inr, ◌∙◌, arith}
+use Rattle.std.proofs.Common.{◌≡◌, ℕ, zero, suc, ◌+◌, ◌-◌, ◌^◌, ◌<◌, ◌≤◌, min, max, Bool, true, false, cond, ◌&&◌, ◌||◌, ltb, eqb, List, [], ◌∷◌, ◌++◌, length, get_or, take, drop, Option, Some, None, Result, Ok, Err, OnOk, OnErr, IfSome, IsSome, refl, sym, ap, subst, inl, inr, ◌∙◌, arith}
 use Rattle.std.proofs.lemmas.Bool.{lt-ltb, le-ltb, eqb-true, and_parts, and_cases, cases_lt, cases_Bool, eq-eqb}
 use Rattle.std.proofs.lemmas.List.{append-nil, append_assoc, take-append-drop, drop_more, length-append, length-take-le, length-drop}
 use Rattle.vm_memory_base.specs.Address.{is_within}
@@ -8,7 +8,7 @@ use Rattle.vm_memory_base.specs.Runs.{Run, IsCanonical, value_at, cut_to}
 use Rattle.vm_memory_base.specs.Table.{Mapping, same_mapping, Says, Table, says, TableCall, Set, Invalidate, says_after, changed, canonical_list}
 use Rattle.vm_memory_base.specs.declared.iotlb.Permissions.{Permissions}
 use Rattle.vm_memory_base.proofs.RunsLaws.{CanFollow, canonical_cons, canonical_pos, canonical_follow, canonical_tail, within_or_not, is_within-in, is_within-below, is_within-above, is_within-join, value_at_in, value_at_past, value_at-cut_to, canonical_cut_to}
-use Rattle.vm_memory_base.proofs.TableLaws.{same_mapping_tests_equality, canonical_list-agree, canonical_list-of_values, set_nothing, invalidate_nothing}
+use Rattle.vm_memory_base.proofs.TableLaws.{same_mapping_tests_equality, canonical_list-agree, canonical_list-of_values, value_at-canonical_list, set_nothing, invalidate_nothing}
 
 abbrev pub run : {K : Type 0} → ℕ → ℕ → K → Run K
 run start len value = record { start = start; len = len; value = value }
@@ -538,10 +538,21 @@ if_some_at P None h x e = absurd (none_some e)
     none_some e = cc
 if_some_at P (Some y) h x e = let q : y ≡ x = cc in subst P q h
 
+-- what is put in the place of runs
+abbrev pub put_for : List (Run Mapping) → ℕ → ℕ → Option (Run Mapping) → Option (Run Mapping) → Option (Run Mapping)
+    → List (Run Mapping)
+put_for rs first after a b c = take first rs ++ (if_any a ++ if_any b ++ if_any c ++ drop after rs)
+
 -- where a run reaches a range, it is one of those that go
-pub left_room : (left : Option (Run Mapping)) (first after : ℕ) → first ≤ after → ((l : Run Mapping) → left ≡ Some l → first < after) → length (if_any left) ≤ after - first
-left_room None first after l f = omega arith
-left_room (Some r) first after l f = let m = f r refl in omega arith
+pub left_room : (rs : List (Run Mapping)) (a e first after : ℕ) (left : Option (Run Mapping)) → first ≤ after → a ≤ e
+    → StartFrom (e + 1) (drop after rs)
+    → (IsSome left → (d : Run Mapping) → (first < length rs) × ((get_or rs first d).start < a))
+    → length (if_any left) ≤ after - first
+left_room rs a e first after None ordered some far there = omega arith
+left_room rs a e first after (Some l) ordered some far there =
+    let h = there refl l in
+    let gone = first_before_after a e first after rs l far h.0 h.1 some in
+    omega arith
 
 -- ---- a kept list, and what it says
 
@@ -554,6 +565,13 @@ kept_stays rs f k same = sym (kept_is_canonical rs k) ∙ canonical_list-agree (
 
 pub nothing_said : canonical_list (λ x. None) ≡ []
 nothing_said = canonical_list-of_values [] tt (λ x l. refl)
+
+-- what is said after a call that changed a table
+pub says_then : {E : Type 0} (call : TableCall) (old new : Table) (r : Result (Unit {0}) E) → OnOk r (new ≡ changed call old)
+    → OnOk r ((x : ℕ) → x < 2 ^ 64 → says new x ≡ says_after call x (says old x))
+says_then call old new r =
+    on_ok r
+    (λ e x l. ap (λ (t : Table). says t x) e ∙ value_at-canonical_list (λ y. says_after call y (says old y)) x l)
 
 -- a table that a call changes at no address is as it was
 pub table_stays : (call : TableCall) (table : Table) → IsKept table.ranges → ((x : ℕ) (old : Option Mapping) → says_after call x old ≡ old) → table ≡ changed call table

@@ -6,10 +6,6 @@ use Rattle.vm_memory_base.specs.Runs.{Run, IsCanonical, value_at, cut_onto}
 use Rattle.vm_memory_base.specs.Table.{Mapping, same_mapping, Says}
 use Rattle.vm_memory_base.specs.declared.iotlb.Permissions.{Permissions}
 
--- the first address after a run
-abbrev pub end_of : {K : Type 0} → Run K → ℕ
-end_of r = r.start + r.len
-
 -- each run ends below a limit
 abbrev pub EndBelow : {K : Type 0} → ℕ → List (Run K) → Type 0
 EndBelow limit [] = Unit {0}

@@ -91,7 +91,7 @@ pub enum Reason {
     MissingMapping,
     /// A mapping of the range does not permit the access.
     AccessNotAllowed,
-    /// For translators of a user's own.
+    /// No call answers this.
     NotConfigured,
 }
 
@@ -134,13 +134,13 @@ pub enum IommuError {
         iova_range: IovaRange,
         reason: Reason,
     },
-    /// For translators of a user's own.
+    /// No call answers this.
     #[error("Expected 0x{:x}+{} to be a continuous I/O virtual address range, but only {continuous_length} bytes are", iova_range.base.0, iova_range.length)]
     Fragmented {
         iova_range: IovaRange,
         continuous_length: usize,
     },
-    /// For translators of a user's own.
+    /// No call answers this.
     #[error("IOMMU not configured correctly, cannot operate: {reason}")]
     IommuMisconfigured {
         reason: Reason,

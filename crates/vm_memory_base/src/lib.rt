@@ -26,4 +26,4 @@ pub use iotlb::{
     IommuError, Iotlb, IotlbFails, IotlbIterator, IovaRange, IovaRangeList, LookupError,
     MappedRange, Permissions, Reason,
 };
-pub use list::ByteList;
+pub use list::{ByteList, Items};

@@ -3,40 +3,43 @@ ghost use Rattle.std.specs.Prelude.{◌≡◌};
 
 use std::marker::Model;
 
-/// Bytes.
+/// Items in order. A clause sees them alone, not the room of their vector.
 #[derive(Debug, Drop)]
-pub struct ByteList {
-    bytes: Vec<u8>,
+pub struct Items<T> {
+    items: Vec<T>,
 }
 
-impl Model for ByteList {
-    ghost use Rattle.std.specs.Prelude.{List, ℕ};
+impl<T> Model for Items<T> {
+    ghost use Rattle.std.specs.Prelude.{List};
 
-    ghost Value = { List ℕ };
+    ghost Value = { List T };
 
-    ghost view = { λ l. l.bytes.items };
+    ghost view = { λ l. l.items.items };
 }
 
-impl ByteList {
-    /// The bytes of a vector. It takes no memory.
-    pub fn from_vec(bytes: Vec<u8>) -> ByteList
-        ensures { result ≡ bytes.items }
+impl<T> Items<T> {
+    /// The items of a vector. It takes no memory.
+    pub fn from_vec(items: Vec<T>) -> Items<T>
+        ensures { result ≡ items.items }
     {
-        ByteList { bytes }
+        Items { items }
     }
 
-    /// The bytes.
-    pub fn as_slice(&self) -> &[u8]
+    /// The items.
+    pub fn as_slice(&self) -> &[T]
         ensures { result.now ≡ self.now }
     {
-        self.bytes.as_slice()
+        self.items.as_slice()
     }
 
     /// The vector back.
-    pub fn into_vec(self) -> Vec<u8>
+    pub fn into_vec(self) -> Vec<T>
         ensures { result.items ≡ self }
     {
-        let ByteList { bytes } = self;
-        bytes
+        let Items { items } = self;
+        items
     }
 }
+
+/// Bytes.
+pub type ByteList = Items<u8>;

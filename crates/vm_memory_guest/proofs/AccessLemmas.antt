@@ -1,7 +1,7 @@
 -- Moves between a buffer and the windows of a walk, one after the other, and what they answer.
 use Rattle.std.specs.List.{AllByRecursion}
 use Rattle.std.specs.Prelude.{is_none}
-use Rattle.std.proofs.Common.{MatchResult, ◌≡◌, ◌⊎◌, ℕ, Bool, true, false, ◌+◌, ◌-◌, ◌<◌, ◌≤◌, ◌≢◌, List, [], ◌∷◌, ◌++◌, map, take, drop, length, All, Option, Some, None, option_map, Result, Ok, Err, OnSome, MatchOption, IfOk, refl, sym, ap, ap₂, subst, ◌∙◌, inl, inr, append_assoc, append-nil, take-append-drop, length-take-le, length-drop, arith}
+use Rattle.std.proofs.Common.{MatchResult, ◌≡◌, ◌⊎◌, ℕ, Bool, true, false, ◌+◌, ◌-◌, ◌<◌, ◌≤◌, List, [], ◌∷◌, ◌++◌, map, take, drop, length, All, Option, Some, None, option_map, Result, Ok, Err, OnSome, MatchOption, IfOk, refl, sym, ap, ap₂, subst, ◌∙◌, inl, inr, append_assoc, append-nil, take-append-drop, length-take-le, length-drop, arith}
 use Rattle.std.proofs.lemmas.Bool.{cond_both}
 use Rattle.std.proofs.lemmas.Bool.Decides.{nat_tests}
 use borrow.Rule.Slice.PartMut.{put_mid}
@@ -11,6 +11,7 @@ use Rattle.vm_memory_guest.specs.Access.{Fault, Access, path, first_fault, meets
 use Rattle.vm_memory_guest.specs.Answer.{Reach, Outcome, counted, filled, told}
 use Rattle.vm_memory_guest.specs.Error.{error_of}
 use Rattle.vm_memory_guest.specs.Walk.{error_item, items_of, windows_before, reached, GivesAccess, RefusesAccess, WantsMemory}
+use Rattle.vm_memory_guest.specs.Transfer.{ended}
 use Rattle.vm_memory_guest.specs.Host.{Host, Shape, Cell, Name, Holds, shape_of, bytes_at}
 use Rattle.vm_memory_guest.specs.Memory.{Memory, Switched, IsOn, behind_if, behind_of, route, route_behind, switched_names, memory_names}
 use Rattle.vm_memory_guest.specs.Region.{IsRegion}
@@ -109,8 +110,8 @@ came-done {start} {left} {done} came ends = came.windows ∙ ap (λ (ws : List W
 counted-none : (total n : ℕ) (e : GuestMemoryError) → total ≡ 0 → 0 < n → Err e ≡ counted total (Some e) n
 counted-none total n e none some = grind (arith, nat_tests)
 
-counted-some : (total n : ℕ) (e : GuestMemoryError) → total ≢ 0 → Ok total ≡ counted total (Some e) n
-counted-some total n e some = grind (arith, nat_tests)
+counted-ended : (total n : ℕ) (e : GuestMemoryError) → 0 < n → ended total (Some e) ≡ counted total (Some e) n
+counted-ended total n e some = grind (arith, nat_tests)
 
 pub asked_some : (fault : Option Fault) (n : ℕ) (e : GuestMemoryError) → OnSome fault (0 < n) → option_map error_of fault ≡ Some e → 0 < n
 asked_some None n e asked is = absurd (cc)
@@ -124,14 +125,11 @@ module _ {start left : Reach Fault} {done : List Window} {total : ℕ} (came : C
   pub answer-whole : Ends left None → Ok total ≡ counted (span start.windows) (option_map error_of start.fault) n
   answer-whole ends = rw (came.fault ∙ ends.fault) (ap (λ (k : ℕ). Ok k) (total_is ends))
 
-  pub answer-none : {e : GuestMemoryError} → Ends left (Some e) → OnSome start.fault (0 < n) → total ≡ 0 → Err e ≡ counted (span start.windows) (option_map error_of start.fault) n
-  answer-none {e} ends asked none =
+  pub answer-ends : {e : GuestMemoryError} → Ends left (Some e) → OnSome start.fault (0 < n) → ended total (Some e) ≡ counted (span start.windows) (option_map error_of start.fault) n
+  answer-ends {e} ends asked =
       let fault_is = came.fault ∙ ends.fault in
-      rw fault_is (counted-none (span start.windows) n e (sym (total_is ends) ∙ none) (asked_some start.fault n e asked fault_is))
-
-  pub answer-some : {e : GuestMemoryError} → Ends left (Some e) → total ≢ 0 → Ok total ≡ counted (span start.windows) (option_map error_of start.fault) n
-  answer-some {e} ends some =
-      rw (came.fault ∙ ends.fault) (ap (λ (k : ℕ). Ok k) (total_is ends) ∙ counted-some (span start.windows) n e (λ none. some (total_is ends ∙ none)))
+      ap (λ (k : ℕ). ended k (Some e)) (total_is ends)
+      ∙ rw fault_is (counted-ended (span start.windows) n e (asked_some start.fault n e asked fault_is))
 
 module _ {B : Type 0} (marks : B → ℕ → ℕ → B → Type 0) where
   -- a write came so far: the windows that are done have their bytes, and are marked

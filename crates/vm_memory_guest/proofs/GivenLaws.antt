@@ -32,15 +32,20 @@ module _ {S E : Type 0} (sink : S → Option Sink) (taken : S → Option (List �
   wanted_ends w ws total mid answer new (Ok all) is h = absurd (cc)
   wanted_ends w ws total mid answer new (Err e) is h = let same : e ≡ Memory = cc in h.0 ∙ ap (λ (f : VolatileMemoryError). Err (failure f)) same
 
+  -- where all of a window was taken, the next is sent
+  goes_on : (w : Window) (ws : List Window) (total : ℕ) (mid : S) (answer : Result ℕ E) (new : S) → Rest w ws total mid answer new (Ok w.size)
+      → InOrder failure fault Moves ws (total + w.size) mid answer new
+  goes_on w ws total mid answer new h =
+      let same : (w.size == w.size) ≡ true = grind (arith, nat_tests) in
+      subst (λ (b : Bool). MatchBool b (InOrder failure fault Moves ws (total + w.size) mid answer new) ((answer ≡ Ok (total + w.size)) × (new ≡ mid))) same h
+
   sent_goes : (w : Window) (ws : List Window) (total : ℕ) (old mid : S) (answer : Result ℕ E) (new : S) (s : Sent) → sink mid ≡ Some s.left → (wants mid → wants old)
       → (InOrder failure fault Moves ws (total + w.size) mid answer new → (Wanted answer mid ⊎ IsGiven (given_out failure fault ws (total + w.size) s.left) answer new))
       → (r : Result (Unit {0}) VolatileMemoryError) → Rest w ws total mid answer new (answered (λ all. w.size) r)
       → (Wanted answer old ⊎ IsGiven (after_sent r (given_out failure fault ws (total + w.size) s.left) (λ e. record { answer = Err (failure e); taken = total + s.count; left = s.left })) answer new)
   sent_goes w ws total old mid answer new s left wanted more (Err e) h = inr (h.0, ap sink h.1 ∙ left)
   sent_goes w ws total old mid answer new s left wanted more (Ok all) h =
-      let whole : (w.size == w.size) ≡ true = grind (arith, nat_tests) in
-      let next = subst (λ (b : Bool). MatchBool b (InOrder failure fault Moves ws (total + w.size) mid answer new) ((answer ≡ Ok (total + w.size)) × (new ≡ mid))) whole h in
-      elim (more next) [
+      elim (more (goes_on w ws total mid answer new h)) [
         | inl want ↦ inl (want.0, wanted want.1)
         | inr is ↦ inr is
       ]
@@ -79,30 +84,41 @@ module _ {S E : Type 0} (sink : S → Option Sink) (taken : S → Option (List �
   failed_count (Ok a) f n is = absurd (cc)
   failed_count (Err e) f n is = tt
 
+  -- the first bytes of windows are some of those of the first window, or all of these and some of the others
+  part_of_first : (w : Window) (ws : List Window) (k : ℕ) → k ≤ w.size
+      → take k (bytes_at blocks (cells (w ∷ ws))) ≡ take k (bytes_at blocks (cells_of w))
+  part_of_first w ws k within =
+      let bytes = bytes_at blocks (cells_of w) in
+      let rest = bytes_at blocks (cells ws) in
+      let long = length-bytes blocks w in
+      ap (take k) (bytes_at-append blocks (cells_of w) (cells ws)) ∙ take-append-le k bytes rest (omega arith)
+
+  all_of_first : (w : Window) (k : ℕ) → k ≡ w.size → take k (bytes_at blocks (cells_of w)) ≡ bytes_at blocks (cells_of w)
+  all_of_first w k whole =
+      let bytes = bytes_at blocks (cells_of w) in
+      ap (λ (n : ℕ). take n bytes) (whole ∙ sym (length-bytes blocks w)) ∙ take-length bytes
+
+  and_more : (w : Window) (ws : List Window) (before : List ℕ) (n : ℕ)
+      → (before ++ bytes_at blocks (cells_of w)) ++ take n (bytes_at blocks (cells ws)) ≡ before ++ take (w.size + n) (bytes_at blocks (cells (w ∷ ws)))
+  and_more w ws before n =
+      let bytes = bytes_at blocks (cells_of w) in
+      let rest = bytes_at blocks (cells ws) in
+      let all : bytes_at blocks (cells (w ∷ ws)) ≡ bytes ++ rest = bytes_at-append blocks (cells_of w) (cells ws) in
+      append_assoc before bytes (take n rest)
+      ∙ ap (λ (bs : List ℕ). before ++ bs) (sym (ap (take (w.size + n)) all ∙ ap (λ (k : ℕ). take (k + n) (bytes ++ rest)) (sym (length-bytes blocks w)) ∙ take-append-add bytes rest n))
+
   took_on : (w : Window) (ws : List Window) (before : List ℕ) (total k : ℕ) (mid : S) (answer : Result ℕ E) (new : S) → k ≤ w.size → taken mid ≡ Some (before ++ take k (bytes_at blocks (cells_of w)))
       → ((now : List ℕ) → taken mid ≡ Some now → InOrder failure fault Moves ws (total + w.size) mid answer new → Took now (total + w.size) ws answer new)
       → (r : Result (Unit {0}) VolatileMemoryError) → OnOk r (k ≡ w.size) → Rest w ws total mid answer new (answered (λ all. w.size) r) → Took before total (w ∷ ws) answer new
   took_on w ws before total k mid answer new within has more (Err e) whole h =
-      let bytes = bytes_at blocks (cells_of w) in
-      let rest = bytes_at blocks (cells ws) in
-      let all : bytes_at blocks (cells (w ∷ ws)) ≡ bytes ++ rest = bytes_at-append blocks (cells_of w) (cells ws) in
-      let long = length-bytes blocks w in
-      let first : take k (bytes_at blocks (cells (w ∷ ws))) ≡ take k bytes = ap (take k) all ∙ take-append-le k bytes rest (omega arith) in
       let fits : k ≤ span (w ∷ ws) = let a = span-cons w ws in omega arith in
-      (k, fits, ap taken h.1 ∙ has ∙ ap (λ (bs : List ℕ). Some (before ++ bs)) (sym first), failed_count answer (failure e) (total + k) h.0)
+      (k, fits, ap taken h.1 ∙ has ∙ ap (λ (bs : List ℕ). Some (before ++ bs)) (sym (part_of_first w ws k within)), failed_count answer (failure e) (total + k) h.0)
   took_on w ws before total k mid answer new within has more (Ok done) whole h =
       let bytes = bytes_at blocks (cells_of w) in
-      let rest = bytes_at blocks (cells ws) in
-      let same : (w.size == w.size) ≡ true = grind (arith, nat_tests) in
-      let next = subst (λ (b : Bool). MatchBool b (InOrder failure fault Moves ws (total + w.size) mid answer new) ((answer ≡ Ok (total + w.size)) × (new ≡ mid))) same h in
-      let all : bytes_at blocks (cells (w ∷ ws)) ≡ bytes ++ rest = bytes_at-append blocks (cells_of w) (cells ws) in
-      let long = length-bytes blocks w in
-      let each : take k bytes ≡ bytes = ap (λ (n : ℕ). take n bytes) (whole ∙ sym long) ∙ take-length bytes in
-      let t = more (before ++ bytes) (has ∙ ap (λ (bs : List ℕ). Some (before ++ bs)) each) next in
-      let both : (before ++ bytes) ++ take t.0 rest ≡ before ++ take (w.size + t.0) (bytes_at blocks (cells (w ∷ ws))) =
-      append_assoc before bytes (take t.0 rest) ∙ ap (λ (bs : List ℕ). before ++ bs) (sym (ap (take (w.size + t.0)) all ∙ ap (λ (n : ℕ). take (n + t.0) (bytes ++ rest)) (sym long) ∙ take-append-add bytes rest t.0)) in
+      let next = goes_on w ws total mid answer new h in
+      let t = more (before ++ bytes) (has ∙ ap (λ (bs : List ℕ). Some (before ++ bs)) (all_of_first w k whole)) next in
       let fits : w.size + t.0 ≤ span (w ∷ ws) = let a = span-cons w ws in let b = t.1 in omega arith in
-      (w.size + t.0, fits, t.2 ∙ ap (λ (bs : List ℕ). Some bs) both, ok_count answer total w.size t.0 t.3)
+      (w.size + t.0, fits, t.2 ∙ ap (λ (bs : List ℕ). Some bs) (and_more w ws before t.0), ok_count answer total w.size t.0 t.3)
 
   -- it took the first bytes of the windows, as many as are answered
   pub taken_is : (ws : List Window) (total : ℕ) (before : List ℕ) (old : S) (answer : Result ℕ E) (new : S) → taken old ≡ Some before → InOrder failure fault Moves ws total old answer new → Took before total ws answer new
@@ -130,28 +146,15 @@ module _ {S E : Type 0} (sink : S → Option Sink) (taken : S → Option (List �
       (after_sent r (given_out failure fault ws (total + w.size) s.left)
       (λ e. record { answer = Err (failure e); taken = total + s.count; left = s.left })).taken new)
   took_as_given w ws before total old mid answer new s within has wanted more (Err e) whole h =
-      let bytes = bytes_at blocks (cells_of w) in
-      let rest = bytes_at blocks (cells ws) in
-      let all : bytes_at blocks (cells (w ∷ ws)) ≡ bytes ++ rest = bytes_at-append blocks (cells_of w) (cells ws) in
-      let long = length-bytes blocks w in
-      let first : take s.count (bytes_at blocks (cells (w ∷ ws))) ≡ take s.count bytes =
-      ap (take s.count) all ∙ take-append-le s.count bytes rest (omega arith) in
-      inr (s.count, refl, ap taken h.1 ∙ has ∙ ap (λ (bs : List ℕ). Some (before ++ bs)) (sym first))
+      inr (s.count, refl, ap taken h.1 ∙ has ∙ ap (λ (bs : List ℕ). Some (before ++ bs)) (sym (part_of_first w ws s.count within)))
   took_as_given w ws before total old mid answer new s within has wanted more (Ok done) whole h =
       let bytes = bytes_at blocks (cells_of w) in
-      let rest = bytes_at blocks (cells ws) in
-      let same : (w.size == w.size) ≡ true = grind (arith, nat_tests) in
-      let next = subst (λ (b : Bool). MatchBool b (InOrder failure fault Moves ws (total + w.size) mid answer new) ((answer ≡ Ok (total + w.size)) × (new ≡ mid))) same h in
-      let all : bytes_at blocks (cells (w ∷ ws)) ≡ bytes ++ rest = bytes_at-append blocks (cells_of w) (cells ws) in
-      let long = length-bytes blocks w in
-      let each : take s.count bytes ≡ bytes = ap (λ (n : ℕ). take n bytes) (whole ∙ sym long) ∙ take-length bytes in
-      elim (more (before ++ bytes) (has ∙ ap (λ (bs : List ℕ). Some (before ++ bs)) each) next) [
+      let next = goes_on w ws total mid answer new h in
+      elim (more (before ++ bytes) (has ∙ ap (λ (bs : List ℕ). Some (before ++ bs)) (all_of_first w s.count whole)) next) [
         | inl want ↦ inl (want.0, wanted want.1)
         | inr t ↦
-            (let both : (before ++ bytes) ++ take t.0 rest ≡ before ++ take (w.size + t.0) (bytes_at blocks (cells (w ∷ ws))) =
-            append_assoc before bytes (take t.0 rest) ∙ ap (λ (bs : List ℕ). before ++ bs) (sym (ap (take (w.size + t.0)) all ∙ ap (λ (n : ℕ). take (n + t.0) (bytes ++ rest)) (sym long) ∙ take-append-add bytes rest t.0)) in
-            let number : (given_out failure fault ws (total + w.size) s.left).taken ≡ total + (w.size + t.0) = omega (arith, t.1) in
-            inr (w.size + t.0, number, t.2 ∙ ap (λ (bs : List ℕ). Some bs) both))
+            (let number : (given_out failure fault ws (total + w.size) s.left).taken ≡ total + (w.size + t.0) = omega (arith, t.1) in
+            inr (w.size + t.0, number, t.2 ∙ ap (λ (bs : List ℕ). Some bs) (and_more w ws before t.0)))
       ]
 
   pub taken_as_given : (ws : List Window) (total : ℕ) (state : Sink) (before : List ℕ) (old : S) (answer : Result ℕ E)

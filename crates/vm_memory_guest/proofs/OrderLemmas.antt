@@ -48,12 +48,6 @@ pub order_ends : {X E : Type 0} (failure : VolatileMemoryError → E) (fault : O
 unfolding InOrder
 order_ends failure fault Moves total x = (refl, refl)
 
-ended_none : (total : ℕ) (e : GuestMemoryError) → total ≡ 0 → ended total (Some e) ≡ Err e
-ended_none total e none = grind (arith, nat_tests)
-
-ended_some : (total : ℕ) (e : GuestMemoryError) → total ≢ 0 → ended total (Some e) ≡ Ok total
-ended_some total e some = grind (arith, nat_tests)
-
 -- the windows of a walk, in order
 abbrev pub Walked : {X : Type 0} (Moves : Window → X → Result ℕ VolatileMemoryError → X → Type 0) → Reach Fault → List Window → ℕ → X → Result ℕ GuestMemoryError → X → Type 0
 Walked Moves start ws total old answer new = InOrder of_window (option_map error_of start.fault) Moves ws total old answer new
@@ -96,20 +90,14 @@ module _ {X : Type 0} (Moves : Window → X → Result ℕ VolatileMemoryError �
     moved_within count within = let a = came-fits m.came gives (span start.windows) (omega arith) in omega arith
 
   module _ {start left : Reach Fault} {initial now : X} {total : ℕ} (m : Moved start left initial now total) where
-    ends_as : {error : Option GuestMemoryError} → Ends left error → Walked Moves start start.windows 0 initial (ended total error) now
-    ends_as {error} ends =
+    pub moved_ends : {error : Option GuestMemoryError} → Ends left error → Walked Moves start start.windows 0 initial (ended total error) now
+    moved_ends {error} ends =
         let fault : option_map error_of start.fault ≡ error = m.came.fault ∙ ends.fault in
         let here : Walked Moves start [] total now (ended total error) now = subst (λ (o : Option GuestMemoryError). Walked Moves start [] total now (ended total o) now) fault (order_ends of_window (option_map error_of start.fault) Moves total now) in
         m.rest (ended total error) now (subst (λ (ws : List Window). Walked Moves start ws total now (ended total error) now) (sym ends.windows) here)
 
     pub moved_whole : Ends left None → Walked Moves start start.windows 0 initial (Ok total) now
-    moved_whole ends = ends_as ends
-
-    pub moved_none : {e : GuestMemoryError} → Ends left (Some e) → total ≡ 0 → Walked Moves start start.windows 0 initial (Err e) now
-    moved_none {e} ends none = subst (λ (r : Result ℕ GuestMemoryError). Walked Moves start start.windows 0 initial r now) (ended_none total e none) (ends_as ends)
-
-    pub moved_some : {e : GuestMemoryError} → Ends left (Some e) → total ≢ 0 → Walked Moves start start.windows 0 initial (Ok total) now
-    moved_some {e} ends some = subst (λ (r : Result ℕ GuestMemoryError). Walked Moves start start.windows 0 initial r now) (ended_some total e some) (ends_as ends)
+    moved_whole ends = moved_ends ends
 
 -- a transfer without a walk moved nothing
 module _ (memory : Memory) (tables : List Table) (a n : ℕ) (access : Permissions) {X : Type 0} (Moves : Window → X → Result ℕ VolatileMemoryError → X → Type 0) (x : X) (e : GuestMemoryError) where

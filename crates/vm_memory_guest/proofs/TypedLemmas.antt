@@ -87,13 +87,23 @@ Writes-put {B} marks w bytes old put new k all is marked =
     Writes-one marks w bytes old new (subst (λ (h : Host B). MarksWindow marks w h new) (is ∙ ap (λ (bs : List (List ℕ)). record old { blocks = bs }) same) marked)
 
 -- each block keeps its length
-pub lengths-put : (cells : List Cell) (bytes : List ℕ) (old new : List (List ℕ)) → new ≡ written cells bytes old → map length new ≡ map length old
+lengths-put : (cells : List Cell) (bytes : List ℕ) (old new : List (List ℕ)) → new ≡ written cells bytes old → map length new ≡ map length old
 lengths-put cells bytes old new is = ap (map length) is ∙ lengths-written cells bytes old
 
 -- a host whose blocks are as long as before has the shape that it had
 pub shape-put : {B : Type 0} (old new : List (List ℕ)) (bitmaps spaces : List B) (tables : List Table) → map length new ≡ map length old
     → shape_of (record { blocks = new; bitmaps = bitmaps; spaces = spaces; tables = tables }) ≡ shape_of (record { blocks = old; bitmaps = bitmaps; spaces = spaces; tables = tables })
 shape-put old new bitmaps spaces tables same = ap (λ (ls : List ℕ). record { blocks = ls; spaces = length spaces; tables = length tables }) same
+
+-- both, where bytes are put at cells
+module _ {B : Type 0} (cells : List Cell) (bytes : List ℕ) (old new : List (List ℕ)) (is : new ≡ written cells bytes old)
+    (bitmaps spaces : List B) (tables : List Table) where
+  pub sound-written : (shape : Shape) → IsSound shape old bitmaps spaces tables → IsSound shape new bitmaps spaces tables
+  sound-written shape = sound-put shape old new bitmaps spaces tables (lengths-put cells bytes old new is)
+
+  pub shape-written : shape_of (record { blocks = new; bitmaps = bitmaps; spaces = spaces; tables = tables })
+      ≡ shape_of (record { blocks = old; bitmaps = bitmaps; spaces = spaces; tables = tables })
+  shape-written = shape-put old new bitmaps spaces tables (lengths-put cells bytes old new is)
 
 -- a value of no bytes is read anywhere
 pub empty-value : {V : Type 0} (value_of : List ℕ → V) (w : Window) (offset width : ℕ) (blocks : List (List ℕ)) (value : V) (bytes : List ℕ)

@@ -3,46 +3,17 @@ ghost use Rattle.std.specs.Prelude.{◌≡◌, map};
 ghost use Rattle.vm_memory.specs.Pieces.{range_of_piece};
 
 use std::marker::Model;
-pub use vm_memory_base::ByteList;
+pub use vm_memory_base::{ByteList, Items};
 use vm_memory_base::{MappedRange, SinkStep, SourceStep};
 
 /// Numbers of a pool or of a list of a machine.
-#[derive(Debug, Drop)]
-pub struct NumberList {
-    numbers: Vec<usize>,
-}
+pub type NumberList = Items<usize>;
 
-impl Model for NumberList {
-    ghost use Rattle.std.specs.Prelude.{List, ℕ};
+/// What a source does at its tries.
+pub type SourceList = Items<SourceStep>;
 
-    ghost Value = { List ℕ };
-
-    ghost view = { λ l. l.numbers.items };
-}
-
-impl NumberList {
-    /// The numbers of a vector. It takes no memory.
-    pub fn from_vec(numbers: Vec<usize>) -> NumberList
-        ensures { result ≡ numbers.items }
-    {
-        NumberList { numbers }
-    }
-
-    /// The numbers.
-    pub fn as_slice(&self) -> &[usize]
-        ensures { result.now ≡ self.now }
-    {
-        self.numbers.as_slice()
-    }
-
-    /// The vector back.
-    pub fn into_vec(self) -> Vec<usize>
-        ensures { result.items ≡ self }
-    {
-        let NumberList { numbers } = self;
-        numbers
-    }
-}
+/// What a sink does at its tries.
+pub type SinkList = Items<SinkStep>;
 
 /// Ranges that I/O addresses lead to, in order.
 #[derive(Debug, Drop)]
@@ -81,67 +52,5 @@ impl PieceList {
     {
         let PieceList { pieces } = self;
         pieces
-    }
-}
-
-/// What a source does at its tries.
-#[derive(Debug, Drop)]
-pub struct SourceList {
-    steps: Vec<SourceStep>,
-}
-
-impl Model for SourceList {
-    ghost use Rattle.std.specs.Prelude.{List};
-    ghost use Rattle.vm_memory_base.specs.declared.io.script.SourceStep.{SourceStep};
-
-    ghost Value = { List SourceStep };
-
-    ghost view = { λ l. l.steps.items };
-}
-
-impl SourceList {
-    /// The steps of a vector. It takes no memory.
-    pub fn from_vec(steps: Vec<SourceStep>) -> SourceList
-        ensures { result ≡ steps.items }
-    {
-        SourceList { steps }
-    }
-
-    /// The steps.
-    pub fn as_slice(&self) -> &[SourceStep]
-        ensures { result.now ≡ self.now }
-    {
-        self.steps.as_slice()
-    }
-}
-
-/// What a sink does at its tries.
-#[derive(Debug, Drop)]
-pub struct SinkList {
-    steps: Vec<SinkStep>,
-}
-
-impl Model for SinkList {
-    ghost use Rattle.std.specs.Prelude.{List};
-    ghost use Rattle.vm_memory_base.specs.declared.io.script.SinkStep.{SinkStep};
-
-    ghost Value = { List SinkStep };
-
-    ghost view = { λ l. l.steps.items };
-}
-
-impl SinkList {
-    /// The steps of a vector. It takes no memory.
-    pub fn from_vec(steps: Vec<SinkStep>) -> SinkList
-        ensures { result ≡ steps.items }
-    {
-        SinkList { steps }
-    }
-
-    /// The steps.
-    pub fn as_slice(&self) -> &[SinkStep]
-        ensures { result.now ≡ self.now }
-    {
-        self.steps.as_slice()
     }
 }

@@ -15,7 +15,7 @@ ghost use Rattle.vm_memory_guest.specs.declared.region.GuestMemoryError.TheVaria
 
 use super::backend::GuestMemoryBackend;
 use super::memory::{GuestMemory, IommuMemorySliceIterator};
-use super::transfer::{receive_windows, send_windows};
+use super::transfer::{ended, receive_windows, send_windows};
 use crate::region::{GuestMemoryError, GuestMemoryResult};
 use crate::volatile_memory::access::Bytes;
 use crate::volatile_memory::host::HostMemory;
@@ -242,12 +242,7 @@ fn write_windows<M: GuestMemoryBackend, B: Bitmap>(
                 host.write(&window, &buf[total..end]);
                 total = end;
             }
-            Err(error) => {
-                if total == 0 {
-                    return Err(error);
-                }
-                return Ok(total);
-            }
+            Err(error) => return ended(total, error),
         }
     }
     Ok(total)
@@ -275,12 +270,7 @@ fn read_windows<M: GuestMemoryBackend, B: Bitmap>(
                 buf[total..end].copy_from_slice(host.bytes(&window));
                 total = end;
             }
-            Err(error) => {
-                if total == 0 {
-                    return Err(error);
-                }
-                return Ok(total);
-            }
+            Err(error) => return ended(total, error),
         }
     }
     Ok(total)
@@ -308,12 +298,7 @@ fn write_value<M: GuestMemoryBackend, V: ByteValued, B: Bitmap>(
                 host.write_value(&window, value, total);
                 total += window.len();
             }
-            Err(error) => {
-                if total == 0 {
-                    return Err(error);
-                }
-                return Ok(total);
-            }
+            Err(error) => return ended(total, error),
         }
     }
     Ok(total)
@@ -341,12 +326,7 @@ fn read_value<M: GuestMemoryBackend, V: ByteValued, B: Bitmap>(
                 value.set_bytes(total, host.bytes(&window));
                 total += window.len();
             }
-            Err(error) => {
-                if total == 0 {
-                    return Err(error);
-                }
-                return Ok(total);
-            }
+            Err(error) => return ended(total, error),
         }
     }
     Ok(total)

@@ -1,14 +1,14 @@
 //! Transfers between the windows of a walk and sources or sinks of bytes.
-ghost use Rattle.std.specs.Prelude.{◌≡◌, ◌^◌, ◌<◌, ◌≤◌, IfOk, option_map};
+ghost use Rattle.std.specs.Prelude.{◌≡◌, ◌^◌, ◌<◌, ◌≤◌, IfOk, Some, option_map};
 ghost use Rattle.std.specs.List.{AllByRecursion};
 ghost use Rattle.vm_memory_guest.specs.Error.{error_of, of_window};
 ghost use Rattle.vm_memory_guest.specs.Host.{shape_of, Holds};
-ghost use Rattle.vm_memory_guest.specs.Transfer.{Fills, InOrder, Takes, UntilWhole, filling};
+ghost use Rattle.vm_memory_guest.specs.Transfer.{Fills, InOrder, Takes, UntilWhole, ended, filling};
 ghost use Rattle.vm_memory_guest.specs.Window.{span, window_names};
 
 use super::backend::GuestMemoryBackend;
 use super::memory::IommuMemorySliceIterator;
-use crate::region::GuestMemoryResult;
+use crate::region::{GuestMemoryError, GuestMemoryResult};
 use crate::volatile_memory::host::HostMemory;
 use vm_memory_base::{Bitmap, ReadVolatile, WriteVolatile};
 
@@ -39,12 +39,7 @@ pub(super) fn receive_windows<M: GuestMemoryBackend, S: ReadVolatile, B: Bitmap>
                     return Ok(total);
                 }
             }
-            Err(error) => {
-                if total == 0 {
-                    return Err(error);
-                }
-                return Ok(total);
-            }
+            Err(error) => return ended(total, error),
         }
     }
     Ok(total)
@@ -72,13 +67,19 @@ pub(super) fn send_windows<M: GuestMemoryBackend, S: WriteVolatile, B: Bitmap>(
                 sink.write_all_volatile(host.bytes(&window))?;
                 total += window.len();
             }
-            Err(error) => {
-                if total == 0 {
-                    return Err(error);
-                }
-                return Ok(total);
-            }
+            Err(error) => return ended(total, error),
         }
+    }
+    Ok(total)
+}
+
+// The answer of a walk that an error ends: how many bytes came before it, or the error where none did.
+#[inline(always)]
+pub(super) fn ended(total: usize, error: GuestMemoryError) -> GuestMemoryResult<usize>
+    ensures { result ≡ ended total (Some error) }
+{
+    if total == 0 {
+        return Err(error);
     }
     Ok(total)
 }

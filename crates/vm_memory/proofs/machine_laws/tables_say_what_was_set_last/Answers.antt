@@ -1,15 +1,11 @@
-use Rattle.vm_memory.proofs.HistoryLemmas.{HistoryLaws, CallLaws, run_leaves, run_says, run_says_last}
+use Rattle.vm_memory.proofs.HistoryLemmas.{history_laws, CallLaws, run_leaves, run_says, run_says_last}
 use Rattle.vm_memory.proofs.HistoryLemmas.{run_says_as_before}
 use Rattle.vm_memory.proofs.machine_laws.tables_say_what_was_set_last.Goals as goal
 
 pub returns : goal.returns
 returns c =
-    let laws : HistoryLaws = record {
-      kept_says = c.canonical_list_decides_the_table.ensures.values;
-      writes_keep = c.path_writes_keep_shapes.ensures.tables;
-      lent_keep = λ fault until_full ws total next host.
-          (c.transfers_in_mark_what_they_change.ensures fault until_full ws total next host).tables;
-    } in
+    let laws = history_laws c.canonical_list_decides_the_table.ensures.values c.path_writes_keep_shapes.ensures.tables
+    c.transfers_in_mark_what_they_change.ensures in
     let calls : CallLaws = record {
       last = c.last_call_decides.ensures.last;
       none = c.last_call_decides.ensures.none;

@@ -1,7 +1,15 @@
-use Rattle.std.proofs.Common.{◌<◌, ◌∙◌, ap, sym, subst, length, slice_get}
+use Rattle.std.proofs.Common.{◌<◌, ◌∙◌, ap, sym, subst, length, slice_get, Some, ◌≡◌}
 use Rattle.vm_memory_guest.specs.Host.{Holds, shape_of}
 use Rattle.vm_memory.proofs.IommuLemmas.{backend-held, iommu-held, gives-on, fails-on}
+use Rattle.vm_memory.proofs.iommu.IommuMemoryGuestMemory.get_slices.Given.{Over}
 use Rattle.vm_memory.proofs.iommu.IommuMemoryGuestMemory.get_slices.Goals as goal
+use Rattle.vm_memory.proofs.iommu.IommuMemoryGuestMemory.get_slices.Goals.{After-table-table}
+
+-- the table that is asked is the one that the IOMMU names
+there : (g : Over) (c : After-table-table g)
+    → slice_get c.args.host.now.tables (g.I.Iommu.number c.self.inside.iommu.value) ≡ Some c.table-table.result.now
+there g c =
+    ap (slice_get c.args.host.now.tables) (sym (c.table.ensures ∙ ap g.I.Iommu.number c.deref.ensures)) ∙ c.table-table.ensures
 
 pub get_slices-requires : goal.get_slices-requires
 get_slices-requires g c =
@@ -24,20 +32,16 @@ table-table-requires g c =
 pub returns-in-Ok-clause-answer : goal.returns-in-Ok-clause-answer
 returns-in-Ok-clause-answer g c =
     let it = c.self.inside in
-    let tables = c.args.host.now.tables in
-    let number = c.table.ensures ∙ ap g.I.Iommu.number c.deref.ensures in
-    let there = ap (slice_get tables) (sym number) ∙ c.table-table.ensures in
+    let at = there g (goal.at.returns-in-Ok-clause-answer g c).After-table-table in
     rw (← c.self.view_is) (gives-on g.M.R.GuestMemoryRegion.region (g.M.GuestMemoryBackend.regions it.backend)
-    (g.I.Iommu.number it.iommu.value) it.space.0 it.use_iommu c.if-not-self.false tables c.table-table.result.now there
+    (g.I.Iommu.number it.iommu.value) it.space.0 it.use_iommu c.if-not-self.false c.args.host.now.tables c.table-table.result.now at
     c.args.addr.0 c.args.count c.args.access c.pieces_are_the_access.ensures c.in-Ok.pieces.items c.in-Ok.ensures
     c.of_pieces.result c.of_pieces.ensures)
 
 pub returns-in-Err-clause-answer : goal.returns-in-Err-clause-answer
 returns-in-Err-clause-answer g c =
     let it = c.self.inside in
-    let tables = c.args.host.now.tables in
-    let number = c.table.ensures ∙ ap g.I.Iommu.number c.deref.ensures in
-    let there = ap (slice_get tables) (sym number) ∙ c.table-table.ensures in
+    let at = there g (goal.at.returns-in-Err-clause-answer g c).After-table-table in
     rw (← c.self.view_is) (fails-on g.M.R.GuestMemoryRegion.region (g.M.GuestMemoryBackend.regions it.backend)
-    (g.I.Iommu.number it.iommu.value) it.space.0 it.use_iommu c.if-not-self.false tables c.table-table.result.now there
+    (g.I.Iommu.number it.iommu.value) it.space.0 it.use_iommu c.if-not-self.false c.args.host.now.tables c.table-table.result.now at
     c.args.addr.0 c.args.count c.args.access c.in-Err.error c.in-Err.ensures c.error_of_translation.result c.error_of_translation.ensures)

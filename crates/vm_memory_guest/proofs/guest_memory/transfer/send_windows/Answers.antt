@@ -5,17 +5,32 @@ use Rattle.vm_memory_guest.specs.Transfer.{Takes, UntilWhole}
 use Rattle.vm_memory_guest.specs.Typed.{answered}
 use Rattle.vm_memory_guest.specs.Walk.{items_of}
 use Rattle.vm_memory_guest.specs.Window.{span, window_names}
-use Rattle.vm_memory_guest.proofs.AccessLemmas.{gave, ends_in, ends_whole, came-all, came-fits}
-use Rattle.vm_memory_guest.proofs.OrderLemmas.{moved_first, moved_next, moved_fails, moved_whole, moved_none, moved_some}
+use Rattle.vm_memory_guest.proofs.AccessLemmas.{Gave, gave, ends_in, ends_whole, came-all, came-fits}
+use Rattle.vm_memory_guest.proofs.OrderLemmas.{moved_first, moved_next, moved_fails, moved_ends, moved_whole}
 use Rattle.vm_memory_guest.proofs.TransferLemmas.{sends_of}
+use Rattle.vm_memory_guest.proofs.guest_memory.transfer.send_windows.Given.{Over}
 use Rattle.vm_memory_guest.proofs.guest_memory.transfer.send_windows.Goals as goal
+use Rattle.vm_memory_guest.proofs.guest_memory.transfer.send_windows.Goals.{In-Ok, After-write_all_volatile}
+
+gives : (g : Over) (c : In-Ok g) → Gave c.loop-item.item-iterator c.next.new.self c.in-Ok.window
+gives g c =
+    gave c.loop-item.item-iterator c.next.new.self c.in-Some.item c.in-Ok.window c.in-Some.ensures.steps c.in-Ok.is
+
+-- what the sink was sent of the window
+sent : (g : Over) (c : After-write_all_volatile g) → let w = c.in-Ok.window in let call = c.write_all_volatile in
+    Takes g.S.WriteVolatile.sink g.S.WriteVolatile.taken g.S.WriteVolatile.may_want c.args.host.now.blocks UntilWhole w
+    c.loop-item.sink (answered (λ all. w.size) call.result) call.new.self
+sent g c =
+    let call = c.write_all_volatile in
+    sends_of g.S.WriteVolatile.sink g.S.WriteVolatile.taken g.S.WriteVolatile.may_want c.args.host.now.blocks c.in-Ok.window
+    c.loop-item.sink call.new.self c.bytes.result.now call.result c.bytes.ensures call.ensures.sends call.ensures.wants
 
 pub loop-item-init : goal.loop-item-init
 loop-item-init g c = rw c.into_iter-item-iterator.ensures.into_iter_gives (moved_first (Takes g.S.WriteVolatile.sink g.S.WriteVolatile.taken g.S.WriteVolatile.may_want c.args.host.now.blocks UntilWhole) c.args.walk c.args.sink.now)
 
 pub bytes-requires : goal.bytes-requires
 bytes-requires g c =
-    let next = gave c.loop-item.item-iterator c.next.new.self c.in-Some.item c.in-Ok.window c.in-Some.ensures.steps c.in-Ok.is in
+    let next = gives g (goal.at.bytes-requires g c).In-Ok in
     came-all c.loop-item.invariant.came next (λ v. Holds (shape_of c.args.host.now) (window_names v)) c.requires.held
 
 pub returns-in_err-write_all_volatile-in-Ok-clause-answer :
@@ -26,15 +41,15 @@ returns-in_err-write_all_volatile-in-Ok-clause-answer g c =
     let wants = g.S.WriteVolatile.may_want in
     let blocks = c.args.host.now.blocks in
     let w = c.in-Ok.window in
-    let sent = c.write_all_volatile in
-    let next = gave c.loop-item.item-iterator c.next.new.self c.in-Some.item w c.in-Some.ensures.steps c.in-Ok.is in
-    let sends = sends_of sink taken wants blocks w c.loop-item.sink sent.new.self c.bytes.result.now sent.result c.bytes.ensures sent.ensures.sends sent.ensures.wants in
+    let call = c.write_all_volatile in
+    let next = gives g (goal.at.returns-in_err-write_all_volatile-in-Ok-clause-answer g c).In-Ok in
+    let sends = sent g (goal.at.returns-in_err-write_all_volatile-in-Ok-clause-answer g c).After-write_all_volatile in
     let p = err_from_is_err_and c.from_residual.result c.from_residual.ensures.1 in
-    rw (p.1, p.2) (moved_fails (Takes sink taken wants blocks UntilWhole) c.loop-item.invariant next sent.new.self (answered (λ all. w.size) sent.result) sends c.in_err-write_all_volatile-in-Ok.field-0.0 (ap (answered (λ all. w.size)) c.in_err-write_all_volatile-in-Ok.was))
+    rw (p.1, p.2) (moved_fails (Takes sink taken wants blocks UntilWhole) c.loop-item.invariant next call.new.self (answered (λ all. w.size) call.result) sends c.in_err-write_all_volatile-in-Ok.field-0.0 (ap (answered (λ all. w.size)) c.in_err-write_all_volatile-in-Ok.was))
 
 pub overflow_add-total : goal.overflow_add-total
 overflow_add-total g c =
-    let next = gave c.loop-item.item-iterator c.next.new.self c.in-Some.item c.in-Ok.window c.in-Some.ensures.steps c.in-Ok.is in
+    let next = gives g (goal.at.overflow_add-total g c).In-Ok in
     let fits = came-fits c.loop-item.invariant.came next (span c.args.walk.windows) (omega arith) in
     let size : c.len-total.result ≡ c.in-Ok.window.size = c.len-total.ensures in
     omega (arith, c.requires.fits)
@@ -46,20 +61,15 @@ loop-item-preserved g c =
     let wants = g.S.WriteVolatile.may_want in
     let blocks = c.args.host.now.blocks in
     let w = c.in-Ok.window in
-    let sent = c.write_all_volatile in
-    let next = gave c.loop-item.item-iterator c.next.new.self c.in-Some.item w c.in-Some.ensures.steps c.in-Ok.is in
-    let sends = sends_of sink taken wants blocks w c.loop-item.sink sent.new.self c.bytes.result.now sent.result c.bytes.ensures sent.ensures.sends sent.ensures.wants in
-    moved_next (Takes sink taken wants blocks UntilWhole) c.loop-item.invariant next sent.new.self (answered (λ all. w.size) sent.result) sends c.len-total.result (ap (answered (λ all. w.size)) c.in_ok-write_all_volatile-in-Ok.was ∙ ap (λ (n : ℕ). Ok n) (sym c.len-total.ensures)) c.len-total.ensures
-
-pub returns-then-total-eq0-clause-answer : goal.returns-then-total-eq0-clause-answer
-returns-then-total-eq0-clause-answer g c =
-    let takes = Takes g.S.WriteVolatile.sink g.S.WriteVolatile.taken g.S.WriteVolatile.may_want c.args.host.now.blocks UntilWhole in
-    moved_none takes c.loop-item.invariant (ends_in c.loop-item.item-iterator c.in-Some.item c.in-Err.error (items_of c.next.new.self) c.in-Some.ensures.steps c.in-Err.is) c.if-total-eq0.true
+    let call = c.write_all_volatile in
+    let next = gives g (goal.at.loop-item-preserved g c).In-Ok in
+    let sends = sent g (goal.at.loop-item-preserved g c).After-write_all_volatile in
+    moved_next (Takes sink taken wants blocks UntilWhole) c.loop-item.invariant next call.new.self (answered (λ all. w.size) call.result) sends c.len-total.result (ap (answered (λ all. w.size)) c.in_ok-write_all_volatile-in-Ok.was ∙ ap (λ (n : ℕ). Ok n) (sym c.len-total.ensures)) c.len-total.ensures
 
 pub returns-in-Err-clause-answer : goal.returns-in-Err-clause-answer
 returns-in-Err-clause-answer g c =
     let takes = Takes g.S.WriteVolatile.sink g.S.WriteVolatile.taken g.S.WriteVolatile.may_want c.args.host.now.blocks UntilWhole in
-    moved_some takes c.loop-item.invariant (ends_in c.loop-item.item-iterator c.in-Some.item c.in-Err.error (items_of c.next.new.self) c.in-Some.ensures.steps c.in-Err.is) c.if-total-eq0.false
+    rw c.ended.ensures (moved_ends takes c.loop-item.invariant (ends_in c.loop-item.item-iterator c.in-Some.item c.in-Err.error (items_of c.next.new.self) c.in-Some.ensures.steps c.in-Err.is))
 
 pub returns-clause-answer : goal.returns-clause-answer
 returns-clause-answer g c =

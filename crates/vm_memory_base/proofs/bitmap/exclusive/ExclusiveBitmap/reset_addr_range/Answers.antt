@@ -1,20 +1,15 @@
-use Rattle.std.proofs.Common.{◌≡◌, false, length, sym, ◌∙◌, ap}
+use Rattle.std.proofs.Common.{ap, ◌∙◌}
 use Rattle.std.proofs.lemmas.List.{with_items_is}
 use Rattle.std.specs.NonZero.{non_zero_usize_get}
 use Rattle.vm_memory_base.specs.Pages.{takes}
-use Rattle.vm_memory_base.proofs.BitmapLemmas.{with_flags, filled, length-filled, filled_is-flags_without}
+use Rattle.vm_memory_base.proofs.BitmapLemmas.{with_flags, cleared_is}
 use Rattle.vm_memory_base.proofs.bitmap.exclusive.ExclusiveBitmap.reset_addr_range.Goals as goal
 
 pub returns-clause-pages : goal.returns-clause-pages
 returns-clause-pages c =
     let size = non_zero_usize_get c.args.self.now.page_size in
-    let flags = c.args.self.now.flags.items in
-    let first = c.taken-first.result.0 in
-    let end = c.taken-first.result.1 in
     let taken = c.taken-first.ensures in
-    let lent : c.deref_mut.result.now ≡ flags = c.deref_mut.ensures.value in
-    let same_length : length c.set_flags.new.flags ≡ c.args.self.now.flags.len =
-    ap length (c.set_flags.ensures ∙ ap (filled first end false) lent) ∙ length-filled first end false flags taken.ordered taken.inside ∙ sym c.args.self.now.flags.ok.0 in
-    ap (with_flags size)
-    (with_items_is c.args.self.now.flags c.set_flags.new.flags same_length ∙ c.set_flags.ensures ∙ ap (filled first end false) lent
-    ∙ filled_is-flags_without (takes size c.args.start c.args.len) first end flags taken.ordered taken.inside taken.taken)
+    let new = cleared_is c.args.self.now.flags c.taken-first.result.0 c.taken-first.result.1 taken.ordered taken.inside
+    (takes size c.args.start c.args.len) taken.taken c.deref_mut.result.now c.set_flags.new.flags
+    c.deref_mut.ensures.value c.set_flags.ensures in
+    ap (with_flags size) (with_items_is c.args.self.now.flags c.set_flags.new.flags new.0 ∙ new.1)

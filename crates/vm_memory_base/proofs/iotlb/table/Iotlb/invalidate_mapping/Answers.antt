@@ -1,7 +1,6 @@
 use Rattle.std.proofs.Common.{None, ap, ◌∙◌, rules}
-use Rattle.vm_memory_base.specs.Table.{Table, TableCall, says, says_after, changed, Invalidate}
-use Rattle.vm_memory_base.proofs.ChangeLemmas.{on_ok, table_stays, empty_invalidate}
-use Rattle.vm_memory_base.proofs.TableLaws.{value_at-canonical_list}
+use Rattle.vm_memory_base.specs.Table.{TableCall, changed, Invalidate}
+use Rattle.vm_memory_base.proofs.ChangeLemmas.{says_then, table_stays, empty_invalidate}
 use Rattle.vm_memory_base.proofs.iotlb.table.Iotlb.invalidate_mapping.Goals as goal
 
 pub returns-then-length-eq0-clause-ok : goal.returns-then-length-eq0-clause-ok
@@ -15,6 +14,4 @@ returns-clause-ok c = search rules
 
 pub returns-clause-says : goal.returns-clause-says
 returns-clause-says c =
-    on_ok c.match-clear_range.result
-    (λ e x l. ap (λ (t : Table). says t x) e ∙ value_at-canonical_list (λ y. says_after (Invalidate c.args.iova.0 c.args.length) y (says c.args.self.now y)) x l)
-    (returns-clause-ok c)
+    says_then (Invalidate c.args.iova.0 c.args.length) c.args.self.now _ c.match-clear_range.result (returns-clause-ok c)

@@ -1,7 +1,6 @@
 use Rattle.std.proofs.Common.{None, ap, ◌∙◌, rules}
-use Rattle.vm_memory_base.specs.Table.{Table, TableCall, says, says_after, changed, Set}
-use Rattle.vm_memory_base.proofs.ChangeLemmas.{on_ok, table_stays, empty_set}
-use Rattle.vm_memory_base.proofs.TableLaws.{value_at-canonical_list}
+use Rattle.vm_memory_base.specs.Table.{TableCall, changed, Set}
+use Rattle.vm_memory_base.proofs.ChangeLemmas.{says_then, table_stays, empty_set}
 use Rattle.vm_memory_base.proofs.iotlb.table.Iotlb.set_mapping.Goals as goal
 
 pub returns-then-length-eq0-clause-ok : goal.returns-then-length-eq0-clause-ok
@@ -15,6 +14,4 @@ returns-clause-ok c = search rules
 
 pub returns-clause-says : goal.returns-clause-says
 returns-clause-says c =
-    on_ok c.match-set_run.result
-    (λ e x l. ap (λ (t : Table). says t x) e ∙ value_at-canonical_list (λ y. says_after (Set c.args.iova.0 c.args.map_to.0 c.args.length c.args.perm) y (says c.args.self.now y)) x l)
-    (returns-clause-ok c)
+    says_then (Set c.args.iova.0 c.args.map_to.0 c.args.length c.args.perm) c.args.self.now _ c.match-set_run.result (returns-clause-ok c)

@@ -1,13 +1,26 @@
-use Rattle.std.proofs.Common.{◌≡◌, ℕ, ◌-◌, ◌<◌, ◌^◌, min, map, [], ◌∷◌, refl, sym, ap, ◌∙◌, arith, Ok}
+use Rattle.std.proofs.Common.{◌≡◌, ℕ, List, ◌-◌, ◌<◌, ◌^◌, min, map, [], ◌∷◌, Some, refl, sym, ap, ◌∙◌, arith, Ok}
+use Rattle.vm_memory_guest.specs.Region.{Region, home}
 use Rattle.vm_memory_guest.proofs.PathWalk.{direct_items, walk-none, home-within, is_within-bounds}
 use Rattle.vm_memory_guest.proofs.WalkLemmas.{first_goes, home-found, home-missed, walk-ends, walk-gives, walk-refuses}
+use Rattle.vm_memory_guest.proofs.guest_memory.backend.GuestMemoryBackendSliceIteratorIterator.next.Given.{Over}
 use Rattle.vm_memory_guest.proofs.guest_memory.backend.GuestMemoryBackendSliceIteratorIterator.next.Goals as goal
+use Rattle.vm_memory_guest.proofs.guest_memory.backend.GuestMemoryBackendSliceIteratorIterator.next.Goals.{In-Some, After-len, After-get_slice}
+
+-- what the backend means
+abbrev regions_of : (g : Over) (m : g.row.M.Denot) → List Region
+regions_of g m = map g.M.R.GuestMemoryRegion.region (g.M.GuestMemoryBackend.regions m)
+
+found : (g : Over) (c : In-Some g) → let it = c.self.inside in
+    home (regions_of g it.mem.now) it.addr.0 ≡ Some (g.M.R.GuestMemoryRegion.region c.in-Some.region.now)
+found g c =
+    let it = c.self.inside in
+    home-found g.M.R.GuestMemoryRegion.region (g.M.GuestMemoryBackend.regions it.mem.now) it.addr.0 c.in-Some.region.now
+    c.in-Some.ensures.found
 
 pub returns-then-self-eq0-clause-steps : goal.returns-then-self-eq0-clause-steps
 returns-then-self-eq0-clause-steps g c =
     let it = c.self.inside in
-    let region = g.M.R.GuestMemoryRegion.region in
-    let regions = map region (g.M.GuestMemoryBackend.regions it.mem.now) in
+    let regions = regions_of g it.mem.now in
     let a = it.addr.0 in
     let none : direct_items regions a it.count ≡ [] = rw c.if-self-eq0.true (walk-none regions a) in
     rw (← c.self.view_is) (none, none)
@@ -16,11 +29,12 @@ pub returns-in_default-clause-steps : goal.returns-in_default-clause-steps
 returns-in_default-clause-steps g c =
     let it = c.self.inside in
     let region = g.M.R.GuestMemoryRegion.region in
-    let regions = map region (g.M.GuestMemoryBackend.regions it.mem.now) in
     let a = it.addr.0 in
     let below : a < 2 ^ 64 = omega arith in
     let more : 0 < it.count = omega arith in
-    rw (← c.self.view_is) (walk-ends regions a it.count below (home-missed region (g.M.GuestMemoryBackend.regions it.mem.now) a c.in_default.ensures.found) more)
+    rw (← c.self.view_is)
+    (walk-ends (regions_of g it.mem.now) a it.count below
+    (home-missed region (g.M.GuestMemoryBackend.regions it.mem.now) a c.in_default.ensures.found) more)
 
 pub returns-in_default-clause-goes : goal.returns-in_default-clause-goes
 returns-in_default-clause-goes g c = first_goes _ _ _ _ (returns-in_default-clause-steps g c)
@@ -28,39 +42,41 @@ returns-in_default-clause-goes g c = first_goes _ _ _ _ (returns-in_default-clau
 pub overflow_sub-start : goal.overflow_sub-start
 overflow_sub-start g c =
     let it = c.self.inside in
-    let region = g.M.R.GuestMemoryRegion.region in
-    let regions = map region (g.M.GuestMemoryBackend.regions it.mem.now) in
-    let a = it.addr.0 in
-    let r = region c.in-Some.region.now in
-    let found = home-found region (g.M.GuestMemoryBackend.regions it.mem.now) a c.in-Some.region.now c.in-Some.ensures.found in
-    let within = is_within-bounds r.start r.len a (home-within regions a r found) in
+    let r = g.M.R.GuestMemoryRegion.region c.in-Some.region.now in
+    let at = found g (goal.at.overflow_sub-start g c).In-Some in
+    let within = is_within-bounds r.start r.len it.addr.0 (home-within (regions_of g it.mem.now) it.addr.0 r at) in
     omega (arith, within.0, c.start_addr.ensures)
 
 pub overflow_sub-len : goal.overflow_sub-len
 overflow_sub-len g c =
     let it = c.self.inside in
-    let region = g.M.R.GuestMemoryRegion.region in
-    let regions = map region (g.M.GuestMemoryBackend.regions it.mem.now) in
-    let a = it.addr.0 in
-    let r = region c.in-Some.region.now in
-    let found = home-found region (g.M.GuestMemoryBackend.regions it.mem.now) a c.in-Some.region.now c.in-Some.ensures.found in
-    let within = is_within-bounds r.start r.len a (home-within regions a r found) in
+    let r = g.M.R.GuestMemoryRegion.region c.in-Some.region.now in
+    let at = found g (goal.at.overflow_sub-len g c).In-Some in
+    let within = is_within-bounds r.start r.len it.addr.0 (home-within (regions_of g it.mem.now) it.addr.0 r at) in
     omega (arith, within.0, within.1, c.start_addr.ensures, c.len.ensures)
+
+start_is : (g : Over) (c : After-get_slice g) → let a = c.self.inside.addr.0 in
+    a - c.start_addr.result.0 ≡ a - (g.M.R.GuestMemoryRegion.region c.in-Some.region.now).start
+start_is g c = ap (λ x. c.self.inside.addr.0 - x) c.start_addr.ensures
+
+len_is : (g : Over) (c : After-get_slice g) → let it = c.self.inside in
+    c.min-len.result ≡ min ((g.M.R.GuestMemoryRegion.region c.in-Some.region.now).len - (it.addr.0 - c.start_addr.result.0)) it.count
+len_is g c =
+    let it = c.self.inside in
+    c.min-len.ensures ∙ ap (λ n. min (n - (it.addr.0 - c.start_addr.result.0)) it.count) c.len.ensures
 
 pub returns-in-Ok-clause-steps : goal.returns-in-Ok-clause-steps
 returns-in-Ok-clause-steps g c =
     let it = c.self.inside in
-    let region = g.M.R.GuestMemoryRegion.region in
-    let regions = map region (g.M.GuestMemoryBackend.regions it.mem.now) in
+    let regions = regions_of g it.mem.now in
     let a = it.addr.0 in
-    let r = region c.in-Some.region.now in
-    let found = home-found region (g.M.GuestMemoryBackend.regions it.mem.now) a c.in-Some.region.now c.in-Some.ensures.found in
+    let r = g.M.R.GuestMemoryRegion.region c.in-Some.region.now in
+    let here = goal.at.returns-in-Ok-clause-steps g c in
     let more : 0 < it.count = omega arith in
     let below : a < 2 ^ 64 = omega arith in
-    let start : a - c.start_addr.result.0 ≡ a - r.start = ap (λ x. a - x) c.start_addr.ensures in
-    let len : c.min-len.result ≡ min (r.len - (a - c.start_addr.result.0)) it.count = c.min-len.ensures ∙ ap (λ n. min (n - (a - c.start_addr.result.0)) it.count) c.len.ensures in
-    rw (← c.self.view_is) (walk-gives regions a it.count r c.find_region.ensures.layout found (g.met.M.R.GuestMemoryRegion.fits c.in-Some.region.now) more below
-    (a - c.start_addr.result.0) c.min-len.result c.in-Ok.window start len r.place refl (sym c.in-Ok.ensures)
+    rw (← c.self.view_is)
+    (walk-gives regions a it.count r c.find_region.ensures.layout (found g here.In-Some) (g.met.M.R.GuestMemoryRegion.fits c.in-Some.region.now) more below
+    (a - c.start_addr.result.0) c.min-len.result c.in-Ok.window (start_is g here.After-get_slice) (len_is g here.After-get_slice) r.place refl (sym c.in-Ok.ensures)
     ∙ ap (λ (b : ℕ). Ok c.in-Ok.window ∷ direct_items regions b (it.count - c.min-len.result)) (sym c.overflowing_add.ensures.wrapped))
 
 pub returns-in-Ok-clause-goes : goal.returns-in-Ok-clause-goes
@@ -69,17 +85,14 @@ returns-in-Ok-clause-goes g c = first_goes _ _ _ _ (returns-in-Ok-clause-steps g
 pub returns-in-Err-clause-steps : goal.returns-in-Err-clause-steps
 returns-in-Err-clause-steps g c =
     let it = c.self.inside in
-    let region = g.M.R.GuestMemoryRegion.region in
-    let regions = map region (g.M.GuestMemoryBackend.regions it.mem.now) in
     let a = it.addr.0 in
-    let r = region c.in-Some.region.now in
-    let found = home-found region (g.M.GuestMemoryBackend.regions it.mem.now) a c.in-Some.region.now c.in-Some.ensures.found in
+    let r = g.M.R.GuestMemoryRegion.region c.in-Some.region.now in
+    let here = goal.at.returns-in-Err-clause-steps g c in
     let more : 0 < it.count = omega arith in
     let below : a < 2 ^ 64 = omega arith in
-    let start : a - c.start_addr.result.0 ≡ a - r.start = ap (λ x. a - x) c.start_addr.ensures in
-    let len : c.min-len.result ≡ min (r.len - (a - c.start_addr.result.0)) it.count = c.min-len.ensures ∙ ap (λ n. min (n - (a - c.start_addr.result.0)) it.count) c.len.ensures in
-    rw (← c.self.view_is) (walk-refuses regions a it.count r c.find_region.ensures.layout found (g.met.M.R.GuestMemoryRegion.fits c.in-Some.region.now) more below
-    (a - c.start_addr.result.0) c.min-len.result c.in-Err.error start len r.place refl (sym c.in-Err.ensures))
+    rw (← c.self.view_is)
+    (walk-refuses (regions_of g it.mem.now) a it.count r c.find_region.ensures.layout (found g here.In-Some) (g.met.M.R.GuestMemoryRegion.fits c.in-Some.region.now) more below
+    (a - c.start_addr.result.0) c.min-len.result c.in-Err.error (start_is g here.After-get_slice) (len_is g here.After-get_slice) r.place refl (sym c.in-Err.ensures))
 
 pub returns-in-Err-clause-goes : goal.returns-in-Err-clause-goes
 returns-in-Err-clause-goes g c = first_goes _ _ _ _ (returns-in-Err-clause-steps g c)
