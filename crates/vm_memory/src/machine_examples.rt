@@ -490,6 +490,8 @@ pub fn who_may_want_memory()
     ensures read { MayWant machine (Read 0 (at 0) 1) }
     ensures read_of_nothing { MayWant machine (Read 0 (at 0) 0) → ⊥ }
     ensures write { MayWant machine (Write 0 (at 0) (9 ∷ [])) → ⊥ }
+    ensures transfer_out { MayWant machine (WriteTo 0 (at 0) 1 []) }
+    ensures transfer_out_of_nothing { MayWant machine (WriteTo 0 (at 0) 0 []) → ⊥ }
     ensures translated_read { MayWant machine (Read 1 (at 0) 0) }
     ensures translated_write { MayWant machine (Write 1 (at 0) (9 ∷ [])) }
     ensures write_that_is_off { MayWant machine (Write 2 (at 0) (9 ∷ [])) → ⊥ }

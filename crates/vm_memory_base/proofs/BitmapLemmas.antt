@@ -85,40 +85,38 @@ cleared_if false false = refl
 -- of the flags of a vector, those from one page up to another are made alike
 module _ (flags : Vec Bool Global) (a b : ℕ) (ordered : a ≤ b) (inside : b ≤ length flags.items) (test : ℕ → Bool)
     (taken : (page : ℕ) → page < length flags.items → test page ≡ (leb a page && ltb page b)) where
-  filled_is : (d : Bool) (after : List Bool) → length after ≡ length flags.items
+  alike : (d : Bool) (after : List Bool) → length after ≡ length flags.items
       → ((i : ℕ) → i < length flags.items → get_or after i false ≡ cond (test i) d (get_or flags.items i false))
-      → filled a b d flags.items ≡ after
-  filled_is d after long each =
+      → (lent new : List Bool) → lent ≡ flags.items → new ≡ filled a b d lent
+      → (length new ≡ flags.len) × (new ≡ after)
+  alike d after long each lent new is set =
       let same = length-filled a b d flags.items ordered inside in
-      ext_get_or false (filled a b d flags.items) after (same ∙ sym long)
+      let all = set ∙ ap (filled a b d) is
+      ∙ ext_get_or false (filled a b d flags.items) after (same ∙ sym long)
       (λ i l.
       let within : i < length flags.items = omega (arith, same) in
       get_or-filled a b d flags.items i ordered inside
-      ∙ sym (each i within ∙ ap (λ (t : Bool). cond t d (get_or flags.items i false)) (taken i within)))
+      ∙ sym (each i within ∙ ap (λ (t : Bool). cond t d (get_or flags.items i false)) (taken i within))) in
+      (ap length all ∙ long ∙ sym flags.ok.0, all)
 
   -- the pages that a test takes become dirty
   pub set_is : (lent new : List Bool) → lent ≡ flags.items → new ≡ filled a b true lent
       → (length new ≡ flags.len) × (new ≡ flags_after test 0 flags.items)
-  set_is lent new is set =
-      let all = set ∙ ap (filled a b true) is
-      ∙ filled_is true (flags_after test 0 flags.items) (length-flags_after test 0 flags.items)
+  set_is =
+      alike true (flags_after test 0 flags.items) (length-flags_after test 0 flags.items)
       (λ i l.
       let e : 0 + i ≡ i = zero-add i in
       get_or-flags_after test 0 flags.items i
-      ∙ rw (e, lt-ltb i (length flags.items) l) (sym (set_if (test i) (get_or flags.items i false)))) in
-      (ap length all ∙ length-flags_after test 0 flags.items ∙ sym flags.ok.0, all)
+      ∙ rw (e, lt-ltb i (length flags.items) l) (sym (set_if (test i) (get_or flags.items i false))))
 
   -- or clean
   pub cleared_is : (lent new : List Bool) → lent ≡ flags.items → new ≡ filled a b false lent
       → (length new ≡ flags.len) × (new ≡ flags_without test 0 flags.items)
-  cleared_is lent new is set =
-      let all = set ∙ ap (filled a b false) is
-      ∙ filled_is false (flags_without test 0 flags.items) (length-flags_without test 0 flags.items)
+  cleared_is =
+      alike false (flags_without test 0 flags.items) (length-flags_without test 0 flags.items)
       (λ i l.
       let e : 0 + i ≡ i = zero-add i in
-      get_or-flags_without test 0 flags.items i
-      ∙ rw e (sym (cleared_if (test i) (get_or flags.items i false)))) in
-      (ap length all ∙ length-flags_without test 0 flags.items ∙ sym flags.ok.0, all)
+      get_or-flags_without test 0 flags.items i ∙ rw e (sym (cleared_if (test i) (get_or flags.items i false))))
 
 pub replicate-all_clean : (flags : List Bool) → replicate (length flags) false ≡ all_clean flags
 replicate-all_clean [] = refl

@@ -1,5 +1,5 @@
 //! The commands that transfer between memories and sources or sinks that follow a script.
-ghost use Rattle.std.specs.Prelude.{◌≡◌, ◌⊎◌};
+ghost use Rattle.std.specs.Prelude.{◌≡◌, ◌⊎◌, ◌<◌};
 ghost use Rattle.vm_memory_guest.specs.Dirt.{with_pages};
 ghost use Rattle.vm_memory_guest.specs.Host.{shape_of, Holds};
 ghost use Rattle.vm_memory_guest.specs.Memory.{IsOn};
@@ -143,7 +143,8 @@ fn send<M: GuestMemory, B: ExactBitmap>(
 ) -> Reply
     requires { Holds (shape_of host.now) (M.names memory.now) }
     ensures { let m = M.memory memory.now in let before = with_pages B.pages host.now in
-        (result ≡ sends m before addr.0 count steps.now) ⊎ (result ≡ Reply.Memory) }
+        (result ≡ sends m before addr.0 count steps.now)
+        ⊎ ((result ≡ Reply.Memory) × (IsOn m ⊎ (0 < count))) }
 {
     let Ok(mut sink) = ScriptSink::new(alloc, steps, count) else {
         return Reply::Memory;
@@ -166,7 +167,8 @@ fn send_whole<M: GuestMemory, B: ExactBitmap>(
 ) -> Reply
     requires { Holds (shape_of host.now) (M.names memory.now) }
     ensures { let m = M.memory memory.now in let before = with_pages B.pages host.now in
-        (result ≡ sends_whole m before addr.0 count steps.now) ⊎ (result ≡ Reply.Memory) }
+        (result ≡ sends_whole m before addr.0 count steps.now)
+        ⊎ ((result ≡ Reply.Memory) × (IsOn m ⊎ (0 < count))) }
 {
     let Ok(mut sink) = ScriptSink::new(alloc, steps, count) else {
         return Reply::Memory;

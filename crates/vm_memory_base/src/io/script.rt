@@ -1,5 +1,5 @@
 //! Sources and sinks that follow a script.
-ghost use Rattle.std.specs.Prelude.{◌≡◌, map, length, take, drop, Some, None, [], ◌++◌, ◌-◌, min, IfOk};
+ghost use Rattle.std.specs.Prelude.{◌≡◌, map, length, take, drop, Some, None, [], ◌++◌, ◌-◌, min, IfOk, IsOk};
 ghost use Rattle.vm_memory_base.specs.Script.{next_of, taking_of};
 
 use super::memory::copy_front;
@@ -125,15 +125,21 @@ impl<'a> Model for ScriptSink<'a> {
 }
 
 impl<'a> ScriptSink<'a> {
-    /// A sink that follows these steps, with room for so many bytes, which is reserved.
+    /// A sink that follows these steps, with room for so many bytes, which is reserved. Room for none takes no
+    /// memory.
     pub fn new(
         alloc: Global,
         steps: &'a [SinkStep],
         room: usize,
     ) -> Result<ScriptSink<'a>, AllocError>
-        ensures { IfOk result (λ s. s ≡ record { next = map taking_of steps.now; taken = []; room = room }) }
+        ensures made { IfOk result (λ s. s ≡ record { next = map taking_of steps.now; taken = []; room = room }) }
+        ensures empty { room ≡ 0 → IsOk result }
     {
-        let taken = Vec::with_capacity(alloc, room)?;
+        let taken = if room == 0 {
+            Vec::new(alloc)
+        } else {
+            Vec::with_capacity(alloc, room)?
+        };
         Ok(ScriptSink { steps, taken, room })
     }
 

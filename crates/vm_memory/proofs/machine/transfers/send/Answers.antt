@@ -25,13 +25,15 @@ returns g c =
     let state : Sink = record { next = map taking_of c.args.steps.now; room = Some n } in
     let sink = c.in-Ok.sink in
     let sent = c.write_volatile_to.new.dst in
-    let tells = ap (λ (s : TakenSoFar). Some (record { next = s.next; room = Some s.room })) c.in-Ok.ensures in
-    let keeps = ap (λ (s : TakenSoFar). Some s.taken) c.in-Ok.ensures in
+    let tells = ap (λ (s : TakenSoFar). Some (record { next = s.next; room = Some s.room })) c.in-Ok.ensures.made in
+    let keeps = ap (λ (s : TakenSoFar). Some s.taken) c.in-Ok.ensures.made in
     elim c.write_volatile_to.ensures.answer [
       | inl wanted ↦
-          inr
-          (c.with_taken.ensures
-          ∙ ap (beside_taken c.into_taken.result.items) (c.counted-reply.ensures ∙ ap (reply_of reply.Count) wanted.0))
+          inr (
+            c.with_taken.ensures
+                ∙ ap (beside_taken c.into_taken.result.items) (c.counted-reply.ensures ∙ ap (reply_of reply.Count) wanted.0),
+            inl wanted.1,
+          )
       | inr so ↦
           (let sent_so = sent_is c.windows_are_the_path.ensures.bytes m before a n each c.args.steps.now _
           c.write_volatile_to.result sent.taken

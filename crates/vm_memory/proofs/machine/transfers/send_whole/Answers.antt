@@ -32,13 +32,15 @@ returns g c =
     let told : Result (Unit {0}) GuestMemoryError → Reply = reply_of (λ (done : Unit {0}). reply.Done) in
     let whole : Result ℕ GuestMemoryError → Reply =
     λ answer. told (all_of (λ (expected completed : ℕ). errors.PartialBuffer expected completed) n answer) in
-    let tells = ap (λ (s : TakenSoFar). Some (record { next = s.next; room = Some s.room })) c.in-Ok.ensures in
-    let keeps = ap (λ (s : TakenSoFar). Some s.taken) c.in-Ok.ensures in
+    let tells = ap (λ (s : TakenSoFar). Some (record { next = s.next; room = Some s.room })) c.in-Ok.ensures.made in
+    let keeps = ap (λ (s : TakenSoFar). Some s.taken) c.in-Ok.ensures.made in
     elim c.write_all_volatile_to.ensures.answer [
       | inl wanted ↦
-          inr
-          (c.with_taken.ensures
-          ∙ ap (beside_taken c.into_taken.result.items) (c.done-reply.ensures ∙ ap told wanted.0))
+          inr (
+            c.with_taken.ensures
+                ∙ ap (beside_taken c.into_taken.result.items) (c.done-reply.ensures ∙ ap told wanted.0),
+            inl wanted.1,
+          )
       | inr so ↦
           (let sent_so = sent_is c.windows_are_the_path.ensures.bytes m before a n each c.args.steps.now _ so.0 sent.taken
           (c.transfers_out_are_computed.ensures fault ws 0 state sink sent host.blocks so.0 tells so.2)

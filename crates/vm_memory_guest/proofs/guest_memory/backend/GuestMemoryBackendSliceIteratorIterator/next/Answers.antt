@@ -1,4 +1,4 @@
-use Rattle.std.proofs.Common.{◌≡◌, ℕ, List, ◌-◌, ◌<◌, ◌^◌, min, map, [], ◌∷◌, Some, refl, sym, ap, ◌∙◌, arith, Ok}
+use Rattle.std.proofs.Common.{◌≡◌, ℕ, List, ◌-◌, ◌+◌, ◌≤◌, ◌<◌, ◌^◌, min, map, [], ◌∷◌, Some, refl, sym, ap, ◌∙◌, arith, Ok}
 use Rattle.vm_memory_guest.specs.Region.{Region, home}
 use Rattle.vm_memory_guest.proofs.PathWalk.{direct_items, walk-none, home-within, is_within-bounds}
 use Rattle.vm_memory_guest.proofs.WalkLemmas.{first_goes, home-found, home-missed, walk-ends, walk-gives, walk-refuses}
@@ -39,20 +39,22 @@ returns-in_default-clause-steps g c =
 pub returns-in_default-clause-goes : goal.returns-in_default-clause-goes
 returns-in_default-clause-goes g c = first_goes _ _ _ _ (returns-in_default-clause-steps g c)
 
-pub overflow_sub-start : goal.overflow_sub-start
-overflow_sub-start g c =
+-- it lies in the region
+bounds : (g : Over) (c : In-Some g) → let r = g.M.R.GuestMemoryRegion.region c.in-Some.region.now in
+    let a = c.self.inside.addr.0 in (r.start ≤ a) × (a < r.start + r.len)
+bounds g c =
     let it = c.self.inside in
     let r = g.M.R.GuestMemoryRegion.region c.in-Some.region.now in
-    let at = found g (goal.at.overflow_sub-start g c).In-Some in
-    let within = is_within-bounds r.start r.len it.addr.0 (home-within (regions_of g it.mem.now) it.addr.0 r at) in
+    is_within-bounds r.start r.len it.addr.0 (home-within (regions_of g it.mem.now) it.addr.0 r (found g c))
+
+pub overflow_sub-start : goal.overflow_sub-start
+overflow_sub-start g c =
+    let within = bounds g (goal.at.overflow_sub-start g c).In-Some in
     omega (arith, within.0, c.start_addr.ensures)
 
 pub overflow_sub-len : goal.overflow_sub-len
 overflow_sub-len g c =
-    let it = c.self.inside in
-    let r = g.M.R.GuestMemoryRegion.region c.in-Some.region.now in
-    let at = found g (goal.at.overflow_sub-len g c).In-Some in
-    let within = is_within-bounds r.start r.len it.addr.0 (home-within (regions_of g it.mem.now) it.addr.0 r at) in
+    let within = bounds g (goal.at.overflow_sub-len g c).In-Some in
     omega (arith, within.0, within.1, c.start_addr.ensures, c.len.ensures)
 
 start_is : (g : Over) (c : After-get_slice g) → let a = c.self.inside.addr.0 in
