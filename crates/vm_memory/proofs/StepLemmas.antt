@@ -8,7 +8,7 @@ use Rattle.vm_memory_base.specs.declared.iotlb.Permissions.TheVariants as permis
 use Rattle.vm_memory_base.specs.Pages.{PageSet}
 use Rattle.vm_memory_base.specs.Script.{next_of}
 use Rattle.vm_memory_base.specs.declared.io.script.SourceStep.{SourceStep}
-use Rattle.vm_memory_guest.specs.Access.{Reached, windows}
+use Rattle.vm_memory_guest.specs.Access.{Access, Reached, windows}
 use Rattle.vm_memory_guest.specs.Answer.{counted, exactly}
 use Rattle.vm_memory_guest.specs.Dealt.{received}
 use Rattle.vm_memory_guest.specs.Dirt.{after_write}
@@ -27,7 +27,7 @@ use Rattle.vm_memory.specs.Iommu.{behind}
 use Rattle.vm_memory.specs.State.{State, named, plain}
 use Rattle.vm_memory.specs.Machine.{Step, Run, outcome}
 use Rattle.vm_memory.specs.Made.{if_there, new_layout, rest_layout, new_memory, turned, with_host}
-use Rattle.vm_memory.specs.Reply.{reply_of, reply_of_error, reached_by, writes, writes_whole, is_partial}
+use Rattle.vm_memory.specs.Reply.{answer_of, whole_of, reply_of, reply_of_error, reached_by, is_partial}
 use Rattle.vm_memory.specs.Transfers.{dealt_to, receives, receives_whole}
 use Rattle.vm_memory.proofs.TransferLemmas.{RefusedLaw, io_of_window, is_io, scripts_fail_so}
 use Rattle.vm_memory_base.specs.Table as table
@@ -165,26 +165,16 @@ still-step refused old new c r still step = elim step [ inl e ↦ go c e | inr w
     left None e = after (rest_layout old None) e
     left (Some p) e = made p.0 None e
 
-    -- a write that reached nothing
-    nothing_written : (xs : List Reached) (bytes : List ℕ) (told : Reply) → xs ≡ []
-        → (r, new) ≡ with_host old (told, after_write xs bytes old.host) → new ≡ old
-    nothing_written xs bytes told none e =
-        after (with_host old (told, after_write xs bytes old.host)) e
-        ∙ ap (λ (ys : List Reached). record old { host = after_write ys bytes old.host }) none
-
-    wrote : (m : Memory) (a : ℕ) (bytes : List ℕ)
-        → (r, new) ≡ with_host old (writes m old.host a bytes) → new ≡ old
-    wrote m a bytes e =
+    -- a write that reached nothing, where its reply tells so
+    wrote : (told : Access → Reply) → ((x : Access) → r ≡ told x → x.path ≡ []) → (m : Memory) (a : ℕ) (bytes : List ℕ)
+        → (let reached = reached_by m old.host.tables a (length bytes) permissions.Write in
+        (r, new) ≡ with_host old (told reached, after_write reached.path bytes old.host))
+        → new ≡ old
+    wrote told none m a bytes e =
         let reached = reached_by m old.host.tables a (length bytes) permissions.Write in
-        nothing_written reached.path bytes (writes m old.host a bytes).0
-        (reached_none reached.path (option_map error_of reached.fault) (length bytes) r still (ap (λ p. p.0) e)) e
-
-    wrote_whole : (m : Memory) (a : ℕ) (bytes : List ℕ)
-        → (r, new) ≡ with_host old (writes_whole m old.host a bytes) → new ≡ old
-    wrote_whole m a bytes e =
-        let reached = reached_by m old.host.tables a (length bytes) permissions.Write in
-        nothing_written reached.path bytes (writes_whole m old.host a bytes).0
-        (reached_none_of_all reached.path (option_map error_of reached.fault) (length bytes) r still (ap (λ p. p.0) e)) e
+        after (with_host old (told reached, after_write reached.path bytes old.host)) e
+        ∙ ap (λ (xs : List Reached). record old { host = after_write xs bytes old.host })
+        (none reached (ap (λ (p : Reply × State). p.0) e))
 
     stored : (m : Memory) (a : ℕ) (w : int.Width) (value : ℕ)
         → (r, new) ≡ with_host old (stores m old.host a w value) → new ≡ old
@@ -260,11 +250,13 @@ still-step refused old new c r still step = elim step [ inl e ↦ go c e | inr w
     go (command.Read memory addr n) e =
         there old new (slice_get old.memories memory) _ r (λ m f. ap (λ (p : Reply × State). p.1) f) e
     go (command.Write memory addr bytes) e =
-        there old new (slice_get old.memories memory) _ r (λ m. wrote m addr.0 bytes) e
+        there old new (slice_get old.memories memory) _ r (λ m. wrote (λ x. reply_of reply.Count (answer_of x (length bytes)))
+        (λ x. reached_none x.path (option_map error_of x.fault) (length bytes) r still) m addr.0 bytes) e
     go (command.ReadSlice memory addr n) e =
         there old new (slice_get old.memories memory) _ r (λ m f. ap (λ (p : Reply × State). p.1) f) e
     go (command.WriteSlice memory addr bytes) e =
-        there old new (slice_get old.memories memory) _ r (λ m. wrote_whole m addr.0 bytes) e
+        there old new (slice_get old.memories memory) _ r (λ m. wrote (λ x. reply_of (λ done. reply.Done) (whole_of x (length bytes)))
+        (λ x. reached_none_of_all x.path (option_map error_of x.fault) (length bytes) r still) m addr.0 bytes) e
     go (command.Dirty id) e =
         there old new (bitmap_of old.host id) _ r (λ set f. ap (λ (p : Reply × State). p.1) f) e
     go (command.Harvest id) e =

@@ -81,6 +81,24 @@ marked_host = record host {
 abbrev pub marked : State
 marked = record machine { host = marked_host }
 
+-- the machine with these bytes in its blocks and these pages of them dirty, and with these bytes and the second
+-- page of its space
+abbrev pub with_bytes : List ℕ → List ℕ → PageSet → PageSet → State
+with_bytes first second first_pages second_pages = record machine {
+  host = record host {
+    blocks = first ∷ second ∷ [];
+    bitmaps = first_pages ∷ second_pages ∷ [];
+  };
+}
+
+abbrev pub with_translated_bytes : List ℕ → List ℕ → State
+with_translated_bytes first second = record machine {
+  host = record host {
+    blocks = first ∷ second ∷ [];
+    spaces = space_pages false true ∷ [];
+  };
+}
+
 -- the faults of an address in no region, and of a range whose translation is refused
 abbrev pub no_region_at : ℕ → Fault
 no_region_at a = InvalidGuestAddress (at a)

@@ -17,7 +17,7 @@ ghost use Rattle.vm_memory_guest.specs.declared.region.GuestMemoryError.TheVaria
 ghost use Rattle.vm_memory_guest.specs.declared.region.GuestRegionCollectionError.TheVariants as layouts;
 ghost use Rattle.vm_memory.specs.Examples.{at, low, high, bare, block_pages, space_pages, host, machine, translated};
 ghost use Rattle.vm_memory.specs.Examples.{marked_host, marked, range, failed};
-ghost use Rattle.vm_memory.specs.Examples.{no_region_at, not_translated, in_block};
+ghost use Rattle.vm_memory.specs.Examples.{with_bytes, with_translated_bytes, no_region_at, not_translated, in_block};
 ghost use Rattle.vm_memory.specs.History.{table_calls};
 ghost use Rattle.vm_memory.specs.Machine.{outcome, MayWant, Step, Run};
 ghost use Rattle.vm_memory.specs.Parts.{Parts, AreHeld, HoldsMemory, state_of};
@@ -180,22 +180,12 @@ pub fn writes_are_answered()
     ensures over_two_regions { outcome machine (Write 0 (at 3) (9 ∷ 10 ∷ []))
         ≡ (
           Count 2,
-          record machine {
-            host = record host {
-              blocks = (1 ∷ 2 ∷ 3 ∷ 9 ∷ []) ∷ (10 ∷ 6 ∷ 7 ∷ 8 ∷ []) ∷ [];
-              bitmaps = block_pages false true ∷ block_pages true false ∷ [];
-            };
-          },
+          with_bytes (1 ∷ 2 ∷ 3 ∷ 9 ∷ []) (10 ∷ 6 ∷ 7 ∷ 8 ∷ []) (block_pages false true) (block_pages true false),
         ) }
     ensures up_to_a_hole { outcome machine (Write 0 (at 7) (9 ∷ 10 ∷ []))
         ≡ (
           Count 1,
-          record machine {
-            host = record host {
-              blocks = (1 ∷ 2 ∷ 3 ∷ 4 ∷ []) ∷ (5 ∷ 6 ∷ 7 ∷ 9 ∷ []) ∷ [];
-              bitmaps = block_pages false false ∷ block_pages false true ∷ [];
-            };
-          },
+          with_bytes (1 ∷ 2 ∷ 3 ∷ 4 ∷ []) (5 ∷ 6 ∷ 7 ∷ 9 ∷ []) (block_pages false false) (block_pages false true),
         ) }
     ensures in_a_hole { outcome machine (Write 0 (at 8) (9 ∷ [])) ≡ (Fault (no_region_at 8), machine) }
     ensures nothing_in_a_hole { outcome machine (Write 0 (at 8) []) ≡ (Count 0, machine) }
@@ -206,22 +196,12 @@ pub fn whole_writes_are_answered()
     ensures over_two_regions { outcome machine (WriteSlice 0 (at 3) (9 ∷ 10 ∷ []))
         ≡ (
           Done,
-          record machine {
-            host = record host {
-              blocks = (1 ∷ 2 ∷ 3 ∷ 9 ∷ []) ∷ (10 ∷ 6 ∷ 7 ∷ 8 ∷ []) ∷ [];
-              bitmaps = block_pages false true ∷ block_pages true false ∷ [];
-            };
-          },
+          with_bytes (1 ∷ 2 ∷ 3 ∷ 9 ∷ []) (10 ∷ 6 ∷ 7 ∷ 8 ∷ []) (block_pages false true) (block_pages true false),
         ) }
     ensures up_to_a_hole { outcome machine (WriteSlice 0 (at 7) (9 ∷ 10 ∷ []))
         ≡ (
           Fault (fault.PartialBuffer 2 1),
-          record machine {
-            host = record host {
-              blocks = (1 ∷ 2 ∷ 3 ∷ 4 ∷ []) ∷ (5 ∷ 6 ∷ 7 ∷ 9 ∷ []) ∷ [];
-              bitmaps = block_pages false false ∷ block_pages false true ∷ [];
-            };
-          },
+          with_bytes (1 ∷ 2 ∷ 3 ∷ 4 ∷ []) (5 ∷ 6 ∷ 7 ∷ 9 ∷ []) (block_pages false false) (block_pages false true),
         ) }
     ensures in_a_hole { outcome machine (WriteSlice 0 (at 8) (9 ∷ [])) ≡ (Fault (no_region_at 8), machine) }
     ensures nothing_in_a_hole { outcome machine (WriteSlice 0 (at 8) []) ≡ (Done, machine) }
@@ -235,54 +215,26 @@ pub fn transfers_in_are_answered()
     ensures short { outcome machine (ReadFrom 0 (at 2) 4 (Give (9 ∷ []) ∷ Give (10 ∷ []) ∷ []))
         ≡ (
           Count 1,
-          record machine {
-            host = record host {
-              blocks = (1 ∷ 2 ∷ 9 ∷ 4 ∷ []) ∷ (5 ∷ 6 ∷ 7 ∷ 8 ∷ []) ∷ [];
-              bitmaps = block_pages false true ∷ block_pages false false ∷ [];
-            };
-          },
+          with_bytes (1 ∷ 2 ∷ 9 ∷ 4 ∷ []) (5 ∷ 6 ∷ 7 ∷ 8 ∷ []) (block_pages false true) (block_pages false false),
         ) }
     ensures whole { outcome machine (ReadExactFrom 0 (at 2) 4 (Give (9 ∷ []) ∷ Give (10 ∷ 11 ∷ 12 ∷ []) ∷ []))
         ≡ (
           Done,
-          record machine {
-            host = record host {
-              blocks = (1 ∷ 2 ∷ 9 ∷ 10 ∷ []) ∷ (11 ∷ 12 ∷ 7 ∷ 8 ∷ []) ∷ [];
-              bitmaps = block_pages false true ∷ block_pages true false ∷ [];
-            };
-          },
+          with_bytes (1 ∷ 2 ∷ 9 ∷ 10 ∷ []) (11 ∷ 12 ∷ 7 ∷ 8 ∷ []) (block_pages false true) (block_pages true false),
         ) }
     ensures ended { outcome machine (ReadExactFrom 0 (at 2) 4 (Give (9 ∷ []) ∷ []))
         ≡ (
           Fault (fault.PartialBuffer 4 1),
-          record machine {
-            host = record host {
-              blocks = (1 ∷ 2 ∷ 9 ∷ 4 ∷ []) ∷ (5 ∷ 6 ∷ 7 ∷ 8 ∷ []) ∷ [];
-              bitmaps = block_pages false true ∷ block_pages false false ∷ [];
-            };
-          },
+          with_bytes (1 ∷ 2 ∷ 9 ∷ 4 ∷ []) (5 ∷ 6 ∷ 7 ∷ 8 ∷ []) (block_pages false true) (block_pages false false),
         ) }
     ensures failed { outcome machine (ReadFrom 0 (at 0) 4 (source.Fail (9 ∷ []) ∷ []))
         ≡ (
           Fault (fault.IOError Other),
-          record machine {
-            host = record host {
-              blocks = (9 ∷ 2 ∷ 3 ∷ 4 ∷ []) ∷ (5 ∷ 6 ∷ 7 ∷ 8 ∷ []) ∷ [];
-              bitmaps = block_pages true true ∷ block_pages false false ∷ [];
-            };
-          },
+          with_bytes (9 ∷ 2 ∷ 3 ∷ 4 ∷ []) (5 ∷ 6 ∷ 7 ∷ 8 ∷ []) (block_pages true true) (block_pages false false),
         ) }
     ensures in_a_hole { outcome machine (ReadFrom 0 (at 8) 1 (Give (9 ∷ []) ∷ [])) ≡ (Fault (no_region_at 8), machine) }
     ensures translated { outcome machine (ReadFrom 1 (at 16) 1 (Give (9 ∷ []) ∷ []))
-        ≡ (
-          Count 1,
-          record machine {
-            host = record host {
-              blocks = (1 ∷ 2 ∷ 9 ∷ 4 ∷ []) ∷ (5 ∷ 6 ∷ 7 ∷ 8 ∷ []) ∷ [];
-              spaces = space_pages false true ∷ [];
-            };
-          },
-        ) }
+        ≡ (Count 1, with_translated_bytes (1 ∷ 2 ∷ 9 ∷ 4 ∷ []) (5 ∷ 6 ∷ 7 ∷ 8 ∷ [])) }
     ensures not_allowed { outcome machine (ReadExactFrom 1 (at 20) 1 (Give (9 ∷ []) ∷ []))
         ≡ (Fault (not_translated 20 1 AccessNotAllowed), machine) }
     ensures no_such { outcome machine (ReadFrom 3 (at 0) 1 (Give (9 ∷ []) ∷ [])) ≡ (NoSuch, machine) }
@@ -315,15 +267,7 @@ pub fn transfers_out_are_answered()
 pub fn accesses_are_translated()
     ensures read { outcome machine (Read 1 (at 18) 4) ≡ (Bytes (5 ∷ 6 ∷ 5 ∷ 6 ∷ []), machine) }
     ensures write { outcome machine (Write 1 (at 16) (9 ∷ []))
-        ≡ (
-          Count 1,
-          record machine {
-            host = record host {
-              blocks = (1 ∷ 2 ∷ 9 ∷ 4 ∷ []) ∷ (5 ∷ 6 ∷ 7 ∷ 8 ∷ []) ∷ [];
-              spaces = space_pages false true ∷ [];
-            };
-          },
-        ) }
+        ≡ (Count 1, with_translated_bytes (1 ∷ 2 ∷ 9 ∷ 4 ∷ []) (5 ∷ 6 ∷ 7 ∷ 8 ∷ [])) }
     ensures not_mapped { outcome machine (Read 1 (at 2) 1)
         ≡ (Fault (not_translated 2 1 MissingMapping), machine) }
     ensures not_allowed { outcome machine (Write 1 (at 19) (9 ∷ 9 ∷ []))
@@ -336,12 +280,7 @@ pub fn accesses_of_a_memory_that_is_off()
     ensures write { outcome machine (Write 2 (at 2) (9 ∷ []))
         ≡ (
           Count 1,
-          record machine {
-            host = record host {
-              blocks = (1 ∷ 2 ∷ 9 ∷ 4 ∷ []) ∷ (5 ∷ 6 ∷ 7 ∷ 8 ∷ []) ∷ [];
-              bitmaps = block_pages false true ∷ block_pages false false ∷ [];
-            };
-          },
+          with_bytes (1 ∷ 2 ∷ 9 ∷ 4 ∷ []) (5 ∷ 6 ∷ 7 ∷ 8 ∷ []) (block_pages false true) (block_pages false false),
         ) }
 {}
 
@@ -351,12 +290,7 @@ pub fn stores_are_answered()
     ensures aligned { outcome machine (Store 0 Two (at 2) 2569)
         ≡ (
           Done,
-          record machine {
-            host = record host {
-              blocks = (1 ∷ 2 ∷ 9 ∷ 10 ∷ []) ∷ (5 ∷ 6 ∷ 7 ∷ 8 ∷ []) ∷ [];
-              bitmaps = block_pages false true ∷ block_pages false false ∷ [];
-            };
-          },
+          with_bytes (1 ∷ 2 ∷ 9 ∷ 10 ∷ []) (5 ∷ 6 ∷ 7 ∷ 8 ∷ []) (block_pages false true) (block_pages false false),
         ) }
     ensures misaligned { outcome machine (Store 0 Two (at 1) 9) ≡ (Fault fault.InvalidBackendAddress, machine) }
     ensures over_two_regions { outcome machine (Store 0 Eight (at 0) 9)
@@ -365,15 +299,7 @@ pub fn stores_are_answered()
     ensures too_great { outcome machine (Store 0 One (at 8) 256) ≡ (BadRange, machine) }
     ensures no_memory { outcome machine (Store 3 One (at 0) 256) ≡ (NoSuch, machine) }
     ensures translated { outcome machine (Store 1 Two (at 16) 2569)
-        ≡ (
-          Done,
-          record machine {
-            host = record host {
-              blocks = (1 ∷ 2 ∷ 9 ∷ 10 ∷ []) ∷ (5 ∷ 6 ∷ 7 ∷ 8 ∷ []) ∷ [];
-              spaces = space_pages false true ∷ [];
-            };
-          },
-        ) }
+        ≡ (Done, with_translated_bytes (1 ∷ 2 ∷ 9 ∷ 10 ∷ []) (5 ∷ 6 ∷ 7 ∷ 8 ∷ [])) }
     ensures not_allowed { outcome machine (Store 1 One (at 20) 9)
         ≡ (Fault (not_translated 20 1 AccessNotAllowed), machine) }
     ensures loaded { (outcome (outcome machine (Store 0 Two (at 2) 2569)).1 (Load 0 Two (at 2))).0 ≡ Value 2569 }
@@ -397,22 +323,12 @@ pub fn copies_are_answered()
     ensures overlapping { outcome machine (Copy (in_block 0 0 3) (in_block 0 1 3))
         ≡ (
           Done,
-          record machine {
-            host = record host {
-              blocks = (1 ∷ 1 ∷ 2 ∷ 3 ∷ []) ∷ (5 ∷ 6 ∷ 7 ∷ 8 ∷ []) ∷ [];
-              bitmaps = block_pages true true ∷ block_pages false false ∷ [];
-            };
-          },
+          with_bytes (1 ∷ 1 ∷ 2 ∷ 3 ∷ []) (5 ∷ 6 ∷ 7 ∷ 8 ∷ []) (block_pages true true) (block_pages false false),
         ) }
     ensures lesser_length { outcome machine (Copy (in_block 0 2 2) (in_block 1 0 4))
         ≡ (
           Done,
-          record machine {
-            host = record host {
-              blocks = (1 ∷ 2 ∷ 3 ∷ 4 ∷ []) ∷ (3 ∷ 4 ∷ 7 ∷ 8 ∷ []) ∷ [];
-              bitmaps = block_pages false false ∷ block_pages true false ∷ [];
-            };
-          },
+          with_bytes (1 ∷ 2 ∷ 3 ∷ 4 ∷ []) (3 ∷ 4 ∷ 7 ∷ 8 ∷ []) (block_pages false false) (block_pages true false),
         ) }
     ensures nothing { outcome machine (Copy (in_block 0 4 0) (in_block 1 0 4)) ≡ (Done, machine) }
     ensures past_the_end { outcome machine (Copy (in_block 0 3 2) (in_block 1 0 4)) ≡ (BadRange, machine) }

@@ -72,28 +72,17 @@ each_marked-append : (ms ns : List (BitmapId × ℕ)) (host : Host PageSet)
 each_marked-append [] ns host = refl
 each_marked-append (m ∷ ms) ns host = each_marked-append ms ns (marks_pages m.0 m.1 1 host)
 
--- the marks of bytes of one bitmap change that bitmap
-each_marked-block : (block : ℕ) (offsets : List ℕ) (host : Host PageSet)
-    → each_marked (map (λ (offset : ℕ). (Block block, offset)) offsets) host
-    ≡ record host { bitmaps = changed (marked_each offsets) host.bitmaps block }
-each_marked-block block [] host =
-    ap (λ (bs : List PageSet). record host { bitmaps = bs })
-    (sym (changed_same (marked_each []) (λ (s : PageSet). refl) host.bitmaps block))
-each_marked-block block (offset ∷ offsets) host =
-    each_marked-block block offsets (record host { bitmaps = changed (marked offset 1) host.bitmaps block })
-    ∙ ap (λ (bs : List PageSet). record host { bitmaps = bs })
-    (changed-changed (marked offset 1) (marked_each offsets) host.bitmaps block)
-
-each_marked-space : (space : ℕ) (offsets : List ℕ) (host : Host PageSet)
-    → each_marked (map (λ (offset : ℕ). (Space space, offset)) offsets) host
-    ≡ record host { spaces = changed (marked_each offsets) host.spaces space }
-each_marked-space space [] host =
-    ap (λ (bs : List PageSet). record host { spaces = bs })
-    (sym (changed_same (marked_each []) (λ (s : PageSet). refl) host.spaces space))
-each_marked-space space (offset ∷ offsets) host =
-    each_marked-space space offsets (record host { spaces = changed (marked offset 1) host.spaces space })
-    ∙ ap (λ (bs : List PageSet). record host { spaces = bs })
-    (changed-changed (marked offset 1) (marked_each offsets) host.spaces space)
+-- the marks of bytes of one bitmap change that bitmap, which is one of those of blocks or of spaces
+each_marked-one : (id : BitmapId) (number : ℕ) (put : List PageSet → Host PageSet)
+    → ((offset : ℕ) (bs : List PageSet) → marks_pages id offset 1 (put bs) ≡ put (changed (marked offset 1) bs number))
+    → (offsets : List ℕ) (bs : List PageSet)
+    → each_marked (map (λ (offset : ℕ). (id, offset)) offsets) (put bs) ≡ put (changed (marked_each offsets) bs number)
+each_marked-one id number put one [] bs =
+    ap put (sym (changed_same (marked_each []) (λ (s : PageSet). refl) bs number))
+each_marked-one id number put one (offset ∷ offsets) bs =
+    ap (each_marked (map (λ (o : ℕ). (id, o)) offsets)) (one offset bs)
+    ∙ each_marked-one id number put one offsets (changed (marked offset 1) bs number)
+    ∙ ap put (changed-changed (marked offset 1) (marked_each offsets) bs number)
 
 -- the dirt of a path is the marks of its bytes
 dirtied-each : (xs : List Reached) (host : Host PageSet) → dirtied xs host ≡ each_marked (path_marks xs) host
@@ -124,12 +113,12 @@ module _ (by_bytes : MarkIsByBytes) where
       ap (λ (bs : List PageSet). record host { bitmaps = bs })
       (changed_agree (marked base len) (marked_each (numbers base len))
       (λ (s : PageSet). sym (by_bytes base len s fits)) host.bitmaps block)
-      ∙ sym (each_marked-block block (numbers base len) host)
+      ∙ sym (each_marked-one (Block block) block (λ bs. record host { bitmaps = bs }) (λ o bs. refl) (numbers base len) host.bitmaps)
   marks_pages-by_bytes (Space space) base len host fits =
       ap (λ (bs : List PageSet). record host { spaces = bs })
       (changed_agree (marked base len) (marked_each (numbers base len))
       (λ (s : PageSet). sym (by_bytes base len s fits)) host.spaces space)
-      ∙ sym (each_marked-space space (numbers base len) host)
+      ∙ sym (each_marked-one (Space space) space (λ bs. record host { spaces = bs }) (λ o bs. refl) (numbers base len) host.spaces)
 
   -- the dirt of windows is the marks of their bytes
   pub windows_dirtied-each : (ws : List Window) (host : Host PageSet) → All Fits ws

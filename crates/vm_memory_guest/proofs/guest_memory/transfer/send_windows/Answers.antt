@@ -36,16 +36,12 @@ bytes-requires g c =
 pub returns-in_err-write_all_volatile-in-Ok-clause-answer :
     goal.returns-in_err-write_all_volatile-in-Ok-clause-answer
 returns-in_err-write_all_volatile-in-Ok-clause-answer g c =
-    let sink = g.S.WriteVolatile.sink in
-    let taken = g.S.WriteVolatile.taken in
-    let wants = g.S.WriteVolatile.may_want in
-    let blocks = c.args.host.now.blocks in
     let w = c.in-Ok.window in
     let call = c.write_all_volatile in
     let next = gives g (goal.at.returns-in_err-write_all_volatile-in-Ok-clause-answer g c).In-Ok in
     let sends = sent g (goal.at.returns-in_err-write_all_volatile-in-Ok-clause-answer g c).After-write_all_volatile in
     let p = err_from_is_err_and c.from_residual.result c.from_residual.ensures.1 in
-    rw (p.1, p.2) (moved_fails (Takes sink taken wants blocks UntilWhole) c.loop-item.invariant next call.new.self (answered (λ all. w.size) call.result) sends c.in_err-write_all_volatile-in-Ok.field-0.0 (ap (answered (λ all. w.size)) c.in_err-write_all_volatile-in-Ok.was))
+    rw (p.1, p.2) (moved_fails _ c.loop-item.invariant next call.new.self (answered (λ all. w.size) call.result) sends c.in_err-write_all_volatile-in-Ok.field-0.0 (ap (answered (λ all. w.size)) c.in_err-write_all_volatile-in-Ok.was))
 
 pub overflow_add-total : goal.overflow_add-total
 overflow_add-total g c =
@@ -56,22 +52,16 @@ overflow_add-total g c =
 
 pub loop-item-preserved : goal.loop-item-preserved
 loop-item-preserved g c =
-    let sink = g.S.WriteVolatile.sink in
-    let taken = g.S.WriteVolatile.taken in
-    let wants = g.S.WriteVolatile.may_want in
-    let blocks = c.args.host.now.blocks in
     let w = c.in-Ok.window in
     let call = c.write_all_volatile in
     let next = gives g (goal.at.loop-item-preserved g c).In-Ok in
     let sends = sent g (goal.at.loop-item-preserved g c).After-write_all_volatile in
-    moved_next (Takes sink taken wants blocks UntilWhole) c.loop-item.invariant next call.new.self (answered (λ all. w.size) call.result) sends c.len-total.result (ap (answered (λ all. w.size)) c.in_ok-write_all_volatile-in-Ok.was ∙ ap (λ (n : ℕ). Ok n) (sym c.len-total.ensures)) c.len-total.ensures
+    moved_next _ c.loop-item.invariant next call.new.self (answered (λ all. w.size) call.result) sends c.len-total.result (ap (answered (λ all. w.size)) c.in_ok-write_all_volatile-in-Ok.was ∙ ap (λ (n : ℕ). Ok n) (sym c.len-total.ensures)) c.len-total.ensures
 
 pub returns-in-Err-clause-answer : goal.returns-in-Err-clause-answer
 returns-in-Err-clause-answer g c =
-    let takes = Takes g.S.WriteVolatile.sink g.S.WriteVolatile.taken g.S.WriteVolatile.may_want c.args.host.now.blocks UntilWhole in
-    rw c.ended.ensures (moved_ends takes c.loop-item.invariant (ends_in c.loop-item.item-iterator c.in-Some.item c.in-Err.error (items_of c.next.new.self) c.in-Some.ensures.steps c.in-Err.is))
+    rw c.ended.ensures (moved_ends _ c.loop-item.invariant (ends_in c.loop-item.item-iterator c.in-Some.item c.in-Err.error (items_of c.next.new.self) c.in-Some.ensures.steps c.in-Err.is))
 
 pub returns-clause-answer : goal.returns-clause-answer
 returns-clause-answer g c =
-    let takes = Takes g.S.WriteVolatile.sink g.S.WriteVolatile.taken g.S.WriteVolatile.may_want c.args.host.now.blocks UntilWhole in
-    moved_whole takes c.loop-item.invariant (ends_whole c.loop-item.item-iterator c.in-None.ensures.steps.0)
+    moved_whole _ c.loop-item.invariant (ends_whole c.loop-item.item-iterator c.in-None.ensures.steps.0)

@@ -20,8 +20,6 @@ returns-in_err-walk g c =
 
 pub value-requires-clause-held : goal.value-requires-clause-held
 value-requires-clause-held g c =
-    let memory = g.T.GuestMemory.memory c.args.self.now in
-    let host = c.args.host.now in
     let walk = c.in_ok-walk.walk in
-    let each = c.in_ok-walk.ensures.held in
-    first-held (λ w. Holds (shape_of host) (window_names w)) c.size-size.result walk.windows (option_map error_of walk.fault) c.in_ok-window.window c.in_ok-window.ensures each
+    first-held (λ w. Holds (shape_of c.args.host.now) (window_names w)) c.size-size.result walk.windows (option_map error_of walk.fault)
+    c.in_ok-window.window c.in_ok-window.ensures c.in_ok-walk.ensures.held
