@@ -1,10 +1,9 @@
 //! Access to guest memory by guest address, where it ends before all bytes are moved.
 
-use crate::regions::TestRegion;
 use crate::support::{Place, expect_accesses, memory_of};
 use std::alloc::Global;
 use std::test::Fail;
-use vm_memory::{Bytes, GuestAddress, GuestRegionCollection, HostMemory};
+use vm_memory::{GuestAddress, HostMemory};
 
 // An address, a count, and what an access answers and one that is to move all.
 type Access = (u64, usize, &'static str, &'static str);
@@ -66,32 +65,12 @@ const AT_A_BARE_REGION: [Access; 4] = [
     ),
 ];
 
-// What each access of so many bytes at an address answers.
-fn accesses_of(
-    alloc: Global,
-    host: &mut HostMemory<()>,
-    memory: &GuestRegionCollection<TestRegion>,
-    addr: GuestAddress,
-    count: usize,
-) -> Result<String, Fail> {
-    if !host.holds(memory) {
-        return Err(Fail::new("the host holds the memory"));
-    }
-    let bytes = vec![in alloc; 5u8; count]?;
-    let mut buffer = vec![in alloc; 0u8; count]?;
-    let wrote = memory.write(host, bytes.as_slice(), addr);
-    let wrote_all = memory.write_slice(host, bytes.as_slice(), addr);
-    let had = memory.read(host, buffer.as_mut_slice(), addr);
-    let had_all = memory.read_slice(host, buffer.as_mut_slice(), addr);
-    Ok(format!(in alloc; "{wrote:?} {had:?} {wrote_all:?} {had_all:?}")?)
-}
-
 fn expect_cases(alloc: Global, places: &[Place], cases: &[Access]) -> Result<(), Fail> {
     let mut host = HostMemory::new(alloc);
     let memory = memory_of(alloc, &mut host, places)?;
     for (case, (addr, count, any, all)) in cases.iter().enumerate() {
-        let text = accesses_of(alloc, &mut host, &memory, GuestAddress(*addr), *count)?;
-        expect_accesses(alloc, case, text.as_str(), any, all)?;
+        let at = GuestAddress(*addr);
+        expect_accesses(alloc, &mut host, &memory, case, at, *count, any, all)?;
     }
     Ok(())
 }

@@ -2,9 +2,10 @@
 
 use crate::regions::TestRegion;
 use std::alloc::{AllocError, Global};
+use std::fmt;
 use std::sync::Arc;
 use std::test::Fail;
-use vm_memory::{GuestAddress, GuestRegionCollection, HostMemory, MmapRegion};
+use vm_memory::{Bytes, GuestAddress, GuestRegionCollection, HostMemory, MmapRegion};
 
 /// A region of a test.
 #[derive(Clone, Copy)]
@@ -62,14 +63,30 @@ pub fn expect_text(case: usize, told: &str, wanted: &str) -> Result<(), Fail> {
     Ok(())
 }
 
-/// Fails where a write, a read, a write of all and a read of all do not answer so, in this order.
-pub fn expect_accesses(
+/// Tries a write, a read, a write of all and a read of all of so many bytes, and fails where they do not answer so.
+pub fn expect_accesses<A: Copy, M: Bytes<A>>(
     alloc: Global,
+    host: &mut HostMemory<()>,
+    place: &M,
     case: usize,
-    told: &str,
+    at: A,
+    count: usize,
     any: &str,
     all: &str,
-) -> Result<(), Fail> {
+) -> Result<(), Fail>
+where
+    M::E: fmt::Debug + Drop,
+{
+    if !host.holds(place) {
+        return Err(Fail::new("the host holds the place"));
+    }
+    let bytes = vec![in alloc; 5u8; count]?;
+    let mut buffer = vec![in alloc; 0u8; count]?;
+    let wrote = place.write(host, bytes.as_slice(), at);
+    let wrote_all = place.write_slice(host, bytes.as_slice(), at);
+    let had = place.read(host, buffer.as_mut_slice(), at);
+    let had_all = place.read_slice(host, buffer.as_mut_slice(), at);
+    let told = format!(in alloc; "{wrote:?} {had:?} {wrote_all:?} {had_all:?}")?;
     let wanted = format!(in alloc; "{any} {any} {all} {all}")?;
-    expect_text(case, told, wanted.as_str())
+    expect_text(case, told.as_str(), wanted.as_str())
 }

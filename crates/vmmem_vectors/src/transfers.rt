@@ -7,7 +7,6 @@ use std::fs::{self, File, OpenOptions};
 use std::io::{self, Cursor};
 use std::net::{TcpListener, TcpStream};
 use std::os::unix::net::UnixStream;
-use std::sync::Arc;
 use std::test::Fail;
 use vm_memory_base::{
     ByteList, GuestAddress, IoError, MemoryRegionAddress, ReadVolatile, ScriptSink, ScriptSource,
@@ -281,13 +280,8 @@ fn a_failure_has_the_text_of_its_error(rt: HostRuntime) -> Result<(), Fail> {
 
 // Two regions of four bytes that touch.
 fn two_regions(alloc: Global, host: &mut HostMemory<()>) -> Result<GuestMemoryMmap, Fail> {
-    let mut regions = Vec::new(alloc);
-    for start in [0, 4] {
-        let block = MmapRegion::new(host, 4)?;
-        let region = GuestRegionMmap::new(block, GuestAddress(start)).ok_or("the region fits")?;
-        regions.push(Arc::new(alloc, region)?)?;
-    }
-    Ok(GuestMemoryMmap::from_arc_regions(regions)?)
+    let ranges = [(GuestAddress(0), 4), (GuestAddress(4), 4)];
+    Ok(GuestMemoryMmap::from_ranges(alloc, host, &ranges)?)
 }
 
 // A transfer of eight bytes into the regions, which have zeros, and the bytes that it leaves.
