@@ -33,7 +33,6 @@ use Rattle.vm_memory_guest.specs.Layout.{inserted, removed}
 use Rattle.vm_memory_guest.specs.Lent.{IsMarked, MarksChanges}
 use Rattle.vm_memory_guest.specs.Memory.{Memory, IsOn, Behind, Direct, behind_of, physical, route_behind}
 use Rattle.vm_memory_guest.specs.Region.{Region, Lies, Byte, Bare, Hole, cell, layout_error}
-use Rattle.vm_memory_guest.specs.Transfer.{all_of}
 use Rattle.vm_memory_guest.specs.Typed.{path_given, typed_path, whole_path}
 use Rattle.vm_memory_guest.specs.Window.{Window, bitmap_of, with_bitmap}
 use Rattle.vm_memory_guest.specs.declared.region.GuestMemoryError.{GuestMemoryError}
@@ -47,7 +46,7 @@ use Rattle.vm_memory.specs.Tables.{changed_table}
 use Rattle.vm_memory.specs.Reply.{reached_by, answer_of, reply_of, writes, writes_whole}
 use Rattle.vm_memory.specs.Rounds.{patched, patched_by, patched_with, bytes_of, pages_of, image_now, image_after, MirrorsBlock, Cover, IsTracked, IsDirect, RunsDirectly, KeepsImage}
 use Rattle.vm_memory.specs.State.{State, named}
-use Rattle.vm_memory.specs.Transfers.{dealt_to}
+use Rattle.vm_memory.specs.Transfers.{dealt_to, moved_as}
 use Rattle.vm_memory.specs.Typed.{integer_of, fits_width, stores, stores_bytes}
 use Rattle.vm_memory.specs.declared.machine.command.BlockRange.{BlockRange}
 use Rattle.vm_memory.specs.declared.machine.command.Command.{Command}
@@ -577,12 +576,9 @@ module _ (are_listed : AreListed) (cleaned_stay : CleanedStay) (laws : WriteLaws
     answered (command.Load memory width addr) r direct e =
         stays r _ e (same_host old (slice_get old.memories memory) _ (λ m. refl))
     answered (command.ReadFrom memory addr n source) r direct e =
-        got addr.0 n false source (reply_of reply.Count) r (slice_get old.memories memory) direct e
+        got addr.0 n false source (moved_as false n) r (slice_get old.memories memory) direct e
     answered (command.ReadExactFrom memory addr n source) r direct e =
-        got addr.0 n true source
-        (λ answer. reply_of (λ (done : Unit {0}). reply.Done)
-        (all_of (λ (expected completed : ℕ). errors.PartialBuffer expected completed) n answer))
-        r (slice_get old.memories memory) direct e
+        got addr.0 n true source (moved_as true n) r (slice_get old.memories memory) direct e
     answered (command.WriteTo memory addr n sink) r direct e =
         stays r _ e (same_host old (slice_get old.memories memory) _ (λ m. refl))
     answered (command.WriteAllTo memory addr n sink) r direct e =

@@ -18,7 +18,6 @@ use Rattle.vm_memory_guest.specs.Layout.{inserted, removed}
 use Rattle.vm_memory_guest.specs.Memory.{Memory}
 use Rattle.vm_memory_guest.specs.Region.{Region, layout_error}
 use Rattle.vm_memory_guest.specs.Window.{bitmap_of, with_bitmap}
-use Rattle.vm_memory_guest.specs.Transfer.{all_of}
 use Rattle.vm_memory_guest.specs.Typed.{path_given}
 use Rattle.vm_memory_guest.specs.declared.region.GuestMemoryError.{GuestMemoryError}
 use Rattle.vm_memory_guest.specs.declared.region.GuestMemoryError.TheVariants as errors
@@ -28,7 +27,7 @@ use Rattle.vm_memory.specs.State.{State, named, plain}
 use Rattle.vm_memory.specs.Machine.{Step, Run, outcome}
 use Rattle.vm_memory.specs.Made.{if_there, new_layout, rest_layout, new_memory, turned, with_host}
 use Rattle.vm_memory.specs.Reply.{answer_of, whole_of, reply_of, reply_of_error, reached_by, is_partial}
-use Rattle.vm_memory.specs.Transfers.{dealt_to, receives, receives_whole}
+use Rattle.vm_memory.specs.Transfers.{dealt_to, moved_as, receives}
 use Rattle.vm_memory.proofs.TransferLemmas.{RefusedLaw, io_of_window, is_io, scripts_fail_so}
 use Rattle.vm_memory_base.specs.Table as table
 use Rattle.vm_memory_guest.specs.Host.{with_table_at}
@@ -127,20 +126,14 @@ module _ (refused : RefusedLaw) (fault : Option GuestMemoryError) (xs : List Rea
         | inr kept ↦ kept.1
       ]
 
-  not_received : (answer : Result ℕ GuestMemoryError)
-      → (received of_window fault false (windows xs) 0 (map next_of source) host).answer ≡ answer
-      → r ≡ reply_of reply.Count answer
-      → (received of_window fault false (windows xs) 0 (map next_of source) host).host ≡ host
-  not_received (Ok total) same e = absurd (subst IsStill e still)
-  not_received (Err x) same e = not_received_by false x same e
-
-  not_all_received : (n : ℕ) (answer : Result ℕ GuestMemoryError)
-      → (received of_window fault true (windows xs) 0 (map next_of source) host).answer ≡ answer
-      → r ≡ reply_of (λ (done : Unit {0}). reply.Done)
-      (all_of (λ (expected completed : ℕ). errors.PartialBuffer expected completed) n answer)
-      → (received of_window fault true (windows xs) 0 (map next_of source) host).host ≡ host
-  not_all_received n (Err x) same e = not_received_by true x same e
-  not_all_received n (Ok total) same e = go (total == n) e
+  not_received : (whole : Bool) (n : ℕ) (answer : Result ℕ GuestMemoryError)
+      → (received of_window fault whole (windows xs) 0 (map next_of source) host).answer ≡ answer
+      → r ≡ moved_as whole n answer
+      → (received of_window fault whole (windows xs) 0 (map next_of source) host).host ≡ host
+  not_received false n (Ok total) same e = absurd (subst IsStill e still)
+  not_received false n (Err x) same e = not_received_by false x same e
+  not_received true n (Err x) same e = not_received_by true x same e
+  not_received true n (Ok total) same e = go (total == n) e
     where
       go : (b : Bool) → r ≡ reply_of (λ (done : Unit {0}). reply.Done) (cond b (Ok tt) (Err (errors.PartialBuffer n total)))
           → (received of_window fault true (windows xs) 0 (map next_of source) host).host ≡ host
@@ -191,23 +184,14 @@ still-step refused old new c r still step = elim step [ inl e ↦ go c e | inr w
             after (with_host old (stores_bytes m old.host a bytes)) e
             ∙ ap (λ (xs : List Reached). record old { host = after_write xs bytes old.host }) none
 
-    got : (m : Memory) (a n : ℕ) (source : List SourceStep)
-        → (r, new) ≡ with_host old (receives m old.host a n source) → new ≡ old
-    got m a n source e =
+    got : (whole : Bool) (m : Memory) (a n : ℕ) (source : List SourceStep)
+        → (r, new) ≡ with_host old (receives whole m old.host a n source) → new ≡ old
+    got whole m a n source e =
         let reached = reached_by m old.host.tables a n permissions.Write in
-        let d = dealt_to false m old.host a n source in
-        let none = not_received refused (option_map error_of reached.fault) reached.path source old.host r still d.answer
-        refl (ap (λ (p : Reply × State). p.0) e) in
-        after (with_host old (receives m old.host a n source)) e ∙ ap (λ (h : Host PageSet). record old { host = h }) none
-
-    got_whole : (m : Memory) (a n : ℕ) (source : List SourceStep)
-        → (r, new) ≡ with_host old (receives_whole m old.host a n source) → new ≡ old
-    got_whole m a n source e =
-        let reached = reached_by m old.host.tables a n permissions.Write in
-        let d = dealt_to true m old.host a n source in
-        let none = not_all_received refused (option_map error_of reached.fault) reached.path source old.host r still n
+        let d = dealt_to whole m old.host a n source in
+        let none = not_received refused (option_map error_of reached.fault) reached.path source old.host r still whole n
         d.answer refl (ap (λ (p : Reply × State). p.0) e) in
-        after (with_host old (receives_whole m old.host a n source)) e
+        after (with_host old (receives whole m old.host a n source)) e
         ∙ ap (λ (h : Host PageSet). record old { host = h }) none
 
     copied : (there fits : Bool) (host : Host PageSet)
@@ -268,9 +252,9 @@ still-step refused old new c r still step = elim step [ inl e ↦ go c e | inr w
     go (command.Load memory width addr) e =
         there old new (slice_get old.memories memory) _ r (λ m f. ap (λ (p : Reply × State). p.1) f) e
     go (command.ReadFrom memory addr n source) e =
-        there old new (slice_get old.memories memory) _ r (λ m. got m addr.0 n source) e
+        there old new (slice_get old.memories memory) _ r (λ m. got false m addr.0 n source) e
     go (command.ReadExactFrom memory addr n source) e =
-        there old new (slice_get old.memories memory) _ r (λ m. got_whole m addr.0 n source) e
+        there old new (slice_get old.memories memory) _ r (λ m. got true m addr.0 n source) e
     go (command.WriteTo memory addr n sink) e =
         there old new (slice_get old.memories memory) _ r (λ m f. ap (λ (p : Reply × State). p.1) f) e
     go (command.WriteAllTo memory addr n sink) e =

@@ -38,7 +38,7 @@ use Rattle.vm_memory.specs.Made.{if_there, new_layout, rest_layout, with_host}
 use Rattle.vm_memory.specs.Reply.{reached_by, reads, reads_whole, reply_of, reply_of_error, writes, writes_whole}
 use Rattle.vm_memory.specs.State.{State, named}
 use Rattle.vm_memory.specs.Tables.{changed_table, looks_up}
-use Rattle.vm_memory.specs.Transfers.{beside_taken, dealt_to, given_by, receives, receives_whole, sends, sends_whole}
+use Rattle.vm_memory.specs.Transfers.{beside_taken, dealt_to, given_by, moved_as, receives, sends}
 use Rattle.vm_memory.specs.Typed.{fits_width, integer_of, loads, stores, stores_bytes}
 use Rattle.vm_memory.specs.declared.machine.command.Command.{Command}
 use Rattle.vm_memory.specs.declared.machine.command.Command.TheVariants as command
@@ -367,22 +367,17 @@ module _ (old : State) where
         (kept reached) (length bytes)) (λ done. tt)
         (exactly_fault (length reached.path) (length bytes) (kept reached) (access_fault reached))
 
-    got : RefusedLaw → (n : ℕ) (source : List SourceStep) → IsAnswer (receives m old.host a n source).0
-    got refused n source =
-        let reached = reached_by m old.host.tables a n permissions.Write in
-        let d = dealt_to false m old.host a n source in
-        told_of reply.Count d.answer (λ count. tt)
-        (received_fault refused (kept reached) (access_fault reached) false reached.path source
-        old.host d.answer refl)
+    moved : (whole : Bool) (n : ℕ) (answer : Result ℕ GuestMemoryError) → IfErr answer IsFault → IsAnswer (moved_as whole n answer)
+    moved false n answer fault = told_of reply.Count answer (λ count. tt) fault
+    moved true n answer fault =
+        told_of (λ (done : Unit {0}). reply.Done) (all_of partial n answer) (λ done. tt) (all_fault n answer fault)
 
-    got_whole : RefusedLaw → (n : ℕ) (source : List SourceStep) → IsAnswer (receives_whole m old.host a n source).0
-    got_whole refused n source =
+    got : RefusedLaw → (whole : Bool) (n : ℕ) (source : List SourceStep) → IsAnswer (receives whole m old.host a n source).0
+    got refused whole n source =
         let reached = reached_by m old.host.tables a n permissions.Write in
-        let d = dealt_to true m old.host a n source in
-        told_of (λ (done : Unit {0}). reply.Done)
-        (all_of partial n d.answer) (λ done. tt)
-        (all_fault n d.answer (received_fault refused (kept reached) (access_fault reached) true
-        reached.path source old.host d.answer refl))
+        let d = dealt_to whole m old.host a n source in
+        moved whole n d.answer
+        (received_fault refused (kept reached) (access_fault reached) whole reached.path source old.host d.answer refl)
 
     given : (n : ℕ) (steps : List SinkStep)
         → IfErr (given_by (reached_by m old.host.tables a n permissions.Read) n steps).answer IsFault
@@ -391,20 +386,12 @@ module _ (old : State) where
         given_fault (kept reached) (access_fault reached) (windows reached.path) 0
         (record { next = map taking_of steps; room = Some n }) (sinks_fail_so steps)
 
-    gave : (n : ℕ) (steps : List SinkStep) → IsAnswer (sends m old.host a n steps)
-    gave n steps =
+    gave : (whole : Bool) (n : ℕ) (steps : List SinkStep) → IsAnswer (sends whole m old.host a n steps)
+    gave whole n steps =
         let reached = reached_by m old.host.tables a n permissions.Read in
         let g = given_by reached n steps in
-        beside_told (take g.taken (bytes_read reached.path old.host)) (reply_of reply.Count g.answer)
-        (told_of reply.Count g.answer (λ count. tt) (given n steps))
-
-    gave_whole : (n : ℕ) (steps : List SinkStep) → IsAnswer (sends_whole m old.host a n steps)
-    gave_whole n steps =
-        let reached = reached_by m old.host.tables a n permissions.Read in
-        let g = given_by reached n steps in
-        let all = all_of partial n g.answer in
-        beside_told (take g.taken (bytes_read reached.path old.host)) (reply_of (λ (done : Unit {0}). reply.Done) all)
-        (told_of (λ (done : Unit {0}). reply.Done) all (λ done. tt) (all_fault n g.answer (given n steps)))
+        beside_told (take g.taken (bytes_read reached.path old.host)) (moved_as whole n g.answer)
+        (moved whole n g.answer (given n steps))
 
   outcome_told : RefusedLaw → (c : Command) → IsAnswer (outcome old c).0
   outcome_told refused (command.FromRegions ns) = there (named old.regions ns) _ made
@@ -436,13 +423,13 @@ module _ (old : State) where
   outcome_told refused (command.Load memory width addr) =
       there (slice_get old.memories memory) _ (λ m. loaded m addr.0 (integer_of width))
   outcome_told refused (command.ReadFrom memory addr n source) =
-      there (slice_get old.memories memory) _ (λ m. got m addr.0 refused n source)
+      there (slice_get old.memories memory) _ (λ m. got m addr.0 refused false n source)
   outcome_told refused (command.ReadExactFrom memory addr n source) =
-      there (slice_get old.memories memory) _ (λ m. got_whole m addr.0 refused n source)
+      there (slice_get old.memories memory) _ (λ m. got m addr.0 refused true n source)
   outcome_told refused (command.WriteTo memory addr n sink) =
-      there (slice_get old.memories memory) _ (λ m. gave m addr.0 n sink)
+      there (slice_get old.memories memory) _ (λ m. gave m addr.0 false n sink)
   outcome_told refused (command.WriteAllTo memory addr n sink) =
-      there (slice_get old.memories memory) _ (λ m. gave_whole m addr.0 n sink)
+      there (slice_get old.memories memory) _ (λ m. gave m addr.0 true n sink)
   outcome_told refused (command.CheckRange memory addr n access) =
       there (slice_get old.memories memory) _ (λ m. tt)
   outcome_told refused (command.Dirty id) = there (bitmap_of old.host id) _ (λ set. tt)

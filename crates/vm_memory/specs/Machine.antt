@@ -1,5 +1,5 @@
 -- A machine as a model: what a command answers and leaves, a step of it, and a run of steps.
-use Rattle.std.specs.Prelude.{◌≡◌, ◌⊎◌, ◌<◌, false, IsTrue, List, [], ◌∷◌, slice_get}
+use Rattle.std.specs.Prelude.{◌≡◌, ◌⊎◌, ◌<◌, true, false, IsTrue, List, [], ◌∷◌, slice_get}
 use Rattle.std.specs.Prelude.{Some, IsSome, IsSomeAnd}
 use Rattle.vm_memory_base.specs.Pages.{dirty_pages, cleaned}
 use Rattle.vm_memory_base.specs.Table as table
@@ -14,7 +14,7 @@ use Rattle.vm_memory.specs.Copy.{copies}
 use Rattle.vm_memory.specs.Made.{if_there, new_layout, rest_layout, new_memory, turned, with_host, asks, changes_by}
 use Rattle.vm_memory.specs.Reply.{reads, writes, reads_whole, writes_whole, checks}
 use Rattle.vm_memory.specs.Tables.{changes, looks_up}
-use Rattle.vm_memory.specs.Transfers.{receives, receives_whole, sends, sends_whole}
+use Rattle.vm_memory.specs.Transfers.{receives, sends}
 use Rattle.vm_memory.specs.Typed.{integer_of, fits_width, loads, stores}
 use Rattle.vm_memory.specs.declared.machine.command.Command.{Command}
 use Rattle.vm_memory.specs.declared.machine.command.Command.TheVariants.{FromRegions, Insert, Remove, Plain}
@@ -60,11 +60,11 @@ outcome old (Store memory width addr value) =
     changes_by old memory (λ m host. stores m host addr.0 (integer_of width) value)
 outcome old (Load memory width addr) = asks old memory (λ m host. loads m host addr.0 (integer_of width))
 outcome old (ReadFrom memory addr count source) =
-    changes_by old memory (λ m host. receives m host addr.0 count source)
+    changes_by old memory (λ m host. receives false m host addr.0 count source)
 outcome old (ReadExactFrom memory addr count source) =
-    changes_by old memory (λ m host. receives_whole m host addr.0 count source)
-outcome old (WriteTo memory addr count sink) = asks old memory (λ m host. sends m host addr.0 count sink)
-outcome old (WriteAllTo memory addr count sink) = asks old memory (λ m host. sends_whole m host addr.0 count sink)
+    changes_by old memory (λ m host. receives true m host addr.0 count source)
+outcome old (WriteTo memory addr count sink) = asks old memory (λ m host. sends false m host addr.0 count sink)
+outcome old (WriteAllTo memory addr count sink) = asks old memory (λ m host. sends true m host addr.0 count sink)
 outcome old (CheckRange memory addr count access) = asks old memory (λ m host. checks m host addr.0 count access)
 outcome old (Dirty id) = if_there old (bitmap_of old.host id) (λ set. (Pages (dirty_pages set), old))
 outcome old (Harvest id) =

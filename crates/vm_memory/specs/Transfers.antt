@@ -1,5 +1,5 @@
 -- What a machine replies to transfers from sources and to sinks that follow a script, and what these leave.
-use Rattle.std.specs.Prelude.{ℕ, Bool, true, false, List, map, take, Some, option_map}
+use Rattle.std.specs.Prelude.{ℕ, Bool, true, false, List, map, take, Some, Result, option_map}
 use Rattle.vm_memory_base.specs.Pages.{PageSet}
 use Rattle.vm_memory_base.specs.Script.{next_of, taking_of}
 use Rattle.vm_memory_base.specs.declared.io.script.SinkStep.{SinkStep}
@@ -27,17 +27,15 @@ dealt_to until_full m host a n source =
     received of_window (option_map error_of reached.fault) until_full (windows reached.path) 0
     (map next_of source) host
 
--- a transfer in replies how many bytes came
-abbrev pub receives : Memory → Host PageSet → ℕ → ℕ → List SourceStep → Reply × Host PageSet
-receives m host a n source = let d = dealt_to false m host a n source in (reply_of Count d.answer, d.host)
+-- a transfer of n bytes replies how many were moved, and one of all bytes whether all were
+abbrev pub moved_as : Bool → ℕ → Result ℕ GuestMemoryError → Reply
+moved_as false n answer = reply_of Count answer
+moved_as true n answer =
+    reply_of (λ done. Done) (all_of (λ expected completed. errors.PartialBuffer expected completed) n answer)
 
--- one of all bytes replies whether all came
-abbrev pub receives_whole : Memory → Host PageSet → ℕ → ℕ → List SourceStep → Reply × Host PageSet
-receives_whole m host a n source =
-    let d = dealt_to true m host a n source in (
-      reply_of (λ done. Done) (all_of (λ expected completed. errors.PartialBuffer expected completed) n d.answer),
-      d.host,
-    )
+-- a transfer in, of all bytes or of those that come
+abbrev pub receives : Bool → Memory → Host PageSet → ℕ → ℕ → List SourceStep → Reply × Host PageSet
+receives whole m host a n source = let d = dealt_to whole m host a n source in (moved_as whole n d.answer, d.host)
 
 -- the bytes of windows are offered to a sink that has room for n
 abbrev pub given_by : Access → ℕ → List SinkStep → Given GuestMemoryError
@@ -52,17 +50,9 @@ beside_taken taken Done = Sent ending.Done taken
 beside_taken taken (Fault f) = Sent (ending.Fault f) taken
 beside_taken taken r = r
 
--- a transfer out replies how many bytes the sink took, and these: the first of the access
-abbrev pub sends : Memory → Host PageSet → ℕ → ℕ → List SinkStep → Reply
-sends m host a n sink =
+-- a transfer out, of all bytes or of those that the sink takes: these are the first of the access, and are replied
+abbrev pub sends : Bool → Memory → Host PageSet → ℕ → ℕ → List SinkStep → Reply
+sends whole m host a n sink =
     let reached = reached_by m host.tables a n permissions.Read in
     let g = given_by reached n sink in
-    beside_taken (take g.taken (bytes_read reached.path host)) (reply_of Count g.answer)
-
--- one of all bytes replies whether it took all
-abbrev pub sends_whole : Memory → Host PageSet → ℕ → ℕ → List SinkStep → Reply
-sends_whole m host a n sink =
-    let reached = reached_by m host.tables a n permissions.Read in
-    let g = given_by reached n sink in
-    beside_taken (take g.taken (bytes_read reached.path host))
-    (reply_of (λ done. Done) (all_of (λ expected completed. errors.PartialBuffer expected completed) n g.answer))
+    beside_taken (take g.taken (bytes_read reached.path host)) (moved_as whole n g.answer)

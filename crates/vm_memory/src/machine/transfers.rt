@@ -6,7 +6,7 @@ ghost use Rattle.vm_memory_guest.specs.Memory.{IsOn};
 ghost use Rattle.vm_memory.specs.Machine.{Step};
 ghost use Rattle.vm_memory.specs.Parts.{state_of};
 ghost use Rattle.vm_memory.specs.Reply.{reply_of};
-ghost use Rattle.vm_memory.specs.Transfers.{beside_taken, receives, receives_whole, sends, sends_whole};
+ghost use Rattle.vm_memory.specs.Transfers.{beside_taken, receives, sends};
 ghost use Rattle.vm_memory.specs.declared.machine.command.Command.TheVariants as command;
 
 use super::Machine;
@@ -37,7 +37,7 @@ impl<R: GuestMemoryRegion, I: Iommu, B: ExactBitmap> Machine<R, I, B> {
         let Some(memory) = self.memories.get(memory) else {
             return Reply::NoSuch;
         };
-        receive(memory, &mut self.host, addr, count, source)
+        receive(memory, &mut self.host, addr, count, source, false)
     }
 
     pub(super) fn read_exact_from(
@@ -54,7 +54,7 @@ impl<R: GuestMemoryRegion, I: Iommu, B: ExactBitmap> Machine<R, I, B> {
         let Some(memory) = self.memories.get(memory) else {
             return Reply::NoSuch;
         };
-        receive_whole(memory, &mut self.host, addr, count, source)
+        receive(memory, &mut self.host, addr, count, source, true)
     }
 
     pub(super) fn write_to(
@@ -71,7 +71,7 @@ impl<R: GuestMemoryRegion, I: Iommu, B: ExactBitmap> Machine<R, I, B> {
         let Some(memory) = self.memories.get(memory) else {
             return Reply::NoSuch;
         };
-        send(self.alloc, memory, &self.host, addr, count, sink)
+        send(self.alloc, memory, &self.host, addr, count, sink, false)
     }
 
     pub(super) fn write_all_to(
@@ -88,51 +88,35 @@ impl<R: GuestMemoryRegion, I: Iommu, B: ExactBitmap> Machine<R, I, B> {
         let Some(memory) = self.memories.get(memory) else {
             return Reply::NoSuch;
         };
-        send_whole(self.alloc, memory, &self.host, addr, count, sink)
+        send(self.alloc, memory, &self.host, addr, count, sink, true)
     }
 }
 
-// Receives bytes of a memory from a source, up to the first window that it does not fill.
+// Receives bytes of a memory from a source: all, or those up to the first window that it does not fill.
 fn receive<M: GuestMemory, B: ExactBitmap>(
     memory: &M,
     host: &mut HostMemory<B>,
     addr: GuestAddress,
     count: usize,
     steps: &[SourceStep],
+    whole: bool,
 ) -> Reply
     requires { Holds (shape_of host.old) (M.names memory.now) }
     ensures received { let m = M.memory memory.now in let before = with_pages B.pages host.old in
         let after = with_pages B.pages host.new in
-        ((result, after) ≡ receives m before addr.0 count steps.now)
+        ((result, after) ≡ receives whole m before addr.0 count steps.now)
         ⊎ ((result ≡ Reply.Memory) × IsOn m × (after ≡ before)) }
     ensures shape { shape_of host.new ≡ shape_of host.old }
 {
     transfers_in_are_computed::<ScriptSource, B>();
     let mut source = ScriptSource::new(steps);
+    if whole {
+        return done(memory.read_exact_volatile_from(host, addr, &mut source, count));
+    }
     counted(memory.read_volatile_from(host, addr, &mut source, count))
 }
 
-// Receives all of the bytes.
-fn receive_whole<M: GuestMemory, B: ExactBitmap>(
-    memory: &M,
-    host: &mut HostMemory<B>,
-    addr: GuestAddress,
-    count: usize,
-    steps: &[SourceStep],
-) -> Reply
-    requires { Holds (shape_of host.old) (M.names memory.now) }
-    ensures received { let m = M.memory memory.now in let before = with_pages B.pages host.old in
-        let after = with_pages B.pages host.new in
-        ((result, after) ≡ receives_whole m before addr.0 count steps.now)
-        ⊎ ((result ≡ Reply.Memory) × IsOn m × (after ≡ before)) }
-    ensures shape { shape_of host.new ≡ shape_of host.old }
-{
-    transfers_in_are_computed::<ScriptSource, B>();
-    let mut source = ScriptSource::new(steps);
-    done(memory.read_exact_volatile_from(host, addr, &mut source, count))
-}
-
-// Sends bytes of a memory to a sink that has room for as many.
+// Sends bytes of a memory to a sink that has room for as many: all, or those that it takes.
 fn send<M: GuestMemory, B: ExactBitmap>(
     alloc: Global,
     memory: &M,
@@ -140,10 +124,11 @@ fn send<M: GuestMemory, B: ExactBitmap>(
     addr: GuestAddress,
     count: usize,
     steps: &[SinkStep],
+    whole: bool,
 ) -> Reply
     requires { Holds (shape_of host.now) (M.names memory.now) }
     ensures { let m = M.memory memory.now in let before = with_pages B.pages host.now in
-        (result ≡ sends m before addr.0 count steps.now)
+        (result ≡ sends whole m before addr.0 count steps.now)
         ⊎ ((result ≡ Reply.Memory) × (IsOn m ⊎ (0 < count))) }
 {
     let Ok(mut sink) = ScriptSink::new(alloc, steps, count) else {
@@ -152,31 +137,11 @@ fn send<M: GuestMemory, B: ExactBitmap>(
     transfers_out_are_computed::<ScriptSink>();
     sinks_take_what_is_computed::<ScriptSink>();
     windows_are_the_path();
+    if whole {
+        let reply = done(memory.write_all_volatile_to(host, addr, &mut sink, count));
+        return with_taken(reply, sink.into_taken());
+    }
     let reply = counted(memory.write_volatile_to(host, addr, &mut sink, count));
-    with_taken(reply, sink.into_taken())
-}
-
-// Sends all of the bytes.
-fn send_whole<M: GuestMemory, B: ExactBitmap>(
-    alloc: Global,
-    memory: &M,
-    host: &HostMemory<B>,
-    addr: GuestAddress,
-    count: usize,
-    steps: &[SinkStep],
-) -> Reply
-    requires { Holds (shape_of host.now) (M.names memory.now) }
-    ensures { let m = M.memory memory.now in let before = with_pages B.pages host.now in
-        (result ≡ sends_whole m before addr.0 count steps.now)
-        ⊎ ((result ≡ Reply.Memory) × (IsOn m ⊎ (0 < count))) }
-{
-    let Ok(mut sink) = ScriptSink::new(alloc, steps, count) else {
-        return Reply::Memory;
-    };
-    transfers_out_are_computed::<ScriptSink>();
-    sinks_take_what_is_computed::<ScriptSink>();
-    windows_are_the_path();
-    let reply = done(memory.write_all_volatile_to(host, addr, &mut sink, count));
     with_taken(reply, sink.into_taken())
 }
 
