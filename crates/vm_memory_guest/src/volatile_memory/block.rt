@@ -78,35 +78,6 @@ fn copy_inside(block: &mut [u8], from: usize, to: usize, len: usize)
     }
 }
 
-// Copies bytes of a block over those of another.
-fn copy_between(
-    blocks: &mut Vec<Vec<u8>>,
-    source: usize,
-    from: usize,
-    target: usize,
-    to: usize,
-    len: usize,
-)
-    requires other { source ≢ target }
-    requires source { source < length blocks.old.items }
-    requires target { target < length blocks.old.items }
-    requires readable { from + len ≤ length (block_at (blocks_of blocks.old) source) }
-    requires writable { to + len ≤ length (block_at (blocks_of blocks.old) target) }
-    ensures { let bytes = bytes_at (blocks_of blocks.old) (cells_from source from len) in
-        blocks_of blocks.new ≡ written (cells_from target to len) bytes (blocks_of blocks.old) }
-{
-    let all = blocks.as_mut_slice();
-    if source < target {
-        let (low, high) = all.split_at_mut(target);
-        let bytes = &low[source].as_slice()[from..from + len];
-        move_into(high[0].as_mut_slice(), to, bytes);
-    } else {
-        let (low, high) = all.split_at_mut(source);
-        let bytes = &high[0].as_slice()[from..from + len];
-        move_into(low[target].as_mut_slice(), to, bytes);
-    }
-}
-
 // Copies bytes of a block over others of the same or of another block.
 pub(super) fn copy_in(
     blocks: &mut Vec<Vec<u8>>,
@@ -123,8 +94,16 @@ pub(super) fn copy_in(
     ensures { let bytes = bytes_at (blocks_of blocks.old) (cells_from source from len) in
         blocks_of blocks.new ≡ written (cells_from target to len) bytes (blocks_of blocks.old) }
 {
-    if source != target {
-        copy_between(blocks, source, from, target, to, len);
+    if source < target {
+        let (low, high) = blocks.as_mut_slice().split_at_mut(target);
+        let bytes = &low[source].as_slice()[from..from + len];
+        move_into(high[0].as_mut_slice(), to, bytes);
+        return;
+    }
+    if target < source {
+        let (low, high) = blocks.as_mut_slice().split_at_mut(source);
+        let bytes = &high[0].as_slice()[from..from + len];
+        move_into(low[target].as_mut_slice(), to, bytes);
         return;
     }
     let all = &mut blocks[target];
