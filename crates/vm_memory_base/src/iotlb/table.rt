@@ -83,10 +83,7 @@ impl Iotlb {
         let end = iova.0 + length as u64;
         let difference = map_to.0.wrapping_sub(iova.0);
         let run = MappedRun::new(iova.0, end, difference, perm);
-        match set_run(ranges, run) {
-            Ok(()) => Ok(()),
-            Err(_) => Err(IommuError::Memory),
-        }
+        set_run(ranges, run).map_err(|_| IommuError::Memory)
     }
 
     /// Lets `length` addresses from `iova` on lead nowhere. A length of 0 changes nothing. The sum of `iova`
@@ -110,10 +107,7 @@ impl Iotlb {
         if length == 0 {
             return Ok(());
         }
-        match clear_range(ranges, iova.0, iova.0 + length as u64) {
-            Ok(()) => Ok(()),
-            Err(_) => Err(IommuError::Memory),
-        }
+        clear_range(ranges, iova.0, iova.0 + length as u64).map_err(|_| IommuError::Memory)
     }
 
     /// Lets every address lead nowhere. It takes no memory.

@@ -14,4 +14,4 @@ returns-clause-ok c = search rules
 
 pub returns-clause-says : goal.returns-clause-says
 returns-clause-says c =
-    says_then (Invalidate c.args.iova.0 c.args.length) c.args.self.now _ c.match-clear_range.result (returns-clause-ok c)
+    says_then (Invalidate c.args.iova.0 c.args.length) c.args.self.now _ _ (returns-clause-ok c)
