@@ -135,11 +135,7 @@ impl<'a> ScriptSink<'a> {
         ensures made { IfOk result (λ s. s ≡ record { next = map taking_of steps.now; taken = []; room = room }) }
         ensures empty { room ≡ 0 → IsOk result }
     {
-        let taken = if room == 0 {
-            Vec::new(alloc)
-        } else {
-            Vec::with_capacity(alloc, room)?
-        };
+        let taken = Vec::with_capacity(alloc, room)?;
         Ok(ScriptSink { steps, taken, room })
     }
 
