@@ -49,13 +49,27 @@ ends_before same (r ∷ rs) (suc m) d h l =
     let next : r.start + r.len ≤ (get_or rs m d).start = StartFrom-get_or (r.start + r.len) rs m d (tail_starts same r rs h) (omega arith) in
     (omega arith, ends_before same rs m d (canonical_tail same r rs h) (omega arith))
 
--- where a run ends below a limit, so do those before it
-pub ends_upto : {K : Type 0} (same : K → K → Bool) (limit : ℕ) (rs : List (Run K)) (m : ℕ) (d : Run K) → IsCanonical same rs → m < length rs → (get_or rs m d).start + (get_or rs m d).len < limit → EndBelow limit (take (suc m) rs)
-ends_upto same limit [] m d h l e = absurd (omega arith)
-ends_upto same limit (r ∷ rs) zero d h l e = (e, tt)
-ends_upto same limit (r ∷ rs) (suc m) d h l e =
-    let next : r.start + r.len ≤ (get_or rs m d).start = StartFrom-get_or (r.start + r.len) rs m d (tail_starts same r rs h) (omega arith) in
-    (omega arith, ends_upto same limit rs m d (canonical_tail same r rs h) (omega arith) e)
+-- starts rise, and so do ends
+pub rise : {K : Type 0} (same : K → K → Bool) (rs : List (Run K)) → IsCanonical same rs → (i j : ℕ) (d : Run K) → i ≤ j → j < length rs
+    → ((get_or rs i d).start ≤ (get_or rs j d).start) × ((get_or rs i d).start + (get_or rs i d).len ≤ (get_or rs j d).start + (get_or rs j d).len)
+rise same [] h i j d l k = absurd (omega arith)
+rise same (r ∷ rs) h zero zero d l k = (omega arith, omega arith)
+rise same (r ∷ rs) h zero (suc j) d l k =
+    let next : r.start + r.len ≤ (get_or rs j d).start = StartFrom-get_or (r.start + r.len) rs j d (tail_starts same r rs h) (omega arith) in
+    (omega arith, omega arith)
+rise same (r ∷ rs) h (suc i) zero d l k = absurd (omega arith)
+rise same (r ∷ rs) h (suc i) (suc j) d l k = rise same rs (canonical_tail same r rs h) i j d (omega arith) (omega arith)
+
+pub EndBelow-each : {K : Type 0} (limit : ℕ) (rs : List (Run K)) (m : ℕ) → ((k : ℕ) (d : Run K) → k < m → (get_or rs k d).start + (get_or rs k d).len < limit) → EndBelow limit (take m rs)
+EndBelow-each limit rs zero h = tt
+EndBelow-each limit [] (suc m) h = tt
+EndBelow-each limit (r ∷ rs) (suc m) h = (h zero r (omega arith), EndBelow-each limit rs m (λ k d l. h (suc k) d (omega arith)))
+
+pub StartFrom-each : {K : Type 0} (low : ℕ) (rs : List (Run K)) (m : ℕ) → ((k : ℕ) (d : Run K) → m ≤ k → k < length rs → low ≤ (get_or rs k d).start) → StartFrom low (drop m rs)
+StartFrom-each low [] zero h = tt
+StartFrom-each low [] (suc m) h = tt
+StartFrom-each low (r ∷ rs) zero h = (h zero r (omega arith) (omega arith), StartFrom-each low rs zero (λ k d l e. h (suc k) d (omega arith) (omega arith)))
+StartFrom-each low (r ∷ rs) (suc m) h = StartFrom-each low rs m (λ k d l e. h (suc k) d (omega arith) (omega arith))
 
 -- where a run starts from an address on, so do those after it
 pub starts_after : {K : Type 0} (same : K → K → Bool) (low : ℕ) (rs : List (Run K)) (m : ℕ) (d : Run K) → IsCanonical same rs → m < length rs → low ≤ (get_or rs m d).start → StartFrom low (drop m rs)

@@ -133,7 +133,7 @@ impl MappedRun {
     }
 }
 
-// How many runs end below an address: one probe for each binary digit of their number.
+// How many runs end below an address.
 pub(super) fn ends_below(runs: &[MappedRun], limit: u64) -> usize
     requires { IsCanonical same_mapping runs.now }
     ensures within { result ≤ length runs.now }
@@ -141,41 +141,17 @@ pub(super) fn ends_below(runs: &[MappedRun], limit: u64) -> usize
     ensures from { (d : Run Mapping) → result < length runs.now →
         let run = slice_index_or runs.now result d in limit ≤ run.start + run.len }
 {
-    let mut next = 0;
-    let mut size = runs.len();
-    while size > 0 {
-        let half = size / 2;
-        let probe = &runs[next + half];
-        if probe.end() < limit {
-            next = next + half + 1;
-            size = size - half - 1;
-        } else {
-            size = half;
-        }
-    }
-    next
+    runs.partition_point(|run| run.end() < limit)
 }
 
-// How many runs start at an address or before it: one probe for each binary digit of their number.
+// How many runs start at an address or before it.
 pub(super) fn starts_upto(runs: &[MappedRun], limit: u64) -> usize
     requires { IsCanonical same_mapping runs.now }
     ensures within { result ≤ length runs.now }
     ensures upto { (d : Run Mapping) → 0 < result → (slice_index_or runs.now (result - 1) d).start ≤ limit }
     ensures above { StartFrom (limit + 1) (drop result runs.now) }
 {
-    let mut next = 0;
-    let mut size = runs.len();
-    while size > 0 {
-        let half = size / 2;
-        let probe = &runs[next + half];
-        if probe.start() <= limit {
-            next = next + half + 1;
-            size = size - half - 1;
-        } else {
-            size = half;
-        }
-    }
-    next
+    runs.partition_point(|run| run.start() <= limit)
 }
 
 // The runs before an address: so many that end below it, and then the one that reaches it, cut off there.

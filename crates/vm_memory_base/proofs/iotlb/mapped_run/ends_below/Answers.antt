@@ -1,22 +1,17 @@
-use Rattle.std.proofs.Common.{◌≡◌, ◌+◌, ◌-◌, ◌/◌, ◌<◌, length, get_or, subst, add-one, arith}
+use Rattle.std.proofs.Common.{◌+◌, ltb, ltb-true, arith, rules}
+use Rattle.std.proofs.lemmas.List.Sorted.{IsPartitionPoint-from_clause, IsPartitionedBy-ltb}
 use Rattle.vm_memory_base.specs.Runs.{Run}
 use Rattle.vm_memory_base.specs.Table.{Mapping, same_mapping}
-use Rattle.vm_memory_base.proofs.ChangeLemmas.{ends_upto}
+use Rattle.vm_memory_base.proofs.ChangeLemmas.{rise, EndBelow-each}
 use Rattle.vm_memory_base.proofs.iotlb.mapped_run.ends_below.Goals as goal
 
-pub loop-size-preserved-then-end-limit : goal.loop-size-preserved-then-end-limit
-loop-size-preserved-then-end-limit c =
+pub returns : goal.returns
+returns c =
     let runs = c.args.runs.now in
-    let at = c.loop-size.next + c.loop-size.size / 2 in
-    let run = c.index-runs-next.result in
-    let is : run ≡ get_or runs at run = c.index-runs-next.is in
-    let told = c.end.ensures.value in
-    let low : run.start + run.len < c.args.limit = omega arith in
-    let below : (get_or runs at run).start + (get_or runs at run).len < c.args.limit = subst (λ (r : Run Mapping). r.start + r.len < c.args.limit) is low in
-    let inside : at < length runs = omega arith in
-    let rest : at + 1 + (c.loop-size.size - c.loop-size.size / 2 - 1) ≡ c.loop-size.next + c.loop-size.size = omega arith in
+    let parted = IsPartitionedBy-ltb (λ (r : Run Mapping). r.start + r.len) runs c.args.limit (λ i j d l k. (rise same_mapping runs c.requires i j d l k).1) in
+    let point = IsPartitionPoint-from_clause (λ (r : Run Mapping). ltb (r.start + r.len) c.args.limit) runs _ c.partition_point.ensures.partitioned parted (λ a r q k. search rules) in
     record {
-      within = omega arith;
-      below = rw (add-one at) (ends_upto same_mapping c.args.limit runs at run c.requires inside below);
-      from = rw rest c.loop-size.invariant.from;
+      within = c.partition_point.ensures.bound;
+      below = EndBelow-each c.args.limit runs c.partition_point.result (λ k d l. ltb-true _ _ (point.0 k d (omega arith) l));
+      from = λ d l. search rules;
     }
