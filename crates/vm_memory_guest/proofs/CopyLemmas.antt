@@ -1,24 +1,15 @@
 -- Copies from one block to another, and inside one.
-use Rattle.std.proofs.Common.{◌≡◌, ℕ, ◌+◌, ◌-◌, ◌<◌, ◌≤◌, List, [], ◌++◌, map, length, get_or, set, take, drop, refl, sym, ap, ◌∙◌, arith, length-append, length-drop, length-take-le, length-set, Vec}
-use Rattle.std.proofs.lemmas.List.{get_or-map, length-map, map-set, set-append_left, set-append_right, get_or-append_right, get_or_append_left, with_items_is}
+use Rattle.std.proofs.Common.{◌≡◌, ℕ, ◌+◌, ◌-◌, ◌<◌, ◌≤◌, List, [], ◌++◌, map, length, get_or, set, take, drop, refl, sym, ap, ◌∙◌, arith, length-drop, length-take-le, length-set, Vec}
+use Rattle.std.proofs.lemmas.List.{get_or-map, length-map, set-append_left, set-append_right, get_or-append_right, get_or_append_left, with_items_is}
 use Rattle.std.specs.Vec.{with_item, with_items}
 use Rattle.std.specs.declared.alloc.Global.{Global}
 use Rattle.vm_memory_guest.specs.Host.{block_at, bytes_at, cells_from, written}
 use Rattle.vm_memory_guest.specs.Inside.{blocks_of}
-use Rattle.vm_memory_guest.proofs.WrittenLaws.{bytes_at-block, length-bytes_at, length-cells_from, written-block}
+use Rattle.vm_memory_guest.proofs.WrittenLaws.{bytes_at-block, length-bytes_at, length-cells_from, put-block}
 
 -- a block is its vector's bytes
 block-vec : (blocks : Vec (Vec ℕ Global) Global) (block : ℕ) (v d : Vec ℕ Global) → block < length blocks.items → v ≡ get_or blocks.items block d → v.items ≡ block_at (blocks_of blocks) block
 block-vec blocks block v d there is = ap (λ (w : Vec ℕ Global). w.items) is ∙ sym (get_or-map (λ (w : Vec ℕ Global). w.items) blocks.items block d [] there)
-
--- a list with a piece replaced by as many is as long
-replaced-length : (xs bytes : List ℕ) (to : ℕ) → to + length bytes ≤ length xs → length (take to xs ++ bytes ++ drop (to + length bytes) xs) ≡ length xs
-replaced-length xs bytes to within =
-    let a = length-append (take to xs ++ bytes) (drop (to + length bytes) xs) in
-    let b = length-append (take to xs) bytes in
-    let c = length-take-le to xs (omega arith) in
-    let d = length-drop (to + length bytes) xs in
-    omega arith
 
 -- a block of which a part is replaced by bytes of a block
 pub moved : (blocks : Vec (Vec ℕ Global) Global) (items : List (Vec ℕ Global)) (source from target to len : ℕ) (s t d e : Vec ℕ Global) (old bytes new : List ℕ)
@@ -44,12 +35,6 @@ moved blocks items source from target to len s t d e old bytes new there here s_
     let same : old ≡ whole = old_is ∙ target_is in
     let within : to + length bytes ≤ length whole = omega arith in
     let new_is : new ≡ take to whole ++ bytes ++ drop (to + length bytes) whole = put ∙ ap (λ (b : List ℕ). take to b ++ bytes ++ drop (to + length bytes) b) same in
-    let kept : length new ≡ t.len =
-    let a = ap length new_is in
-    let b = replaced-length whole bytes to within in
-    let c = ap length target_is in
-    let f = t.ok.0 in
-    omega arith in
     let items_kept : length items ≡ blocks.len =
     let a = ap length items_is in
     let b = length-set blocks.items target (with_items t new) in
@@ -57,10 +42,7 @@ moved blocks items source from target to len s t d e old bytes new there here s_
     omega arith in
     let in_range : target < length all = rw (length-map blocks.items (λ (v : Vec ℕ Global). v.items)) here in
     ap (map (λ (v : Vec ℕ Global). v.items)) (with_items_is blocks items items_kept ∙ items_is)
-    ∙ (map-set (λ (v : Vec ℕ Global). v.items) blocks.items target (with_items t new)
-    ∙ (ap (set all target) (with_items_is t new kept ∙ new_is)
-    ∙ (sym (written-block target to bytes all in_range within)
-    ∙ rw (long, bytes_are) refl)))
+    ∙ (put-block blocks.items target to t bytes new in_range target_is within new_is ∙ rw (long, bytes_are) refl)
 
 -- a block of which a part is replaced by bytes of its own
 pub moved-inside : (blocks : Vec (Vec ℕ Global) Global) (block from to len : ℕ) (all : Vec ℕ Global) (old new : List ℕ)
@@ -76,15 +58,8 @@ moved-inside blocks block from to len all old new there same is readable writabl
     let long : length bytes ≡ len = length-bytes_at bs (cells_from block from len) ∙ length-cells_from block from len in
     let within : to + length bytes ≤ length whole = omega arith in
     let new_is : new ≡ take to whole ++ bytes ++ drop (to + length bytes) whole = put ∙ rw (bytes_are, long, is, same) refl in
-    let kept : length new ≡ all.len =
-    let a = ap length new_is in
-    let b = replaced-length whole bytes to within in
-    let c = ap length same in
-    let d = all.ok.0 in
-    omega arith in
-    map-set (λ (v : Vec ℕ Global). v.items) blocks.items block (with_items all new)
-    ∙ (ap (set bs block) (with_items_is all new kept ∙ new_is)
-    ∙ (sym (written-block block to bytes bs there within) ∙ ap (λ (n : ℕ). written (cells_from block to n) bytes bs) long))
+    put-block blocks.items block to all bytes new there same within new_is
+    ∙ ap (λ (n : ℕ). written (cells_from block to n) bytes bs) long
 
 module _ (blocks low high : List (Vec ℕ Global)) (split : blocks ≡ low ++ high) where
   -- what lies in the two parts of a list, and what a write to one of them makes of it

@@ -144,16 +144,22 @@ still_dirty ws mid new c id offset h p has inside fits =
     let was : is_dirty_at (pages_at id mid) offset ≡ true = rw q.1 (h q.0 q.1 inside' fits) in
     subst (λ (s : PageSet). is_dirty_at s offset ≡ true) has (c.dirty id offset was)
 
-still_marked : (ws : List Window) (mid new : Host PageSet) → MarksChanges ws mid new → (cell : Cell)
-    → IsMarked ws cell mid → IsMarked ws cell new
-still_marked ws mid new c cell m = record {
+-- a marked byte stays so among windows that have its window, where it stays dirty
+marked_among : (ws vs : List Window) (old new : Host PageSet) (cell : Cell) (m : IsMarked ws cell old) → Contains vs m.window
+    → IsDirty m.window.bitmap.id (m.window.bitmap.base + m.at) new → IsMarked vs cell new
+marked_among ws vs old new cell m among dirty = record {
   window = m.window;
   at = m.at;
-  among = m.among;
+  among = among;
   within = m.within;
   is = m.is;
-  dirty = still_dirty ws mid new c m.window.bitmap.id (m.window.bitmap.base + m.at) m.dirty;
+  dirty = dirty;
 }
+
+still_marked : (ws : List Window) (mid new : Host PageSet) → MarksChanges ws mid new → (cell : Cell)
+    → IsMarked ws cell mid → IsMarked ws cell new
+still_marked ws mid new c cell m =
+    marked_among ws ws mid new cell m m.among (still_dirty ws mid new c m.window.bitmap.id (m.window.bitmap.base + m.at) m.dirty)
 
 -- changes one after the other
 both_changes : (ws : List Window) (old mid new : Host PageSet) → MarksChanges ws old mid → MarksChanges ws mid new
@@ -199,25 +205,12 @@ first_changes w ws old new = wider_changes (w ∷ []) (w ∷ ws) old new each
     among v (suc k, l, is) = absurd (omega arith)
 
     each : (cell : Cell) → IsMarked (w ∷ []) cell new → IsMarked (w ∷ ws) cell new
-    each cell m = record {
-      window = m.window;
-      at = m.at;
-      among = among m.window m.among;
-      within = m.within;
-      is = m.is;
-      dirty = m.dirty;
-    }
+    each cell m = marked_among (w ∷ []) (w ∷ ws) new new cell m (among m.window m.among) m.dirty
 
 other_changes : (w : Window) (ws : List Window) (old new : Host PageSet) → MarksChanges ws old new
     → MarksChanges (w ∷ ws) old new
-other_changes w ws old new = wider_changes ws (w ∷ ws) old new (λ cell m. record {
-  window = m.window;
-  at = m.at;
-  among = (suc m.among.0, omega (arith, m.among.1), m.among.2);
-  within = m.within;
-  is = m.is;
-  dirty = m.dirty;
-})
+other_changes w ws old new = wider_changes ws (w ∷ ws) old new (λ cell m.
+    marked_among ws (w ∷ ws) new new cell m (suc m.among.0, omega (arith, m.among.1), m.among.2) m.dirty)
 
 -- a part of a window
 part_changes : (w : Window) (filled len : ℕ) (old new : Host PageSet) → filled + len ≤ w.size

@@ -1,6 +1,5 @@
 -- Values that are moved into blocks and out of them.
-use Rattle.std.proofs.Common.{◌≡◌, ℕ, ◌+◌, ◌-◌, ◌<◌, ◌≤◌, List, [], ◌∷◌, ◌++◌, map, length, set, take, drop, replicate, Ok, sym, ap, ◌∙◌, subst, arith, append_assoc, drop-drop, length-append, length-drop, length-take-le, Vec}
-use Rattle.std.proofs.lemmas.List.{map-set, with_items_is}
+use Rattle.std.proofs.Common.{◌≡◌, ℕ, ◌+◌, ◌-◌, ◌<◌, ◌≤◌, List, [], ◌∷◌, ◌++◌, map, length, take, drop, replicate, Ok, refl, sym, ap, ◌∙◌, subst, arith, append_assoc, drop-drop, length-drop, length-take-le, Vec}
 use Rattle.std.specs.Vec.{with_item, with_items}
 use Rattle.std.specs.declared.alloc.Global.{Global}
 use Rattle.vm_memory_base.specs.declared.io.VolatileMemoryError.TheVariants.{PartialBuffer}
@@ -11,7 +10,7 @@ use Rattle.vm_memory_guest.specs.Host.{Cell, Host, Shape, shape_of, block_at, by
 use Rattle.vm_memory_guest.specs.Inside.{IsSound, blocks_of}
 use Rattle.vm_memory_guest.specs.Window.{Window, MarksWindow, Writes, cells, cells_of, span}
 use Rattle.vm_memory_guest.proofs.MarkLaws.{Writes-one}
-use Rattle.vm_memory_guest.proofs.WrittenLaws.{bytes_at-block, written-block, written-take, lengths-written, length-cells_from}
+use Rattle.vm_memory_guest.proofs.WrittenLaws.{bytes_at-block, put-block, written-take, lengths-written, length-cells_from}
 
 -- a block of which a part is replaced by as many bytes
 block-put : (blocks : Vec (Vec ℕ Global) Global) (block offset len : ℕ) (all : Vec ℕ Global) (old bytes : List ℕ)
@@ -27,17 +26,9 @@ block-put blocks block offset len all old bytes there is same long within =
     ap (λ (k : ℕ). drop k (drop offset old)) (count ∙ sym long) ∙ drop-drop (length bytes) offset old ∙ ap (drop (offset + length bytes)) (same ∙ is) in
     let moved : take offset old ++ (bytes ++ drop (offset + len - offset) (drop offset old)) ≡ new =
     rw (back, same, is) (sym (append_assoc (take offset whole) bytes (drop (offset + length bytes) whole))) in
-    let front = length-take-le offset whole (omega arith) in
-    let rest = length-drop (offset + length bytes) whole in
-    let total : length new ≡ length whole =
-    let a = length-append (take offset whole ++ bytes) (drop (offset + length bytes) whole) in
-    let b = length-append (take offset whole) bytes in
-    omega arith in
-    let kept : length new ≡ all.len = let k = ap length is in let l = all.ok.0 in omega arith in
     let here : offset + length bytes ≤ length whole = omega arith in
-    rw moved (map-set (λ (v : Vec ℕ Global). v.items) blocks.items block (with_items all new)
-    ∙ ap (set (blocks_of blocks) block) (with_items_is all new kept)
-    ∙ (sym (written-block block offset bytes (blocks_of blocks) there here) ∙ ap (λ (n : ℕ). written (cells_from block offset n) bytes (blocks_of blocks)) long))
+    rw moved (put-block blocks.items block offset all bytes new there is here refl
+    ∙ ap (λ (n : ℕ). written (cells_from block offset n) bytes (blocks_of blocks)) long)
 
 -- a part of a block that is lent to change: its bytes, how many, and what the blocks are once it was changed
 module _ (blocks : Vec (Vec ℕ Global) Global) (block offset len : ℕ) (all : Vec ℕ Global) (old : List ℕ) where
