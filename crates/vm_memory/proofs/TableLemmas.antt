@@ -1,12 +1,11 @@
 -- Tables of a host by their numbers, and pieces of a look-up as a list.
-use Rattle.std.proofs.Common.{◌≡◌, ℕ, ◌+◌, ◌-◌, ◌^◌, ◌<◌, List, [], ◌∷◌, ◌++◌, map, slice_get, Some, IsSome, false, refl, sym, ap, ◌∙◌, arith}
+use Rattle.std.proofs.Common.{◌≡◌, ℕ, ◌+◌, ◌-◌, ◌^◌, ◌<◌, List, [], ◌∷◌, ◌++◌, slice_get, Some, IsSome, false, refl, sym, ap, ◌∙◌, arith}
 use Rattle.std.proofs.lemmas.Bool.{le-ltb}
-use Rattle.std.proofs.lemmas.List.{map-append, append_assoc}
+use Rattle.std.proofs.lemmas.List.{append_assoc}
 use Rattle.vm_memory_base.specs.Lookup.{mapped_ranges}
 use Rattle.vm_memory_base.specs.Table.{Table, Range, overruns}
 use Rattle.vm_memory_base.specs.declared.iotlb.lookup.MappedRange.{MappedRange}
 use Rattle.vm_memory_guest.specs.Host.{Host, with_table_at}
-use Rattle.vm_memory.specs.Pieces.{range_of_piece}
 use Rattle.vm_memory.proofs.BitmapLemmas.{set-same}
 
 -- where a change of a table wanted memory, the range was one, and the host is as it was
@@ -20,17 +19,9 @@ module _ {B : Type 0} (host : Host B) (number : ℕ) (old new : Table) (there : 
         ∙ ap (λ (ts : List Table). record host { tables = ts }) (set-same host.tables number old there),
   )
 
--- pieces as they are given are the pieces
-ranges_back : (rs : List Range) → map range_of_piece (mapped_ranges rs) ≡ rs
-ranges_back [] = refl
-ranges_back (r ∷ rs) = ap (λ (ps : List Range). r ∷ ps) (ranges_back rs)
-
 -- one piece more in the list
 pub listed_more : (list new : List MappedRange) (piece : MappedRange) (before after all : List Range) → mapped_ranges before ≡ piece ∷ mapped_ranges after → new ≡ list ++ piece ∷ []
-    → map range_of_piece list ++ before ≡ all → map range_of_piece new ++ after ≡ all
+    → list ++ mapped_ranges before ≡ mapped_ranges all → new ++ mapped_ranges after ≡ mapped_ranges all
 listed_more list new piece before after all steps pushed is =
-    let next : before ≡ range_of_piece piece ∷ after =
-    sym (ranges_back before) ∙ ap (map range_of_piece) steps ∙ ap (λ (ps : List Range). range_of_piece piece ∷ ps) (ranges_back after) in
-    let put = ap (map range_of_piece) pushed ∙ map-append range_of_piece list (piece ∷ []) in
-    ap (λ (ps : List Range). ps ++ after) put ∙ append_assoc (map range_of_piece list) (range_of_piece piece ∷ []) after
-    ∙ ap (λ (ps : List Range). map range_of_piece list ++ ps) (sym next) ∙ is
+    ap (λ (ps : List MappedRange). ps ++ mapped_ranges after) pushed ∙ append_assoc list (piece ∷ []) (mapped_ranges after)
+    ∙ ap (λ (ps : List MappedRange). list ++ ps) (sym steps) ∙ is

@@ -3,6 +3,7 @@ use Rattle.std.proofs.Common.{◌≡◌, ℕ, zero, suc, ◌+◌, ◌-◌, ◌%�
 use Rattle.std.proofs.lemmas.Bool.{true≢false}
 use Rattle.std.specs.Int as int
 use Rattle.std.specs.Int.{to_le_bytes, byte_len}
+use Rattle.vm_memory_base.specs.Lookup.{mapped_ranges}
 use Rattle.vm_memory_base.specs.Pages.{PageSet}
 use Rattle.vm_memory_base.specs.Script.{next_of, taking_of}
 use Rattle.vm_memory_base.specs.Table as table
@@ -325,7 +326,7 @@ module _ (old : State) where
   looked_up : (f : table.Says) (iova len : ℕ) (access : Permissions) → IsAnswer (looks_up f iova len access)
   looked_up f iova len access = go (table.is_allowed f iova len access)
     where
-      go : (b : Bool) → IsAnswer (cond b (reply.Pieces (table.pieces f iova len))
+      go : (b : Bool) → IsAnswer (cond b (reply.Pieces (mapped_ranges (table.pieces f iova len)))
           (reply.Fails (record { misses = table.misses f iova len; access_fails = table.failures f iova len access })))
       go true = tt
       go false = tt

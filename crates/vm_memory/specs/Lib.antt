@@ -1,7 +1,6 @@
 pub mod Copy
 pub mod Tables
 pub mod Transfers
-pub mod Pieces
 pub mod Examples
 pub mod History
 pub mod Inside

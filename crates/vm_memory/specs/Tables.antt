@@ -1,5 +1,6 @@
 -- Commands on I/O tables.
 use Rattle.std.specs.Prelude.{ℕ, Bool, if◌then◌else◌, Option, Some, None, slice_get}
+use Rattle.vm_memory_base.specs.Lookup.{mapped_ranges}
 use Rattle.vm_memory_base.specs.Table.{Table, TableCall, Says, changed, overruns, is_allowed, pieces, misses, failures}
 use Rattle.vm_memory_base.specs.declared.iotlb.Permissions.{Permissions}
 use Rattle.vm_memory_guest.specs.Host.{Host, with_table_at}
@@ -19,5 +20,5 @@ changes host number iova len call =
 
 -- a look-up replies the pieces where it is allowed, and else what it misses and what fails
 abbrev pub looks_up : Says → ℕ → ℕ → Permissions → Reply
-looks_up f iova len access = if is_allowed f iova len access then Pieces (pieces f iova len)
+looks_up f iova len access = if is_allowed f iova len access then Pieces (mapped_ranges (pieces f iova len))
     else Fails (record { misses = misses f iova len; access_fails = failures f iova len access })

@@ -2,6 +2,7 @@
 #![tactic(auto, unfolding(vm_memory_base::specs::Runs::runs, vm_memory_base::specs::Table::each, vm_memory_base::specs::Transfer::offers, vm_memory_base::specs::Transfer::sent, vm_memory_guest::specs::Access::path, vm_memory_guest::specs::Access::first_fault, vm_memory_guest::specs::Access::stretches, vm_memory_guest::specs::Dealt::received, vm_memory_guest::specs::Dealt::lent_again, vm_memory_guest::specs::Dealt::lent_rest, vm_memory_guest::specs::Dealt::given_out))]
 
 ghost use Rattle.std.specs.Prelude.{◌≡◌, ℕ, ◌-◌, ◌^◌, [], ◌∷◌, ◌++◌, None, true, false};
+ghost use Rattle.vm_memory_base.specs.Lookup.{mapped_ranges};
 ghost use Rattle.vm_memory_base.specs.Pages.{PageSet};
 ghost use Rattle.std.specs.declared.io.ErrorKind.TheVariants.{Other, WriteZero};
 ghost use Rattle.vm_memory_base.specs.Table as table;
@@ -59,7 +60,7 @@ pub fn checks_are_answered()
 /// nothing. A change of a table goes no further than the last address.
 pub fn tables_are_commanded()
     ensures pieces { outcome machine (Lookup 0 (at 18) 4 permissions.Read)
-        ≡ (Pieces (range 4 2 ∷ range 4 2 ∷ []), machine) }
+        ≡ (Pieces (mapped_ranges (range 4 2 ∷ range 4 2 ∷ [])), machine) }
     ensures no_piece { outcome machine (Lookup 0 (at 2) 0 permissions.Write) ≡ (Pieces [], machine) }
     ensures fails { outcome machine (Lookup 0 (at 15) 6 permissions.Write)
         ≡ (Fails (failed (range 15 1 ∷ []) (range 20 1 ∷ [])), machine) }

@@ -7,12 +7,12 @@ ghost use Rattle.vm_memory_base.specs.Pages.{PageSet};
 ghost use Rattle.vm_memory_base.specs.Permissions.{allow};
 ghost use Rattle.vm_memory_base.specs.Table as table;
 ghost use Rattle.vm_memory_base.specs.Table.{Table, TableCall, says, says_after, says_after_all, covers};
-ghost use Rattle.vm_memory_base.specs.Table.{Range};
 ghost use Rattle.vm_memory_base.specs.declared.address.GuestAddress.{GuestAddress};
 ghost use Rattle.vm_memory_base.specs.declared.bitmap.BitmapId.TheVariants.{Block};
 ghost use Rattle.vm_memory_base.specs.declared.iotlb.Permissions.{Permissions};
 ghost use Rattle.vm_memory_base.specs.declared.iotlb.Permissions.TheVariants as permissions;
 ghost use Rattle.vm_memory_base.specs.declared.iotlb.lookup.IotlbFails.{IotlbFails};
+ghost use Rattle.vm_memory_base.specs.declared.iotlb.lookup.MappedRange.{MappedRange};
 ghost use Rattle.vm_memory_guest.specs.Access.{Reached};
 ghost use Rattle.vm_memory_guest.specs.Host.{Host};
 ghost use Rattle.vm_memory_guest.specs.Memory as guest;
@@ -64,7 +64,7 @@ pub fn refusals_change_nothing()
         → new ≡ old }
     ensures load { (old new : State) (c : Command) (value : ℕ) → Step old c (Value value) new → new ≡ old }
     ensures check { (old new : State) (c : Command) (truth : Bool) → Step old c (Truth truth) new → new ≡ old }
-    ensures pieces { (old new : State) (c : Command) (pieces : List Range) → Step old c (Pieces pieces) new
+    ensures pieces { (old new : State) (c : Command) (pieces : List MappedRange) → Step old c (Pieces pieces) new
         → new ≡ old }
     ensures fails { (old new : State) (c : Command) (fails : IotlbFails) → Step old c (Fails fails) new
         → new ≡ old }

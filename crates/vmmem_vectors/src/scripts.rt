@@ -327,7 +327,7 @@ fn each_line_has_its_reply(rt: HostRuntime) -> Result<(), Fail> {
 }
 
 // Lines that are bad before the first command and after it.
-const BAD_LINES: [&[u8]; 152] = [
+const BAD_LINES: [&[u8]; 154] = [
     // tables and accesses
     b"table 0",
     b"set 0 0 0 1",
@@ -428,6 +428,7 @@ const BAD_LINES: [&[u8]; 152] = [
     b"plain x",
     b"plain -1",
     b"plain +1",
+    b"plain 0x+1",
     b"plain 0x",
     b"plain 0X1",
     b"plain 0xg",
@@ -474,6 +475,7 @@ const BAD_LINES: [&[u8]; 152] = [
     b"to 0 0 4 t:",
     b"to 0 0 4 t:-",
     b"to 0 0 4 t:0x",
+    b"to 0 0 4 t:+1",
     b"to 0 0 4 t:1,",
     b"to 0 0 4 T:1",
     b"to 0 0 4 t:18446744073709551616",

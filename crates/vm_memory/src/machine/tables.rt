@@ -1,6 +1,7 @@
 //! The commands on I/O tables.
 ghost use Rattle.std.specs.Prelude.{◌≡◌, ◌⊎◌, ◌<◌, ◌^◌, ◌+◌, ◌∷◌, [], false, length, map, slice_get, nat_lt, Some, IsSome, IfOk, IsSomeAnd};
 ghost use Rattle.std.specs.Bool.{OnTrue, OnFalse};
+ghost use Rattle.vm_memory_base.specs.Lookup.{mapped_ranges};
 ghost use Rattle.vm_memory_base.specs.Table as tables;
 ghost use Rattle.vm_memory_base.specs.Table.{says, overruns};
 ghost use Rattle.vm_memory_guest.specs.Host as names;
@@ -146,7 +147,7 @@ fn clear_in<B>(host: &mut HostMemory<B>, table: usize) -> Reply
 
 // The pieces of a look-up, as a list.
 fn listed(alloc: Global, pieces: IotlbIterator<'_>) -> Result<PieceList, AllocError>
-    ensures { IfOk result (λ list. list ≡ pieces.entry) }
+    ensures { IfOk result (λ list. list ≡ mapped_ranges pieces.entry) }
 {
     let mut list = Vec::new(alloc);
     for piece in pieces {

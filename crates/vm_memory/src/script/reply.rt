@@ -56,13 +56,13 @@ impl fmt::Display for Reply {
             Reply::Sent { ending, taken } => {
                 write!(f, "sent {ending} taken {}", Hex(taken.as_slice()))
             }
-            Reply::Pages(pages) => write!(f, "pages {}", Numbers(pages.as_slice())),
-            Reply::Pieces(pieces) => write!(f, "pieces {}", Pieces(pieces.as_slice())),
+            Reply::Pages(pages) => write!(f, "pages {}", Spaced(pages.as_slice())),
+            Reply::Pieces(pieces) => write!(f, "pieces {}", Spaced(pieces.as_slice())),
             Reply::Fails(fails) => write!(
                 f,
                 "fails misses {} access {}",
-                Ranges(fails.misses.as_slice()),
-                Ranges(fails.access_fails.as_slice())
+                Spaced(fails.misses.as_slice()),
+                Spaced(fails.access_fails.as_slice())
             ),
             Reply::Fault(fault) => write!(f, "error {fault}"),
             Reply::NoSuch => write!(f, "error NoSuch"),
@@ -141,44 +141,48 @@ impl fmt::Display for Range {
     }
 }
 
-// Ranges with one space between any two, or a dash where there is none.
-#[derive(Drop)]
-struct Ranges<'a>(&'a [IovaRange]);
+// What stands in a printed list.
+trait Item {
+    fn put<W: fmt::Write>(&self, f: &mut fmt::Formatter<W>) -> fmt::Result;
+}
 
-impl fmt::Display for Ranges<'_> {
+impl Item for usize {
+    fn put<W: fmt::Write>(&self, f: &mut fmt::Formatter<W>) -> fmt::Result {
+        write!(f, "{self}")
+    }
+}
+
+impl Item for IovaRange {
+    fn put<W: fmt::Write>(&self, f: &mut fmt::Formatter<W>) -> fmt::Result {
+        write!(f, "{}", Range(*self))
+    }
+}
+
+impl Item for MappedRange {
+    fn put<W: fmt::Write>(&self, f: &mut fmt::Formatter<W>) -> fmt::Result {
+        let range = IovaRange {
+            base: self.base,
+            length: self.length,
+        };
+        range.put(f)
+    }
+}
+
+// A list with one space between any two, or a dash where there is none.
+#[derive(Drop)]
+struct Spaced<'a, T>(&'a [T]);
+
+impl<T: Item> fmt::Display for Spaced<'_, T> {
     fn fmt<W: fmt::Write>(&self, f: &mut fmt::Formatter<W>) -> fmt::Result {
         let Some((first, others)) = self.0.split_first() else {
             return write!(f, "-");
         };
-        write!(f, "{}", Range(*first))?;
-        for range in others {
-            write!(f, " {}", Range(*range))?;
+        first.put(f)?;
+        for item in others {
+            write!(f, " ")?;
+            item.put(f)?;
         }
         Ok(())
-    }
-}
-
-// The same of the ranges that addresses lead to.
-#[derive(Drop)]
-struct Pieces<'a>(&'a [MappedRange]);
-
-impl fmt::Display for Pieces<'_> {
-    fn fmt<W: fmt::Write>(&self, f: &mut fmt::Formatter<W>) -> fmt::Result {
-        let Some((first, others)) = self.0.split_first() else {
-            return write!(f, "-");
-        };
-        write!(f, "{}", Range(range_of(*first)))?;
-        for piece in others {
-            write!(f, " {}", Range(range_of(*piece)))?;
-        }
-        Ok(())
-    }
-}
-
-fn range_of(piece: MappedRange) -> IovaRange {
-    IovaRange {
-        base: piece.base,
-        length: piece.length,
     }
 }
 
@@ -193,23 +197,6 @@ impl fmt::Display for Hex<'_> {
         }
         for byte in self.0 {
             write!(f, "{byte:02x}")?;
-        }
-        Ok(())
-    }
-}
-
-// Numbers with one space between any two, or a dash where there is none.
-#[derive(Drop)]
-struct Numbers<'a>(&'a [usize]);
-
-impl fmt::Display for Numbers<'_> {
-    fn fmt<W: fmt::Write>(&self, f: &mut fmt::Formatter<W>) -> fmt::Result {
-        let Some((first, others)) = self.0.split_first() else {
-            return write!(f, "-");
-        };
-        write!(f, "{first}")?;
-        for number in others {
-            write!(f, " {number}")?;
         }
         Ok(())
     }

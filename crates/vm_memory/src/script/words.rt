@@ -4,6 +4,7 @@ ghost use Rattle.vm_memory.specs.declared.script.words.LineError.TheVariants as 
 
 use crate::machine::command::{BlockRange, Width};
 use crate::machine::list::{ByteList, SinkList, SourceList};
+use hex::FromHexError;
 use std::alloc::{AllocError, AllocFailed, Global};
 use std::num::NonZeroUsize;
 use vm_memory_base::{BitmapId, GuestAddress, Permissions, SinkStep, SourceStep};
@@ -197,68 +198,29 @@ fn sink_step(word: &str) -> Result<SinkStep, LineError> {
     }
 }
 
-// In hexadecimal at most 16 digits.
+// One digit or more, in hexadecimal at most 16, of a value of at most 2^64 - 1.
 fn number(word: &str) -> Option<u64> {
-    match word.strip_prefix("0x") {
-        Some(digits) if digits.len() > 16 => None,
-        Some(digits) => value(digits, Radix::Hexadecimal),
-        None => value(word, Radix::Decimal),
-    }
-}
-
-#[derive(Clone, Copy)]
-enum Radix {
-    Decimal = 10,
-    Hexadecimal = 16,
-}
-
-// The value of one digit or more, of at most 2^64 - 1.
-fn value(digits: &str, radix: Radix) -> Option<u64> {
-    if digits.is_empty() {
+    let (digits, radix) = match word.strip_prefix("0x") {
+        Some(digits) if digits.len() > 16 => return None,
+        Some(digits) => (digits, 16),
+        None => (word, 10),
+    };
+    // A plus sign, which the conversion takes, is no digit.
+    if digits.starts_with('+') {
         return None;
     }
-    let mut value: u64 = 0;
-    for digit in digits.bytes() {
-        let digit = u64::from(digit_of(digit, radix)?);
-        value = value.checked_mul(radix as u64)?.checked_add(digit)?;
-    }
-    Some(value)
-}
-
-fn digit_of(byte: u8, radix: Radix) -> Option<u8> {
-    let digit = match byte {
-        b'0'..=b'9' => byte - b'0',
-        b'a'..=b'f' => byte - b'a' + 10,
-        b'A'..=b'F' => byte - b'A' + 10,
-        _ => return None,
-    };
-    if digit < radix as u8 {
-        Some(digit)
-    } else {
-        None
-    }
+    u64::from_str_radix(digits, radix).ok()
 }
 
 fn bytes(alloc: Global, word: &str) -> Result<ByteList, LineError> {
-    let digits = match word {
-        "-" => b"",
+    let bytes = match word {
+        "-" => Ok(Vec::new(alloc)),
         "" => return Err(LineError::Bad),
-        _ => word.as_bytes(),
+        _ => hex::decode(alloc, word),
     };
-    let (pairs, odd) = digits.as_chunks::<2>();
-    if !odd.is_empty() {
-        return Err(LineError::Bad);
+    match bytes {
+        Ok(bytes) => Ok(ByteList::from_vec(bytes)),
+        Err(FromHexError::OutOfMemory) => Err(LineError::Memory),
+        Err(_) => Err(LineError::Bad),
     }
-    let mut bytes = Vec::with_capacity(alloc, pairs.len())?;
-    for pair in pairs {
-        let byte = byte_of(*pair).ok_or(LineError::Bad)?;
-        bytes.push(byte)?;
-    }
-    Ok(ByteList::from_vec(bytes))
-}
-
-fn byte_of([high, low]: [u8; 2]) -> Option<u8> {
-    let high = digit_of(high, Radix::Hexadecimal)?;
-    let low = digit_of(low, Radix::Hexadecimal)?;
-    Some(high << 4 | low)
 }
