@@ -21,11 +21,11 @@ ghost use Rattle.vm_memory.specs.Examples.{marked_host, marked, range, failed};
 ghost use Rattle.vm_memory.specs.Examples.{with_bytes, with_translated_bytes, no_region_at, not_translated, in_block};
 ghost use Rattle.vm_memory.specs.History.{table_calls};
 ghost use Rattle.vm_memory.specs.Machine.{outcome, MayWant, Step, Run};
-ghost use Rattle.vm_memory.specs.Parts.{Parts, AreHeld, HoldsMemory, state_of};
+ghost use Rattle.vm_memory.specs.Parts.{AreHeld, HoldsMemory, state_of};
 ghost use Rattle.vm_memory.specs.Reply.{reply_of_error, reply_of_layout_error};
 ghost use Rattle.vm_memory.specs.Rounds.{patched, image_after, MirrorsBlock, IsTracked, IsDirect};
 ghost use Rattle.vm_memory.specs.Iommu.{behind};
-ghost use Rattle.vm_memory.specs.State.{State, plain};
+ghost use Rattle.vm_memory.specs.State.{plain};
 ghost use Rattle.vm_memory.specs.declared.machine.memory.MachineMemory.TheVariants as memory;
 ghost use Rattle.vm_memory.specs.declared.machine.command.Command.TheVariants.{FromRegions, Insert, Remove, ReadSlice, WriteSlice};
 ghost use Rattle.vm_memory.specs.declared.machine.command.Command.TheVariants.{NewMemory, ReplaceBackend, Enable};
@@ -260,7 +260,7 @@ pub fn transfers_out_are_answered()
     ensures not_mapped { outcome machine (WriteAllTo 1 (at 2) 1 [])
         ≡ (Sent (ending.Fault (not_translated 2 1 MissingMapping)) [], machine) }
     ensures no_such { outcome machine (WriteAllTo 3 (at 0) 1 []) ≡ (NoSuch, machine) }
-    ensures may_want { MayWant machine (WriteTo 0 (at 0) 1 []) }
+    ensures may_want { MayWant machine (WriteAllTo 0 (at 0) 1 []) }
 {}
 
 /// With an IOMMU that is on an access goes where its addresses are mapped, and a write marks the space.

@@ -1,5 +1,5 @@
 //! Dirty tracking: which pages of a block or a space were written.
-ghost use Rattle.std.specs.Prelude.{◌≡◌, ◌^◌, ℕ, Bool, ◌<◌, IfOk, OnOk, OnErr};
+ghost use Rattle.std.specs.Prelude.{◌≡◌, ℕ, Bool, IfOk, OnOk, OnErr};
 ghost use Rattle.vm_memory_base.specs.Pages.{PageSet, IsPageSet, IsCleanFor, in_view};
 ghost use Rattle.vm_memory_base.specs.Pages as page_set;
 

@@ -7,9 +7,8 @@
 //! assert_eq!(rt; Be16::from(0x0102).byte(0), 1);
 //! ```
 
-ghost use Rattle.std.specs.Prelude.{◌≡◌, ◌↔◌, ◌≤◌, ◌<◌, ◌^◌, IsTrue, reverse};
-ghost use Rattle.std.specs.Int.{bytes_low_first};
-ghost use Rattle.std.proofs.Common.{ap, refl};
+ghost use Rattle.std.specs.Prelude.{◌≡◌, ◌↔◌, IsTrue, reverse};
+ghost use Rattle.std.proofs.Common.{refl};
 ghost use Rattle.vm_memory_base.specs.ByteCodes.{wrapped_code, reversed_code, length-reversed, wrapped_equal};
 
 use crate::bytes::{ByteSized, FixedInteger, reversed};

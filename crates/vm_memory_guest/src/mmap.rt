@@ -212,7 +212,6 @@ impl Named for GuestRegionMmap {
 
 impl GuestMemoryRegion for GuestRegionMmap {
     ghost use Rattle.std.specs.Prelude.{refl};
-    ghost use Rattle.std.proofs.Common.{rules};
     ghost use Rattle.vm_memory_guest.specs.Mmap.{mmap_region, mmap_fits};
 
     ghost region = { mmap_region };

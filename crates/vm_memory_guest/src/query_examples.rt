@@ -3,7 +3,6 @@
 #![tactic(auto, unfolding(vm_memory_base::specs::Table::each, crate::specs::Access::path, crate::specs::Access::first_fault))]
 
 ghost use Rattle.std.specs.Prelude.{◌≡◌, ◌-◌, ◌^◌, [], ◌∷◌, ◌++◌, true, false, Some, None, Ok, Err};
-ghost use Rattle.vm_memory_base.specs.declared.bitmap.BitmapId.TheVariants.{Block};
 ghost use Rattle.vm_memory_base.specs.declared.iotlb.Permissions.TheVariants.{Read, Write};
 ghost use Rattle.vm_memory_guest.specs.Access.{NoRegion, access_of};
 ghost use Rattle.vm_memory_guest.specs.Examples.{backed_region, bare_region, block_window, one_region};
@@ -12,7 +11,6 @@ ghost use Rattle.vm_memory_guest.specs.Examples.{itself, AnswersLength, AnswersN
 ghost use Rattle.vm_memory_guest.specs.Memory.{Direct, route};
 ghost use Rattle.vm_memory_guest.specs.Queries.{address_above, address_in, greatest_last, host_address_at};
 ghost use Rattle.vm_memory_guest.specs.Queries.{host_address_of, is_whole, offset_in, offset_of, slice_at};
-ghost use Rattle.vm_memory_guest.specs.Region.{Region};
 ghost use Rattle.vm_memory_guest.specs.RegionBytes.{region_reach, region_place};
 ghost use Rattle.vm_memory_guest.specs.TryAccess.{TryAccess};
 ghost use Rattle.vm_memory_guest.specs.Walk.{windows_before};

@@ -1,5 +1,5 @@
 //! Access to the bytes of one region.
-ghost use Rattle.std.specs.Prelude.{◌≡◌, IfOk};
+ghost use Rattle.std.specs.Prelude.{◌≡◌};
 ghost use Rattle.vm_memory_guest.specs.Region.{slice_of};
 ghost use Rattle.vm_memory_guest.specs.RegionBytes.{as_guest, moved_in, region_place, region_reach};
 ghost use Rattle.vm_memory_guest.specs.Error.{of_window};

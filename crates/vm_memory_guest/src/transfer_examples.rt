@@ -1,5 +1,5 @@
 //! Transfers into and out of small memories that are written out, by computation.
-ghost use Rattle.std.specs.Prelude.{◌≡◌, ◌++◌, false, true, [], ◌∷◌, replicate, Some, None, Ok, Err, option_map};
+ghost use Rattle.std.specs.Prelude.{◌≡◌, ◌++◌, false, true, [], ◌∷◌, replicate, None, Ok, Err, option_map};
 ghost use Rattle.std.specs.declared.io.ErrorKind.TheVariants.{Interrupted, Other, WriteZero};
 ghost use Rattle.vm_memory_base.specs.Transfer.{Gives, Fails, Takes};
 ghost use Rattle.vm_memory_base.specs.declared.io.VolatileMemoryError.TheVariants as window_errors;

@@ -1,5 +1,5 @@
 //! The commands that access memories.
-ghost use Rattle.std.specs.Prelude.{◌≡◌, ◌⊎◌, List, length, IsOk, IfOk};
+ghost use Rattle.std.specs.Prelude.{◌≡◌, ◌⊎◌, length, IsOk, IfOk};
 ghost use Rattle.vm_memory_guest.specs.Dirt.{with_pages};
 ghost use Rattle.vm_memory_guest.specs.Host.{shape_of, Holds};
 ghost use Rattle.vm_memory_guest.specs.Memory.{IsOn};

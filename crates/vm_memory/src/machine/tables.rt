@@ -1,14 +1,12 @@
 //! The commands on I/O tables.
-ghost use Rattle.std.specs.Prelude.{◌≡◌, ◌⊎◌, ◌<◌, ◌^◌, ◌+◌, ◌∷◌, [], false, length, map, slice_get, nat_lt, Some, IsSome, IfOk, IsSomeAnd};
-ghost use Rattle.std.specs.Bool.{OnTrue, OnFalse};
+ghost use Rattle.std.specs.Prelude.{◌≡◌, ◌⊎◌, false, length, slice_get, IsSome, IfOk};
 ghost use Rattle.vm_memory_base.specs.Lookup.{mapped_ranges};
 ghost use Rattle.vm_memory_base.specs.Table as tables;
-ghost use Rattle.vm_memory_base.specs.Table.{says, overruns};
-ghost use Rattle.vm_memory_guest.specs.Host as names;
-ghost use Rattle.vm_memory_guest.specs.Host.{Holds, shape_of};
+ghost use Rattle.vm_memory_base.specs.Table.{overruns};
+ghost use Rattle.vm_memory_guest.specs.Host.{shape_of};
 ghost use Rattle.vm_memory.specs.Machine.{Step};
 ghost use Rattle.vm_memory.specs.Parts.{state_of};
-ghost use Rattle.vm_memory.specs.Tables.{changes, looks_up};
+ghost use Rattle.vm_memory.specs.Tables.{changes};
 ghost use Rattle.vm_memory.specs.declared.machine.command.Command.TheVariants as command;
 ghost use Rattle.vm_memory.specs.declared.machine.command.Reply.TheVariants as reply;
 

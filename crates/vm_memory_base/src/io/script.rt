@@ -1,5 +1,5 @@
 //! Sources and sinks that follow a script.
-ghost use Rattle.std.specs.Prelude.{◌≡◌, map, length, take, drop, Some, None, [], ◌++◌, ◌-◌, min, IfOk, IsOk};
+ghost use Rattle.std.specs.Prelude.{◌≡◌, map, length, take, Some, None, [], ◌++◌, ◌-◌, min, IfOk, IsOk};
 ghost use Rattle.vm_memory_base.specs.Script.{next_of, taking_of};
 
 use super::memory::copy_front;

@@ -1,6 +1,5 @@
 //! Files, sockets and the standard output as sources and sinks. They tell nothing of their bytes.
-ghost use Rattle.std.specs.Prelude.{◌≡◌, ◌≤◌, length, None, IfOk, ⊤};
-ghost use Rattle.vm_memory_base.specs.Transfer.{count_of};
+ghost use Rattle.std.specs.Prelude.{◌≤◌, length, None, IfOk};
 
 use super::{IoError, ReadVolatile, VolatileMemoryError, VolatileMemoryResult, WriteVolatile};
 use std::fs::File;

@@ -1,5 +1,5 @@
 //! What a look-up gives: the pieces that it leads to, or what it misses and what fails.
-ghost use Rattle.std.specs.Prelude.{◌≡◌, ℕ, ◌+◌, ◌-◌, ◌^◌, ◌<◌, ◌≤◌, ◌++◌, [], List, length, map, min, max, IfOk, OnOk};
+ghost use Rattle.std.specs.Prelude.{◌≡◌, ◌+◌, ◌-◌, ◌≤◌, ◌++◌, [], List, map, IfOk, OnOk};
 ghost use Rattle.std.specs.Iterator.{YieldsFirst, item_count};
 ghost use Rattle.std.specs.List.{filter};
 ghost use Rattle.vm_memory_base.specs.Change.{granted, gaps};

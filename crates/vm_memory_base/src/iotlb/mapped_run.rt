@@ -1,5 +1,5 @@
 //! A run of I/O addresses that are mapped alike, and lists of such runs.
-ghost use Rattle.std.specs.Prelude.{◌≡◌, ℕ, ◌+◌, ◌-◌, ◌^◌, ◌<◌, ◌≤◌, ◌++◌, ◌∷◌, [], List, length, take, drop, slice_index_or, Some, IsSome, IfSome, IfOk, OnOk, OnErr, IsTrue};
+ghost use Rattle.std.specs.Prelude.{◌≡◌, ◌+◌, ◌-◌, ◌^◌, ◌<◌, ◌≤◌, ◌++◌, ◌∷◌, [], length, take, drop, slice_index_or, IsSome, IfSome, OnOk, OnErr};
 ghost use Rattle.vm_memory_base.specs.Change.{EndBelow, StartFrom, IsKept, if_any, prepended, prepended_if_any, with_run, without_range};
 ghost use Rattle.vm_memory_base.specs.Permissions as set;
 ghost use Rattle.vm_memory_base.specs.Runs.{Run, IsCanonical, cut_to};

@@ -1,5 +1,5 @@
 //! Guest memory: a backend, or one behind an IOMMU.
-ghost use Rattle.std.specs.Prelude.{◌≡◌, ◌⊎◌, map, flat_map, All, None, MatchOption, MatchResult};
+ghost use Rattle.std.specs.Prelude.{◌≡◌, ◌⊎◌, map, All, None, MatchOption, MatchResult};
 ghost use Rattle.std.specs.Iterator.{YieldsFirst, item_count};
 ghost use Rattle.vm_memory_guest.specs.Access.{access_of};
 ghost use Rattle.vm_memory_guest.specs.Host.{shape_of, Holds};
@@ -7,7 +7,7 @@ ghost use Rattle.vm_memory_guest.specs.Region.{IsRegion, IsLayout};
 ghost use Rattle.vm_memory_guest.specs.Memory.{Memory, IsOn, behind_of, memory_names, route};
 ghost use Rattle.vm_memory_guest.specs.Pieces.{marking, walk_of_pieces};
 ghost use Rattle.vm_memory_guest.specs.Queries.{is_whole};
-ghost use Rattle.vm_memory_guest.specs.Walk.{items_of, walk_of, GivesAccess, RefusesAccess, WantsMemory};
+ghost use Rattle.vm_memory_guest.specs.Walk.{items_of, GivesAccess, RefusesAccess, WantsMemory};
 
 use super::backend::{GuestMemoryBackend, GuestMemoryBackendSliceIterator};
 use super::pieces::{PiecesBehind, next_of_pieces};

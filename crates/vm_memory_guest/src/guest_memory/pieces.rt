@@ -1,5 +1,5 @@
 //! The pieces of physical addresses that a translation gives.
-ghost use Rattle.std.specs.Prelude.{◌≡◌, ◌<◌, [], List, drop, length, map, MatchOption, None, Some};
+ghost use Rattle.std.specs.Prelude.{◌≡◌, ◌<◌, [], drop, length, map, MatchOption, None, Some};
 ghost use Rattle.std.specs.Iterator.{YieldsFirst};
 ghost use Rattle.vm_memory_base.specs.Address.{step};
 ghost use Rattle.vm_memory_base.specs.declared.bitmap.BitmapId.TheVariants as bitmaps;

@@ -1,6 +1,6 @@
 //! Bytes of blocks, which are moved in, out, and from place to place.
 ghost use Rattle.std.specs.List.{flat_map};
-ghost use Rattle.std.specs.Prelude.{◌≡◌, ◌≢◌, ℕ, ◌+◌, ◌*◌, ◌^◌, ◌<◌, ◌≤◌, ◌++◌, length, map, take, drop};
+ghost use Rattle.std.specs.Prelude.{◌≡◌, ◌+◌, ◌*◌, ◌^◌, ◌<◌, ◌≤◌, ◌++◌, length, map, take, drop};
 ghost use Rattle.vm_memory_guest.specs.Host.{block_at, bytes_at, cells_from, written};
 ghost use Rattle.vm_memory_guest.specs.Inside.{blocks_of};
 ghost use Rattle.vm_memory_guest.specs.Typed.{size_of};

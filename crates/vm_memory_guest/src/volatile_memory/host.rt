@@ -1,5 +1,5 @@
 //! Host memory: every block, bitmap, space and table, which each access is lent.
-ghost use Rattle.std.specs.Prelude.{◌≡◌, ◌≢◌, ℕ, ◌+◌, ◌-◌, ◌*◌, ◌^◌, ◌<◌, ◌≤◌, ◌↔◌, ◌⊎◌, [], ◌∷◌, ◌++◌, List, length, take, drop, map, replicate, slice_get, slice_set, nat_lt, All, IsTrue, Some, IfOk, IfSome, OnOk, OnErr, IsErrOf};
+ghost use Rattle.std.specs.Prelude.{◌≡◌, ◌+◌, ◌*◌, ◌^◌, ◌<◌, ◌≤◌, ◌↔◌, ◌⊎◌, [], ◌∷◌, ◌++◌, List, length, take, drop, replicate, slice_get, nat_lt, All, IsTrue, Some, IfOk, OnOk, OnErr, IsErrOf};
 ghost use Rattle.vm_memory_guest.specs.Host as names;
 ghost use Rattle.vm_memory_guest.specs.Host.{Host, Shape, with_block, with_space, with_table, with_table_at, shape_of, Name, IsHeld, Holds, block_at, bytes_at, cells_from, written};
 ghost use Rattle.std.specs.List.{flat_map};
@@ -140,7 +140,7 @@ pub struct HostMemory<B> {
 }
 
 impl<B> Model for HostMemory<B> {
-    ghost use Rattle.std.specs.Prelude.{map, []};
+    ghost use Rattle.std.specs.Prelude.{[]};
     ghost use Rattle.vm_memory_guest.specs.Host.{Host};
 
     ghost Value = { Host B };
@@ -292,7 +292,8 @@ impl<B> HostMemory<B> {
     ghost use Rattle.std.specs.Borrow.{Lends, sem};
     ghost use Rattle.vm_memory_guest.specs.contracts.volatile_memory.host.HostMemory.{the_row};
     ghost use Rattle.vm_memory_base.specs.contracts.iotlb.table.Iotlb.{the_row as table_row};
-    ghost use Rattle.vm_memory_guest.specs.Window.{window_names, with_bitmap, bitmap_name, bitmap_of, cells_of, Marks, MarksWindow, Writes};
+    ghost use Rattle.vm_memory_guest.specs.Window.{window_names, with_bitmap, bitmap_name, bitmap_of, cells_of};
+    ghost use Rattle.vm_memory_guest.specs.Window.{Marks, MarksWindow, Writes};
 
     /// The bytes of a window.
     #[inline]

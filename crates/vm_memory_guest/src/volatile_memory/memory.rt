@@ -1,5 +1,5 @@
 //! What gives windows of host memory.
-ghost use Rattle.std.specs.Prelude.{◌≡◌, ℕ, ◌-◌, ◌*◌, ◌^◌, ◌<◌, ◌↔◌, ◌&&◌, min, nat_lt, if◌then◌else◌, Result, Ok, Err, IsTrue, IfOk, IsOk};
+ghost use Rattle.std.specs.Prelude.{◌≡◌, ℕ, ◌-◌, ◌*◌, ◌^◌, ◌<◌, ◌↔◌, ◌&&◌, nat_lt, if◌then◌else◌, Result, Ok, Err, IsTrue, IfOk, IsOk};
 ghost use Rattle.vm_memory_base.specs.declared.io.VolatileMemoryError as error;
 ghost use Rattle.vm_memory_base.specs.declared.io.VolatileMemoryError.TheVariants.{TooBig};
 ghost use Rattle.vm_memory_guest.specs.Typed.{size_of};

@@ -1,5 +1,5 @@
 //! References to values in host memory.
-ghost use Rattle.std.specs.Prelude.{◌≡◌, ℕ, ◌-◌, ◌^◌, ◌<◌, min, [], ◌∷◌};
+ghost use Rattle.std.specs.Prelude.{◌≡◌, ◌^◌, ◌<◌, [], ◌∷◌};
 ghost use Rattle.vm_memory_guest.specs.Host.{shape_of, bytes_at, Holds};
 ghost use Rattle.vm_memory_guest.specs.Typed.{size_of};
 ghost use Rattle.vm_memory_guest.specs.Window.{window_names, cells_of, Writes};

@@ -1,5 +1,5 @@
 //! Windows of host memory.
-ghost use Rattle.std.specs.Prelude.{◌≡◌, ℕ, ◌+◌, ◌-◌, ◌*◌, ◌/◌, ◌%◌, ◌^◌, ◌++◌, min, length, take, drop, ◌<◌, ◌≤◌, ◌↔◌, ◌∷◌, [], ◌==◌, cond, nat_lt, IsTrue, IfOk, MatchResult};
+ghost use Rattle.std.specs.Prelude.{◌≡◌, ◌+◌, ◌-◌, ◌*◌, ◌/◌, ◌%◌, ◌^◌, ◌++◌, min, length, take, drop, ◌<◌, ◌≤◌, ◌↔◌, ◌∷◌, [], ◌==◌, cond, IsTrue, IfOk, MatchResult};
 ghost use Rattle.std.specs.List.{flat_map};
 ghost use Rattle.vm_memory_base.specs.Bytes.{values_of};
 ghost use Rattle.vm_memory_guest.specs.Host.{shape_of, bytes_at, Holds};

@@ -4,7 +4,7 @@ use Rattle.vm_memory_guest.proofs.PathWalk.{direct_items, walk-none, home-within
 use Rattle.vm_memory_guest.proofs.WalkLemmas.{first_goes, home-found, home-missed, walk-ends, walk-gives, walk-refuses}
 use Rattle.vm_memory_guest.proofs.guest_memory.backend.GuestMemoryBackendSliceIteratorIterator.next.Given.{Over}
 use Rattle.vm_memory_guest.proofs.guest_memory.backend.GuestMemoryBackendSliceIteratorIterator.next.Goals as goal
-use Rattle.vm_memory_guest.proofs.guest_memory.backend.GuestMemoryBackendSliceIteratorIterator.next.Goals.{In-Some, After-len, After-get_slice}
+use Rattle.vm_memory_guest.proofs.guest_memory.backend.GuestMemoryBackendSliceIteratorIterator.next.Goals.{In-Some, After-get_slice}
 
 -- what the backend means
 abbrev regions_of : (g : Over) (m : g.row.M.Denot) → List Region
