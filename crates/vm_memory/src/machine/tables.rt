@@ -147,9 +147,5 @@ fn clear_in<B>(host: &mut HostMemory<B>, table: usize) -> Reply
 fn listed(alloc: Global, pieces: IotlbIterator<'_>) -> Result<PieceList, AllocError>
     ensures { IfOk result (λ list. list ≡ mapped_ranges pieces.entry) }
 {
-    let mut list = Vec::new(alloc);
-    for piece in pieces {
-        list.push(piece)?;
-    }
-    Ok(PieceList::from_vec(list))
+    Ok(PieceList::from_vec(pieces.collect(alloc)?))
 }

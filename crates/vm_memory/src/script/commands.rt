@@ -2,7 +2,6 @@
 
 use super::words::{LineError, Words};
 use crate::machine::command::Command;
-use crate::machine::list::NumberList;
 use std::alloc::Global;
 
 /// The command that begins with a word.
@@ -12,7 +11,8 @@ pub(super) fn parse(
     words: &mut Words<'_>,
 ) -> Result<Command, LineError> {
     Ok(match word {
-        "layout" => layout(alloc, words)?,
+        // A layout has none or more regions.
+        "layout" => Command::FromRegions(words.indices(alloc)?),
         "insert" => Command::Insert {
             layout: words.index()?,
             region: words.index()?,
@@ -146,16 +146,4 @@ fn other(word: &str, words: &mut Words<'_>) -> Result<Command, LineError> {
         "harvest" => Command::Harvest(words.bitmap()?),
         _ => return Err(LineError::Bad),
     })
-}
-
-// A layout has none or more regions.
-fn layout(alloc: Global, words: &mut Words<'_>) -> Result<Command, LineError> {
-    let mut numbers = Vec::new(alloc);
-    for _ in 0..u64::MAX {
-        if words.is_empty() {
-            break;
-        }
-        numbers.push(words.index()?)?;
-    }
-    Ok(Command::FromRegions(NumberList::from_vec(numbers)))
 }

@@ -3,10 +3,11 @@ ghost use Rattle.std.specs.Prelude.{◌≡◌};
 ghost use Rattle.vm_memory.specs.declared.script.words.LineError.TheVariants as error;
 
 use crate::machine::command::{BlockRange, Width};
-use crate::machine::list::{ByteList, SinkList, SourceList};
+use crate::machine::list::{ByteList, NumberList, SinkList, SourceList};
 use hex::FromHexError;
 use std::alloc::{AllocError, AllocFailed, Global};
 use std::num::NonZeroUsize;
+use std::str::Split;
 use vm_memory_base::{BitmapId, GuestAddress, Permissions, SinkStep, SourceStep};
 
 /// Why there is no line.
@@ -37,30 +38,20 @@ impl<T: Drop> From<AllocFailed<T>> for LineError {
 /// What is left of a line.
 #[derive(Drop)]
 pub(super) struct Words<'a> {
-    rest: Option<&'a str>,
+    words: Split<'a, char>,
 }
 
 impl<'a> Words<'a> {
     /// The words of a line.
     pub(super) fn new(line: &'a str) -> Words<'a> {
-        Words { rest: Some(line) }
+        Words {
+            words: line.split(' '),
+        }
     }
 
     /// The next word. After the last there is none.
     pub(super) fn word(&mut self) -> Result<&'a str, LineError> {
-        let Some(rest) = self.rest else {
-            return Err(LineError::Bad);
-        };
-        match rest.split_once(' ') {
-            Some((word, rest)) => {
-                self.rest = Some(rest);
-                Ok(word)
-            }
-            None => {
-                self.rest = None;
-                Ok(rest)
-            }
-        }
+        self.words.next().ok_or(LineError::Bad)
     }
 
     /// The next word as a number: in decimal, or in hexadecimal after `0x`.
@@ -163,17 +154,22 @@ impl<'a> Words<'a> {
         Ok(SinkList::from_vec(steps))
     }
 
-    /// Whether no word is left.
-    pub(super) fn is_empty(&self) -> bool {
-        self.rest.is_none()
+    /// All words that are left as numbers of a pool.
+    pub(super) fn indices(&mut self, alloc: Global) -> Result<NumberList, LineError> {
+        let mut indices = Vec::new(alloc);
+        for word in &mut self.words {
+            let index = number(word).ok_or(LineError::Bad)?;
+            indices.push(index as usize)?;
+        }
+        Ok(NumberList::from_vec(indices))
     }
 
     /// Nothing, where no word is left.
-    pub(super) fn end(&self) -> Result<(), LineError> {
-        if self.rest.is_some() {
-            return Err(LineError::Bad);
+    pub(super) fn end(&mut self) -> Result<(), LineError> {
+        match self.words.next() {
+            Some(_) => Err(LineError::Bad),
+            None => Ok(()),
         }
-        Ok(())
     }
 }
 
