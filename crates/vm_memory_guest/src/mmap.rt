@@ -309,12 +309,8 @@ impl GuestRegionMmap {
         if size as u64 > u64::MAX - addr.0 {
             return Err(FromRangesError::InvalidGuestRegion);
         }
-        let mapping = match MmapRegion::new(host, size) {
-            Ok(mapping) => mapping,
-            Err(error) => return Err(FromRangesError::from(error)),
-        };
         Ok(GuestRegionMmap {
-            mapping,
+            mapping: MmapRegion::new(host, size)?,
             guest_base: addr,
         })
     }
@@ -344,14 +340,8 @@ impl GuestRegionCollection<GuestRegionMmap> {
         ensures kept { (names : List Name) →
             Holds (shape_of host.old) names → Holds (shape_of host.new) names }
     {
-        let regions = match ranges_in(alloc, host, ranges) {
-            Ok(regions) => regions,
-            Err(error) => return Err(error),
-        };
-        match GuestRegionCollection::from_arc_regions(regions) {
-            Ok(memory) => Ok(memory),
-            Err(error) => Err(FromRangesError::from(error)),
-        }
+        let regions = ranges_in(alloc, host, ranges)?;
+        Ok(GuestRegionCollection::from_arc_regions(regions)?)
     }
 }
 
@@ -374,9 +364,7 @@ fn ranges_in<B: NewBitmap + Drop>(
 {
     let mut regions = Vec::new(alloc);
     for range in ranges {
-        if let Err(error) = add_range(alloc, host, *range, &mut regions) {
-            return Err(error);
-        }
+        add_range(alloc, host, *range, &mut regions)?;
     }
     Ok(regions)
 }
@@ -400,10 +388,7 @@ fn add_range<B: NewBitmap + Drop>(
     ensures kept { (names : List Name) →
         Holds (shape_of host.old) names → Holds (shape_of host.new) names }
 {
-    let region = match GuestRegionMmap::from_range(host, range.0, range.1) {
-        Ok(region) => region,
-        Err(error) => return Err(error),
-    };
+    let region = GuestRegionMmap::from_range(host, range.0, range.1)?;
     match share(alloc, region, regions) {
         Ok(()) => Ok(()),
         Err(_) => Err(FromRangesError::Collection(GuestRegionCollectionError::Memory)),

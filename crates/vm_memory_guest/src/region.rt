@@ -128,11 +128,7 @@ pub trait GuestMemoryRegion: Named + Drop {
     final fn check_address(&self, addr: MemoryRegionAddress) -> Option<MemoryRegionAddress>
         ensures { result ≡ offset_in (region self.now) addr.0 }
     {
-        if self.address_in_range(addr) {
-            Some(addr)
-        } else {
-            None
-        }
+        self.address_in_range(addr).then_some(addr)
     }
 
     /// The offset that lies `offset` bytes above `base`, where there is an address at it.
@@ -467,11 +463,7 @@ fn starts_of<R: GuestMemoryRegion>(regions: &Vec<Arc<R>>) -> Result<Vec<u64>, Al
 fn shared<R: Drop>(regions: &Vec<Arc<R>>) -> Result<Vec<Arc<R>>, AllocError>
     ensures { IfOk result (λ copy. regions_of copy ≡ regions_of regions.now) }
 {
-    let mut copy = Vec::with_capacity(*regions.allocator(), regions.len())?;
-    for region in regions {
-        copy.push(region.clone()?)?;
-    }
-    Ok(copy)
+    regions.clone()
 }
 
 // The same regions with one more at a place, each of the others shared once more.

@@ -210,8 +210,5 @@ impl<R: GuestMemoryRegionBytes> Bytes<MemoryRegionAddress> for R {
 fn told<T>(answer: VolatileMemoryResult<T>) -> GuestMemoryResult<T>
     ensures { result ≡ as_guest answer }
 {
-    match answer {
-        Ok(value) => Ok(value),
-        Err(error) => Err(GuestMemoryError::from(error)),
-    }
+    Ok(answer?)
 }

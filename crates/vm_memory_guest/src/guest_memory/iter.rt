@@ -48,9 +48,7 @@ impl<'a, M: GuestMemoryBackend<R = R>, R: GuestMemoryRegion> Iterator for Region
         if self.next >= self.mem.num_regions() {
             return None;
         }
-        let Some(region) = self.mem.region_at(self.next) else {
-            return None;
-        };
+        let region = self.mem.region_at(self.next)?;
         self.next += 1;
         Some(region)
     }

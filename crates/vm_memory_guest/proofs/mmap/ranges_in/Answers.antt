@@ -1,5 +1,6 @@
 use Rattle.std.proofs.Common.{◌≡◌, length, map, ap, ◌∙◌, arith}
 use Rattle.std.proofs.lemmas.List.{take_all}
+use Rattle.std.proofs.lemmas.Result.{err_from_is_err_and}
 use Rattle.vm_memory_guest.specs.Collection.{regions_of}
 use Rattle.vm_memory_guest.specs.Mmap.{mmap_region}
 use Rattle.vm_memory_guest.specs.Ranges.{range_regions}
@@ -13,16 +14,17 @@ pub loop-range-preserved : goal.loop-range-preserved
 loop-range-preserved g c =
     IsMade-add g.B.Bitmap.made c.args.ranges.now c.args.host.now c.loop-range.range-index
     c.loop-range.host c.add_range.new.host (regions_of c.loop-range.regions) (regions_of c.add_range.new.regions)
-    _ c.loop-range.invariant c.loop-range-test.true c.in_default.ensures.ok c.add_range.ensures.kept
+    _ c.loop-range.invariant c.loop-range-test.true c.in_ok-add_range.ensures.ok c.add_range.ensures.kept
 
-pub returns-in-Err-clause-answer : goal.returns-in-Err-clause-answer
-returns-in-Err-clause-answer g c =
-    refused_next g.B.Bitmap.made c.args.ranges.now c.args.host.now c.loop-range.range-index
+pub returns-in_err-add_range-clause-answer : goal.returns-in_err-add_range-clause-answer
+returns-in_err-add_range-clause-answer g c =
+    let p = err_from_is_err_and c.from_residual.result c.from_residual.ensures.1 in
+    rw (p.1, p.2) (refused_next g.B.Bitmap.made c.args.ranges.now c.args.host.now c.loop-range.range-index
     c.loop-range.host c.add_range.new.host (map mmap_region (regions_of c.loop-range.regions))
-    _ c.in-Err.error c.loop-range.invariant c.loop-range-test.true c.in-Err.ensures.err
+    _ c.in_err-add_range.field-0.0 c.loop-range.invariant c.loop-range-test.true c.in_err-add_range.ensures.err)
 
-pub returns-in-Err-clause-kept : goal.returns-in-Err-clause-kept
-returns-in-Err-clause-kept g c names held = c.add_range.ensures.kept names (c.loop-range.invariant.kept names held)
+pub returns-in_err-add_range-clause-kept : goal.returns-in_err-add_range-clause-kept
+returns-in_err-add_range-clause-kept g c names held = c.add_range.ensures.kept names (c.loop-range.invariant.kept names held)
 
 pub returns-clause-answer : goal.returns-clause-answer
 returns-clause-answer g c =

@@ -1,32 +1,17 @@
-use Rattle.std.proofs.Common.{◌≡◌, ℕ, ◌+◌, ◌<◌, List, [], ◌∷◌, ◌++◌, length, get_or, map, take}
-use Rattle.std.proofs.Common.{ap, ◌∙◌, subst, arith}
-use Rattle.std.proofs.lemmas.List.{map-append, map_more, take-map}
+use Rattle.std.proofs.Common.{◌≡◌, List, [], ◌∷◌, map, refl, ap₂}
+use Rattle.std.proofs.lemmas.Result.{MatchResult-weaker}
+use Rattle.std.specs.List.{AllZip}
 use Rattle.std.specs.declared.alloc.Global.{Global}
 use Rattle.std.specs.declared.sync.Arc.{Arc}
 use Rattle.vm_memory_guest.proofs.region.shared.Goals as goal
 
--- a copy of one more region
-module _ {X : Type 0} (old copy new : List (Arc X Global)) (i : ℕ) (r s : Arc X Global) where
-  abbrev values : List (Arc X Global) → List X
-  values rs = map (λ (q : Arc X Global). q.value) rs
+values_stay : {X : Type 0} (xs ys : List (Arc X Global)) → AllZip (λ (r s : Arc X Global). s.value ≡ r.value) xs ys
+    → map (λ (s : Arc X Global). s.value) ys ≡ map (λ (r : Arc X Global). r.value) xs
+values_stay [] [] e = refl
+values_stay [] (s ∷ ys) e = absurd e
+values_stay (r ∷ xs) [] e = absurd e
+values_stay {X} (r ∷ xs) (s ∷ ys) e = ap₂ (λ (v : X) (vs : List X). v ∷ vs) e.0 (values_stay xs ys e.1)
 
-  one_more : i < length old → r ≡ get_or old i r → s.value ≡ r.value → new ≡ copy ++ s ∷ []
-      → values copy ≡ take i (values old) → values new ≡ take (i + 1) (values old)
-  one_more l at same is before =
-      let value = λ (q : Arc X Global). q.value in
-      let whole = ap (λ (xs : List (Arc X Global)). map value xs) is ∙ map-append value copy (s ∷ []) in
-      let front = before ∙ take-map value i old in
-      let next = take-map value (i + 1) old ∙ map_more value old i r l in
-      let one = same ∙ ap value at in
-      cc
-
-pub loop-region-preserved : goal.loop-region-preserved
-loop-region-preserved g c =
-    let i = c.loop-region.region-index in
-    let items = c.args.regions.now.items in
-    let r = c.region-item.result in
-    let at : r ≡ get_or items i r =
-    subst (λ (xs : List (Arc g.row.R.Denot Global)). r ≡ get_or xs i r)
-    c.deref-region-items.ensures.value c.region-item.is in
-    one_more items c.loop-region.copy.items c.push.new.self.items i r c.in_ok-clone.field-0 (omega arith) at
-    c.in_ok-clone.ensures.cases c.in_ok-push.ensures.items c.loop-region.invariant
+pub returns : goal.returns
+returns g c =
+    MatchResult-weaker c.clone.result c.clone.ensures.cases (λ copy e. values_stay c.args.regions.now.items copy.items e.0) (λ e none. tt)

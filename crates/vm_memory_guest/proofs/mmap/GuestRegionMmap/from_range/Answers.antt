@@ -1,5 +1,6 @@
 use Rattle.std.proofs.Common.{◌≡◌, ℕ, ◌-◌, ◌≤◌, None, Err, refl, ap, ◌∙◌, inl, inr, arith}
 use Rattle.std.proofs.lemmas.Bool.Decides.{nat_tests}
+use Rattle.std.proofs.lemmas.Result.{err_from_is_err_and}
 use Rattle.vm_memory_base.specs.declared.address.GuestAddress.{GuestAddress}
 use Rattle.vm_memory_guest.specs.Ranges.{range_error, refusal_of}
 use Rattle.vm_memory_guest.specs.declared.mmap.FromRangesError.TheVariants.{MmapRegion}
@@ -17,13 +18,14 @@ fits : (addr : GuestAddress) (size : ℕ) → (size ≡ 0 → ⊥) → size ≤ 
     → size ≤ 18446744073709551615 - addr.0 → range_error addr size ≡ None
 fits addr size some bound room = grind (arith, nat_tests)
 
-pub returns-in-Err-clause-region : goal.returns-in-Err-clause-region
-returns-in-Err-clause-region g c =
-    let e = c.in-Err.error in
+pub returns-in_err-new-clause-region : goal.returns-in_err-new-clause-region
+returns-in_err-new-clause-region g c =
+    let e = c.in_err-new.field-0.0 in
     let valid : e ≡ block.InvalidSize → ⊥ =
-    λ is. elim (c.new.ensures.invalid.0 (c.in-Err.is ∙ ap (λ (x : MmapRegionError). Err x) is)) [
+    λ is. elim (c.new.ensures.invalid.0 (c.in_err-new.was ∙ ap (λ (x : MmapRegionError). Err x) is)) [
       | inl none ↦ c.if-size-eq0.false none
       | inr long ↦ omega (arith, c.if-size-gt-MAX_BLOCK.false, long)
     ] in
     let good = fits c.args.addr c.args.size c.if-size-eq0.false c.if-size-gt-MAX_BLOCK.false c.if-size-addr.false in
-    rw c.from.ensures (told c.args.addr c.args.size e valid good)
+    let p = err_from_is_err_and c.from_residual.result c.from_residual.ensures.1 in
+    rw (p.1, p.2) (told c.args.addr c.args.size e valid good)

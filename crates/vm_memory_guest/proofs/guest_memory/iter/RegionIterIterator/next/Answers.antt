@@ -6,4 +6,4 @@ pub returns-clause-steps : goal.returns-clause-steps
 returns-clause-steps g c =
     let it = c.self.inside in
     sym c.self.view_is
-    ∙ drop-some (g.M.GuestMemoryBackend.regions it.mem.now) it.next c.in-Some.region.now c.in-Some.ensures
+    ∙ drop-some (g.M.GuestMemoryBackend.regions it.mem.now) it.next c.in_ok-region.region.now c.in_ok-region.ensures
