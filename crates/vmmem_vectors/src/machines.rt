@@ -343,11 +343,7 @@ fn a_hundred_commands_run_at_once(rt: HostRuntime) -> Result<(), Fail> {
 
 // So many bytes, no two neighbouring pages of which are alike.
 fn pattern(alloc: Global, size: usize) -> Result<Vec<u8>, AllocError> {
-    let mut bytes = Vec::with_capacity(alloc, size)?;
-    for index in 0..size {
-        bytes.push((index % 251) as u8)?;
-    }
-    Ok(bytes)
+    (0..size).map(|index| (index % 251) as u8).collect(alloc)
 }
 
 // A block of 1 MiB lies at two addresses, one after the other.
@@ -366,27 +362,26 @@ fn commands_on_twice(alloc: Global, bytes: &[u8]) -> Result<Vec<Command>, AllocE
 
 #[test]
 fn a_mebibyte_is_written_and_read_whole(rt: HostRuntime) -> Result<(), Fail> {
-    let bytes = pattern(rt.alloc(), 0x10_0000)?;
+    let mut bytes = pattern(rt.alloc(), 0x10_0000)?;
     let commands = commands_on_twice(rt.alloc(), bytes.as_slice())?;
-    let mut wanted = String::from_str(
-        rt.alloc(),
-        "layout 0\nmemory 0\ncount 1048576\ncount 2\nbytes ",
-    )?;
-    for _ in 0..2 {
-        wanted.push_str("ff")?;
-        for index in 1..0xf_ffffu32 {
-            write!(wanted, "{:02x}", index % 251)?;
-        }
-        wanted.push_str("fe")?;
+    // What the second write leaves.
+    if let Some(first) = bytes.first_mut() {
+        *first = 0xff;
     }
-    wanted.push('\n')?;
+    if let Some(last) = bytes.last_mut() {
+        *last = 0xfe;
+    }
+    let digits = hex::encode(rt.alloc(), bytes.as_slice())?;
+    let wanted = format!(in rt.alloc();
+        "layout 0\nmemory 0\ncount 1048576\ncount 2\nbytes {digits}{digits}\n"
+    )?;
     expect_replies(rt.alloc(), &TWICE, commands.as_slice(), 5, wanted.as_str())
 }
 
 fn given_in_two(alloc: Global, bytes: &[u8]) -> Result<SourceList, AllocError> {
-    let half = bytes.len() / 2;
+    let (front, back) = bytes.split_at(bytes.len() / 2);
     let mut steps = Vec::new(alloc);
-    for part in [&bytes[..half], &bytes[half..]] {
+    for part in [front, back] {
         let part = Vec::from_slice(alloc, part)?;
         steps.push(SourceStep::Give(ByteList::from_vec(part)))?;
         let scribble = Vec::from_slice(alloc, &[0xee; 3])?;
@@ -480,19 +475,21 @@ static FAULTS: [Fault; 11] = [
 ];
 
 fn some_replies(alloc: Global) -> Result<Vec<Reply>, AllocError> {
-    let mut replies = Vec::new(alloc);
-    replies.push(Reply::LayoutMade(12))?;
-    replies.push(Reply::MemoryMade(3))?;
-    replies.push(Reply::Count(256))?;
-    replies.push(Reply::Bytes(ByteList::from_vec(vec![in alloc; 0u8, 0xa, 0xff]?)))?;
-    replies.push(Reply::Bytes(ByteList::from_vec(Vec::new(alloc))))?;
-    replies.push(Reply::Truth(true))?;
-    replies.push(Reply::Truth(false))?;
-    replies.push(Reply::Fault(Fault::InvalidBackendAddress))?;
-    replies.push(Reply::NoSuch)?;
-    replies.push(Reply::BadRange)?;
-    replies.push(Reply::Memory)?;
-    Ok(replies)
+    let some = ByteList::from_vec(vec![in alloc; 0u8, 0xa, 0xff]?);
+    let none = ByteList::from_vec(Vec::new(alloc));
+    Ok(vec![in alloc;
+        Reply::LayoutMade(12),
+        Reply::MemoryMade(3),
+        Reply::Count(256),
+        Reply::Bytes(some),
+        Reply::Bytes(none),
+        Reply::Truth(true),
+        Reply::Truth(false),
+        Reply::Fault(Fault::InvalidBackendAddress),
+        Reply::NoSuch,
+        Reply::BadRange,
+        Reply::Memory,
+    ]?)
 }
 
 const LINES: &str = "\

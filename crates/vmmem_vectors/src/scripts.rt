@@ -507,9 +507,7 @@ const BEGINNINGS: [(&[u8], &str); 2] = [
 
 // What a script tells that has a line between a beginning and one more line.
 fn told_of_line(alloc: Global, beginning: &[u8], line: &[u8]) -> Result<String, Fail> {
-    let mut script = Vec::from_slice(alloc, beginning)?;
-    script.extend_from_slice(line)?;
-    script.extend_from_slice(b"\nplain 0\n")?;
+    let script = [beginning, line, b"\nplain 0\n".as_slice()].concat(alloc)?;
     told(alloc, script.as_slice())
 }
 
@@ -557,12 +555,8 @@ const INTERRUPTIONS: [(usize, &str); 2] = [
 #[test]
 fn sixty_four_interruptions_are_tried_again(rt: HostRuntime) -> Result<(), Fail> {
     for (count, wanted) in INTERRUPTIONS {
-        let mut source = String::new(rt.alloc());
-        let mut sink = String::new(rt.alloc());
-        for _ in 0..count {
-            source.push_str("i:-,")?;
-            sink.push_str("i,")?;
-        }
+        let source = "i:-,".repeat(rt.alloc(), count)?;
+        let sink = "i,".repeat(rt.alloc(), count)?;
         let script = format!(in rt.alloc();
             "block 8 1\nregion 0 0\nlayout 0\nplain 0\nfrom 0 0 4 {source}g:01020304\n\
              fromx 0 0 4 {source}g:01,{source}g:020304\nto 0 0 4 {sink}t:4\ntox 0 0 4 {sink}t:1,{sink}t:3\n"
