@@ -106,28 +106,6 @@ dirty_below (Some p) count = dirty_from 0 (take count p.flags)
 
 -- pages of this size and number, whose offsets are of 64 bits
 module _ (size count : ℕ) where
-  pub dirty_below-none : (set : PageSet) → dirty_below set 0 ≡ []
-  dirty_below-none None = refl
-  dirty_below-none (Some p) = refl
-
-  pub dirty_below-all : (set : PageSet) → shape set ≡ Some (size, count) → dirty_below set count ≡ dirty_pages set
-  dirty_below-all None is = refl
-  dirty_below-all (Some p) is =
-      let s = same_Some (p.page_size, length p.flags) (size, count) is in
-      let n : length p.flags ≡ count = ap (λ (t : ℕ × ℕ). t.1) s in
-      ap (dirty_from 0) (take_all count p.flags (omega arith))
-
-  -- the offset of a page's first byte
-  pub page_fits : (set : PageSet) (page : ℕ) → IsPageSet set → shape set ≡ Some (size, count) → page < count
-      → page * size < 2 ^ 64
-  page_fits None page fits is below = absurd (none-some (size, count) is)
-  page_fits (Some p) page fits is below =
-      let s = same_Some (p.page_size, length p.flags) (size, count) is in
-      let n : length p.flags ≡ count = ap (λ (t : ℕ × ℕ). t.1) s in
-      let z : p.page_size ≡ size = ap (λ (t : ℕ × ℕ). t.0) s in
-      let last : page ≤ length p.flags - 1 = omega arith in
-      rw (← z) (omega (arith, mul-le-mul_right p.page_size last, fits.1))
-
   -- one page more
   pub dirty_below-more : (set : PageSet) (page : ℕ) → IsPageSet set → shape set ≡ Some (size, count) → page < count
       → dirty_below set (page + 1) ≡ dirty_below set page ++ cond (is_dirty_at set (page * size)) (page ∷ []) []

@@ -31,12 +31,6 @@ module _ (joined : Joined) (shape : Shape) (backend iommu : List Name) (space : 
   pub iommu-held : AreHeld → Holds shape iommu
   iommu-held h = ((joined shape iommu (Space space ∷ [])).0 ((joined shape backend (iommu ++ Space space ∷ [])).0 h).1).0
 
-  space-held : AreHeld → space < shape.spaces
-  space-held h = (((joined shape iommu (Space space ∷ [])).0 ((joined shape backend (iommu ++ Space space ∷ [])).0 h).1).1).0
-
-  pub all-held : Holds shape backend → Holds shape iommu → space < shape.spaces → AreHeld
-  all-held b i s = (joined shape backend (iommu ++ Space space ∷ [])).1 (b, (joined shape iommu (Space space ∷ [])).1 (i, (s, tt)))
-
 -- what is taken from the laws of paths
 abbrev PiecesAreTheAccess : Type 0
 PiecesAreTheAccess = (regions : List Region) (f : Says) (space a n : ℕ) (access : Permissions) → is_allowed f a n access ≡ true

@@ -106,7 +106,7 @@ no_region_at a = InvalidGuestAddress (at a)
 abbrev pub not_translated : ℕ → ℕ → Reason → Fault
 not_translated a n reason = IommuError (CannotResolve (record { base = at a; length = n }) reason)
 
--- a window of a block
+-- a range of a block
 abbrev pub in_block : ℕ → ℕ → ℕ → BlockRange
 in_block block offset len = record { block = block; offset = offset; len = len }
 

@@ -1,7 +1,7 @@
 //! What holds of every step and every run of a machine: each function here is a theorem, and does nothing.
 //! It calls the theorems that it follows from.
 ghost use Rattle.std.specs.Prelude.{◌≡◌, ◌≢◌, Bool, false, ℕ, ◌^◌, ◌<◌, List, length, slice_get, slice_index, All, Some};
-ghost use Rattle.std.specs.Prelude.{◌+◌, ◌-◌, ◌++◌, ◌∷◌, [], get_or, true, None};
+ghost use Rattle.std.specs.Prelude.{◌+◌, ◌-◌, ◌++◌, ◌∷◌, [], slice_index_or, true, None};
 ghost use Rattle.vm_memory_base.specs.Address.{step};
 ghost use Rattle.vm_memory_base.specs.Pages.{PageSet};
 ghost use Rattle.vm_memory_base.specs.Permissions.{allow};
@@ -214,7 +214,7 @@ pub fn runs_keep_layouts()
         → IsSynced block old image new synced → IsLawful new }
     ensures one_region { (s : State) (m : guest.Memory) (memory a i j : ℕ) (d : Region) → IsLawful s
         → slice_get s.memories memory ≡ Some m → i < length m.regions → j < length m.regions
-        → has_address (get_or m.regions i d) a ≡ true → has_address (get_or m.regions j d) a ≡ true → i ≡ j }
+        → has_address (slice_index_or m.regions i d) a ≡ true → has_address (slice_index_or m.regions j d) a ≡ true → i ≡ j }
 {
     layouts_pass_the_tests();
     one_region_holds_an_address();

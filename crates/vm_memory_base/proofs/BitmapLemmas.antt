@@ -10,12 +10,8 @@ use Rattle.std.proofs.lemmas.Grind.{div_ceil_times}
 use Rattle.std.proofs.lemmas.Nat.{div_below}
 use Rattle.std.proofs.lemmas.List.Elements.{All-head}
 use Rattle.std.proofs.lemmas.List.{get_or-take, get_or-drop, get_or-replicate, get_or_append_left, get_or-append_right, length-take, length-take-le, length-replicate, ext_get_or, take_all, drop-drop, drop_all}
-use Rattle.vm_memory_base.specs.Pages.{Pages, PageSet, shape, is_dirty_at, dirty_from, dirty_pages, dirty_words, takes, flags_after, flags_without, marked, unmarked, new_pages, all_clean, word_of, words_of, IsPageSet, IsCleanFor}
+use Rattle.vm_memory_base.specs.Pages.{Pages, PageSet, shape, is_dirty_at, dirty_from, dirty_pages, dirty_words, takes, flags_after, flags_without, marked, unmarked, new_pages, all_clean, word_of, words_of, IsPageSet, IsCleanFor, pages_with}
 use Rattle.vm_memory_base.proofs.PagesLaws.{length-flags_after, get_or-flags_after, from_page, Contains-dirty_pages}
-
--- pages of one size with these flags
-abbrev pub with_flags : ℕ → List Bool → PageSet
-with_flags size flags = Some (record { page_size = size; flags = flags })
 
 -- ---- the flags from one page up to another
 
@@ -254,7 +250,7 @@ without_after test k (dirty ∷ flags) = let e = one dirty (test k) in let f = w
 -- a mark is undone with what was dirty of its pages
 pub unmarked-marked : (start len : ℕ) (set : PageSet) → unmarked start len (marked start len set) ≡ unmarked start len set
 unmarked-marked start len None = refl
-unmarked-marked start len (Some p) = ap (with_flags p.page_size) (without_after (takes p.page_size start len) 0 p.flags)
+unmarked-marked start len (Some p) = ap (pages_with p.page_size) (without_after (takes p.page_size start len) 0 p.flags)
 
 -- ---- new pages
 

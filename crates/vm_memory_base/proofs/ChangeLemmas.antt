@@ -7,11 +7,8 @@ use Rattle.vm_memory_base.specs.Change.{EndBelow, StartFrom, IsKept, if_any, pre
 use Rattle.vm_memory_base.specs.Runs.{Run, IsCanonical, value_at, cut_to}
 use Rattle.vm_memory_base.specs.Table.{Mapping, same_mapping, Says, Table, says, TableCall, Set, Invalidate, says_after, changed, canonical_list}
 use Rattle.vm_memory_base.specs.declared.iotlb.Permissions.{Permissions}
-use Rattle.vm_memory_base.proofs.RunsLaws.{CanFollow, canonical_cons, canonical_pos, canonical_follow, canonical_tail, within_or_not, is_within-in, is_within-below, is_within-above, is_within-join, value_at_in, value_at_past, value_at-cut_to, canonical_cut_to}
+use Rattle.vm_memory_base.proofs.RunsLaws.{run, either, CanFollow, canonical_cons, canonical_pos, canonical_follow, canonical_tail, within_or_not, is_within-in, is_within-below, is_within-above, is_within-join, value_at_in, value_at_past, value_at-cut_to, canonical_cut_to}
 use Rattle.vm_memory_base.proofs.TableLaws.{same_mapping_tests_equality, canonical_list-agree, canonical_list-of_values, value_at-canonical_list, set_nothing, invalidate_nothing}
-
-abbrev pub run : {K : Type 0} → ℕ → ℕ → K → Run K
-run start len value = record { start = start; len = len; value = value }
 
 -- ---- where runs begin and end
 
@@ -279,10 +276,6 @@ canonical-prepended r (t ∷ rs) pos h s =
           rw j (pos, s.0, λ touch. elim (and_cases (eqb t.start (r.start + r.len)) (same_mapping r.value t.value) j) [ inl apart ↦ let touches = eq-eqb t.start (r.start + r.len) (sym touch) in cc | inr differs ↦ differs ], h)
     ]
 
-either : {X : Type 0} (b c : Bool) (x y : X) → cond (b || c) x y ≡ cond b x (cond c x y)
-either true c x y = refl
-either false c x y = refl
-
 value_at-prepended : (r : Run Mapping) (rs : List (Run Mapping)) (x : ℕ) → value_at (prepended r rs) x ≡ cond (is_within r.start r.len x) (Some r.value) (value_at rs x)
 value_at-prepended r [] x = refl
 value_at-prepended r (t ∷ rs) x =
@@ -359,12 +352,13 @@ pub record SaysThen (f : Says) (rs : List (Run Mapping)) : Type 0 where
   pub canonical : IsCanonical same_mapping rs
   pub values : (x : ℕ) → value_at rs x ≡ f x
 
+-- runs say nothing of what lies behind them
+none_by : (rs : List (Run Mapping)) (limit x : ℕ) → EndBelow limit rs → limit ≤ x + 1 → value_at rs x ≡ None
+none_by [] limit x e l = refl
+none_by (r ∷ rs) limit x e l = rw (is_within-above r.start r.len x (omega arith)) (none_by rs limit x e.1 l)
+
 none_far : (rs : List (Run Mapping)) → IsKept rs → (x : ℕ) → 2 ^ 64 ≤ x → value_at rs x ≡ None
-none_far rs k x l = none_by rs (2 ^ 64) x k.ends l
-  where
-    none_by : (rs : List (Run Mapping)) (limit x : ℕ) → EndBelow limit rs → limit ≤ x → value_at rs x ≡ None
-    none_by [] limit x e l = refl
-    none_by (r ∷ rs) limit x e l = rw (is_within-above r.start r.len x (omega arith)) (none_by rs limit x e.1 l)
+none_far rs k x l = none_by rs (2 ^ 64) x k.ends (omega arith)
 
 -- what is left of a table where a range of it goes
 pub range_taken : (rs front back : List (Run Mapping)) (a n : ℕ) → IsKept rs → 0 < n → a + n < 2 ^ 64 → front ≡ cut_to 0 a rs → back ≡ cut_to (a + n) (2 ^ 64 - (a + n)) rs → SaysThen (λ x. cond (is_within a n x) None (value_at rs x)) (front ++ back)
@@ -422,10 +416,6 @@ range_joined rs front back l r k some_l some fits f touch b =
     regrouped (Some x) b v p = refl
 
 -- ---- what is kept
-
-none_by : (rs : List (Run Mapping)) (limit x : ℕ) → EndBelow limit rs → limit ≤ x + 1 → value_at rs x ≡ None
-none_by [] limit x e l = refl
-none_by (r ∷ rs) limit x e l = rw (is_within-above r.start r.len x (omega arith)) (none_by rs limit x e.1 l)
 
 ends_from_values : (limit : ℕ) (rs : List (Run Mapping)) → IsCanonical same_mapping rs → ((x : ℕ) → limit ≤ x → value_at rs x ≡ None) → EndBelow (limit + 1) rs
 ends_from_values limit [] h none = tt

@@ -12,8 +12,8 @@ use Rattle.vm_memory_base.specs.Table.{Mapping, same_mapping, Says, pieces, piec
 use Rattle.vm_memory_base.specs.Walk.{HeadEndsAfter, IsWalk, pieces_left}
 use Rattle.vm_memory_base.specs.declared.iotlb.Permissions.{Permissions}
 use Rattle.vm_memory_base.specs.declared.iotlb.Permissions.TheVariants.{No}
-use Rattle.vm_memory_base.proofs.ChangeLemmas.{run, StartFrom-weaker, tail_starts, canonical_drop, canonical_gap, cut_to-append, cut_to-before, cut_to-behind}
-use Rattle.vm_memory_base.proofs.RunsLaws.{canonical_pos, canonical_tail, within_or_not, is_within-in, is_within-below, is_within-above, none_below, value_at_in, value_at_past, same_from_values, canonical_runs, value_at-runs, runs-of_list}
+use Rattle.vm_memory_base.proofs.ChangeLemmas.{StartFrom-weaker, tail_starts, canonical_drop, canonical_gap, cut_to-append, cut_to-before, cut_to-behind}
+use Rattle.vm_memory_base.proofs.RunsLaws.{run, canonical_pos, canonical_tail, within_or_not, is_within-in, is_within-below, is_within-above, none_below, value_at_in, value_at_past, same_from_values, canonical_runs, value_at-runs, runs-of_list}
 use Rattle.vm_memory_base.proofs.TableLaws.{same_mapping_tests_equality, is_allowed-each, failures-runs, pieces-kept}
 
 -- ---- whether a look-up succeeds

@@ -37,7 +37,7 @@ is_within-join start m n x = grind (arith, nat_tests)
 pub is_within-none : (start x : ℕ) → is_within start 0 x ≡ false
 is_within-none start x = grind (arith, nat_tests)
 
-either : {X : Type 0} (b c : Bool) (x y : X) → cond (b || c) x y ≡ cond b x (cond c x y)
+pub either : {X : Type 0} (b c : Bool) (x y : X) → cond (b || c) x y ≡ cond b x (cond c x y)
 either true c x y = refl
 either false c x y = refl
 
@@ -107,7 +107,7 @@ none_below same r rs x h l =
 
 -- ---- canonical lists that say the same are one
 
-abbrev run : {K : Type 0} → ℕ → ℕ → K → Run K
+abbrev pub run : {K : Type 0} → ℕ → ℕ → K → Run K
 run start len value = record { start = start; len = len; value = value }
 
 same_run : {K : Type 0} (r s : Run K) → r.start ≡ s.start → r.len ≡ s.len → r.value ≡ s.value → r ≡ s

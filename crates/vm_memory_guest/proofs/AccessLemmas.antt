@@ -19,9 +19,10 @@ use Rattle.vm_memory_guest.specs.Window.{window_names, span, cells, cells_of, Wr
 use Rattle.vm_memory_guest.specs.declared.region.GuestMemoryError.{GuestMemoryError}
 use Rattle.vm_memory_guest.specs.declared.region.GuestMemoryError.TheVariants as errors
 use Rattle.vm_memory_guest.proofs.MarkLaws.{Writes-append, Writes-take, Writes-from_take, shape_of-Writes}
-use Rattle.vm_memory_guest.proofs.PathLaws.{Holds-append, route_names, windows-held, span-windows, length-access, access-ends}
+use Rattle.vm_memory_guest.proofs.PathLaws.{route_names, windows-held, span-windows, length-access, access-ends}
 use Rattle.vm_memory_guest.proofs.WrittenLaws.{span-append, span-cons, cells-append, cells-one, length-cells, length-cells_from, filled_more}
 use Rattle.vm_memory_guest.proofs.HostLemmas.{span-one}
+use Rattle.vm_memory_guest.proofs.HoldsLemmas.{Holds-parts}
 
 -- what items tell: the windows before the first error, and that error
 first_told : Result Window GuestMemoryError → Reach GuestMemoryError → Reach GuestMemoryError
@@ -186,11 +187,8 @@ filled-more {start} {left} {next} {w} {blocks} {old} {mid} {total} so_far gives 
     record {
       done = done ++ w ∷ [];
       came = came_more so_far.came gives len len_is;
-      fills = placed ∙ filled_more blocks (cells done) (cells_of w) old mid so_far.fills ∙ ap (λ (cs : List Cell). filled_of blocks cs old) (sym all);
+      fills = placed ∙ filled_more blocks (cells done) (cells_of w) old mid so_far.fills ∙ ap (λ (cs : List Cell). filled blocks cs old) (sym all);
     }
-  where
-    filled_of : List (List ℕ) → List Cell → List ℕ → List ℕ
-    filled_of blocks cs buffer = bytes_at blocks cs ++ drop (length cs) buffer
 
 -- a part of a buffer is as long as the bytes that come into it
 pub length-part : (buf bytes : List ℕ) (total len : ℕ) → total + len ≤ length buf → length bytes ≡ len → length (take (total + len - total) (drop total buf)) ≡ length bytes
@@ -229,7 +227,7 @@ reached-held : (shape : Shape) (memory : Memory) (tables : List Table) (a n : �
 reached-held shape memory tables a n access each held =
     let way = route memory tables in
     let regions = memory.regions in
-    let parts = Holds-append shape _ (switched_names memory.iommu) held in
+    let parts = Holds-parts shape _ (switched_names memory.iommu) held in
     cond_both (allowed way a n access) (record { path = path (meets regions way a) 0 n; fault = first_fault (meets regions way a) 0 n }) (record { path = []; fault = Some (refusal way a n) }) (λ (x : Access). AllByRecursion (λ w. Holds shape (window_names w)) (windows x.path))
     (λ h. windows-held shape regions way a n each parts.0 (route_held shape memory.iommu tables parts.1))
     (λ h. subst (AllByRecursion (λ w. Holds shape (window_names w))) (sym none_reached) tt)
@@ -326,10 +324,6 @@ windows_before-more walk next w gives = rw (gave-window walk next w gives) (befo
     before : (ws : List Window) (o : Option Fault) → Ok (w ∷ ws) ≡ windows_before (w ∷ ws) o
     before ws None = refl
     before ws (Some fault) = refl
-
--- whether something stops a walk, told as its error
-abbrev pub told_fault : Reach Fault → Option GuestMemoryError
-told_fault walk = option_map error_of walk.fault
 
 pub stops-told : (o : Option Fault) (e : GuestMemoryError) → option_map error_of o ≡ Some e → false ≡ is_none o
 stops-told None e is = absurd (cc)

@@ -12,7 +12,7 @@ use Rattle.vm_memory_guest.specs.Layout.{inserted, is_exactly, behind_first, rem
 use Rattle.vm_memory_guest.specs.Region.{Region, IsRegion, IsLayout}
 use Rattle.vm_memory_guest.proofs.RegionLaws.{layout-ascends}
 
-IsLayout-tail : (r : Region) (rs : List Region) → IsLayout (r ∷ rs) → IsLayout rs
+pub IsLayout-tail : (r : Region) (rs : List Region) → IsLayout (r ∷ rs) → IsLayout rs
 IsLayout-tail r [] h = tt
 IsLayout-tail r (s ∷ rs) h = h.1
 
@@ -72,7 +72,7 @@ IsTaken rs base size p = (p.1.start ≡ base) × (p.1.len ≡ size)
 is_exactly-from : (base size : ℕ) (r : Region) → is_exactly base size r ≡ true → (r.start ≡ base) × (r.len ≡ size)
 is_exactly-from base size r h = grind (arith, nat_tests)
 
-is_exactly-both : (base size : ℕ) (r : Region) → r.start ≡ base → r.len ≡ size → is_exactly base size r ≡ true
+pub is_exactly-both : (base size : ℕ) (r : Region) → r.start ≡ base → r.len ≡ size → is_exactly base size r ≡ true
 is_exactly-both base size r h k = grind (arith, nat_tests)
 
 pub removed-taken : (rs : List Region) (base size : ℕ) (p : List Region × Region)

@@ -73,9 +73,6 @@ is_exactly-start base size r h = grind (arith, nat_tests)
 pub is_exactly-len : (base size : ℕ) (r : Region) → (r.len ≡ size → ⊥) → is_exactly base size r ≡ false
 is_exactly-len base size r h = grind (arith, nat_tests)
 
-pub is_exactly-both : (base size : ℕ) (r : Region) → r.start ≡ base → r.len ≡ size → is_exactly base size r ≡ true
-is_exactly-both base size r h k = grind (arith, nat_tests)
-
 -- a search by the starts of values that mean regions told that the n-th is the first above an address
 module _ {X : Type 0} (region : X → Region) (fits : (x : X) → IsRegion (region x)) (xs : List X)
     (starts : List ℕ) (indexed : IsIndexed (map region xs) starts) (a n : ℕ) (within : n ≤ length starts)

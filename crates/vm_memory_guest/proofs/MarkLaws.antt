@@ -90,10 +90,6 @@ module _ {B : Type 0} (marks : B → ℕ → ℕ → B → Type 0) where
   pub length_bitmaps-MarksAll : (ws : List Window) (old new : Host B) → MarksAll marks ws old new → length new.bitmaps ≡ length old.bitmaps
   length_bitmaps-MarksAll ws old new h = (Kept-MarksAll ws old new h).bitmaps
 
-  -- marks keep the shape
-  pub shape_of-Marks : (id : BitmapId) (offset len : ℕ) (old new : Host B) → Marks marks id offset len old new → shape_of new ≡ shape_of old
-  shape_of-Marks id offset len old new h = let k = Kept-Marks id offset len old new h in shape_from old new (ap (λ (bs : List (List ℕ)). map length bs) k.blocks) k.spaces k.tables
-
   pub shape_of-MarksAll : (ws : List Window) (old new : Host B) → MarksAll marks ws old new → shape_of new ≡ shape_of old
   shape_of-MarksAll ws old new h = let k = Kept-MarksAll ws old new h in shape_from old new (ap (λ (bs : List (List ℕ)). map length bs) k.blocks) k.spaces k.tables
 

@@ -62,13 +62,6 @@ module _ {X : Type 0} (Moves : Window → X → Result ℕ VolatileMemoryError �
   pub moved_first : (start : Reach Fault) (x : X) → Moved start start x x 0
   moved_first start x = record { done = []; came = came_first start; rest = λ answer new so. so }
 
-  -- so many bytes are no more than all
-  pub moved_most : {start left : Reach Fault} {initial now : X} {total : ℕ} → Moved start left initial now total → total ≤ span start.windows
-  moved_most {start} {left} m =
-      let all : span start.windows ≡ span m.done + span left.windows = ap span m.came.windows ∙ span-append m.done left.windows in
-      let count = m.came.count in
-      omega arith
-
   module _ {start left next : Reach Fault} {w : Window} {initial now : X} {total : ℕ} (m : Moved start left initial now total) (gives : Gave left next w) (mid : X) (moved : Result ℕ VolatileMemoryError) (moves : Moves w now moved mid) where
     to_left : (answer : Result ℕ GuestMemoryError) (new : X) → Walked Moves start (w ∷ next.windows) total now answer new → Walked Moves start start.windows 0 initial answer new
     to_left answer new so = m.rest answer new (subst (λ (ws : List Window). Walked Moves start ws total now answer new) (sym gives.windows) so)

@@ -311,10 +311,6 @@ windows-one regions a n r first layout found some is_region more inside =
     let no_more : n - n ≡ 0 = omega arith in
     windows-in_region regions a n r first layout found some is_region more ∙ ap (λ (k : ℕ). window_in r first a k ∷ windows (path (meets regions Direct (step a k)) 0 (n - k))) whole ∙ ap (λ (t : ℕ). w ∷ windows (path (meets regions Direct (step a n)) 0 t)) no_more ∙ ap (λ (xs : List Reached). w ∷ windows xs) (path-none (meets regions Direct (step a n)) 0) ∙ ap (λ (ss : List Stretch). w ∷ map window_of ss) none_at_all
 
--- what is held of names joined end to end is held of both
-pub Holds-append : (shape : Shape) (xs ys : List Name) → Holds shape (xs ++ ys) → Holds shape xs × Holds shape ys
-Holds-append = Holds-parts
-
 -- a host that holds what regions name holds what each of them names
 region_held : (shape : Shape) (regions : List Region) (a : ℕ) (r : Region) → Holds shape (flat_map region_names regions) → home regions a ≡ Some r → Holds shape (region_names r)
 region_held shape regions a r h e = All-contains (λ q. Holds shape (region_names q)) regions r ((Holds-each shape regions).0 h) (home-contains regions a r e)

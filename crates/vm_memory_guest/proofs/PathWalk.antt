@@ -14,6 +14,7 @@ use Rattle.vm_memory_guest.specs.Region.{Region, IsRegion, IsLayout, Lies, Byte,
 use Rattle.vm_memory_guest.specs.declared.region.GuestMemoryError.{GuestMemoryError}
 use Rattle.vm_memory_guest.specs.declared.region.GuestMemoryError.TheVariants.{InvalidGuestAddress, HostAddressNotAvailable}
 use Rattle.vm_memory_guest.specs.Window.{Window}
+use Rattle.vm_memory_guest.proofs.LayoutLaws.{IsLayout-tail}
 
 shifted : (i d : ℕ) → i + suc d ≡ i + 1 + d
 shifted i d = omega arith
@@ -164,10 +165,6 @@ home-same (x ∷ xs) a b q r e f s =
       ]
     ]
 
-IsLayout-rest : (x : Region) (xs : List Region) → IsLayout (x ∷ xs) → IsLayout xs
-IsLayout-rest x [] h = tt
-IsLayout-rest x (y ∷ ys) h = h.1
-
 -- in a layout a region ends before any that stands behind it
 layout_apart : (x : Region) (xs : List Region) (a : ℕ) (r : Region) → IsLayout (x ∷ xs) → home xs a ≡ Some r → x.start + x.len ≤ r.start
 layout_apart x [] a r h e = absurd (none-some r e)
@@ -185,7 +182,7 @@ home-layout (x ∷ xs) a r b h e w = elim (home-cases x xs a r e) [
       let apart = layout_apart x xs a r h k.1 in
       let in_x = is_within-bounds x.start x.len b t in
       let in_r = is_within-bounds r.start r.len b w in
-      omega arith)) ∙ home-layout xs a r b (IsLayout-rest x xs h) k.1 w
+      omega arith)) ∙ home-layout xs a r b (IsLayout-tail x xs h) k.1 w
 ]
 
 -- the byte at an address of a region whose first byte has this cell, reached without translation

@@ -17,6 +17,7 @@ use Rattle.vm_memory_guest.specs.Pieces.{unless_stopped, followed_by, walk_of_pi
 use Rattle.vm_memory_guest.specs.Region.{Region, Lies, Byte, Bare, Hole, cell, same_region}
 use Rattle.vm_memory_guest.specs.Walk.{reach_of, walk_of}
 use Rattle.vm_memory_guest.specs.Window.{Window, span}
+use Rattle.vm_memory_guest.proofs.AccessLaws.{AllowedWhereGranted}
 use Rattle.vm_memory_guest.proofs.PathWalk.{stretch, path_agree, first_fault_agree, lengthened-first, stretches-cut, IsCutFrom}
 use Rattle.vm_memory_guest.proofs.PathLaws.{length-path, path-all, path-ends, span-windows, meets-arrives}
 
@@ -186,9 +187,6 @@ windows-led : (mapping : Option Mapping) (space x : ℕ) (ss : List Stretch) →
 unfolding led_stretches marking_on
 windows-led mapping space x [] = refl
 windows-led mapping space x (s ∷ ss) = ap (λ (ws : List Window). window_of (stretch (led mapping space x s.first) s.len) ∷ ws) (windows-led mapping space (x + s.len) ss)
-
-size_of_window : Window → ℕ
-size_of_window w = w.size
 
 marking-on : (space x : ℕ) (ws : List Window) → x + span ws < 2 ^ 64 → marking_from space x ws ≡ marking_on space x ws
 unfolding marking_on
@@ -402,11 +400,6 @@ module _ (regions : List Region) (f : Says) (space : ℕ) where
         ap (through regions f space a) size
         ∙ (here
         ∙ ap (λ (b : ℕ). marking_all space a (followed_by (walk_of regions (target b r.value) k) rest)) (sym chain.0))
-
--- what is taken from the laws of tables: an access that is allowed is empty, or it ends at an address and each address grants it
-abbrev AllowedWhereGranted : Type 0
-AllowedWhereGranted = (f : Says) (a n : ℕ) (access : Permissions) → (is_allowed f a n access ≡ true)
-    ↔ ((n ≡ 0) ⊎ ((a + n < 2 ^ 64) × ((x : ℕ) → a ≤ x → x < a + n → grants access (f x) ≡ true)))
 
 granted-mapped : (access : Permissions) (o : Option Mapping) → grants access o ≡ true → (m : Mapping) × (o ≡ Some m)
 granted-mapped access None h = absurd (true≢false (sym h))

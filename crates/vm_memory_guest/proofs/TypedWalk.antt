@@ -44,10 +44,6 @@ module _ (memory : Memory) (tables : List Table) (a n : ℕ) (access : Permissio
         inr (told_is, subst (λ (v : Result Window GuestMemoryError). Effect (given v)) (sym is) done)
   ]
 
-  -- the walk of the access gives the window
-  pub typed-place : (walk : Reach Fault) → GivesAccess memory tables a n access walk → first_aligned n walk.windows (option_map error_of walk.fault) ≡ place_of n (access_of memory.regions (route memory tables) a n access)
-  typed-place walk gives = ap (λ (r : Reach Fault). first_aligned n r.windows (option_map error_of r.fault)) gives.1
-
 -- a value is written so far: the bytes behind those that are written come next
 pub wrote_next : {B : Type 0} (marks : B → ℕ → ℕ → B → Type 0) {start left next : Reach Fault} {w : Window} {bytes : List ℕ} {old mid : Host B} {total : ℕ} → Wrote marks start left bytes old mid total → Gave left next w → (new : Host B) (len : ℕ) → len ≡ w.size → span start.windows ≤ length bytes → Writes marks (w ∷ []) (drop total bytes) mid new → Wrote marks start next bytes old new (total + len)
 wrote_next marks {start} {left} {next} {w} {bytes} {old} {mid} {total} wrote gives new len len_is fits writes =
@@ -61,11 +57,6 @@ filled_next {start} {left} {next} {w} {blocks} {old} {mid} {total} so_far gives 
     let same : put_mid total (total + len - total) mid bytes ≡ new =
     rw (← long, drop-drop (length bytes) total mid) (sym (append_assoc (take total mid) bytes (drop (total + length bytes) mid)) ∙ sym put) in
     subst (λ (now : List ℕ). Filled start next blocks old now (total + len)) same (filled-more so_far gives bytes len len_is is)
-
--- a fault of some bytes that were asked for is one of as many or more
-pub asked-of : (o : Option Fault) (size width : ℕ) → size ≡ min width (2 ^ 64 - 1) → OnSome o (0 < size) → OnSome o (0 < width)
-asked-of None size width is h = tt
-asked-of (Some fault) size width is h = omega arith
 
 module _ (memory : Memory) (tables : List Table) (a n : ℕ) (access : Permissions) where
   -- an access of a value that is refused changes nothing, and tells why

@@ -1,6 +1,6 @@
 -- Short names for the values that the small cases of module `examples` speak of.
 use Rattle.std.specs.Prelude.{◌≡◌, ℕ, Bool, true, false, List, [], ◌∷◌, length, replicate, Some, None, Result, Ok}
-use Rattle.vm_memory_base.specs.Pages.{PageSet, marked}
+use Rattle.vm_memory_base.specs.Pages.{PageSet, marked, pages_with}
 use Rattle.vm_memory_base.specs.Runs.{Run}
 use Rattle.vm_memory_base.specs.Table.{Table, Mapping}
 use Rattle.vm_memory_base.specs.declared.address.GuestAddress.{GuestAddress}
@@ -73,13 +73,9 @@ block_window block offset size = window_marking block offset size (Block block) 
 abbrev pub zeros : ℕ → List ℕ
 zeros len = replicate len 0
 
--- pages of one size, and of each whether it is dirty
-abbrev pub pages_of : ℕ → List Bool → PageSet
-pages_of page_size flags = Some (record { page_size = page_size; flags = flags })
-
 -- so many clean pages of one size
 abbrev pub clean_pages : ℕ → ℕ → PageSet
-clean_pages page_size count = pages_of page_size (replicate count false)
+clean_pages page_size count = pages_with page_size (replicate count false)
 
 -- what a mark makes of the pages of an exact bitmap
 abbrev pub MarksExactly : PageSet → ℕ → ℕ → PageSet → Type 0

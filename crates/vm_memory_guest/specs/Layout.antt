@@ -1,5 +1,5 @@
 -- What calls make of a layout: regions that are put in or taken out, and how long a search takes.
-use Rattle.std.specs.Prelude.{◌≡◌, ◌⊎◌, ℕ, zero, suc, ◌+◌, ◌/◌, nat_lt, Bool, ◌&&◌, ◌==◌, cond, List, [], ◌∷◌, Option, Some, None}
+use Rattle.std.specs.Prelude.{◌≡◌, ◌⊎◌, ℕ, zero, suc, ◌+◌, ◌/◌, nat_lt, Bool, ◌&&◌, ◌==◌, if◌then◌else◌, List, [], ◌∷◌, Option, Some, None}
 use Rattle.vm_memory_guest.specs.Region.{Region}
 use Rattle.vm_memory_guest.specs.declared.region.GuestRegionCollectionError.{GuestRegionCollectionError}
 use Rattle.vm_memory_guest.specs.declared.region.GuestRegionCollectionError.TheVariants as layout
@@ -8,7 +8,7 @@ use Rattle.vm_memory_guest.specs.declared.region.GuestRegionCollectionError.TheV
 abbrev pub inserted : {R : Type 0} → (R → Region) → List R → R → List R
 inserted region [] new = new ∷ []
 inserted region (r ∷ rs) new =
-    cond (nat_lt (region new).start (region r).start) (new ∷ r ∷ rs) (r ∷ inserted region rs new)
+    if nat_lt (region new).start (region r).start then new ∷ r ∷ rs else r ∷ inserted region rs new
 
 -- an error tells the fault of regions, or the want of memory, which may come first
 abbrev pub IsFault : Option GuestRegionCollectionError → GuestRegionCollectionError → Type 0
@@ -27,7 +27,7 @@ behind_first r (Some p) = Some (r ∷ p.0, p.1)
 abbrev pub removed : {R : Type 0} → (R → Region) → List R → ℕ → ℕ → Option (List R × R)
 removed region [] base size = None
 removed region (r ∷ rs) base size =
-    cond (is_exactly base size (region r)) (Some (rs, r)) (behind_first r (removed region rs base size))
+    if is_exactly base size (region r) then Some (rs, r) else behind_first r (removed region rs base size)
 
 -- the number of binary digits of n, none of 0, counted up to k of them
 abbrev pub digits_within : ℕ → ℕ → ℕ

@@ -1,5 +1,5 @@
 -- Ranges of addresses, for each of which a new block is made.
-use Rattle.std.specs.Prelude.{◌≡◌, ℕ, ◌+◌, ◌^◌, nat_le, ◌==◌, ◌||◌, cond, List, [], ◌∷◌}
+use Rattle.std.specs.Prelude.{◌≡◌, ℕ, ◌+◌, ◌^◌, nat_le, ◌==◌, ◌||◌, if◌then◌else◌, List, [], ◌∷◌}
 use Rattle.std.specs.Prelude.{Option, Some, None, option_map}
 use Rattle.vm_memory_base.specs.declared.address.GuestAddress.{GuestAddress}
 use Rattle.vm_memory_guest.specs.Host.{Host, with_block}
@@ -12,8 +12,8 @@ use Rattle.vm_memory_guest.specs.declared.volatile_memory.host.MmapRegionError.T
 -- why a range makes no region, memory aside: the size of its block is tested before its end
 abbrev pub range_error : GuestAddress → ℕ → Option FromRangesError
 range_error addr size =
-    cond (size == 0 || nat_le (2 ^ 63) size) (Some (MmapRegion block.InvalidSize))
-    (cond (nat_le (2 ^ 64) (addr.0 + size)) (Some InvalidGuestRegion) None)
+    if size == 0 || nat_le (2 ^ 63) size then Some (MmapRegion block.InvalidSize)
+    else if nat_le (2 ^ 64) (addr.0 + size) then Some InvalidGuestRegion else None
 
 -- the refusal that an error tells: want of memory is none
 abbrev pub refusal_of : FromRangesError → Option FromRangesError

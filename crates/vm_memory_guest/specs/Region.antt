@@ -1,5 +1,5 @@
 -- Regions of guest physical memory, and what lies at an address.
-use Rattle.std.specs.Prelude.{ℕ, ◌+◌, ◌-◌, ◌^◌, ◌<◌, ◌≤◌, nat_lt, nat_le, Bool, ◌&&◌, ◌==◌, cond}
+use Rattle.std.specs.Prelude.{ℕ, ◌+◌, ◌-◌, ◌^◌, ◌<◌, ◌≤◌, nat_lt, nat_le, Bool, ◌&&◌, ◌==◌, if◌then◌else◌}
 use Rattle.std.specs.Prelude.{List, [], ◌∷◌, find, Option, Some, None, Result, Ok, Err}
 use Rattle.vm_memory_base.specs.Address.{is_within}
 use Rattle.vm_memory_base.specs.declared.bitmap.BitmapId.TheVariants as bitmap
@@ -90,7 +90,7 @@ window_at first offset count = record {
 abbrev pub slice_from : Option Cell → ℕ → ℕ → ℕ → Result Window GuestMemoryError
 slice_from None len offset count = Err access.HostAddressNotAvailable
 slice_from (Some first) len offset count =
-    cond (nat_le (offset + count) len) (Ok (window_at first offset count)) (Err access.InvalidBackendAddress)
+    if nat_le (offset + count) len then Ok (window_at first offset count) else Err access.InvalidBackendAddress
 
 abbrev pub slice_of : Region → ℕ → ℕ → Result Window GuestMemoryError
 slice_of r offset count = slice_from r.place r.len offset count
@@ -98,8 +98,8 @@ slice_of r offset count = slice_from r.place r.len offset count
 -- whether a region may follow another in a layout: it starts no lower, and above the last address
 abbrev pub neighbours_of : Region → Region → Result (Unit {0}) GuestRegionCollectionError
 neighbours_of q r =
-    cond (nat_lt r.start q.start) (Err layout.UnsortedMemoryRegions)
-    (cond (nat_le r.start (last q)) (Err layout.MemoryRegionOverlap) (Ok tt))
+    if nat_lt r.start q.start then Err layout.UnsortedMemoryRegions
+    else if nat_le r.start (last q) then Err layout.MemoryRegionOverlap else Ok tt
 
 -- the error of a test, or of the later ones
 abbrev pub first_error : Result (Unit {0}) GuestRegionCollectionError

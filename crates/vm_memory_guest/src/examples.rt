@@ -3,6 +3,7 @@ ghost use Rattle.std.specs.Prelude.{◌≡◌, ◌-◌, ◌^◌, [], ◌∷◌, 
 ghost use Rattle.std.specs.Prelude.{Some, None, option_map, Ok, Err};
 ghost use Rattle.vm_memory_base.specs.Address.{numbers};
 ghost use Rattle.vm_memory_base.specs.Table.{Set, says_nothing, new_table_after};
+ghost use Rattle.vm_memory_base.specs.Pages.{pages_with};
 ghost use Rattle.vm_memory_base.specs.declared.bitmap.BitmapId.TheVariants.{Space};
 ghost use Rattle.vm_memory_base.specs.declared.io.VolatileMemoryError.TheVariants.{OutOfBounds, Overflow};
 ghost use Rattle.vm_memory_base.specs.declared.iotlb.Permissions.TheVariants.{Read, Write, ReadWrite};
@@ -15,7 +16,7 @@ ghost use Rattle.vm_memory_guest.specs.Examples.{address_of, answer_of, exact_an
 ghost use Rattle.vm_memory_guest.specs.Examples.{backed_region, bare_region, one_region};
 ghost use Rattle.vm_memory_guest.specs.Examples.{cell_of, block_window, window_marking};
 ghost use Rattle.vm_memory_guest.specs.Examples.{host_of, one_block_shape, zeros};
-ghost use Rattle.vm_memory_guest.specs.Examples.{pages_of, clean_pages, MarksExactly};
+ghost use Rattle.vm_memory_guest.specs.Examples.{clean_pages, MarksExactly};
 ghost use Rattle.vm_memory_guest.specs.Examples.{run_of, table_of, memory_switched, memory_with_iommu, memory_without_iommu};
 ghost use Rattle.vm_memory_guest.specs.Examples.{piece};
 ghost use Rattle.vm_memory_guest.specs.Examples.{two_regions, touching_regions, regions_with_hole};
@@ -93,8 +94,8 @@ pub fn write_to_two_windows()
         let both = block_window 0 3 1 ∷ window_marking 1 0 2 (Space 0) 20 ∷ [] in
         Writes MarksExactly both (1 ∷ 2 ∷ 3 ∷ []) before (record before {
           blocks = (0 ∷ 0 ∷ 0 ∷ 1 ∷ []) ∷ (2 ∷ 3 ∷ 0 ∷ 0 ∷ []) ∷ [];
-          bitmaps = pages_of 4 (true ∷ []) ∷ clean ∷ [];
-          spaces = pages_of 16 (false ∷ true ∷ []) ∷ [];
+          bitmaps = pages_with 4 (true ∷ []) ∷ clean ∷ [];
+          spaces = pages_with 16 (false ∷ true ∷ []) ∷ [];
         }) }
     ensures empty { let host = host_of (zeros 4 ∷ []) (clean_pages 4 1 ∷ []) [] [] in
         Writes MarksExactly (block_window 0 2 0 ∷ []) [] host host }
@@ -197,15 +198,15 @@ pub fn write_over_touching_regions()
         let before = host_of (zeros 4 ∷ zeros 4 ∷ []) (clean_pages 4 1 ∷ clean_pages 4 1 ∷ []) [] [] in
         after_write reached.path (1 ∷ 2 ∷ 3 ∷ []) before ≡ record before {
           blocks = (0 ∷ 0 ∷ 0 ∷ 1 ∷ []) ∷ (2 ∷ 3 ∷ 0 ∷ 0 ∷ []) ∷ [];
-          bitmaps = pages_of 4 (true ∷ []) ∷ pages_of 4 (true ∷ []) ∷ [];
+          bitmaps = pages_with 4 (true ∷ []) ∷ pages_with 4 (true ∷ []) ∷ [];
         } }
     ensures left_with_smaller_pages { let reached = access_of touching_regions Direct 3 3 Write in
         let before = host_of (zeros 4 ∷ zeros 4 ∷ []) (clean_pages 2 2 ∷ clean_pages 2 2 ∷ []) [] [] in
         (after_write reached.path (1 ∷ 2 ∷ 3 ∷ []) before).bitmaps
-        ≡ pages_of 2 (false ∷ true ∷ []) ∷ pages_of 2 (true ∷ false ∷ []) ∷ [] }
+        ≡ pages_with 2 (false ∷ true ∷ []) ∷ pages_with 2 (true ∷ false ∷ []) ∷ [] }
     ensures read { let reached = access_of touching_regions Direct 3 3 Read in
         let blocks = (0 ∷ 0 ∷ 0 ∷ 1 ∷ []) ∷ (2 ∷ 3 ∷ 0 ∷ 0 ∷ []) ∷ [] in
-        let host = host_of blocks (pages_of 4 (true ∷ []) ∷ pages_of 4 (true ∷ []) ∷ []) [] [] in
+        let host = host_of blocks (pages_with 4 (true ∷ []) ∷ pages_with 4 (true ∷ []) ∷ []) [] [] in
         bytes_read reached.path host ≡ 1 ∷ 2 ∷ 3 ∷ [] }
 {}
 
@@ -221,7 +222,7 @@ pub fn write_into_a_hole()
         let before = host_of (zeros 4 ∷ zeros 4 ∷ []) (clean_pages 2 2 ∷ clean_pages 2 2 ∷ []) [] [] in
         after_write reached.path (1 ∷ 2 ∷ 3 ∷ 4 ∷ []) before ≡ record before {
           blocks = (0 ∷ 0 ∷ 1 ∷ 2 ∷ []) ∷ zeros 4 ∷ [];
-          bitmaps = pages_of 2 (false ∷ true ∷ []) ∷ clean_pages 2 2 ∷ [];
+          bitmaps = pages_with 2 (false ∷ true ∷ []) ∷ clean_pages 2 2 ∷ [];
         } }
     ensures begins_there { let reached = access_of regions_with_hole Direct 4 1 Write in
         (answer_of reached 1 ≡ Err (NoRegion 4))
@@ -264,7 +265,7 @@ pub fn block_at_two_addresses()
         × (answer_of reached 5 ≡ Ok 5)
         × (after_write reached.path (1 ∷ 1 ∷ 1 ∷ 1 ∷ 9 ∷ []) before ≡ record before {
           blocks = (9 ∷ 1 ∷ 1 ∷ 1 ∷ []) ∷ [];
-          bitmaps = pages_of 4 (true ∷ []) ∷ [];
+          bitmaps = pages_with 4 (true ∷ []) ∷ [];
         }) }
 {}
 
@@ -344,7 +345,7 @@ pub fn marks_with_an_iommu()
         (windows reached.path ≡ window_marking 0 0 1 (Space 0) 20 ∷ [])
         × (after_write reached.path (7 ∷ []) before ≡ record before {
           blocks = (7 ∷ zeros 7) ∷ [];
-          spaces = pages_of 4 (false ∷ false ∷ false ∷ false ∷ false ∷ true ∷ false ∷ false ∷ []) ∷ [];
+          spaces = pages_with 4 (false ∷ false ∷ false ∷ false ∷ false ∷ true ∷ false ∷ false ∷ []) ∷ [];
         }) }
     ensures off { let memory = memory_without_iommu (one_region 8) in
         let tables = table_of (run_of 20 4 (2 ^ 64 - 20) ReadWrite ∷ []) ∷ [] in
@@ -352,7 +353,7 @@ pub fn marks_with_an_iommu()
         let before = host_of (zeros 8 ∷ []) (clean_pages 4 2 ∷ []) (clean_pages 4 8 ∷ []) tables in
         after_write reached.path (7 ∷ []) before ≡ record before {
           blocks = (0 ∷ 7 ∷ zeros 6) ∷ [];
-          bitmaps = pages_of 4 (true ∷ false ∷ []) ∷ [];
+          bitmaps = pages_with 4 (true ∷ false ∷ []) ∷ [];
         } }
 {}
 

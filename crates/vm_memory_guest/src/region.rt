@@ -20,7 +20,7 @@ use std::marker::Model;
 use std::sync::Arc;
 use thiserror::Error;
 use vm_memory_base::{
-    Address, BitmapRef, GuestAddress, GuestUsize, IoError, IommuError, MemoryRegionAddress,
+    BitmapRef, GuestAddress, GuestUsize, IoError, IommuError, MemoryRegionAddress,
     VolatileMemoryError,
 };
 

@@ -1,6 +1,6 @@
 //! What holds of layouts of regions, whatever the code does: each function is a theorem, and does nothing.
 ghost use Rattle.std.specs.Prelude.{◌≡◌, ◌↔◌, ℕ, ◌+◌, ◌^◌, ◌<◌, ◌≤◌, true, false, None, Some, Ok, Err};
-ghost use Rattle.std.specs.Prelude.{List, All, length, get_or, slice_get, insert, remove};
+ghost use Rattle.std.specs.Prelude.{List, All, length, slice_index_or, slice_get, insert, remove};
 ghost use Rattle.vm_memory_guest.specs.declared.region.GuestRegionCollectionError.{GuestRegionCollectionError};
 ghost use Rattle.vm_memory_guest.specs.Layout.{inserted, removed, binary_digits};
 ghost use Rattle.vm_memory_guest.specs.Region.{Region, IsRegion, last, has_address, home};
@@ -10,7 +10,7 @@ ghost use Rattle.vm_memory_guest.specs.Region.{neighbours_of, layout_error, IsLa
 pub fn one_region_holds_an_address()
     ensures { (rs : List Region) → All IsRegion rs → IsLayout rs →
         (i j a : ℕ) (d : Region) → i < length rs → j < length rs →
-        has_address (get_or rs i d) a ≡ true → has_address (get_or rs j d) a ≡ true → i ≡ j }
+        has_address (slice_index_or rs i d) a ≡ true → has_address (slice_index_or rs j d) a ≡ true → i ≡ j }
 {}
 
 /// The regions that pass the tests are the layouts of at least one region, and a layout is ascending and
@@ -19,22 +19,22 @@ pub fn layouts_pass_the_tests()
     ensures passes { (rs : List Region) → All IsRegion rs →
         (layout_error rs ≡ None) ↔ ((0 < length rs) × IsLayout rs) }
     ensures apart { (rs : List Region) → All IsRegion rs → IsLayout rs ↔ ((i j : ℕ) (d : Region) →
-        i < j → j < length rs → last (get_or rs i d) < (get_or rs j d).start) }
+        i < j → j < length rs → last (slice_index_or rs i d) < (slice_index_or rs j d).start) }
 {}
 
 /// The fault of regions is the first of neighbours.
 pub fn fault_is_the_first()
     ensures { (rs : List Region) (i : ℕ) (e : GuestRegionCollectionError) (d : Region) → i + 1 < length rs →
-        ((k : ℕ) → k < i → neighbours_of (get_or rs k d) (get_or rs (k + 1) d) ≡ Ok tt) →
-        neighbours_of (get_or rs i d) (get_or rs (i + 1) d) ≡ Err e → layout_error rs ≡ Some e }
+        ((k : ℕ) → k < i → neighbours_of (slice_index_or rs k d) (slice_index_or rs (k + 1) d) ≡ Ok tt) →
+        neighbours_of (slice_index_or rs i d) (slice_index_or rs (i + 1) d) ≡ Err e → layout_error rs ≡ Some e }
 {}
 
 /// The home of an address in a layout is the region that holds it, and there is none where no region does.
 pub fn home_holds_the_address()
     ensures held { (rs : List Region) → All IsRegion rs → IsLayout rs → (i a : ℕ) (d : Region) →
-        i < length rs → has_address (get_or rs i d) a ≡ true → home rs a ≡ Some (get_or rs i d) }
+        i < length rs → has_address (slice_index_or rs i d) a ≡ true → home rs a ≡ Some (slice_index_or rs i d) }
     ensures hole { (rs : List Region) (a : ℕ) (d : Region) →
-        ((k : ℕ) → k < length rs → has_address (get_or rs k d) a ≡ false) → home rs a ≡ None }
+        ((k : ℕ) → k < length rs → has_address (slice_index_or rs k d) a ≡ false) → home rs a ≡ None }
 {}
 
 /// A region that is put into a layout stands behind each that starts no higher and before each that starts
@@ -42,8 +42,8 @@ pub fn home_holds_the_address()
 pub fn inserted_regions_stand_in_order()
     ensures { (rs : List Region) (new : Region) → All IsRegion rs → IsLayout rs →
         (n : ℕ) × (n ≤ length rs) × (inserted (λ r. r) rs new ≡ insert rs n new)
-        × ((k : ℕ) (d : Region) → k < n → (get_or rs k d).start ≤ new.start)
-        × ((k : ℕ) (d : Region) → n ≤ k → k < length rs → new.start < (get_or rs k d).start) }
+        × ((k : ℕ) (d : Region) → k < n → (slice_index_or rs k d).start ≤ new.start)
+        × ((k : ℕ) (d : Region) → n ≤ k → k < length rs → new.start < (slice_index_or rs k d).start) }
 {}
 
 /// The region that is taken out is one with just these addresses, and the others stay in order. None is taken

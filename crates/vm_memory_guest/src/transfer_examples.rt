@@ -2,12 +2,13 @@
 ghost use Rattle.std.specs.Prelude.{◌≡◌, ◌++◌, false, true, [], ◌∷◌, replicate, None, Ok, Err, option_map};
 ghost use Rattle.std.specs.declared.io.ErrorKind.TheVariants.{Interrupted, Other, WriteZero};
 ghost use Rattle.vm_memory_base.specs.Transfer.{Gives, Fails, Takes};
+ghost use Rattle.vm_memory_base.specs.Pages.{pages_with};
 ghost use Rattle.vm_memory_base.specs.declared.io.VolatileMemoryError.TheVariants as window_errors;
 ghost use Rattle.vm_memory_base.specs.declared.iotlb.Permissions.TheVariants.{Read, Write};
 ghost use Rattle.vm_memory_guest.specs.Access.{access_of, windows};
 ghost use Rattle.vm_memory_guest.specs.Dealt.{given_out, received};
 ghost use Rattle.vm_memory_guest.specs.Error.{error_of, of_window};
-ghost use Rattle.vm_memory_guest.specs.Examples.{address_of, clean_pages, host_of, one_region, pages_of, touching_regions, zeros};
+ghost use Rattle.vm_memory_guest.specs.Examples.{address_of, clean_pages, host_of, one_region, touching_regions, zeros};
 ghost use Rattle.vm_memory_guest.specs.Memory.{Direct};
 ghost use Rattle.vm_memory_guest.specs.Transfer.{all_of};
 ghost use Rattle.vm_memory_guest.specs.declared.region.GuestMemoryError.TheVariants.{IOError, InvalidGuestAddress, PartialBuffer};
@@ -23,7 +24,7 @@ pub fn short_read_at_a_cut()
           left = Gives (3 ∷ 4 ∷ 5 ∷ 6 ∷ []) ∷ [];
           host = record before {
             blocks = (1 ∷ 2 ∷ 0 ∷ 0 ∷ []) ∷ zeros 4 ∷ [];
-            bitmaps = pages_of 1 (true ∷ true ∷ false ∷ false ∷ []) ∷ clean_pages 1 4 ∷ [];
+            bitmaps = pages_with 1 (true ∷ true ∷ false ∷ false ∷ []) ∷ clean_pages 1 4 ∷ [];
           };
         } }
 {}
@@ -39,7 +40,7 @@ pub fn windows_that_are_filled()
           left = [];
           host = record before {
             blocks = (1 ∷ 2 ∷ 3 ∷ 4 ∷ []) ∷ (5 ∷ 6 ∷ 0 ∷ 0 ∷ []) ∷ [];
-            bitmaps = pages_of 1 (true ∷ true ∷ true ∷ true ∷ []) ∷ pages_of 1 (true ∷ true ∷ false ∷ false ∷ []) ∷ [];
+            bitmaps = pages_with 1 (true ∷ true ∷ true ∷ true ∷ []) ∷ pages_with 1 (true ∷ true ∷ false ∷ false ∷ []) ∷ [];
           };
         } }
     ensures answer { all_of PartialBuffer 8 (Ok 6) ≡ Err (PartialBuffer 8 6) }
@@ -58,7 +59,7 @@ pub fn scribble_of_a_failed_try()
           left = [];
           host = record before {
             blocks = (1 ∷ 2 ∷ 3 ∷ 4 ∷ []) ∷ (9 ∷ 0 ∷ 0 ∷ 0 ∷ []) ∷ [];
-            bitmaps = pages_of 1 (true ∷ true ∷ true ∷ true ∷ []) ∷ pages_of 1 (true ∷ true ∷ true ∷ true ∷ []) ∷ [];
+            bitmaps = pages_with 1 (true ∷ true ∷ true ∷ true ∷ []) ∷ pages_with 1 (true ∷ true ∷ true ∷ true ∷ []) ∷ [];
           };
         } }
 {}
@@ -78,7 +79,7 @@ pub fn interruptions_of_a_transfer()
         let source = Fails (9 ∷ []) (window_errors.IOError Interrupted) ∷ [] in
         (received of_window None false ws 0 source before).host ≡ record before {
           blocks = (9 ∷ 0 ∷ 0 ∷ 0 ∷ []) ∷ [];
-          bitmaps = pages_of 1 (true ∷ true ∷ true ∷ true ∷ []) ∷ [];
+          bitmaps = pages_with 1 (true ∷ true ∷ true ∷ true ∷ []) ∷ [];
         } }
 {}
 

@@ -2,6 +2,7 @@
 //! theorem, and does nothing.
 ghost use Rattle.std.specs.Prelude.{◌≡◌, ◌-◌, ◌^◌, false, true, [], ◌∷◌, None, Ok, Err};
 ghost use Rattle.vm_memory_base.specs.Table.{Set, new_table_after};
+ghost use Rattle.vm_memory_base.specs.Pages.{pages_with};
 ghost use Rattle.vm_memory_base.specs.declared.io.VolatileMemoryError.TheVariants.{
   Misaligned,
   OutOfBounds,
@@ -13,7 +14,7 @@ ghost use Rattle.vm_memory_guest.specs.Access.{access_of};
 ghost use Rattle.vm_memory_guest.specs.Copy.{after_copy};
 ghost use Rattle.vm_memory_guest.specs.Dirt.{after_write, bytes_read};
 ghost use Rattle.vm_memory_guest.specs.Examples.{backed_region, block_window, cannot_resolve, clean_pages};
-ghost use Rattle.vm_memory_guest.specs.Examples.{host_of, one_region, pages_of, touching_regions};
+ghost use Rattle.vm_memory_guest.specs.Examples.{host_of, one_region, touching_regions};
 ghost use Rattle.vm_memory_guest.specs.Host.{cells_from};
 ghost use Rattle.vm_memory_guest.specs.Memory.{Direct, Through};
 ghost use Rattle.vm_memory_guest.specs.Typed.{aligned_of, answered, path_given, typed_path};
@@ -66,7 +67,7 @@ pub fn stores_with_an_iommu()
         after_write (path_given (typed_path 2 (access_of (one_region 4) route 10 2 Write))) (7 ∷ 9 ∷ [])
         (host_of ((1 ∷ 2 ∷ 3 ∷ 4 ∷ []) ∷ []) (clean_pages 4 1 ∷ []) (clean_pages 4 3 ∷ []) [])
         ≡ host_of ((1 ∷ 2 ∷ 7 ∷ 9 ∷ []) ∷ []) (clean_pages 4 1 ∷ [])
-        (pages_of 4 (false ∷ false ∷ true ∷ []) ∷ []) [] }
+        (pages_with 4 (false ∷ false ∷ true ∷ []) ∷ []) [] }
 {}
 
 /// Bytes are copied as they were, also over one another, and the pages of those that were copied to are
@@ -74,14 +75,14 @@ pub fn stores_with_an_iommu()
 pub fn copies_that_overlap()
     ensures upwards { after_copy (cells_from 0 0 4) (cells_from 0 2 4)
         (host_of ((1 ∷ 2 ∷ 3 ∷ 4 ∷ 5 ∷ 6 ∷ []) ∷ []) (clean_pages 2 3 ∷ []) [] [])
-        ≡ host_of ((1 ∷ 2 ∷ 1 ∷ 2 ∷ 3 ∷ 4 ∷ []) ∷ []) (pages_of 2 (false ∷ true ∷ true ∷ []) ∷ []) [] [] }
+        ≡ host_of ((1 ∷ 2 ∷ 1 ∷ 2 ∷ 3 ∷ 4 ∷ []) ∷ []) (pages_with 2 (false ∷ true ∷ true ∷ []) ∷ []) [] [] }
     ensures downwards { after_copy (cells_from 0 2 4) (cells_from 0 0 4)
         (host_of ((1 ∷ 2 ∷ 3 ∷ 4 ∷ 5 ∷ 6 ∷ []) ∷ []) (clean_pages 2 3 ∷ []) [] [])
-        ≡ host_of ((3 ∷ 4 ∷ 5 ∷ 6 ∷ 5 ∷ 6 ∷ []) ∷ []) (pages_of 2 (true ∷ true ∷ false ∷ []) ∷ []) [] [] }
+        ≡ host_of ((3 ∷ 4 ∷ 5 ∷ 6 ∷ 5 ∷ 6 ∷ []) ∷ []) (pages_with 2 (true ∷ true ∷ false ∷ []) ∷ []) [] [] }
     ensures to_another_block { after_copy (cells_from 0 1 2) (cells_from 1 0 2)
         (host_of ((1 ∷ 2 ∷ 3 ∷ []) ∷ (7 ∷ 8 ∷ 9 ∷ []) ∷ []) (clean_pages 2 2 ∷ clean_pages 2 2 ∷ []) [] [])
         ≡ host_of ((1 ∷ 2 ∷ 3 ∷ []) ∷ (2 ∷ 3 ∷ 9 ∷ []) ∷ [])
-        (clean_pages 2 2 ∷ pages_of 2 (true ∷ false ∷ []) ∷ []) [] [] }
+        (clean_pages 2 2 ∷ pages_with 2 (true ∷ false ∷ []) ∷ []) [] [] }
 {}
 
 /// An array has the window of its values' bytes. One whose values or bytes are too many is refused as such,

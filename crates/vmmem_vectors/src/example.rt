@@ -1,6 +1,6 @@
 //! A program over guest memory: the example of the library.
 
-use std::alloc::{AllocError, Global};
+use std::alloc::Global;
 use std::sync::Arc;
 use std::test::Fail;
 use vm_memory::{

@@ -1,7 +1,7 @@
 //! What several tests share.
 
 use crate::regions::TestRegion;
-use std::alloc::{AllocError, Global};
+use std::alloc::Global;
 use std::fmt;
 use std::sync::Arc;
 use std::test::Fail;

@@ -2,8 +2,7 @@
 
 use crate::support::expect_text;
 use std::alloc::Global;
-use std::env;
-use std::fs::{self, File, OpenOptions};
+use std::fs::{self, File};
 use std::io::{self, Cursor};
 use std::net::{TcpListener, TcpStream};
 use std::os::unix::net::UnixStream;

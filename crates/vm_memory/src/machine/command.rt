@@ -115,7 +115,7 @@ pub enum Command {
         count: usize,
         access: Permissions,
     },
-    /// Copies the first bytes of a window to the front of another, as many as both have.
+    /// Copies the first bytes of a range of a block to the front of another, as many as both have.
     Copy {
         from: BlockRange,
         to: BlockRange,
@@ -149,7 +149,7 @@ pub enum Command {
     Harvest(BitmapId),
 }
 
-/// A window of a block of the host: `len` bytes from `offset` on.
+/// A range of a block of the host: `len` bytes from `offset` on.
 #[derive(Clone, Copy, Debug, PartialEq, Eq)]
 pub struct BlockRange {
     pub block: usize,

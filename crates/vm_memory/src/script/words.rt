@@ -83,7 +83,7 @@ impl<'a> Words<'a> {
         }
     }
 
-    /// The next three words as a window of a block: its block, its offset and its length.
+    /// The next three words as a range of a block: its block, its offset and its length.
     pub(super) fn block_range(&mut self) -> Result<BlockRange, LineError> {
         Ok(BlockRange {
             block: self.index()?,

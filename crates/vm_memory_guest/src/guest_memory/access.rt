@@ -19,7 +19,7 @@ use super::transfer::{ended, receive_windows, send_windows};
 use crate::region::{GuestMemoryError, GuestMemoryResult};
 use crate::volatile_memory::access::Bytes;
 use crate::volatile_memory::host::HostMemory;
-use crate::volatile_memory::slice::VolatileSlice;
+use crate::volatile_memory::slice::{self, VolatileSlice};
 use std::sync::atomic::Ordering;
 use vm_memory_base::{
     AtomicAccess, Bitmap, ByteValued, GuestAddress, Permissions, ReadVolatile, WriteVolatile,
@@ -351,17 +351,11 @@ fn first_window<M: GuestMemoryBackend>(
     Ok(window)
 }
 
-// Whether all that was expected was completed.
+// Whether all that was expected was completed, as guest memory tells it.
 #[inline]
 fn whole(expected: usize, completed: usize) -> GuestMemoryResult<()>
     ensures { let short = GuestMemoryError.PartialBuffer expected completed in
         result ≡ (if completed == expected then Ok tt else Err short) }
 {
-    if completed != expected {
-        return Err(GuestMemoryError::PartialBuffer {
-            expected,
-            completed,
-        });
-    }
-    Ok(())
+    Ok(slice::whole(expected, completed)?)
 }

@@ -229,7 +229,7 @@ impl<B> HostMemory<B> {
         ensures ok { OnOk result (self.new ≡ with_block self.old size bitmap) }
         ensures err { OnErr result (self.new ≡ self.old) }
     {
-        let bytes = zeroed(self.alloc, size)?;
+        let bytes = vec![in self.alloc; 0u8; size]?;
         let block = BlockId(self.blocks.len());
         self.blocks.reserve(1)?;
         self.bitmaps.reserve(1)?;
@@ -560,9 +560,3 @@ impl<B: NewBitmap + Drop> HostMemory<B> {
 }
 
 pub(crate) const MAX_BLOCK: usize = 0x7fff_ffff_ffff_ffff;
-
-fn zeroed(alloc: Global, size: usize) -> Result<Vec<u8>, AllocError>
-    ensures { IfOk result (λ bytes. bytes.items ≡ replicate size 0) }
-{
-    vec![in alloc; 0u8; size]
-}

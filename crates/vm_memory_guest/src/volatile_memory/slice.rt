@@ -1,5 +1,5 @@
 //! Windows of host memory.
-ghost use Rattle.std.specs.Prelude.{◌≡◌, ◌+◌, ◌-◌, ◌*◌, ◌/◌, ◌%◌, ◌^◌, ◌++◌, min, length, take, drop, ◌<◌, ◌≤◌, ◌↔◌, ◌∷◌, [], ◌==◌, cond, IsTrue, IfOk, MatchResult};
+ghost use Rattle.std.specs.Prelude.{◌≡◌, ◌+◌, ◌-◌, ◌*◌, ◌/◌, ◌%◌, ◌^◌, ◌++◌, min, length, take, drop, ◌<◌, ◌≤◌, ◌↔◌, ◌∷◌, [], ◌==◌, if◌then◌else◌, IsTrue, IfOk, MatchResult};
 ghost use Rattle.std.specs.List.{flat_map};
 ghost use Rattle.vm_memory_base.specs.Bytes.{values_of};
 ghost use Rattle.vm_memory_guest.specs.Host.{shape_of, bytes_at, Holds};
@@ -424,9 +424,9 @@ impl Bytes<usize> for VolatileSlice {
 
 // Whether all that was expected was completed.
 #[inline]
-fn whole(expected: usize, completed: usize) -> VolatileMemoryResult<()>
+pub(crate) fn whole(expected: usize, completed: usize) -> VolatileMemoryResult<()>
     ensures { let short = VolatileMemoryError.PartialBuffer expected completed in
-        result ≡ cond (completed == expected) (Ok tt) (Err short) }
+        result ≡ (if completed == expected then Ok tt else Err short) }
 {
     if completed != expected {
         return Err(VolatileMemoryError::PartialBuffer {

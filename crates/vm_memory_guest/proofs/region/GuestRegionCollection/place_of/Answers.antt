@@ -6,7 +6,8 @@ use Rattle.std.specs.declared.sync.Arc.{Arc}
 use Rattle.std.specs.declared.alloc.Global.{Global}
 use Rattle.vm_memory_guest.specs.Collection.{regions_of, IsIndexed}
 use Rattle.vm_memory_guest.specs.Layout.{removed}
-use Rattle.vm_memory_guest.proofs.LayoutLemmas.{is_exactly-len, is_exactly-both, value-at}
+use Rattle.vm_memory_guest.proofs.LayoutLaws.{is_exactly-both}
+use Rattle.vm_memory_guest.proofs.LayoutLemmas.{is_exactly-len, value-at}
 use Rattle.vm_memory_guest.proofs.LayoutLemmas.{removed-nowhere, removed-other, removed-here}
 use Rattle.vm_memory_guest.proofs.RegionLaws.{starts-ascend, start-at, length-starts}
 use Rattle.vm_memory_guest.proofs.region.GuestRegionCollection.place_of.Given.{Over}
