@@ -1,5 +1,5 @@
 -- A small machine, in the words of the model. The examples alone cite it.
-use Rattle.std.specs.Prelude.{ℕ, ◌-◌, ◌^◌, List, [], ◌∷◌, Some, None, Bool, true, false}
+use Rattle.std.specs.Prelude.{ℕ, ◌+◌, ◌-◌, ◌*◌, ◌^◌, List, [], ◌∷◌, Some, None, Bool, true, false}
 use Rattle.vm_memory_base.specs.Pages.{PageSet}
 use Rattle.vm_memory_base.specs.Runs.{Run}
 use Rattle.vm_memory_base.specs.Table.{Table, Mapping, Range}
@@ -109,6 +109,13 @@ not_translated a n reason = IommuError (CannotResolve (record { base = at a; len
 -- a range of a block
 abbrev pub in_block : ℕ → ℕ → ℕ → BlockRange
 in_block block offset len = record { block = block; offset = offset; len = len }
+
+-- the values of two and of four bytes, the lowest first
+abbrev pub two_bytes : ℕ → ℕ → ℕ
+two_bytes a b = a + 256 * b
+
+abbrev pub four_bytes : ℕ → ℕ → ℕ → ℕ → ℕ
+four_bytes a b c d = two_bytes a b + 256 * 256 * two_bytes c d
 
 -- a range of addresses, and what a look-up replies that misses some and may not access others
 abbrev pub range : ℕ → ℕ → Range

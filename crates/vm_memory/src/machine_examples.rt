@@ -17,7 +17,7 @@ ghost use Rattle.vm_memory_guest.specs.Region.{Region};
 ghost use Rattle.vm_memory_guest.specs.declared.region.GuestMemoryError.TheVariants as errors;
 ghost use Rattle.vm_memory_guest.specs.declared.region.GuestRegionCollectionError.TheVariants as layouts;
 ghost use Rattle.vm_memory.specs.Examples.{at, low, high, bare, block_pages, space_pages, host, machine, translated};
-ghost use Rattle.vm_memory.specs.Examples.{marked_host, marked, range, failed};
+ghost use Rattle.vm_memory.specs.Examples.{marked_host, marked, range, failed, two_bytes, four_bytes};
 ghost use Rattle.vm_memory.specs.Examples.{with_bytes, with_translated_bytes, no_region_at, not_translated, in_block};
 ghost use Rattle.vm_memory.specs.History.{table_calls};
 ghost use Rattle.vm_memory.specs.Machine.{outcome, MayWant, Step, Run};
@@ -288,7 +288,7 @@ pub fn accesses_of_a_memory_that_is_off()
 /// A store leaves the bytes of its value, the lowest first, and marks their pages. It is refused where its
 /// place in the block is no multiple of its width, and where it lies in two regions. What it left is loaded.
 pub fn stores_are_answered()
-    ensures aligned { outcome machine (Store 0 Two (at 2) 2569)
+    ensures aligned { outcome machine (Store 0 Two (at 2) (two_bytes 9 10))
         ≡ (
           Done,
           with_bytes (1 ∷ 2 ∷ 9 ∷ 10 ∷ []) (5 ∷ 6 ∷ 7 ∷ 8 ∷ []) (block_pages false true) (block_pages false false),
@@ -299,22 +299,23 @@ pub fn stores_are_answered()
     ensures in_a_hole { outcome machine (Store 0 One (at 8) 9) ≡ (Fault (no_region_at 8), machine) }
     ensures too_great { outcome machine (Store 0 One (at 8) 256) ≡ (BadRange, machine) }
     ensures no_memory { outcome machine (Store 3 One (at 0) 256) ≡ (NoSuch, machine) }
-    ensures translated { outcome machine (Store 1 Two (at 16) 2569)
+    ensures translated { outcome machine (Store 1 Two (at 16) (two_bytes 9 10))
         ≡ (Done, with_translated_bytes (1 ∷ 2 ∷ 9 ∷ 10 ∷ []) (5 ∷ 6 ∷ 7 ∷ 8 ∷ [])) }
     ensures not_allowed { outcome machine (Store 1 One (at 20) 9)
         ≡ (Fault (not_translated 20 1 AccessNotAllowed), machine) }
-    ensures loaded { (outcome (outcome machine (Store 0 Two (at 2) 2569)).1 (Load 0 Two (at 2))).0 ≡ Value 2569 }
+    ensures loaded { let stored = (outcome machine (Store 0 Two (at 2) (two_bytes 9 10))).1 in
+        (outcome stored (Load 0 Two (at 2))).0 ≡ Value (two_bytes 9 10) }
 {}
 
 /// A load replies the value of its bytes, and is refused where a store would be.
 pub fn loads_are_answered()
-    ensures word { outcome machine (Load 0 Four (at 4)) ≡ (Value 134678021, machine) }
+    ensures word { outcome machine (Load 0 Four (at 4)) ≡ (Value (four_bytes 5 6 7 8), machine) }
     ensures byte { outcome machine (Load 0 One (at 3)) ≡ (Value 4, machine) }
     ensures misaligned { outcome machine (Load 0 Four (at 2)) ≡ (Fault fault.InvalidBackendAddress, machine) }
     ensures bare_region { outcome machine (Load 0 Two (at 12))
         ≡ (Fault fault.HostAddressNotAvailable, machine) }
     ensures no_memory { outcome machine (Load 3 One (at 0)) ≡ (NoSuch, machine) }
-    ensures readable { outcome machine (Load 1 Four (at 20)) ≡ (Value 134678021, machine) }
+    ensures readable { outcome machine (Load 1 Four (at 20)) ≡ (Value (four_bytes 5 6 7 8), machine) }
     ensures two_mappings { outcome machine (Load 1 Two (at 19)) ≡ (Fault fault.InvalidBackendAddress, machine) }
 {}
 

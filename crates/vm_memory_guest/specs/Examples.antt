@@ -90,6 +90,10 @@ host_of blocks bitmaps spaces tables = record {
   tables = tables;
 }
 
+-- two blocks of four bytes that are 0, with clean pages of one byte
+abbrev pub two_zero_blocks : Host PageSet
+two_zero_blocks = host_of (zeros 4 ∷ zeros 4 ∷ []) (clean_pages 1 4 ∷ clean_pages 1 4 ∷ []) [] []
+
 -- the shape of a host with one block of four bytes and one space
 abbrev pub one_block_shape : Shape
 one_block_shape = record { blocks = 4 ∷ []; spaces = 1; tables = 0 }

@@ -408,10 +408,10 @@ pub fn walks_over_pieces()
 /// A walk gives the windows, and then the error of what stopped it. A walk over no bytes gives nothing.
 pub fn items_of_a_walk()
     ensures stopped { items_of (walk_of regions_with_hole 2 4)
-        ≡ Ok (block_window 0 2 2) ∷ Err (InvalidGuestAddress (record { 0 = 4 })) ∷ [] }
+        ≡ Ok (block_window 0 2 2) ∷ Err (InvalidGuestAddress (address_of 4)) ∷ [] }
     ensures whole { items_of (walk_of regions_with_hole 2 2) ≡ Ok (block_window 0 2 2) ∷ [] }
     ensures error_alone { items_of (walk_of regions_with_hole 4 1)
-        ≡ Err (InvalidGuestAddress (record { 0 = 4 })) ∷ [] }
+        ≡ Err (InvalidGuestAddress (address_of 4)) ∷ [] }
     ensures empty { items_of (walk_of regions_with_hole 4 0) ≡ [] }
 {}
 
@@ -427,7 +427,7 @@ pub fn answers_of_calls()
     ensures begins_in_a_hole { let access = access_of regions_with_hole Direct 4 1 Read in
         let reached = told error_of (reach_of access) in
         let blocks = numbers 1 4 ∷ numbers 5 4 ∷ [] in
-        (counted (span reached.windows) reached.fault 1 ≡ Err (InvalidGuestAddress (record { 0 = 4 })))
+        (counted (span reached.windows) reached.fault 1 ≡ Err (InvalidGuestAddress (address_of 4)))
         × (filled blocks (cells reached.windows) (9 ∷ []) ≡ 9 ∷ []) }
     ensures refused { let memory = memory_with_iommu (one_region 8) 0 0 in
         let tables = table_of (run_of 0 4 0 ReadWrite ∷ run_of 4 4 0 Read ∷ []) ∷ [] in

@@ -5,7 +5,7 @@
 ghost use Rattle.std.specs.Prelude.{◌≡◌, ◌-◌, ◌^◌, [], ◌∷◌, ◌++◌, true, false, Some, None, Ok, Err};
 ghost use Rattle.vm_memory_base.specs.declared.iotlb.Permissions.TheVariants.{Read, Write};
 ghost use Rattle.vm_memory_guest.specs.Access.{NoRegion, access_of};
-ghost use Rattle.vm_memory_guest.specs.Examples.{backed_region, bare_region, block_window, one_region};
+ghost use Rattle.vm_memory_guest.specs.Examples.{address_of, backed_region, bare_region, block_window, one_region};
 ghost use Rattle.vm_memory_guest.specs.Examples.{regions_with_hole, run_of, table_of, memory_with_iommu, host_cell};
 ghost use Rattle.vm_memory_guest.specs.Examples.{itself, AnswersLength, AnswersNumber, CalledWithNothing};
 ghost use Rattle.vm_memory_guest.specs.Memory.{Direct, route};
@@ -36,17 +36,17 @@ pub fn offsets_of_a_region()
 
 /// A layout answers for an address as the region that holds it does, and else with the address.
 pub fn addresses_of_a_layout()
-    ensures held { address_in itself regions_with_hole 11 ≡ Some (record { 0 = 11 }) }
+    ensures held { address_in itself regions_with_hole 11 ≡ Some (address_of 11) }
     ensures in_the_hole { address_in itself regions_with_hole 4 ≡ None }
-    ensures over_the_hole { address_above itself regions_with_hole 3 5 ≡ Some (record { 0 = 8 }) }
+    ensures over_the_hole { address_above itself regions_with_hole 3 5 ≡ Some (address_of 8) }
     ensures into_the_hole { address_above itself regions_with_hole 3 4 ≡ None }
     ensures past_all { address_above itself (one_region 4) 3 (2 ^ 64 - 3) ≡ None }
     ensures byte { host_address_at itself regions_with_hole 9 ≡ Ok (host_cell 1 1) }
-    ensures no_byte { host_address_at itself regions_with_hole 4 ≡ Err (InvalidGuestAddress (record { 0 = 4 })) }
+    ensures no_byte { host_address_at itself regions_with_hole 4 ≡ Err (InvalidGuestAddress (address_of 4)) }
     ensures slice { slice_at itself regions_with_hole 2 2 ≡ Ok (block_window 0 2 2) }
     ensures slice_past_the_end { slice_at itself regions_with_hole 2 3 ≡ Err InvalidBackendAddress }
     ensures slice_in_the_hole { slice_at itself regions_with_hole 4 1
-        ≡ Err (InvalidGuestAddress (record { 0 = 4 })) }
+        ≡ Err (InvalidGuestAddress (address_of 4)) }
 {}
 
 /// The last address of a layout is the greatest of its regions, and 0 without a region. So it would be also
@@ -78,7 +78,7 @@ pub fn whole_ranges()
 
 /// The error of a walk is told where it comes first, and else ends the windows silently.
 pub fn windows_before_an_error()
-    ensures first { windows_before [] (Some (NoRegion 4)) ≡ Err (InvalidGuestAddress (record { 0 = 4 })) }
+    ensures first { windows_before [] (Some (NoRegion 4)) ≡ Err (InvalidGuestAddress (address_of 4)) }
     ensures later { windows_before (block_window 0 2 2 ∷ []) (Some (NoRegion 4))
         ≡ Ok (block_window 0 2 2 ∷ []) }
     ensures none { windows_before [] None ≡ Ok [] }
@@ -104,7 +104,7 @@ pub fn accesses_by_a_callback()
         (Err CallbackOutOfRange) tt }
     ensures nothing { TryAccess itself regions_with_hole CalledWithNothing 2 0 tt 0 2 (Ok 0) tt }
     ensures nowhere { TryAccess itself regions_with_hole AnswersLength 4 0 tt 0 4
-        (Err (InvalidGuestAddress (record { 0 = 4 }))) tt }
+        (Err (InvalidGuestAddress (address_of 4))) tt }
     ensures past_all { TryAccess itself (backed_region (2 ^ 64 - 16) 15 0 0 ∷ []) (AnswersNumber 17)
         (2 ^ 64 - 16) 32 tt 0 (2 ^ 64 - 16) (Err GuestAddressOverflow) tt }
     ensures over_the_greatest { let regions = backed_region 0 4 0 0 ∷ backed_region (2 ^ 64 - 4) 4 1 0 ∷ [] in

@@ -8,7 +8,7 @@ ghost use Rattle.vm_memory_base.specs.declared.iotlb.Permissions.TheVariants.{Re
 ghost use Rattle.vm_memory_guest.specs.Access.{access_of, windows};
 ghost use Rattle.vm_memory_guest.specs.Dealt.{given_out, received};
 ghost use Rattle.vm_memory_guest.specs.Error.{error_of, of_window};
-ghost use Rattle.vm_memory_guest.specs.Examples.{address_of, clean_pages, host_of, one_region, touching_regions, zeros};
+ghost use Rattle.vm_memory_guest.specs.Examples.{address_of, clean_pages, host_of, one_region, touching_regions, two_zero_blocks, zeros};
 ghost use Rattle.vm_memory_guest.specs.Memory.{Direct};
 ghost use Rattle.vm_memory_guest.specs.Transfer.{all_of};
 ghost use Rattle.vm_memory_guest.specs.declared.region.GuestMemoryError.TheVariants.{IOError, InvalidGuestAddress, PartialBuffer};
@@ -17,7 +17,7 @@ ghost use Rattle.vm_memory_guest.specs.declared.region.GuestMemoryError.TheVaria
 /// source does not fill.
 pub fn short_read_at_a_cut()
     ensures { let ws = windows (access_of touching_regions Direct 0 8 Write).path in
-        let before = host_of (zeros 4 ∷ zeros 4 ∷ []) (clean_pages 1 4 ∷ clean_pages 1 4 ∷ []) [] [] in
+        let before = two_zero_blocks in
         let source = Gives (1 ∷ 2 ∷ []) ∷ Gives (3 ∷ 4 ∷ 5 ∷ 6 ∷ []) ∷ [] in
         received of_window None false ws 0 source before ≡ record {
           answer = Ok 2;
@@ -33,7 +33,7 @@ pub fn short_read_at_a_cut()
 /// bytes came.
 pub fn windows_that_are_filled()
     ensures left { let ws = windows (access_of touching_regions Direct 0 8 Write).path in
-        let before = host_of (zeros 4 ∷ zeros 4 ∷ []) (clean_pages 1 4 ∷ clean_pages 1 4 ∷ []) [] [] in
+        let before = two_zero_blocks in
         let source = Gives (1 ∷ 2 ∷ []) ∷ Gives (3 ∷ 4 ∷ []) ∷ Gives (5 ∷ 6 ∷ []) ∷ [] in
         received of_window None true ws 0 source before ≡ record {
           answer = Ok 6;
@@ -45,14 +45,14 @@ pub fn windows_that_are_filled()
         } }
     ensures answer { all_of PartialBuffer 8 (Ok 6) ≡ Err (PartialBuffer 8 6) }
     ensures nothing { let ws = windows (access_of touching_regions Direct 0 8 Write).path in
-        let before = host_of (zeros 4 ∷ zeros 4 ∷ []) (clean_pages 1 4 ∷ clean_pages 1 4 ∷ []) [] [] in
+        let before = two_zero_blocks in
         all_of PartialBuffer 8 (received of_window None true ws 0 [] before).answer ≡ Err (PartialBuffer 8 0) }
 {}
 
 /// A failed try leaves its scribble, and marks all of the window that it was lent.
 pub fn scribble_of_a_failed_try()
     ensures { let ws = windows (access_of touching_regions Direct 0 8 Write).path in
-        let before = host_of (zeros 4 ∷ zeros 4 ∷ []) (clean_pages 1 4 ∷ clean_pages 1 4 ∷ []) [] [] in
+        let before = two_zero_blocks in
         let source = Gives (1 ∷ 2 ∷ 3 ∷ 4 ∷ []) ∷ Fails (9 ∷ []) (window_errors.IOError Other) ∷ [] in
         received of_window None false ws 0 source before ≡ record {
           answer = Err (IOError Other);
@@ -87,12 +87,12 @@ pub fn interruptions_of_a_transfer()
 /// no byte answers 0.
 pub fn transfer_over_an_empty_path()
     ensures stopped { let reached = access_of touching_regions Direct 8 1 Write in
-        let before = host_of (zeros 4 ∷ zeros 4 ∷ []) (clean_pages 1 4 ∷ clean_pages 1 4 ∷ []) [] [] in
+        let before = two_zero_blocks in
         let source = Gives (1 ∷ []) ∷ [] in
         received of_window (option_map error_of reached.fault) false (windows reached.path) 0 source before
         ≡ record { answer = Err (InvalidGuestAddress (address_of 8)); left = source; host = before } }
     ensures no_byte { let reached = access_of touching_regions Direct 8 0 Write in
-        let before = host_of (zeros 4 ∷ zeros 4 ∷ []) (clean_pages 1 4 ∷ clean_pages 1 4 ∷ []) [] [] in
+        let before = two_zero_blocks in
         let source = Gives (1 ∷ []) ∷ [] in
         received of_window (option_map error_of reached.fault) false (windows reached.path) 0 source before
         ≡ record { answer = Ok 0; left = source; host = before } }

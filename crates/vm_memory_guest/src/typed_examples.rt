@@ -13,7 +13,7 @@ ghost use Rattle.vm_memory_base.specs.declared.iotlb.Reason.TheVariants.{AccessN
 ghost use Rattle.vm_memory_guest.specs.Access.{access_of};
 ghost use Rattle.vm_memory_guest.specs.Copy.{after_copy};
 ghost use Rattle.vm_memory_guest.specs.Dirt.{after_write, bytes_read};
-ghost use Rattle.vm_memory_guest.specs.Examples.{backed_region, block_window, cannot_resolve, clean_pages};
+ghost use Rattle.vm_memory_guest.specs.Examples.{address_of, backed_region, block_window, cannot_resolve, clean_pages};
 ghost use Rattle.vm_memory_guest.specs.Examples.{host_of, one_region, touching_regions};
 ghost use Rattle.vm_memory_guest.specs.Host.{cells_from};
 ghost use Rattle.vm_memory_guest.specs.Memory.{Direct, Through};
@@ -52,7 +52,7 @@ pub fn loads_over_touching_regions()
     ensures ends_in_a_hole { typed_path 4 (access_of (one_region 4) Direct 2 4 Read)
         ≡ Err InvalidBackendAddress }
     ensures begins_in_a_hole { typed_path 4 (access_of (one_region 4) Direct 4 4 Read)
-        ≡ Err (InvalidGuestAddress (record { 0 = 4 })) }
+        ≡ Err (InvalidGuestAddress (address_of 4)) }
 {}
 
 /// With an IOMMU a store marks the space, does not go over two mappings, and is refused where it is not
