@@ -52,8 +52,8 @@ module _ {R I B : Type 0} (region : R → Region) (number : I → ℕ) where
   }
 
 -- a window of a block, writes to which mark the block's bitmap
-abbrev pub window_of : BlockRange → Window
-window_of w = record {
+abbrev pub range_window : BlockRange → Window
+range_window w = record {
   block = record { 0 = w.block };
   offset = w.offset;
   size = w.len;

@@ -1,6 +1,6 @@
 //! Regions over whole blocks of a host.
 ghost use Rattle.std.specs.Prelude.{◌≡◌, ◌+◌, ◌^◌, ◌<◌, ◌≤◌, ◌↔◌, ◌⊎◌, List, [], ◌∷◌, ◌++◌, length};
-ghost use Rattle.std.specs.Prelude.{replicate, Some, None, IsSome, IfSome, IfOk, IfErr, OnOk, OnErr, IsErrOf};
+ghost use Rattle.std.specs.Prelude.{Some, None, IsSome, IfSome, IfOk, IfErr, OnOk, OnErr, IsErrOf};
 ghost use Rattle.std.specs.Prelude.{ℕ, MatchResult, map, flat_map, take, slice_get};
 ghost use Rattle.vm_memory_guest.specs.Host as names;
 ghost use Rattle.vm_memory_guest.specs.Host.{Name, shape_of, with_block, Holds, block_at};
@@ -64,11 +64,8 @@ impl MmapRegion {
     ) -> Result<MmapRegion, MmapRegionError>
         ensures block { IfOk result (λ r. r.block ≡ length host.old.blocks) }
         ensures size { IfOk result (λ r. r.size ≡ size) }
-        ensures ok { OnOk result ((bitmap : B) × B.made size bitmap ×
-            (host.new ≡ record host.old {
-              blocks = host.old.blocks ++ replicate size 0 ∷ [];
-              bitmaps = host.old.bitmaps ++ bitmap ∷ [];
-            })) }
+        ensures ok { OnOk result ((bitmap : B) × B.made size bitmap
+            × (host.new ≡ with_block host.old size bitmap)) }
         ensures invalid { IsErrOf result MmapRegionError.InvalidSize ↔ ((size ≡ 0) ⊎ (2 ^ 63 ≤ size)) }
         ensures err { OnErr result (host.new ≡ host.old) }
         ensures held { IfOk result (λ r. Holds (shape_of host.new) (names.Place r.block 0 r.size ∷ [])) }

@@ -1,14 +1,12 @@
 //! Access to guest memory by guest address, where it ends before all bytes are moved.
 
-use crate::support::{Place, expect_accesses, memory_of};
+use crate::support::{AROUND_A_HOLE, BEFORE_A_BARE_REGION, Place, expect_accesses, memory_of};
 use std::alloc::Global;
 use std::test::Fail;
 use vm_memory::{GuestAddress, HostMemory};
 
 // An address, a count, and what an access answers and one that is to move all.
 type Access = (u64, usize, &'static str, &'static str);
-
-const AROUND_A_HOLE: [Place; 2] = [Place::Block(0, 0x400), Place::Block(0x1000, 0x400)];
 
 const AT_A_HOLE: [Access; 8] = [
     (0x3fc, 4, "Ok(4)", "Ok(())"),
@@ -40,8 +38,6 @@ const AT_A_HOLE: [Access; 8] = [
         "Err(PartialBuffer { expected: 1025, completed: 1024 })",
     ),
 ];
-
-const BEFORE_A_BARE_REGION: [Place; 2] = [Place::Block(0, 0x1000), Place::Bare(0x1000, 0x1000)];
 
 const AT_A_BARE_REGION: [Access; 4] = [
     (

@@ -2,7 +2,9 @@
 //! offsets of one region.
 
 use crate::regions::TestRegion;
-use crate::support::{Place, expect_text, memory_of, regions_of};
+use crate::support::{
+    AROUND_A_HOLE, BEFORE_A_BARE_REGION, Place, expect_text, memory_of, regions_of,
+};
 use std::alloc::{AllocError, Global};
 use std::sync::atomic::Ordering;
 use std::test::Fail;
@@ -15,15 +17,11 @@ type Layout = GuestRegionCollection<TestRegion>;
 
 const ONE: [Place; 1] = [Place::Block(0, 0x1000)];
 
-const AROUND_A_HOLE: [Place; 2] = [Place::Block(0, 0x400), Place::Block(0x1000, 0x400)];
-
 const WITH_TWO_THAT_TOUCH: [Place; 3] = [
     Place::Block(0, 0x400),
     Place::Block(0x800, 0x400),
     Place::Block(0xc00, 0x400),
 ];
-
-const BEFORE_A_BARE_REGION: [Place; 2] = [Place::Block(0, 0x1000), Place::Bare(0x1000, 0x1000)];
 
 const AT_BOTH_ENDS: [Place; 2] = [
     Place::Block(0, 0x1000),

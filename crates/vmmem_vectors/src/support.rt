@@ -18,6 +18,12 @@ pub enum Place {
     Bare(u64, u64),
 }
 
+/// Two regions with a hole between them.
+pub const AROUND_A_HOLE: [Place; 2] = [Place::Block(0, 0x400), Place::Block(0x1000, 0x400)];
+
+/// A region with bytes, and right behind it one without.
+pub const BEFORE_A_BARE_REGION: [Place; 2] = [Place::Block(0, 0x1000), Place::Bare(0x1000, 0x1000)];
+
 /// The regions, and new blocks in the host for them.
 pub fn regions_of(
     alloc: Global,

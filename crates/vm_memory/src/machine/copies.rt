@@ -5,7 +5,7 @@ ghost use Rattle.vm_memory_guest.specs.Host.{shape_of, Holds};
 ghost use Rattle.vm_memory_guest.specs.Window.{window_names};
 ghost use Rattle.vm_memory.specs.Copy.{copies, ends_inside};
 ghost use Rattle.vm_memory.specs.Machine.{Step};
-ghost use Rattle.vm_memory.specs.Parts.{state_of, window_of};
+ghost use Rattle.vm_memory.specs.Parts.{state_of, range_window};
 ghost use Rattle.vm_memory.specs.declared.machine.command.Command.TheVariants as command;
 
 use super::Machine;
@@ -53,7 +53,7 @@ fn has_block<B>(host: &HostMemory<B>, block: usize) -> bool
 // A window of a block, if it ends in its block.
 fn window<B>(host: &HostMemory<B>, range: BlockRange) -> Option<VolatileSlice>
     requires { range.block < length host.now.blocks }
-    ensures value { result ≡ (if ends_inside host.now range then Some (window_of range) else None) }
+    ensures value { result ≡ (if ends_inside host.now range then Some (range_window range) else None) }
     ensures held { IfSome result (λ w. Holds (shape_of host.now) (window_names w)) }
     ensures short { IfSome result (λ w. w.offset + w.size ≤ 2 ^ 64) }
 {
