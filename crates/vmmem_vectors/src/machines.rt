@@ -268,14 +268,21 @@ const ON_A_BLOCK_PLUGGED_IN_AGAIN: [(Line, &str); 6] = [
     (Read(0, 0, 4), "bytes 00000500"),
 ];
 
+const RUNS: [(&[Place], &[(Line, &str)]); 6] = [
+    (&TO_PLUG, &ON_CHANGED_LAYOUTS),
+    (&TO_PLUG_AGAIN, &ON_A_BLOCK_PLUGGED_IN_AGAIN),
+    (&APART, &ON_REGIONS_APART),
+    (&TOUCHING, &ON_TOUCHING_REGIONS),
+    (&TO_THE_END, &AROUND_THE_END),
+    (&BEFORE_A_BARE_REGION, &ON_A_BARE_REGION),
+];
+
 #[test]
 fn each_command_has_its_reply(rt: HostRuntime) -> Result<(), Fail> {
-    expect_lines(rt.alloc(), &TO_PLUG, &ON_CHANGED_LAYOUTS)?;
-    expect_lines(rt.alloc(), &TO_PLUG_AGAIN, &ON_A_BLOCK_PLUGGED_IN_AGAIN)?;
-    expect_lines(rt.alloc(), &APART, &ON_REGIONS_APART)?;
-    expect_lines(rt.alloc(), &TOUCHING, &ON_TOUCHING_REGIONS)?;
-    expect_lines(rt.alloc(), &TO_THE_END, &AROUND_THE_END)?;
-    expect_lines(rt.alloc(), &BEFORE_A_BARE_REGION, &ON_A_BARE_REGION)
+    for (places, lines) in RUNS {
+        expect_lines(rt.alloc(), places, lines)?;
+    }
+    Ok(())
 }
 
 // Ten regions of 0x10 bytes, one after the other.

@@ -1,6 +1,7 @@
 //! The texts of the errors.
 
 use crate::support::expect_text;
+use std::fmt;
 use std::test::Fail;
 use vm_memory::{
     FromRangesError, GuestAddress, GuestMemoryError, GuestRegionCollectionError, IommuError, Iotlb,
@@ -116,27 +117,22 @@ lookup failed
 out of memory
 ";
 
+fn add_lines<E: fmt::Display>(text: &mut String, errors: &[E]) -> fmt::Result {
+    for error in errors {
+        writeln!(text, "{error}")?;
+    }
+    Ok(())
+}
+
 #[test]
 fn an_error_has_its_text(rt: HostRuntime) -> Result<(), Fail> {
     let mut text = String::new(rt.alloc());
-    for error in &of_windows() {
-        writeln!(text, "{error}")?;
-    }
-    for error in &of_memories() {
-        writeln!(text, "{error}")?;
-    }
-    for error in &OF_TRANSLATIONS {
-        writeln!(text, "{error}")?;
-    }
-    for error in &OF_LAYOUTS {
-        writeln!(text, "{error}")?;
-    }
-    for error in &OF_RANGES {
-        writeln!(text, "{error}")?;
-    }
-    for error in &OF_BLOCKS {
-        writeln!(text, "{error}")?;
-    }
+    add_lines(&mut text, &of_windows())?;
+    add_lines(&mut text, &of_memories())?;
+    add_lines(&mut text, &OF_TRANSLATIONS)?;
+    add_lines(&mut text, &OF_LAYOUTS)?;
+    add_lines(&mut text, &OF_RANGES)?;
+    add_lines(&mut text, &OF_BLOCKS)?;
     let table = Iotlb::new(rt.alloc());
     if let Err(error) = table.lookup(GuestAddress(0), 1, Permissions::No) {
         writeln!(text, "{error}")?;

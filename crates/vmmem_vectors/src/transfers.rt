@@ -395,51 +395,53 @@ Ok(3) Ok(()) [7, 8, 1, 1, 2]
 Err(InvalidBackendAddress) Ok(0)
 ";
 
+fn goes_into_a_region(
+    region: &GuestRegionMmap,
+    host: &mut HostMemory<()>,
+    out: &mut String,
+) -> Result<(), Fail> {
+    if !host.holds(region) {
+        return Err(Fail::new("the host holds the region"));
+    }
+    let (front, behind) = (MemoryRegionAddress(0), MemoryRegionAddress(2));
+    let mut all = [0u8; 4];
+    let part = region.read_volatile_from(host, behind, &mut &[1u8, 2, 3][..], 8);
+    let whole = region.read_exact_volatile_from(host, front, &mut &[7u8, 8, 9][..], 2);
+    region.read_slice(host, &mut all, front)?;
+    writeln!(out, "{part:?} {whole:?} {all:?}")?;
+    let short = region.read_exact_volatile_from(host, front, &mut &[5u8][..], 2);
+    let past = region.read_exact_volatile_from(host, behind, &mut &[5u8][..], 3);
+    region.read_slice(host, &mut all, front)?;
+    writeln!(out, "{short:?} {past:?} {all:?}")?;
+    Ok(())
+}
+
+fn goes_out_of_a_region(
+    alloc: Global,
+    region: &GuestRegionMmap,
+    host: &HostMemory<()>,
+    out: &mut String,
+) -> Result<(), Fail> {
+    if !host.holds(region) {
+        return Err(Fail::new("the host holds the region"));
+    }
+    let mut sink = ScriptSink::new(alloc, &[SinkStep::Interrupted, SinkStep::Take(3)], 8)?;
+    let part = region.write_volatile_to(host, MemoryRegionAddress(0), &mut sink, 8);
+    let whole = region.write_all_volatile_to(host, MemoryRegionAddress(2), &mut sink, 2);
+    writeln!(out, "{part:?} {whole:?} {:?}", sink.taken())?;
+    let past = region.write_volatile_to(host, MemoryRegionAddress(5), &mut sink, 0);
+    let none = region.write_volatile_to(host, MemoryRegionAddress(4), &mut sink, 1);
+    writeln!(out, "{past:?} {none:?}")?;
+    Ok(())
+}
+
 #[test]
 fn transfers_of_a_region(rt: HostRuntime) -> Result<(), Fail> {
-    let alloc = rt.alloc();
-    let mut out = String::new(alloc);
-    let mut host = HostMemory::<()>::new(alloc);
+    let mut out = String::new(rt.alloc());
+    let mut host = HostMemory::<()>::new(rt.alloc());
     let block = MmapRegion::new(&mut host, 4)?;
     let region = GuestRegionMmap::new(block, GuestAddress(0)).ok_or("the region fits")?;
-    assert!(rt; host.holds(&region));
-    let mut all = [0u8; 4];
-
-    let part = region.read_volatile_from(
-        &mut host,
-        MemoryRegionAddress(2),
-        &mut &[1u8, 2, 3][..],
-        8,
-    );
-    let whole = region.read_exact_volatile_from(
-        &mut host,
-        MemoryRegionAddress(0),
-        &mut &[7u8, 8, 9][..],
-        2,
-    );
-    region.read_slice(&host, &mut all, MemoryRegionAddress(0))?;
-    writeln!(out, "{part:?} {whole:?} {all:?}")?;
-    let short = region.read_exact_volatile_from(
-        &mut host,
-        MemoryRegionAddress(0),
-        &mut &[5u8][..],
-        2,
-    );
-    let past = region.read_exact_volatile_from(
-        &mut host,
-        MemoryRegionAddress(2),
-        &mut &[5u8][..],
-        3,
-    );
-    region.read_slice(&host, &mut all, MemoryRegionAddress(0))?;
-    writeln!(out, "{short:?} {past:?} {all:?}")?;
-
-    let mut sink = ScriptSink::new(alloc, &[SinkStep::Interrupted, SinkStep::Take(3)], 8)?;
-    let part = region.write_volatile_to(&host, MemoryRegionAddress(0), &mut sink, 8);
-    let whole = region.write_all_volatile_to(&host, MemoryRegionAddress(2), &mut sink, 2);
-    writeln!(out, "{part:?} {whole:?} {:?}", sink.taken())?;
-    let past = region.write_volatile_to(&host, MemoryRegionAddress(5), &mut sink, 0);
-    let none = region.write_volatile_to(&host, MemoryRegionAddress(4), &mut sink, 1);
-    writeln!(out, "{past:?} {none:?}")?;
+    goes_into_a_region(&region, &mut host, &mut out)?;
+    goes_out_of_a_region(rt.alloc(), &region, &host, &mut out)?;
     expect_text(0, out.as_str(), WINDOW_TRANSFERS)
 }

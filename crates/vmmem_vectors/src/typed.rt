@@ -360,22 +360,28 @@ fn a_store_marks_its_bytes(rt: HostRuntime) -> Result<(), Fail> {
     Ok(())
 }
 
+// A value, elements of an array and a copy of elements, each at a place of its own.
+fn write_each(host: &mut HostMemory<ExclusiveBitmap>, window: VolatileSlice) -> Result<(), Fail> {
+    let value = window.get_ref::<u32>(4)?;
+    let array = window.get_array_ref::<u16>(0xa, 3)?;
+    let three = window.subslice(0x14, 3)?;
+    if !(host.holds(&window) && host.holds(&value) && host.holds(&array) && host.holds(&three)) {
+        return Err(Fail::new("the host holds the window and its parts"));
+    }
+    window.write_obj(host, 7u16, 0)?;
+    value.store(host, 7);
+    array.store(host, 1, 9);
+    array.copy_from(host, &[8]);
+    array.copy_to_volatile_slice(host, three);
+    Ok(())
+}
+
 #[test]
 fn each_write_of_values_marks_their_bytes(rt: HostRuntime) -> Result<(), Fail> {
     let mut host: HostMemory<ExclusiveBitmap> = HostMemory::new(rt.alloc());
     let window = tracked_window(rt.alloc(), &mut host)?;
-    let value = window.get_ref::<u32>(4)?;
-    let array = window.get_array_ref::<u16>(0xa, 3)?;
-    let three = window.subslice(0x14, 3)?;
+    write_each(&mut host, window)?;
     assert!(rt; host.holds(&window));
-    assert!(rt; host.holds(&value));
-    assert!(rt; host.holds(&array));
-    assert!(rt; host.holds(&three));
-    window.write_obj(&mut host, 7u16, 0)?;
-    value.store(&mut host, 7);
-    array.store(&mut host, 1, 9);
-    array.copy_from(&mut host, &[8]);
-    array.copy_to_volatile_slice(&mut host, three);
     let mut bytes = [1; 4];
     window.read_slice(&host, &mut bytes, 0x14)?;
     assert!(rt; bytes == [8, 0, 9, 0]);
