@@ -214,7 +214,8 @@ pub fn runs_keep_layouts()
         → IsSynced block old image new synced → IsLawful new }
     ensures one_region { (s : State) (m : guest.Memory) (memory a i j : ℕ) (d : Region) → IsLawful s
         → slice_get s.memories memory ≡ Some m → i < length m.regions → j < length m.regions
-        → has_address (slice_index_or m.regions i d) a ≡ true → has_address (slice_index_or m.regions j d) a ≡ true → i ≡ j }
+        → has_address (slice_index_or m.regions i d) a ≡ true
+        → has_address (slice_index_or m.regions j d) a ≡ true → i ≡ j }
 {
     layouts_pass_the_tests();
     one_region_holds_an_address();

@@ -40,7 +40,8 @@ pub fn windows_that_are_filled()
           left = [];
           host = record before {
             blocks = (1 ∷ 2 ∷ 3 ∷ 4 ∷ []) ∷ (5 ∷ 6 ∷ 0 ∷ 0 ∷ []) ∷ [];
-            bitmaps = pages_with 1 (true ∷ true ∷ true ∷ true ∷ []) ∷ pages_with 1 (true ∷ true ∷ false ∷ false ∷ []) ∷ [];
+            bitmaps = pages_with 1 (true ∷ true ∷ true ∷ true ∷ [])
+                ∷ pages_with 1 (true ∷ true ∷ false ∷ false ∷ []) ∷ [];
           };
         } }
     ensures answer { all_of PartialBuffer 8 (Ok 6) ≡ Err (PartialBuffer 8 6) }
@@ -59,7 +60,8 @@ pub fn scribble_of_a_failed_try()
           left = [];
           host = record before {
             blocks = (1 ∷ 2 ∷ 3 ∷ 4 ∷ []) ∷ (9 ∷ 0 ∷ 0 ∷ 0 ∷ []) ∷ [];
-            bitmaps = pages_with 1 (true ∷ true ∷ true ∷ true ∷ []) ∷ pages_with 1 (true ∷ true ∷ true ∷ true ∷ []) ∷ [];
+            bitmaps = pages_with 1 (true ∷ true ∷ true ∷ true ∷ [])
+                ∷ pages_with 1 (true ∷ true ∷ true ∷ true ∷ []) ∷ [];
           };
         } }
 {}
