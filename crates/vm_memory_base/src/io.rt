@@ -177,10 +177,7 @@ pub trait ReadVolatile {
 fn is_short(known: Option<usize>, wanted: usize) -> bool
     ensures { result ≡ is_short known wanted }
 {
-    match known {
-        Some(left) => left < wanted,
-        None => false,
-    }
+    known.is_some_and(|left| left < wanted)
 }
 
 // How much of a buffer may have changed, where only so many bytes of it are filled.

@@ -22,7 +22,8 @@ type TestMachine = Machine<TestRegion, TableIommu, ()>;
 
 // Whether a host holds each region.
 fn are_held(host: &HostMemory<()>, regions: &Vec<Arc<TestRegion>>) -> bool
-    ensures { IsTrue result → Holds (shape_of host.now) (flat_map region_names (map test_region (regions_of regions.now))) }
+    ensures { IsTrue result → Holds (shape_of host.now)
+        (flat_map region_names (map test_region (regions_of regions.now))) }
 {
     regions_are_held_one_by_one();
     regions.iter().all(|region| host.holds(&**region))

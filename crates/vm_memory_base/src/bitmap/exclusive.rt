@@ -184,7 +184,7 @@ impl Bitmap for ExclusiveBitmap {
     #[inline]
     fn dirty_at(&self, offset: usize) -> bool {
         let page = offset / self.page_size.get();
-        page < self.flags.len() && self.flags[page]
+        self.flags.get(page).copied().unwrap_or(false)
     }
 }
 

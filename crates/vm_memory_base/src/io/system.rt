@@ -11,20 +11,18 @@ use std::os::unix::net::UnixStream;
 fn read_from<R: Read>(reader: &mut R, buf: &mut [u8]) -> VolatileMemoryResult<usize>
     ensures { IfOk result (λ count. count ≤ length buf.old) }
 {
-    match reader.read(buf) {
-        Ok(count) => Ok(count),
-        Err(error) => Err(VolatileMemoryError::IOError(IoError::from(error))),
-    }
+    reader
+        .read(buf)
+        .map_err(|error| VolatileMemoryError::IOError(IoError::from(error)))
 }
 
 // One write.
 fn write_to<W: Write>(writer: &mut W, buf: &[u8]) -> VolatileMemoryResult<usize>
     ensures { IfOk result (λ count. count ≤ length buf.now) }
 {
-    match writer.write(buf) {
-        Ok(count) => Ok(count),
-        Err(error) => Err(VolatileMemoryError::IOError(IoError::from(error))),
-    }
+    writer
+        .write(buf)
+        .map_err(|error| VolatileMemoryError::IOError(IoError::from(error)))
 }
 
 impl ReadVolatile for File {

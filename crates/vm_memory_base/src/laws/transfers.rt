@@ -37,7 +37,8 @@ pub fn buffers_that_are_filled()
         ≡ record { buffer = 1 ∷ 2 ∷ 3 ∷ []; answer = Ok tt; left = Gives (4 ∷ []) ∷ [] } }
     ensures ends { (filled_whole None (0 ∷ 0 ∷ 0 ∷ []) (Gives (1 ∷ []) ∷ [])).answer
         ≡ Err (record { touched = 1; error = IOError UnexpectedEof }) }
-    ensures interrupted { (filled_whole None (0 ∷ 0 ∷ 0 ∷ []) (Fails [] (IOError Interrupted) ∷ Gives (1 ∷ []) ∷ [])).answer
+    ensures interrupted { let source = Fails [] (IOError Interrupted) ∷ Gives (1 ∷ []) ∷ [] in
+        (filled_whole None (0 ∷ 0 ∷ 0 ∷ []) source).answer
         ≡ Err (record { touched = 3; error = IOError UnexpectedEof }) }
     ensures fails { filled_whole None (0 ∷ 0 ∷ 0 ∷ []) (Gives (1 ∷ []) ∷ Fails (9 ∷ []) (IOError Other) ∷ [])
         ≡ record {
@@ -72,8 +73,8 @@ pub fn bytes_that_are_sent()
         ≡ record { count = 8; answer = Ok tt; left = record { next = []; room = None } } }
     ensures stops { sent 8 0 8 (record { next = Takes 3 ∷ Takes 0 ∷ []; room = None })
         ≡ record { count = 3; answer = Err (IOError WriteZero); left = record { next = []; room = None } } }
-    ensures as_many { (offers 64 2 (record { next = replicate 64 (Refuses (IOError Interrupted)); room = None })).answer
-        ≡ Ok 2 }
-    ensures one_more { (offers 64 2 (record { next = replicate 65 (Refuses (IOError Interrupted)); room = None })).answer
-        ≡ Err (IOError Interrupted) }
+    ensures as_many { let next = replicate 64 (Refuses (IOError Interrupted)) in
+        (offers 64 2 (record { next = next; room = None })).answer ≡ Ok 2 }
+    ensures one_more { let next = replicate 65 (Refuses (IOError Interrupted)) in
+        (offers 64 2 (record { next = next; room = None })).answer ≡ Err (IOError Interrupted) }
 {}
