@@ -1,55 +1,28 @@
 -- What the commands of a run made of tables, and what accesses reach through them.
-use Rattle.std.proofs.Common.{◌≡◌, ◌≢◌, ◌↔◌, ◌⊎◌, Bool, true, false, cond, ◌&&◌, ◌==◌, ℕ, zero, suc, ◌+◌, ◌-◌, ◌^◌, ◌<◌}
-use Rattle.std.proofs.Common.{◌≤◌, min, List, [], ◌∷◌, ◌++◌, length, set, Option, Some, None, All, refl, sym, ap, subst}
-use Rattle.std.proofs.Common.{◌∙◌, inl, inr, arith, zero-add, add-zero, slice_get, map, option_map}
-use Rattle.std.proofs.lemmas.Bool.{cases_Bool, cond-true, cond-false, eqb-true, eqb-false, leb-true, and_parts}
+use Rattle.std.proofs.Common.{◌≡◌, ◌≢◌, ◌↔◌, ◌⊎◌, Bool, true, false, cond, ℕ, zero, suc, ◌+◌, ◌-◌, ◌^◌, ◌<◌}
+use Rattle.std.proofs.Common.{◌≤◌, List, [], ◌∷◌, ◌++◌, Option, Some, None, All, refl, sym, ap, subst}
+use Rattle.std.proofs.Common.{◌∙◌, inl, inr, arith, zero-add, add-zero, slice_get}
+use Rattle.std.proofs.lemmas.Bool.{cond-true, leb-true, and_parts}
 use Rattle.std.proofs.lemmas.Bool.{true≢false}
-use Rattle.std.proofs.lemmas.List.{length-set}
 use Rattle.std.proofs.lemmas.Option.{slice_get_cases, slice_get_within, none-some, same_Some}
-use Rattle.std.specs.Int.{Width, to_le_bytes}
 use Rattle.vm_memory_base.specs.Address.{step, difference}
-use Rattle.vm_memory_base.specs.Pages.{PageSet, cleaned}
 use Rattle.vm_memory_base.specs.Permissions.{allow}
-use Rattle.vm_memory_base.specs.Runs.{value_at}
-use Rattle.vm_memory_base.specs.Script.{next_of}
 use Rattle.vm_memory_base.specs.Table as table
 use Rattle.vm_memory_base.specs.Table.{Mapping, target, Says, TableCall, covers, says_after, says_after_all, Table}
-use Rattle.vm_memory_base.specs.Table.{says, canonical_list, changed, grants, is_allowed, overruns}
-use Rattle.vm_memory_base.specs.Transfer.{Next}
-use Rattle.vm_memory_base.specs.declared.bitmap.BitmapId.{BitmapId}
-use Rattle.vm_memory_base.specs.declared.bitmap.BitmapId.TheVariants.{Block, Space}
-use Rattle.vm_memory_base.specs.declared.io.script.SourceStep.{SourceStep}
+use Rattle.vm_memory_base.specs.Table.{says, grants, is_allowed}
 use Rattle.vm_memory_base.specs.declared.iotlb.Permissions.{Permissions}
-use Rattle.vm_memory_base.specs.declared.iotlb.Permissions.TheVariants as permissions
 use Rattle.vm_memory_guest.specs.Access.{Reached, Meets, Reaches, Stops, meets_at, meets, onto, path, first_fault}
-use Rattle.vm_memory_guest.specs.Access.{Access, refusal, access_of, windows}
-use Rattle.vm_memory_guest.specs.Copy.{dirtied_cells}
-use Rattle.vm_memory_guest.specs.Dealt.{received}
-use Rattle.vm_memory_guest.specs.Dirt.{after_write, marks_pages}
-use Rattle.vm_memory_guest.specs.Error.{error_of, of_window}
-use Rattle.vm_memory_guest.specs.Lent.{MarksChanges}
-use Rattle.vm_memory_guest.specs.Host.{Host, Cell, bytes_at, cells_from, written}
-use Rattle.vm_memory_guest.specs.Layout.{inserted, removed}
+use Rattle.vm_memory_guest.specs.Access.{Access, refusal, access_of}
 use Rattle.vm_memory_guest.specs.Memory.{Memory, Behind, behind_of, Route, Through, says_of, route_behind}
-use Rattle.vm_memory_guest.specs.Region.{Region, Lies, Byte, Bare, Hole, cell, layout_error}
-use Rattle.vm_memory_guest.specs.Typed.{path_given}
-use Rattle.vm_memory_guest.specs.Window.{Window, bitmap_of, with_bitmap}
-use Rattle.vm_memory_guest.specs.declared.region.GuestMemoryError.{GuestMemoryError}
-use Rattle.vm_memory_guest.specs.declared.region.GuestRegionCollectionError.{GuestRegionCollectionError}
-use Rattle.vm_memory.specs.Copy.{copies, copied, has_block, ends_inside}
-use Rattle.vm_memory.specs.History.{AnsweredIn, table_call, table_calls, IsLast, GoesThrough}
-use Rattle.vm_memory.specs.Machine.{Step, Run, outcome}
-use Rattle.vm_memory.specs.Made.{if_there, new_layout, rest_layout, with_host}
+use Rattle.vm_memory_guest.specs.Region.{Region, Lies, Byte, Bare, Hole, cell}
+use Rattle.vm_memory.specs.History.{AnsweredIn, table_calls, IsLast, GoesThrough}
+use Rattle.vm_memory.specs.Machine.{Run}
 use Rattle.vm_memory.specs.Reply.{reached_by}
-use Rattle.vm_memory.specs.State.{State, named}
-use Rattle.vm_memory.specs.Tables.{changed_table}
-use Rattle.vm_memory.specs.Transfers.{dealt_to}
-use Rattle.vm_memory.specs.Typed.{fits_width, integer_of, stores, stores_bytes, taken_by}
-use Rattle.vm_memory.specs.declared.machine.command.BlockRange.{BlockRange}
+use Rattle.vm_memory.specs.State.{State}
 use Rattle.vm_memory.specs.declared.machine.command.Command.{Command}
-use Rattle.vm_memory.specs.declared.machine.command.Command.TheVariants as command
 use Rattle.vm_memory.specs.declared.machine.command.Reply.{Reply}
-use Rattle.vm_memory.specs.declared.machine.command.Reply.TheVariants as reply
+use Rattle.vm_memory.proofs.CallLemmas.{HistoryLaws}
+use Rattle.vm_memory.proofs.RunLemmas.{run_leaves}
 
 -- ---- a command in a run
 
@@ -81,280 +54,6 @@ command_in_run old new (d ∷ before) after c (r ∷ rs) run =
       stepped = rest.stepped;
       goes_on = rest.goes_on;
     }
-
--- ---- calls of one table
-
-says_after_all-append : (xs ys : List TableCall) (x : ℕ) (said : Option Mapping)
-    → says_after_all (xs ++ ys) x said ≡ says_after_all ys x (says_after_all xs x said)
-says_after_all-append [] ys x said = refl
-says_after_all-append (call ∷ xs) ys x said = says_after_all-append xs ys x (says_after call x said)
-
-slice_get-set_same : {X : Type 0} (xs : List X) (i : ℕ) (y : X) → i < length xs → slice_get (set xs i y) i ≡ Some y
-slice_get-set_same [] i y within = absurd (omega arith)
-slice_get-set_same (x ∷ xs) zero y within = refl
-slice_get-set_same (x ∷ xs) (suc i) y within = slice_get-set_same xs i y (omega arith)
-
-slice_get-set_other : {X : Type 0} (xs : List X) (i j : ℕ) (y : X) → j ≢ i → slice_get (set xs i y) j ≡ slice_get xs j
-slice_get-set_other [] i j y other = refl
-slice_get-set_other (x ∷ xs) zero zero y other = absurd (other refl)
-slice_get-set_other (x ∷ xs) zero (suc j) y other = refl
-slice_get-set_other (x ∷ xs) (suc i) zero y other = refl
-slice_get-set_other (x ∷ xs) (suc i) (suc j) y other =
-    slice_get-set_other xs i j y (λ e. other (ap (λ (k : ℕ). suc k) e))
-
--- as many tables as before, of which the one of this number says what these calls made of it
-pub record AreLeftBy (number : ℕ) (calls : List TableCall) (before after : List Table) : Type 0 where
-  pub count : length after ≡ length before
-  pub said : (x : ℕ) → x < 2 ^ 64
-      → says_of (slice_get after number) x ≡ says_after_all calls x (says_of (slice_get before number) x)
-
-same : (number : ℕ) (before after : List Table) → after ≡ before → AreLeftBy number [] before after
-same number before after e = record {
-  count = ap (λ (ts : List Table). length ts) e;
-  said = λ x fits. ap (λ (ts : List Table). says_of (slice_get ts number) x) e;
-}
-
-one_after_the_other : (number : ℕ) (xs ys : List TableCall) (before mid after : List Table)
-    → AreLeftBy number xs before mid → AreLeftBy number ys mid after → AreLeftBy number (xs ++ ys) before after
-one_after_the_other number xs ys before mid after first second = record {
-  count = second.count ∙ first.count;
-  said = λ x fits.
-      second.said x fits ∙ ap (says_after_all ys x) (first.said x fits)
-      ∙ sym (says_after_all-append xs ys x (says_of (slice_get before number) x));
-}
-
--- what is taken from the laws of tables and of writes
-pub record HistoryLaws : Type 0 where
-  pub kept_says : (f : Says) (x : ℕ) → x < 2 ^ 64 → value_at (canonical_list f) x ≡ f x
-  pub writes_keep : (xs : List Reached) (bytes : List ℕ) (host : Host PageSet)
-      → (after_write xs bytes host).tables ≡ host.tables
-  pub lent_keep : (fault : Option GuestMemoryError) (until_full : Bool) (ws : List Window) (total : ℕ) (next : List Next)
-      (host : Host PageSet) → (received of_window fault until_full ws total next host).host.tables ≡ host.tables
-
-pub history_laws : ((f : Says) (x : ℕ) → x < 2 ^ 64 → value_at (canonical_list f) x ≡ f x)
-    → ((xs : List Reached) (bytes : List ℕ) (host : Host PageSet) → (after_write xs bytes host).tables ≡ host.tables)
-    → ((fault : Option GuestMemoryError) (until_full : Bool) (ws : List Window) (total : ℕ) (next : List Next)
-    (host : Host PageSet) → MarksChanges ws host (received of_window fault until_full ws total next host).host)
-    → HistoryLaws
-history_laws kept_says writes_keep lent_mark = record {
-  kept_says = kept_says;
-  writes_keep = writes_keep;
-  lent_keep = λ fault until_full ws total next host. (lent_mark fault until_full ws total next host).tables;
-}
-
-module _ (laws : HistoryLaws) where
-  changed_own : (number : ℕ) (call : TableCall) (t : Table) (ts : List Table) → slice_get ts number ≡ Some t
-      → AreLeftBy number (call ∷ []) ts (set ts number (changed call t))
-  changed_own number call t ts there = record {
-    count = length-set ts number (changed call t);
-    said = λ x fits.
-        rw (slice_get-set_same ts number (changed call t) (slice_get_within ts number t there), there)
-        (laws.kept_says (λ y. says_after call y (says t y)) x fits);
-  }
-
-  changed_at : (n number : ℕ) (call : TableCall) (t : Table) (ts : List Table) → slice_get ts n ≡ Some t
-      → AreLeftBy number (cond (n == number) (call ∷ []) []) ts (set ts n (changed call t))
-  changed_at n number call t ts there = elim (cases_Bool (n == number)) [
-    | inl e ↦
-        rw (cond-true (n == number) (call ∷ []) [] e)
-        (subst (λ (k : ℕ). AreLeftBy k (call ∷ []) ts (set ts n (changed call t))) (eqb-true n number e)
-        (changed_own n call t ts there))
-    | inr e ↦
-        rw (cond-false (n == number) (call ∷ []) [] e)
-        (let other : number ≢ n = λ f. eqb-false n number e (sym f) in
-        record {
-          count = length-set ts n (changed call t);
-          said = λ x fits.
-              ap (λ (o : Option Table). says_of o x) (slice_get-set_other ts n number (changed call t) other);
-        })
-  ]
-
-  -- ---- what a command leaves
-
-  same_tables : {X : Type 0} (old : State) (o : Option X) (answer : X → Reply × State)
-      → ((x : X) → (answer x).1.host.tables ≡ old.host.tables)
-      → (if_there old o answer).1.host.tables ≡ old.host.tables
-  same_tables old None answer each = refl
-  same_tables old (Some x) answer each = each x
-
-  layout_keeps_tables : (old : State) (rs : List Region) (e : Option GuestRegionCollectionError)
-      → (new_layout old rs e).1.host.tables ≡ old.host.tables
-  layout_keeps_tables old rs None = refl
-  layout_keeps_tables old rs (Some e) = refl
-
-  rest_keeps_tables : (old : State) (o : Option (List Region × Region))
-      → (rest_layout old o).1.host.tables ≡ old.host.tables
-  rest_keeps_tables old None = refl
-  rest_keeps_tables old (Some p) = refl
-
-  write_keeps_tables : (m : Memory) (host : Host PageSet) (a : ℕ) (bytes : List ℕ)
-      → let reached = reached_by m host.tables a (length bytes) permissions.Write in
-      (after_write reached.path bytes host).tables ≡ host.tables
-  write_keeps_tables m host a bytes =
-      laws.writes_keep (reached_by m host.tables a (length bytes) permissions.Write).path bytes host
-
-  dealt_keeps_tables : (until_full : Bool) (m : Memory) (host : Host PageSet) (a n : ℕ) (source : List SourceStep)
-      → (dealt_to until_full m host a n source).host.tables ≡ host.tables
-  dealt_keeps_tables until_full m host a n source =
-      let reached = reached_by m host.tables a n permissions.Write in
-      laws.lent_keep (option_map error_of reached.fault) until_full (windows reached.path) 0 (map next_of source) host
-
-  store_keeps_tables : (m : Memory) (host : Host PageSet) (a : ℕ) (w : Width) (value : ℕ)
-      → (stores m host a w value).1.tables ≡ host.tables
-  store_keeps_tables m host a w value = go (to_le_bytes w value) (fits_width w value)
-    where
-      go : (bytes : List ℕ) (fits : Bool)
-          → (cond {A = Reply × Host PageSet} fits (stores_bytes m host a bytes) (reply.BadRange, host)).1.tables
-          ≡ host.tables
-      go bytes true =
-          laws.writes_keep (path_given (taken_by m host.tables a (length bytes) permissions.Write)) bytes host
-      go bytes false = refl
-
-  cells_keep_tables : (cs : List Cell) (host : Host PageSet) → (dirtied_cells cs host).tables ≡ host.tables
-  cells_keep_tables [] host = refl
-  cells_keep_tables (c ∷ cs) host = cells_keep_tables cs (marks_pages (Block c.block) c.offset 1 host)
-
-  copy_keeps_tables : (from to : BlockRange) (host : Host PageSet) → (copies host from to).1.tables ≡ host.tables
-  copy_keeps_tables from to host =
-      go (has_block host from && has_block host to) (ends_inside host from && ends_inside host to)
-    where
-      go : (there fits : Bool)
-          → let in_range : Reply × Host PageSet = cond fits (reply.Done, copied host from to) (reply.BadRange, host) in
-          (cond {A = Reply × Host PageSet} there in_range (reply.NoSuch, host)).1.tables ≡ host.tables
-      go false fits = refl
-      go true false = refl
-      go true true =
-          let n = min from.len to.len in
-          let source = cells_from from.block from.offset n in
-          let cs = cells_from to.block to.offset n in
-          cells_keep_tables cs (record host { blocks = written cs (bytes_at host.blocks source) host.blocks })
-
-  bitmap_keeps_tables : (host : Host PageSet) (id : BitmapId) (set : PageSet)
-      → (with_bitmap host id set).tables ≡ host.tables
-  bitmap_keeps_tables host (Block block) set = refl
-  bitmap_keeps_tables host (Space space) set = refl
-
-  module _ (number : ℕ) (old : State) where
-    abbrev Leaves : (Reply → List TableCall) → Reply × State → Type 0
-    Leaves calls a = AreLeftBy number (calls a.0) old.host.tables a.1.host.tables
-
-    -- a command on a table makes its call where it is done, and else none
-    tabled : (calls : Reply → List TableCall) (n : ℕ) (call : TableCall) → calls reply.NoSuch ≡ []
-        → calls reply.BadRange ≡ [] → calls reply.Done ≡ cond (n == number) (call ∷ []) []
-        → (o : Option Table) → slice_get old.host.tables n ≡ o → (over : Bool)
-        → Leaves calls (with_host old (changed_table old.host n o over call))
-    tabled calls n call unknown refused done None there over = rw unknown (same number _ _ refl)
-    tabled calls n call unknown refused done (Some t) there true = rw refused (same number _ _ refl)
-    tabled calls n call unknown refused done (Some t) there false =
-        rw done (changed_at n number call t old.host.tables there)
-
-    answered : (c : Command) → Leaves (table_call number c) (outcome old c)
-    answered (command.FromRegions ns) =
-        same number _ _ (same_tables old (named old.regions ns) _ (λ rs. layout_keeps_tables old rs (layout_error rs)))
-    answered (command.Insert place r) =
-        same number _ _
-        (same_tables old (slice_get old.layouts place) _
-        (λ rs. same_tables old (slice_get old.regions r) _
-        (λ q. layout_keeps_tables old (inserted (λ x. x) rs q) (layout_error (inserted (λ x. x) rs q)))))
-    answered (command.Remove place base size) =
-        same number _ _
-        (same_tables old (slice_get old.layouts place) _
-        (λ rs. rest_keeps_tables old (removed (λ q. q) rs base.0 size)))
-    answered (command.Plain place) = same number _ _ (same_tables old (slice_get old.layouts place) _ (λ rs. refl))
-    answered (command.NewMemory place translator space on) =
-        same number _ _
-        (same_tables old (slice_get old.layouts place) _
-        (λ rs. same_tables old (slice_get old.translators translator) _
-        (λ t. same_tables old (slice_get old.host.spaces space) _ (λ pages. refl))))
-    answered (command.ReplaceBackend memory place) =
-        same number _ _
-        (same_tables old (slice_get old.memories memory) _
-        (λ m. same_tables old m.iommu _ (λ s. same_tables old (slice_get old.layouts place) _ (λ rs. refl))))
-    answered (command.Enable memory on) =
-        same number _ _
-        (same_tables old (slice_get old.memories memory) _ (λ m. same_tables old m.iommu _ (λ s. refl)))
-    answered (command.Read memory addr n) =
-        same number _ _ (same_tables old (slice_get old.memories memory) _ (λ m. refl))
-    answered (command.Write memory addr bytes) =
-        same number _ _
-        (same_tables old (slice_get old.memories memory) _ (λ m. write_keeps_tables m old.host addr.0 bytes))
-    answered (command.ReadSlice memory addr n) =
-        same number _ _ (same_tables old (slice_get old.memories memory) _ (λ m. refl))
-    answered (command.WriteSlice memory addr bytes) =
-        same number _ _
-        (same_tables old (slice_get old.memories memory) _ (λ m. write_keeps_tables m old.host addr.0 bytes))
-    answered (command.Store memory width addr value) =
-        same number _ _
-        (same_tables old (slice_get old.memories memory) _
-        (λ m. store_keeps_tables m old.host addr.0 (integer_of width) value))
-    answered (command.Load memory width addr) =
-        same number _ _ (same_tables old (slice_get old.memories memory) _ (λ m. refl))
-    answered (command.ReadFrom memory addr n source) =
-        same number _ _
-        (same_tables old (slice_get old.memories memory) _ (λ m. dealt_keeps_tables false m old.host addr.0 n source))
-    answered (command.ReadExactFrom memory addr n source) =
-        same number _ _
-        (same_tables old (slice_get old.memories memory) _ (λ m. dealt_keeps_tables true m old.host addr.0 n source))
-    answered (command.WriteTo memory addr n sink) =
-        same number _ _ (same_tables old (slice_get old.memories memory) _ (λ m. refl))
-    answered (command.WriteAllTo memory addr n sink) =
-        same number _ _ (same_tables old (slice_get old.memories memory) _ (λ m. refl))
-    answered (command.CheckRange memory addr n access) =
-        same number _ _ (same_tables old (slice_get old.memories memory) _ (λ m. refl))
-    answered (command.Copy from to) = same number _ _ (copy_keeps_tables from to old.host)
-    answered (command.Set n iova to len perm) =
-        tabled (table_call number (command.Set n iova to len perm)) n (table.Set iova.0 to.0 len perm) refl refl refl
-        (slice_get old.host.tables n) refl (overruns iova.0 len)
-    answered (command.Invalidate n iova len) =
-        tabled (table_call number (command.Invalidate n iova len)) n (table.Invalidate iova.0 len) refl refl refl
-        (slice_get old.host.tables n) refl (overruns iova.0 len)
-    answered (command.InvalidateAll n) =
-        tabled (table_call number (command.InvalidateAll n)) n table.InvalidateAll refl refl refl
-        (slice_get old.host.tables n) refl (overruns 0 0)
-    answered (command.Lookup n iova len access) =
-        same number _ _ (same_tables old (slice_get old.host.tables n) _ (λ t. refl))
-    answered (command.Dirty id) = same number _ _ (same_tables old (bitmap_of old.host id) _ (λ set. refl))
-    answered (command.Harvest id) =
-        same number _ _
-        (same_tables old (bitmap_of old.host id) _ (λ set. bitmap_keeps_tables old.host id (cleaned set)))
-
-    -- where memory is wanting, none is made
-    unanswered : (c : Command) → table_call number c reply.Memory ≡ []
-    unanswered (command.Set n iova to len perm) = refl
-    unanswered (command.Invalidate n iova len) = refl
-    unanswered (command.InvalidateAll n) = refl
-    unanswered c = refl
-
-    step_leaves : (c : Command) (r : Reply) (new : State) → Step old c r new → Leaves (table_call number c) (r, new)
-    step_leaves c r new step = elim step [
-      | inl e ↦ subst (Leaves (table_call number c)) (sym e) (answered c)
-      | inr want ↦
-          rw (want.0, unanswered c) (same number _ _ (ap (λ (s : State). s.host.tables) want.2))
-    ]
-
-  -- ---- what a run leaves
-
-  pub run_leaves : (number : ℕ) (old : State) (cs : List Command) (rs : List Reply) (new : State) → Run old cs rs new
-      → AreLeftBy number (table_calls number cs rs) old.host.tables new.host.tables
-  run_leaves number old [] [] new run = same number _ _ (ap (λ (s : State). s.host.tables) run)
-  run_leaves number old [] (r ∷ rs) new run = absurd run
-  run_leaves number old (c ∷ cs) [] new run = absurd run
-  run_leaves number old (c ∷ cs) (r ∷ rs) new run =
-      one_after_the_other number (table_call number c r) (table_calls number cs rs) old.host.tables run.0.host.tables
-      new.host.tables (step_leaves number old c r run.0 run.1) (run_leaves number run.0 cs rs new run.2)
-
-  -- what the table of a number says then, where it was there before
-  pub run_says : (number : ℕ) (old : State) (cs : List Command) (rs : List Reply) (new : State) (x : ℕ) (t : Table)
-      → Run old cs rs new → slice_get old.host.tables number ≡ Some t → x < 2 ^ 64
-      → (u : Table) × (slice_get new.host.tables number ≡ Some u)
-      × (says u x ≡ says_after_all (table_calls number cs rs) x (says t x))
-  run_says number old cs rs new x t run there fits =
-      let left = run_leaves number old cs rs new run in
-      let within = slice_get_within old.host.tables number t there in
-      elim (slice_get_cases new.host.tables number).1 [
-        | inl at ↦ (at.0, at.2, rw (at.2, there) at (left.said x fits))
-        | inr past ↦ absurd (omega (arith, past.0, left.count))
-      ]
 
 -- ---- what an access meets behind a table
 
@@ -447,6 +146,21 @@ pub record CallLaws : Type 0 where
       → says_after_all (earlier ++ call ∷ later) x old ≡ says_after call x None
   pub none : (calls : List TableCall) (x : ℕ) (old : Option Mapping)
       → All (λ call. covers call x ≡ false) calls → says_after_all calls x old ≡ old
+
+-- ---- what a run says
+
+-- what the table of a number says then, where it was there before
+pub run_says : HistoryLaws → (number : ℕ) (old : State) (cs : List Command) (rs : List Reply) (new : State) (x : ℕ) (t : Table)
+    → Run old cs rs new → slice_get old.host.tables number ≡ Some t → x < 2 ^ 64
+    → (u : Table) × (slice_get new.host.tables number ≡ Some u)
+    × (says u x ≡ says_after_all (table_calls number cs rs) x (says t x))
+run_says laws number old cs rs new x t run there fits =
+    let left = run_leaves laws number old cs rs new run in
+    let within = slice_get_within old.host.tables number t there in
+    elim (slice_get_cases new.host.tables number).1 [
+      | inl at ↦ (at.0, at.2, rw (at.2, there) at (left.said x fits))
+      | inr past ↦ absurd (omega (arith, past.0, left.count))
+    ]
 
 module _ (laws : HistoryLaws) (calls : CallLaws) where
   last_says : (x : ℕ) (cs : List TableCall) (call : TableCall) (old : Option Mapping) → IsLast x cs call

@@ -10,7 +10,7 @@ use Rattle.vm_memory_guest.specs.Region.{Region, layout_error}
 use Rattle.vm_memory_guest.specs.declared.region.GuestRegionCollectionError.{GuestRegionCollectionError}
 use Rattle.vm_memory_guest.specs.declared.region.GuestRegionCollectionError.TheVariants as layout
 use Rattle.vm_memory.specs.Machine.{Step, MayWant, outcome}
-use Rattle.vm_memory.specs.Made.{new_layout, rest_layout}
+use Rattle.vm_memory.specs.Effect.{AddsLayout, apply, laid_out, without}
 use Rattle.vm_memory.specs.Parts.{Parts, state_of}
 use Rattle.vm_memory.specs.Reply.{reply_of_layout_error}
 use Rattle.vm_memory.specs.State.{State}
@@ -110,7 +110,7 @@ module _ {R I B : Type 0} (region : R → Region) (number_of : I → ℕ) (pages
   with_layout c = record m { layouts = m.layouts ++ c ∷ [] }
 
   after-is : (c : List R) (xs : List Region) → map region c ≡ xs
-      → (reply.LayoutMade (length m.layouts), state_of region number_of pages (with_layout c)) ≡ new_layout before xs None
+      → (reply.LayoutMade (length m.layouts), state_of region number_of pages (with_layout c)) ≡ apply before (AddsLayout xs)
   after-is c xs same =
       ap (λ (n : ℕ). (reply.LayoutMade n, state_of region number_of pages (with_layout c))) (sym (length-map m.layouts (map region)))
       ∙ ap (λ (ls : List (List Region)). (reply.LayoutMade (length before.layouts), record before { layouts = ls }))
@@ -121,7 +121,7 @@ module _ {R I B : Type 0} (region : R → Region) (number_of : I → ℕ) (pages
   Added c r new = ((r ≡ reply.LayoutMade (length m.layouts)) × (new ≡ with_layout c)) ⊎ ((r ≡ reply.Memory) × (new ≡ m))
 
   pub step-added : (cmd : Command) (c : List R) (xs : List Region) (r : Reply) (new : Parts R I B)
-      → outcome before cmd ≡ new_layout before xs None → MayWant before cmd → map region c ≡ xs → Added c r new
+      → outcome before cmd ≡ apply before (AddsLayout xs) → MayWant before cmd → map region c ≡ xs → Added c r new
       → Step before cmd r (state_of region number_of pages new)
   step-added cmd c xs r new is want same added = elim added [
     | inl p ↦
@@ -142,7 +142,7 @@ module _ {R I B : Type 0} (region : R → Region) (number_of : I → ℕ) (pages
     abbrev more : List Region
     more = inserted (λ q. q) (map region rs) (region r)
 
-    insert-outcome : outcome before (command.Insert place number) ≡ new_layout before more (layout_error more)
+    insert-outcome : outcome before (command.Insert place number) ≡ apply before (laid_out more (layout_error more))
     insert-outcome = rw (layout-there, region-there) refl
 
     pub insert-wants : MayWant before (command.Insert place number)
@@ -155,7 +155,7 @@ module _ {R I B : Type 0} (region : R → Region) (number_of : I → ℕ) (pages
         let same = inserted-map region rs r in
         let good : layout_error more ≡ None = subst (λ (xs : List Region). layout_error xs ≡ None) same none in
         step-added (command.Insert place number) c more answer new
-        (insert-outcome ∙ ap (new_layout before more) good) insert-wants
+        (insert-outcome ∙ ap (λ (o : Option GuestRegionCollectionError). apply before (laid_out more o)) good) insert-wants
         (ap (map region) is ∙ same) added
 
     pub insert-refused : (e : GuestRegionCollectionError) → IsFault (layout_error (map region (inserted region rs r))) e
@@ -165,7 +165,7 @@ module _ {R I B : Type 0} (region : R → Region) (number_of : I → ℕ) (pages
       | inr told ↦
           let bad : layout_error more ≡ Some e =
           subst (λ (xs : List Region). layout_error xs ≡ Some e) (inserted-map region rs r) told in
-          inl (sym (insert-outcome ∙ ap (new_layout before more) bad))
+          inl (sym (insert-outcome ∙ ap (λ (o : Option GuestRegionCollectionError). apply before (laid_out more o)) bad))
     ]
 
   module _ (place : ℕ) (base : GuestAddress) (size : ℕ) (rs : List R) (there : slice_get m.layouts place ≡ Some rs) where
@@ -173,7 +173,7 @@ module _ {R I B : Type 0} (region : R → Region) (number_of : I → ℕ) (pages
     cmd = command.Remove place base size
 
     remove-outcome : (o : Option (List R × R)) → removed region rs base.0 size ≡ o
-        → outcome before cmd ≡ rest_layout before (means region o)
+        → outcome before cmd ≡ apply before (without (means region o))
     remove-outcome o e =
         let here : slice_get before.layouts place ≡ Some (map region rs) =
         rw (slice_get-map (map region) m.layouts place, there) refl in

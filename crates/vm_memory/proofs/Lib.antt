@@ -2,7 +2,9 @@ pub mod IommuLemmas
 pub mod AccessLemmas
 pub mod BitmapLemmas
 pub mod BlockLemmas
+pub mod CallLemmas
 pub mod CopyLemmas
+pub mod EffectLemmas
 pub mod HistoryLemmas
 pub mod LawfulLemmas
 pub mod LayoutLemmas
@@ -12,6 +14,7 @@ pub mod MemoryLemmas
 pub mod NamedLemmas
 pub mod PatchLemmas
 pub mod RoundsLemmas
+pub mod RunLemmas
 pub mod StepLemmas
 pub mod TypedLemmas
 pub mod TransferLemmas

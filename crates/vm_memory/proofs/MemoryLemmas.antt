@@ -7,7 +7,7 @@ use Rattle.vm_memory_guest.specs.Memory as guest
 use Rattle.vm_memory_guest.specs.Region.{Region}
 use Rattle.vm_memory.specs.Iommu.{Behind}
 use Rattle.vm_memory.specs.Machine.{Step, MayWant, outcome}
-use Rattle.vm_memory.specs.Made.{new_memory}
+use Rattle.vm_memory.specs.Effect.{AddsMemory, apply}
 use Rattle.vm_memory.proofs.BitmapLemmas.{set-same}
 use Rattle.vm_memory.specs.Memories.{memory_meant, turned_memory}
 use Rattle.vm_memory.specs.Parts.{Parts, state_of}
@@ -29,7 +29,7 @@ module _ {R I B : Type 0} (region : R → Region) (number_of : I → ℕ) (pages
 
   after-is : (x : MachineMemory R I)
       → (reply.MemoryMade (length m.memories), state_of region number_of pages (with_memory x))
-      ≡ new_memory before (memory_meant region number_of x)
+      ≡ apply before (AddsMemory (memory_meant region number_of x))
   after-is x =
       ap (λ (n : ℕ). (reply.MemoryMade n, state_of region number_of pages (with_memory x)))
       (sym (length-map m.memories (memory_meant region number_of)))
@@ -41,7 +41,7 @@ module _ {R I B : Type 0} (region : R → Region) (number_of : I → ℕ) (pages
   Added x r new = ((r ≡ reply.MemoryMade (length m.memories)) × (new ≡ with_memory x)) ⊎ ((r ≡ reply.Memory) × (new ≡ m))
 
   step-added : (cmd : Command) (x : MachineMemory R I) (r : Reply) (new : Parts R I B)
-      → outcome before cmd ≡ new_memory before (memory_meant region number_of x) → MayWant before cmd
+      → outcome before cmd ≡ apply before (AddsMemory (memory_meant region number_of x)) → MayWant before cmd
       → Added x r new → Step before cmd r (state_of region number_of pages new)
   step-added cmd x r new is want added = elim added [
     | inl p ↦

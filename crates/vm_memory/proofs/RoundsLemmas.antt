@@ -1,6 +1,6 @@
 -- An image that is patched in rounds, and the block that it mirrors.
-use Rattle.std.proofs.Common.{◌≡◌, ◌↔◌, Bool, ◌&&◌, ℕ, zero, suc, ◌+◌, ◌*◌, ◌/◌, ◌^◌, ◌<◌, ◌==◌, ◌≢◌, true, false, cond, List, [], ◌∷◌, map, length, get_or, Option, Some, None, option_map, Result, Ok, Err, IsSome, All, IfSome, Contains, min, refl, sym, ap, subst, ◌∙◌, inl, inr, arith, zero-add}
-use Rattle.std.proofs.lemmas.Bool.{eqb-true, eqb-false, cases_Bool, true≢false, cond-true, cond-false, false_from_ne_true}
+use Rattle.std.proofs.Common.{◌≡◌, ◌↔◌, Bool, ℕ, zero, suc, ◌+◌, ◌*◌, ◌/◌, ◌^◌, ◌<◌, ◌==◌, ◌≢◌, true, false, cond, List, [], ◌∷◌, map, length, get_or, Option, Some, None, option_map, Result, Ok, Err, IsSome, All, Contains, refl, sym, ap, subst, ◌∙◌, inl, inr, arith, zero-add}
+use Rattle.std.proofs.lemmas.Bool.{eqb-true, eqb-false, cases_Bool, true≢false, cond-true, cond-false}
 use Rattle.std.proofs.lemmas.Cmp.{nat_eq_equiv}
 use Rattle.std.proofs.lemmas.List.{length-map, get_or-map, get_or-set_same, get_or-set_other, ext_get_or}
 use Rattle.std.proofs.lemmas.List.Elements.{All-nil, All-cons, All-head, All-tail, All-map, All-contains}
@@ -9,47 +9,33 @@ use Rattle.std.proofs.lemmas.Map.Views.{list_any-from_Contains, Contains-from_an
 use Rattle.std.proofs.lemmas.Nat.{div_below}
 use Rattle.std.proofs.lemmas.Option.{slice_get_cases, slice_get_within, slice_get-map, get_or_from_slice_get}
 use Rattle.std.specs.Cmp.{both_ways}
-use Rattle.std.specs.Int as int
-use Rattle.std.specs.Int.{to_le_bytes}
 use Rattle.std.specs.List.{list_any, range_with_len, slice_get}
 use Rattle.vm_memory_base.specs.Address.{numbers}
 use Rattle.vm_memory_base.specs.Pages.{Pages, PageSet, shape, is_dirty_at, dirty_pages, cleaned}
-use Rattle.vm_memory_base.specs.Script.{next_of}
 use Rattle.vm_memory_base.specs.Table.{Table}
 use Rattle.vm_memory_base.specs.Transfer.{Next}
 use Rattle.vm_memory_base.specs.declared.address.GuestAddress.{GuestAddress}
 use Rattle.vm_memory_base.specs.declared.bitmap.BitmapId.{BitmapId}
-use Rattle.vm_memory_base.specs.declared.bitmap.BitmapId.TheVariants.{Block, Space}
-use Rattle.vm_memory_base.specs.declared.io.script.SourceStep.{SourceStep}
+use Rattle.vm_memory_base.specs.declared.bitmap.BitmapId.TheVariants.{Block}
 use Rattle.vm_memory_base.specs.declared.iotlb.Permissions.{Permissions}
 use Rattle.vm_memory_base.specs.declared.iotlb.Permissions.TheVariants as permissions
 use Rattle.vm_memory_guest.specs.Access.{Reached, Stretch, onto, meets, meets_at, path, access_of, is_cut, lengthened, stretches, window_of, windows}
 use Rattle.vm_memory_guest.specs.Copy.{after_copy, dirtied_cells}
 use Rattle.vm_memory_guest.specs.Dirt.{pages_at, path_cells, after_write, bytes_read, dirtied, marks_pages}
 use Rattle.vm_memory_guest.specs.Dealt.{received}
-use Rattle.vm_memory_guest.specs.Error.{error_of, of_window}
-use Rattle.vm_memory_guest.specs.Host.{Host, Cell, block_at, byte_at, bytes_at, cells_from, written}
-use Rattle.vm_memory_guest.specs.Layout.{inserted, removed}
+use Rattle.vm_memory_guest.specs.Error.{of_window}
+use Rattle.vm_memory_guest.specs.Host.{Host, Cell, block_at, byte_at, bytes_at, written}
 use Rattle.vm_memory_guest.specs.Lent.{IsMarked, MarksChanges}
-use Rattle.vm_memory_guest.specs.Memory.{Memory, IsOn, Behind, Direct, behind_of, physical, route_behind}
-use Rattle.vm_memory_guest.specs.Region.{Region, Lies, Byte, Bare, Hole, cell, layout_error}
-use Rattle.vm_memory_guest.specs.Typed.{path_given, typed_path, whole_path}
-use Rattle.vm_memory_guest.specs.Window.{Window, bitmap_of, with_bitmap}
+use Rattle.vm_memory_guest.specs.Memory.{Memory, Behind, Direct, physical, route_behind}
+use Rattle.vm_memory_guest.specs.Region.{Region, Lies, Byte, Bare, Hole, cell}
+use Rattle.vm_memory_guest.specs.Typed.{path_given, whole_path}
+use Rattle.vm_memory_guest.specs.Window.{Window, with_bitmap}
 use Rattle.vm_memory_guest.specs.declared.region.GuestMemoryError.{GuestMemoryError}
 use Rattle.vm_memory_guest.specs.declared.region.GuestMemoryError.TheVariants as errors
-use Rattle.vm_memory_guest.specs.declared.region.GuestRegionCollectionError.{GuestRegionCollectionError}
-use Rattle.vm_memory_base.specs.Table as table
-use Rattle.vm_memory.specs.Copy.{copied, has_block, ends_inside}
-use Rattle.vm_memory.specs.Machine.{Step, Run, outcome}
-use Rattle.vm_memory.specs.Made.{if_there, new_layout, rest_layout, with_host}
-use Rattle.vm_memory.specs.Tables.{changed_table}
-use Rattle.vm_memory.specs.Reply.{reached_by, answer_of, reply_of, writes, writes_whole}
-use Rattle.vm_memory.specs.Rounds.{patched, patched_by, patched_with, bytes_of, pages_of, image_now, image_after, MirrorsBlock, Cover, IsTracked, IsDirect, RunsDirectly, KeepsImage}
-use Rattle.vm_memory.specs.State.{State, named}
-use Rattle.vm_memory.specs.Transfers.{dealt_to, moved_as}
-use Rattle.vm_memory.specs.Typed.{integer_of, fits_width, stores, stores_bytes}
-use Rattle.vm_memory.specs.declared.machine.command.BlockRange.{BlockRange}
-use Rattle.vm_memory.specs.declared.machine.command.Command.{Command}
+use Rattle.vm_memory.specs.Machine.{Step}
+use Rattle.vm_memory.specs.Reply.{reached_by, answer_of, reply_of}
+use Rattle.vm_memory.specs.Rounds.{patched, patched_by, patched_with, bytes_of, pages_of, image_now, image_after, MirrorsBlock, Cover, IsTracked}
+use Rattle.vm_memory.specs.State.{State}
 use Rattle.vm_memory.specs.declared.machine.command.Command.TheVariants as command
 use Rattle.vm_memory.specs.declared.machine.command.Reply.{Reply}
 use Rattle.vm_memory.specs.declared.machine.command.Reply.TheVariants as reply
@@ -80,7 +66,7 @@ get_or-patched size pages now image k l =
 
 -- ---- what is taken from the laws of page sets and of writes
 
-abbrev AreListed : Type 0
+abbrev pub AreListed : Type 0
 AreListed = (p : Pages) (page : ℕ) → Contains (dirty_pages (Some p)) page ↔ (get_or p.flags page false ≡ true)
 
 -- an image has the bytes of the block outside the dirty pages
@@ -135,7 +121,7 @@ module _ (are_listed : AreListed) where
 -- ---- writes without translation
 
 -- a byte that marks its own place in its block's bitmap
-abbrev MarksItsCell : Reached → Type 0
+abbrev pub MarksItsCell : Reached → Type 0
 MarksItsCell x = (x.bitmap ≡ Block x.cell.block) × (x.mark ≡ x.cell.offset)
 
 marks_first : (x p : ℕ) (l : Lies) (rest : List Reached) → All MarksItsCell rest
@@ -193,14 +179,14 @@ marks_stretches [] own = All-nil (λ (s : Stretch). MarksItsCell s.first)
 marks_stretches (x ∷ xs) own =
     marks_stretch x (stretches xs) (All-head MarksItsCell x xs own) (marks_stretches xs (All-tail MarksItsCell x xs own))
 
-abbrev MarksItself : Window → Type 0
+abbrev pub MarksItself : Window → Type 0
 MarksItself w = (w.bitmap.id ≡ Block w.block.0) × (w.bitmap.base ≡ w.offset)
 
-windows_mark : (xs : List Reached) → All MarksItsCell xs → All MarksItself (windows xs)
+pub windows_mark : (xs : List Reached) → All MarksItsCell xs → All MarksItself (windows xs)
 windows_mark xs own = All-map MarksItself window_of (stretches xs) (marks_stretches xs own)
 
 -- the path of cells that mark their own places
-abbrev itself : Cell → Reached
+abbrev pub itself : Cell → Reached
 itself c = record {
   cell = c;
   home = record { start = 0; len = 0; place = None };
@@ -209,7 +195,7 @@ itself c = record {
   mark = c.offset;
 }
 
-itself_marks : (cs : List Cell) → All MarksItsCell (map itself cs)
+pub itself_marks : (cs : List Cell) → All MarksItsCell (map itself cs)
 itself_marks [] = All-nil MarksItsCell
 itself_marks (c ∷ cs) = All-cons MarksItsCell _ (map itself cs) (refl, refl) (itself_marks cs)
 
@@ -221,7 +207,7 @@ dirtied-itself : (cs : List Cell) (host : Host PageSet) → dirtied (map itself 
 dirtied-itself [] host = refl
 dirtied-itself (c ∷ cs) host = dirtied-itself cs (marks_pages (Block c.block) c.offset 1 host)
 
-after_copy-is : (from to : List Cell) (host : Host PageSet)
+pub after_copy-is : (from to : List Cell) (host : Host PageSet)
     → after_write (map itself to) (bytes_at host.blocks from) host ≡ after_copy from to host
 after_copy-is from to host =
     let start : List Cell → Host PageSet = λ cs. record host { blocks = written cs (bytes_at host.blocks from) host.blocks } in
@@ -384,7 +370,7 @@ module _ (block : ℕ) (image : List ℕ) (host after : Host PageSet) (ws : List
 -- ---- what a harvest keeps
 
 -- what is taken from the laws of page sets: clean pages are as large and as many
-abbrev CleanedStay : Type 0
+abbrev pub CleanedStay : Type 0
 CleanedStay = (set : PageSet) → shape (cleaned set) ≡ shape set
 
 module _ (are_listed : AreListed) (cleaned_stay : CleanedStay) (block : ℕ) (image : List ℕ) (host : Host PageSet) (kept : KeepsBlock block image host)
@@ -423,236 +409,6 @@ module _ (are_listed : AreListed) (cleaned_stay : CleanedStay) (block : ℕ) (im
           get_or-set_other host.bitmaps b block (cleaned set) None other in
           rw (cond-false (b == block) (patched_with block host (dirty_pages set) image) image f, after) kept)
     ]
-
--- ---- what a step keeps
-
--- want of memory patches nothing
-image_after-memory : (block : ℕ) (host : Host PageSet) (c : Command) (image : List ℕ)
-    → image_after block host c reply.Memory image ≡ image
-image_after-memory block host (command.Harvest (Block b)) image = refl
-image_after-memory block host c image = refl
-
-same_host : {X : Type 0} (old : State) (o : Option X) (answer : X → Reply × State)
-    → ((x : X) → (answer x).1.host ≡ old.host) → (if_there old o answer).1.host ≡ old.host
-same_host old None answer same = refl
-same_host old (Some x) answer same = same x
-
-layout_keeps_host : (old : State) (rs : List Region) (e : Option GuestRegionCollectionError)
-    → (new_layout old rs e).1.host ≡ old.host
-layout_keeps_host old rs None = refl
-layout_keeps_host old rs (Some e) = refl
-
-rest_keeps_host : (old : State) (o : Option (List Region × Region)) → (rest_layout old o).1.host ≡ old.host
-rest_keeps_host old None = refl
-rest_keeps_host old (Some p) = refl
-
-module _ (are_listed : AreListed) (cleaned_stay : CleanedStay) (laws : WriteLaws) (block : ℕ) where
-  module _ (image : List ℕ) (old new : State) (kept : KeepsBlock block image old.host) where
-    stays : (r : Reply) (a : Reply × State) → (r, new) ≡ a → a.1.host ≡ old.host → KeepsBlock block image new.host
-    stays r a e same =
-        subst (KeepsBlock block image) (sym (ap (λ (p : Reply × State). p.1.host) e ∙ same)) kept
-
-    -- a command that leaves another host
-    leaves : (r : Reply) (a : Reply × Host PageSet) → (r, new) ≡ with_host old a → KeepsBlock block image a.1
-        → KeepsBlock block image new.host
-    leaves r a e after = subst (KeepsBlock block image) (sym (ap (λ (p : Reply × State). p.1.host) e)) after
-
-    reached_marks : (m : Memory) → (IsOn m → ⊥) → (a n : ℕ)
-        → All MarksItsCell (reached_by m old.host.tables a n permissions.Write).path
-    reached_marks m off a n = direct_marks (behind_of m.iommu) off m.regions old.host.tables a n permissions.Write
-
-    -- a write, whatever it replies
-    wrote : (a : ℕ) (bytes : List ℕ) (told : Memory → Reply) (r : Reply) (o : Option Memory) → IfSome o (λ m. IsOn m → ⊥)
-        → (r, new)
-        ≡ if_there old o (λ m. let reached = reached_by m old.host.tables a (length bytes) permissions.Write in
-        with_host old (told m, after_write reached.path bytes old.host))
-        → KeepsBlock block image new.host
-    wrote a bytes told r None off e = stays r (reply.NoSuch, old) e refl
-    wrote a bytes told r (Some m) off e =
-        let reached = reached_by m old.host.tables a (length bytes) permissions.Write in
-        leaves r (told m, after_write reached.path bytes old.host) e
-        (write_keeps laws reached.path (reached_marks m off a (length bytes)) bytes old.host block image kept)
-
-    got : (a n : ℕ) (until_full : Bool) (source : List SourceStep) (told : Result ℕ GuestMemoryError → Reply) (r : Reply)
-        (o : Option Memory) → IfSome o (λ m. IsOn m → ⊥)
-        → (r, new) ≡ if_there old o (λ m. let d = dealt_to until_full m old.host a n source in with_host old (told d.answer, d.host))
-        → KeepsBlock block image new.host
-    got a n until_full source told r None off e = stays r (reply.NoSuch, old) e refl
-    got a n until_full source told r (Some m) off e =
-        let reached = reached_by m old.host.tables a n permissions.Write in
-        let d = dealt_to until_full m old.host a n source in
-        let own = windows_mark reached.path (reached_marks m off a n) in
-        let changes = laws.lent_mark (option_map error_of reached.fault) until_full (windows reached.path) 0 (map next_of source)
-        old.host in
-        leaves r (told d.answer, d.host) e (lent_keeps block image old.host d.host (windows reached.path) own changes kept)
-
-    -- the bytes of a store, if its value fits
-    fitting : (m : Memory) → (IsOn m → ⊥) → (a : ℕ) (bytes : List ℕ) (b : Bool)
-        → KeepsBlock block image (cond b (stores_bytes m old.host a bytes) (reply.BadRange, old.host)).1
-    fitting m off a bytes true =
-        let n = length bytes in
-        let reached = reached_by m old.host.tables a n permissions.Write in
-        let own = whole_marks n reached.path (option_map error_of reached.fault) (reached_marks m off a n) in
-        write_keeps laws (path_given (typed_path n reached)) own bytes old.host block image kept
-    fitting m off a bytes false = kept
-
-    stored : (a : ℕ) (w : int.Width) (value : ℕ) (r : Reply) (o : Option Memory) → IfSome o (λ m. IsOn m → ⊥)
-        → (r, new) ≡ if_there old o (λ m. with_host old (stores m old.host a w value))
-        → KeepsBlock block image new.host
-    stored a w value r None off e = stays r (reply.NoSuch, old) e refl
-    stored a w value r (Some m) off e =
-        leaves r (stores m old.host a w value) e (fitting m off a (to_le_bytes w value) (fits_width w value))
-
-    copied_keeps : (from to : BlockRange) (r : Reply) (there fits : Bool)
-        → (r, new) ≡ with_host old
-        (cond there (cond fits (reply.Done, copied old.host from to) (reply.BadRange, old.host)) (reply.NoSuch, old.host))
-        → KeepsBlock block image new.host
-    copied_keeps from to r false fits e = stays r (reply.NoSuch, old) e refl
-    copied_keeps from to r true false e = stays r (reply.BadRange, old) e refl
-    copied_keeps from to r true true e =
-        let n = min from.len to.len in
-        let source = cells_from from.block from.offset n in
-        let cs = cells_from to.block to.offset n in
-        subst (KeepsBlock block image)
-        (after_copy-is source cs old.host ∙ sym (ap (λ (p : Reply × State). p.1.host) e))
-        (write_keeps laws (map itself cs) (itself_marks cs) (bytes_at old.host.blocks source) old.host block image kept)
-
-    harvested : (b : ℕ) (r : Reply) (o : Option PageSet) → slice_get old.host.bitmaps b ≡ o
-        → (r, new) ≡ if_there old o
-        (λ set. with_host old (reply.Pages (dirty_pages set), with_bitmap old.host (Block b) (cleaned set)))
-        → KeepsBlock block (image_after block old.host (command.Harvest (Block b)) r image) new.host
-    harvested b r None there e =
-        subst
-        (λ (p : Reply × State). KeepsBlock block (image_after block old.host (command.Harvest (Block b)) p.0 image) p.1.host)
-        (sym e) kept
-    harvested b r (Some set) there e =
-        subst
-        (λ (p : Reply × State). KeepsBlock block (image_after block old.host (command.Harvest (Block b)) p.0 image) p.1.host)
-        (sym e) (harvest_keeps are_listed cleaned_stay block image old.host kept b set there)
-
-    tabled : (number : ℕ) (call : table.TableCall) (r : Reply) (o : Option table.Table) (over : Bool)
-        → (r, new) ≡ with_host old (changed_table old.host number o over call) → KeepsBlock block image new.host
-    tabled number call r None over e = stays r _ e refl
-    tabled number call r (Some t) true e = stays r _ e refl
-    tabled number call r (Some t) false e =
-        subst (KeepsBlock block image) (sym (ap (λ (p : Reply × State). p.1.host) e)) kept
-
-    answered : (c : Command) (r : Reply) → IsDirect old c → (r, new) ≡ outcome old c
-        → KeepsBlock block (image_after block old.host c r image) new.host
-    answered (command.FromRegions ns) r direct e =
-        stays r _ e (same_host old (named old.regions ns) _ (λ rs. layout_keeps_host old rs (layout_error rs)))
-    answered (command.Insert place number) r direct e =
-        stays r _ e
-        (same_host old (slice_get old.layouts place) _
-        (λ rs. same_host old (slice_get old.regions number) _
-        (λ q. layout_keeps_host old (inserted (λ x. x) rs q) (layout_error (inserted (λ x. x) rs q)))))
-    answered (command.Remove place base size) r direct e =
-        stays r _ e
-        (same_host old (slice_get old.layouts place) _ (λ rs. rest_keeps_host old (removed (λ q. q) rs base.0 size)))
-    answered (command.Plain layout) r direct e =
-        stays r _ e (same_host old (slice_get old.layouts layout) _ (λ rs. refl))
-    answered (command.NewMemory layout translator space on) r direct e =
-        stays r _ e
-        (same_host old (slice_get old.layouts layout) _
-        (λ rs. same_host old (slice_get old.translators translator) _
-        (λ table. same_host old (slice_get old.host.spaces space) _ (λ pages. refl))))
-    answered (command.ReplaceBackend memory layout) r direct e =
-        stays r _ e
-        (same_host old (slice_get old.memories memory) _
-        (λ m. same_host old m.iommu _
-        (λ s. same_host old (slice_get old.layouts layout) _ (λ rs. refl))))
-    answered (command.Enable memory on) r direct e =
-        stays r _ e (same_host old (slice_get old.memories memory) _ (λ m. same_host old m.iommu _ (λ s. refl)))
-    answered (command.Read memory addr n) r direct e =
-        stays r _ e (same_host old (slice_get old.memories memory) _ (λ m. refl))
-    answered (command.Write memory addr bytes) r direct e =
-        wrote addr.0 bytes (λ m. (writes m old.host addr.0 bytes).0) r (slice_get old.memories memory) direct e
-    answered (command.ReadSlice memory addr n) r direct e =
-        stays r _ e (same_host old (slice_get old.memories memory) _ (λ m. refl))
-    answered (command.WriteSlice memory addr bytes) r direct e =
-        wrote addr.0 bytes (λ m. (writes_whole m old.host addr.0 bytes).0) r (slice_get old.memories memory) direct e
-    answered (command.Store memory width addr value) r direct e =
-        stored addr.0 (integer_of width) value r (slice_get old.memories memory) direct e
-    answered (command.Load memory width addr) r direct e =
-        stays r _ e (same_host old (slice_get old.memories memory) _ (λ m. refl))
-    answered (command.ReadFrom memory addr n source) r direct e =
-        got addr.0 n false source (moved_as false n) r (slice_get old.memories memory) direct e
-    answered (command.ReadExactFrom memory addr n source) r direct e =
-        got addr.0 n true source (moved_as true n) r (slice_get old.memories memory) direct e
-    answered (command.WriteTo memory addr n sink) r direct e =
-        stays r _ e (same_host old (slice_get old.memories memory) _ (λ m. refl))
-    answered (command.WriteAllTo memory addr n sink) r direct e =
-        stays r _ e (same_host old (slice_get old.memories memory) _ (λ m. refl))
-    answered (command.CheckRange memory addr n access) r direct e =
-        stays r _ e (same_host old (slice_get old.memories memory) _ (λ m. refl))
-    answered (command.Copy from to) r direct e =
-        copied_keeps from to r (has_block old.host from && has_block old.host to)
-        (ends_inside old.host from && ends_inside old.host to) e
-    answered (command.Set number iova to len perm) r direct e =
-        tabled number (table.Set iova.0 to.0 len perm) r (slice_get old.host.tables number) (table.overruns iova.0 len) e
-    answered (command.Invalidate number iova len) r direct e =
-        tabled number (table.Invalidate iova.0 len) r (slice_get old.host.tables number) (table.overruns iova.0 len) e
-    answered (command.InvalidateAll number) r direct e =
-        tabled number table.InvalidateAll r (slice_get old.host.tables number) (table.overruns 0 0) e
-    answered (command.Lookup number iova len access) r direct e =
-        stays r _ e (same_host old (slice_get old.host.tables number) _ (λ t. refl))
-    answered (command.Dirty id) r direct e = stays r _ e (same_host old (bitmap_of old.host id) _ (λ set. refl))
-    answered (command.Harvest (Block b)) r direct e = harvested b r (slice_get old.host.bitmaps b) refl e
-    answered (command.Harvest (Space s)) r direct e = spaced s r (slice_get old.host.spaces s) e
-      where
-        spaced : (s : ℕ) (r : Reply) (o : Option PageSet)
-            → (r, new) ≡ if_there old o
-            (λ set. with_host old (reply.Pages (dirty_pages set), with_bitmap old.host (Space s) (cleaned set)))
-            → KeepsBlock block image new.host
-        spaced s r None e = stays r _ e refl
-        spaced s r (Some set) e =
-            subst (KeepsBlock block image) (sym (ap (λ (p : Reply × State). p.1.host) e)) kept
-
-    pub step_keeps : (c : Command) (r : Reply) → IsDirect old c → Step old c r new
-        → KeepsBlock block (image_after block old.host c r image) new.host
-    step_keeps c r direct step = elim step [
-      | inl e ↦ answered c r direct e
-      | inr want ↦
-          rw (want.0, image_after-memory block old.host c image)
-          (subst (λ (s : State). KeepsBlock block image s.host) (sym want.2) kept)
-    ]
-
-  -- at every state of a run
-  pub run_keeps : (image : List ℕ) (old : State) (cs : List Command) (rs : List Reply) (new : State) (run : Run old cs rs new)
-      → KeepsBlock block image old.host → RunsDirectly old cs rs new run → KeepsImage block image old cs rs new run
-  run_keeps image old [] [] new run kept direct =
-      let last = subst (λ (s : State). KeepsBlock block image s.host) (sym run) kept in
-      mirrors_from_clean are_listed (pages_of block new.host) (bytes_of block new.host) image last.clean
-  run_keeps image old [] (r ∷ rs) new run kept direct = absurd run
-  run_keeps image old (c ∷ cs) [] new run kept direct = absurd run
-  run_keeps image old (c ∷ cs) (r ∷ rs) new run kept direct =
-      let next = step_keeps image old run.0 kept c r direct.0 run.1 in (
-        mirrors_from_clean are_listed (pages_of block old.host) (bytes_of block old.host) image kept.clean,
-        run_keeps (image_after block old.host c r image) run.0 cs rs new run.2 next direct.1,
-      )
-
-  -- no harvest of the block's bitmap, no patch
-  unpatched : (image : List ℕ) (host : Host PageSet) (c : Command) (r : Reply) → c ≢ command.Harvest (Block block)
-      → image_after block host c r image ≡ image
-  unpatched image host (command.Harvest (Block b)) (reply.Pages pages) other =
-      cond-false (b == block) (patched_with block host pages image) image
-      (false_from_ne_true (b == block) (λ t. other (ap (λ (i : ℕ). command.Harvest (Block i)) (eqb-true b block t))))
-  unpatched image host c r other = refl
-
-  -- and the image still mirrors the block at the end
-  pub unharvested_run_keeps : (image : List ℕ) (old : State) (cs : List Command) (rs : List Reply) (new : State) (run : Run old cs rs new)
-      → KeepsBlock block image old.host → RunsDirectly old cs rs new run
-      → All (λ (c : Command). c ≢ command.Harvest (Block block)) cs → KeepsBlock block image new.host
-  unharvested_run_keeps image old [] [] new run kept direct none =
-      subst (λ (s : State). KeepsBlock block image s.host) (sym run) kept
-  unharvested_run_keeps image old [] (r ∷ rs) new run kept direct none = absurd run
-  unharvested_run_keeps image old (c ∷ cs) [] new run kept direct none = absurd run
-  unharvested_run_keeps image old (c ∷ cs) (r ∷ rs) new run kept direct none =
-      let Other : Command → Type 0 = λ d. d ≢ command.Harvest (Block block) in
-      let same = unpatched image old.host c r (All-head Other c cs none) in
-      let next = step_keeps image old run.0 kept c r direct.0 run.1 in
-      unharvested_run_keeps image run.0 cs rs new run.2
-      (subst (λ (a : List ℕ). KeepsBlock block a run.0.host) same next) direct.1 (All-tail Other c cs none)
 
 -- ---- copies and reads
 

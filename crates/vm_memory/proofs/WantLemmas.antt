@@ -1,8 +1,8 @@
--- What a command answers where memory is not wanting is never that it is.
-use Rattle.std.proofs.Common.{◌≡◌, ℕ, zero, suc, ◌+◌, ◌-◌, ◌%◌, List, [], ◌∷◌, map, take, length, Bool, true, false, ◌&&◌, ◌==◌, nat_lt, nat_le, cond, Option, Some, None, Result, Ok, Err, IfErr, IfSome, option_map, slice_get, subst, refl, sym, inl, inr}
+-- What calls reply where memory is not wanting is never that it is.
+use Rattle.std.proofs.Common.{◌≡◌, ℕ, zero, suc, ◌+◌, ◌-◌, ◌%◌, List, [], ◌∷◌, map, take, length, Bool, true, false, ◌&&◌, ◌==◌, nat_lt, nat_le, cond, Option, Some, None, Result, Ok, Err, IfErr, IfSome, option_map, subst, refl, sym, inl, inr}
 use Rattle.std.proofs.lemmas.Bool.{true≢false}
 use Rattle.std.specs.Int as int
-use Rattle.std.specs.Int.{to_le_bytes, byte_len}
+use Rattle.std.specs.Int.{byte_len}
 use Rattle.vm_memory_base.specs.Lookup.{mapped_ranges}
 use Rattle.vm_memory_base.specs.Pages.{PageSet}
 use Rattle.vm_memory_base.specs.Script.{next_of, taking_of}
@@ -22,33 +22,25 @@ use Rattle.vm_memory_guest.specs.Dealt.{Given, received, given_out, after_sent}
 use Rattle.vm_memory_guest.specs.Dirt.{bytes_read}
 use Rattle.vm_memory_guest.specs.Error.{error_of, of_window}
 use Rattle.vm_memory_guest.specs.Host.{Host}
-use Rattle.vm_memory_guest.specs.Layout.{inserted, removed}
 use Rattle.vm_memory_guest.specs.Memory.{Memory}
 use Rattle.vm_memory_guest.specs.Region.{Region, last, first_error, neighbours_error, layout_error}
 use Rattle.vm_memory_guest.specs.Transfer.{all_of, ended}
 use Rattle.vm_memory_guest.specs.Typed.{is_uncut, whole_path}
-use Rattle.vm_memory_guest.specs.Window.{Window, bitmap_of}
+use Rattle.vm_memory_guest.specs.Window.{Window}
 use Rattle.vm_memory_guest.specs.declared.region.GuestMemoryError.{GuestMemoryError}
 use Rattle.vm_memory_guest.specs.declared.region.GuestMemoryError.TheVariants as errors
 use Rattle.vm_memory_guest.specs.declared.region.GuestRegionCollectionError.{GuestRegionCollectionError}
 use Rattle.vm_memory_guest.specs.declared.region.GuestRegionCollectionError.TheVariants as layouts
-use Rattle.vm_memory.specs.Copy as copy
-use Rattle.vm_memory.specs.Copy.{has_block, ends_inside}
-use Rattle.vm_memory.specs.Machine.{MayWant, Step, outcome}
-use Rattle.vm_memory.specs.Made.{if_there, new_layout, rest_layout, with_host}
-use Rattle.vm_memory.specs.Reply.{reached_by, reads, reads_whole, reply_of, reply_of_error, writes, writes_whole}
-use Rattle.vm_memory.specs.State.{State, named}
-use Rattle.vm_memory.specs.Tables.{changed_table, looks_up}
+use Rattle.vm_memory.specs.Reply.{reached_by, reads, reads_whole, reply_of, reply_of_error, reply_of_layout_error, writes, writes_whole}
+use Rattle.vm_memory.specs.Tables.{looks_up}
 use Rattle.vm_memory.specs.Transfers.{beside_taken, dealt_to, given_by, moved_as, receives, sends}
-use Rattle.vm_memory.specs.Typed.{fits_width, integer_of, loads, stores, stores_bytes}
-use Rattle.vm_memory.specs.declared.machine.command.Command.{Command}
-use Rattle.vm_memory.specs.declared.machine.command.Command.TheVariants as command
+use Rattle.vm_memory.specs.Typed.{loads, stores_bytes}
 use Rattle.vm_memory.specs.declared.machine.command.Reply.{Reply}
 use Rattle.vm_memory.specs.declared.machine.command.Reply.TheVariants as reply
 use Rattle.vm_memory.proofs.TransferLemmas.{RefusedLaw, is_io, scripts_fail_so}
 
 -- replies and errors that do not tell of a want of memory
-abbrev IsAnswer : Reply → Type 0
+abbrev pub IsAnswer : Reply → Type 0
 IsAnswer reply.Memory = ⊥
 IsAnswer r = Unit {0}
 
@@ -56,7 +48,7 @@ abbrev IsFault : GuestMemoryError → Type 0
 IsFault errors.Memory = ⊥
 IsFault e = Unit {0}
 
-abbrev IsLayoutFault : GuestRegionCollectionError → Type 0
+abbrev pub IsLayoutFault : GuestRegionCollectionError → Type 0
 IsLayoutFault layouts.Memory = ⊥
 IsLayoutFault e = Unit {0}
 
@@ -269,187 +261,89 @@ neighbours_fault (q ∷ r ∷ rs) = go (nat_lt r.start q.start) (nat_le r.start 
     go false true h = tt
     go false false h = h
 
-layout_fault : (rs : List Region) → IfSome (layout_error rs) IsLayoutFault
+pub layout_fault : (rs : List Region) → IfSome (layout_error rs) IsLayoutFault
 layout_fault [] = tt
 layout_fault (r ∷ rs) = neighbours_fault (r ∷ rs)
 
--- ---- commands
+-- ---- what commands reply
 
-module _ (old : State) where
-  there : {X : Type 0} (o : Option X) (answer : X → Reply × State) → ((x : X) → IsAnswer (answer x).0)
-      → IsAnswer (if_there old o answer).0
-  there None answer each = tt
-  there (Some x) answer each = each x
+module _ (host : Host PageSet) (m : Memory) (a : ℕ) where
+  pub read : (n : ℕ) → IsAnswer (reads m host a n)
+  read n =
+      let reached = reached_by m host.tables a n permissions.Read in
+      told_of (λ (count : ℕ). reply.Bytes (bytes_read reached.path host))
+      (counted (length reached.path) (kept reached) n) (λ count. tt)
+      (counted_fault (length reached.path) n (kept reached) (access_fault reached))
 
-  made_by : (rs : List Region) (o : Option GuestRegionCollectionError) → IfSome o IsLayoutFault
-      → IsAnswer (new_layout old rs o).0
-  made_by rs None h = tt
-  made_by rs (Some layouts.NoMemoryRegion) h = tt
-  made_by rs (Some layouts.MemoryRegionOverlap) h = tt
-  made_by rs (Some layouts.UnsortedMemoryRegions) h = tt
-  made_by rs (Some layouts.Memory) h = h
+  pub read_whole : (n : ℕ) → IsAnswer (reads_whole m host a n)
+  read_whole n =
+      let reached = reached_by m host.tables a n permissions.Read in
+      told_of (λ (done : Unit {0}). reply.Bytes (bytes_read reached.path host))
+      (exactly partial (length reached.path) (kept reached) n) (λ done. tt)
+      (exactly_fault (length reached.path) n (kept reached) (access_fault reached))
 
-  made : (rs : List Region) → IsAnswer (new_layout old rs (layout_error rs)).0
-  made rs = made_by rs (layout_error rs) (layout_fault rs)
+  pub loaded : (w : int.Width) → IsAnswer (loads m host a w)
+  loaded w =
+      let reached = reached_by m host.tables a (byte_len w) permissions.Read in
+      told_of (λ (xs : List Reached). reply.Value (int.from_le_bytes w (bytes_read xs host)))
+      (whole_path (byte_len w) reached.path (kept reached)) (λ xs. tt)
+      (typed_fault (byte_len w) reached.path (kept reached) (access_fault reached))
 
-  left : (o : Option (List Region × Region)) → IsAnswer (rest_layout old o).0
-  left None = tt
-  left (Some p) = tt
+  pub wrote : (bytes : List ℕ) → IsAnswer (writes m host a bytes).0
+  wrote bytes =
+      let reached = reached_by m host.tables a (length bytes) permissions.Write in
+      told_of reply.Count (counted (length reached.path) (kept reached) (length bytes)) (λ count. tt)
+      (counted_fault (length reached.path) (length bytes) (kept reached) (access_fault reached))
 
-  stored : (m : Memory) (a : ℕ) (w : int.Width) (value : ℕ)
-      → IsAnswer (with_host old (stores m old.host a w value)).0
-  stored m a w value = go (fits_width w value)
-    where
-      bytes : List ℕ
-      bytes = to_le_bytes w value
+  pub wrote_whole : (bytes : List ℕ) → IsAnswer (writes_whole m host a bytes).0
+  wrote_whole bytes =
+      let reached = reached_by m host.tables a (length bytes) permissions.Write in
+      told_of (λ (done : Unit {0}). reply.Done)
+      (exactly partial (length reached.path) (kept reached) (length bytes)) (λ done. tt)
+      (exactly_fault (length reached.path) (length bytes) (kept reached) (access_fault reached))
 
-      go : (fits : Bool)
-          → IsAnswer (with_host old (cond fits (stores_bytes m old.host a bytes) (reply.BadRange, old.host))).0
-      go false = tt
-      go true =
-          let reached = reached_by m old.host.tables a (length bytes) permissions.Write in
-          told_of (λ (xs : List Reached). reply.Done) (whole_path (length bytes) reached.path (kept reached))
-          (λ xs. tt) (typed_fault (length bytes) reached.path (kept reached) (access_fault reached))
+  pub stored : (bytes : List ℕ) → IsAnswer (stores_bytes m host a bytes).0
+  stored bytes =
+      let reached = reached_by m host.tables a (length bytes) permissions.Write in
+      told_of (λ (xs : List Reached). reply.Done) (whole_path (length bytes) reached.path (kept reached))
+      (λ xs. tt) (typed_fault (length bytes) reached.path (kept reached) (access_fault reached))
 
-  copied : (there fits : Bool) (host : Host PageSet) → IsAnswer (with_host old
-      (cond there (cond fits (reply.Done, host) (reply.BadRange, old.host)) (reply.NoSuch, old.host))).0
-  copied false fits host = tt
-  copied true false host = tt
-  copied true true host = tt
+  moved : (whole : Bool) (n : ℕ) (answer : Result ℕ GuestMemoryError) → IfErr answer IsFault → IsAnswer (moved_as whole n answer)
+  moved false n answer fault = told_of reply.Count answer (λ count. tt) fault
+  moved true n answer fault =
+      told_of (λ (done : Unit {0}). reply.Done) (all_of partial n answer) (λ done. tt) (all_fault n answer fault)
 
-  tabled : (number : ℕ) (call : table.TableCall) (o : Option table.Table) (over : Bool)
-      → IsAnswer (with_host old (changed_table old.host number o over call)).0
-  tabled number call None over = tt
-  tabled number call (Some t) true = tt
-  tabled number call (Some t) false = tt
+  pub got : RefusedLaw → (whole : Bool) (n : ℕ) (source : List SourceStep) → IsAnswer (receives whole m host a n source).0
+  got refused whole n source =
+      let reached = reached_by m host.tables a n permissions.Write in
+      let d = dealt_to whole m host a n source in
+      moved whole n d.answer
+      (received_fault refused (kept reached) (access_fault reached) whole reached.path source host d.answer refl)
 
-  looked_up : (f : table.Says) (iova len : ℕ) (access : Permissions) → IsAnswer (looks_up f iova len access)
-  looked_up f iova len access = go (table.is_allowed f iova len access)
-    where
-      go : (b : Bool) → IsAnswer (cond b (reply.Pieces (mapped_ranges (table.pieces f iova len)))
-          (reply.Fails (record { misses = table.misses f iova len; access_fails = table.failures f iova len access })))
-      go true = tt
-      go false = tt
+  given : (n : ℕ) (steps : List SinkStep)
+      → IfErr (given_by (reached_by m host.tables a n permissions.Read) n steps).answer IsFault
+  given n steps =
+      let reached = reached_by m host.tables a n permissions.Read in
+      given_fault (kept reached) (access_fault reached) (windows reached.path) 0
+      (record { next = map taking_of steps; room = Some n }) (sinks_fail_so steps)
 
-  module _ (m : Memory) (a : ℕ) where
-    read : (n : ℕ) → IsAnswer (reads m old.host a n)
-    read n =
-        let reached = reached_by m old.host.tables a n permissions.Read in
-        told_of (λ (count : ℕ). reply.Bytes (bytes_read reached.path old.host))
-        (counted (length reached.path) (kept reached) n) (λ count. tt)
-        (counted_fault (length reached.path) n (kept reached) (access_fault reached))
+  pub gave : (whole : Bool) (n : ℕ) (steps : List SinkStep) → IsAnswer (sends whole m host a n steps)
+  gave whole n steps =
+      let reached = reached_by m host.tables a n permissions.Read in
+      let g = given_by reached n steps in
+      beside_told (take g.taken (bytes_read reached.path host)) (moved_as whole n g.answer)
+      (moved whole n g.answer (given n steps))
 
-    read_whole : (n : ℕ) → IsAnswer (reads_whole m old.host a n)
-    read_whole n =
-        let reached = reached_by m old.host.tables a n permissions.Read in
-        told_of (λ (done : Unit {0}). reply.Bytes (bytes_read reached.path old.host))
-        (exactly partial (length reached.path)
-        (kept reached) n) (λ done. tt)
-        (exactly_fault (length reached.path) n (kept reached) (access_fault reached))
+pub looked_up : (f : table.Says) (iova len : ℕ) (access : Permissions) → IsAnswer (looks_up f iova len access)
+looked_up f iova len access = go (table.is_allowed f iova len access)
+  where
+    go : (b : Bool) → IsAnswer (cond b (reply.Pieces (mapped_ranges (table.pieces f iova len)))
+        (reply.Fails (record { misses = table.misses f iova len; access_fails = table.failures f iova len access })))
+    go true = tt
+    go false = tt
 
-    loaded : (w : int.Width) → IsAnswer (loads m old.host a w)
-    loaded w =
-        let reached = reached_by m old.host.tables a (byte_len w) permissions.Read in
-        told_of (λ (xs : List Reached). reply.Value (int.from_le_bytes w (bytes_read xs old.host)))
-        (whole_path (byte_len w) reached.path (kept reached)) (λ xs. tt)
-        (typed_fault (byte_len w) reached.path (kept reached) (access_fault reached))
-
-    wrote : (bytes : List ℕ) → IsAnswer (writes m old.host a bytes).0
-    wrote bytes =
-        let reached = reached_by m old.host.tables a (length bytes) permissions.Write in
-        told_of reply.Count (counted (length reached.path) (kept reached) (length bytes)) (λ count. tt)
-        (counted_fault (length reached.path) (length bytes) (kept reached) (access_fault reached))
-
-    wrote_whole : (bytes : List ℕ) → IsAnswer (writes_whole m old.host a bytes).0
-    wrote_whole bytes =
-        let reached = reached_by m old.host.tables a (length bytes) permissions.Write in
-        told_of (λ (done : Unit {0}). reply.Done)
-        (exactly partial (length reached.path)
-        (kept reached) (length bytes)) (λ done. tt)
-        (exactly_fault (length reached.path) (length bytes) (kept reached) (access_fault reached))
-
-    moved : (whole : Bool) (n : ℕ) (answer : Result ℕ GuestMemoryError) → IfErr answer IsFault → IsAnswer (moved_as whole n answer)
-    moved false n answer fault = told_of reply.Count answer (λ count. tt) fault
-    moved true n answer fault =
-        told_of (λ (done : Unit {0}). reply.Done) (all_of partial n answer) (λ done. tt) (all_fault n answer fault)
-
-    got : RefusedLaw → (whole : Bool) (n : ℕ) (source : List SourceStep) → IsAnswer (receives whole m old.host a n source).0
-    got refused whole n source =
-        let reached = reached_by m old.host.tables a n permissions.Write in
-        let d = dealt_to whole m old.host a n source in
-        moved whole n d.answer
-        (received_fault refused (kept reached) (access_fault reached) whole reached.path source old.host d.answer refl)
-
-    given : (n : ℕ) (steps : List SinkStep)
-        → IfErr (given_by (reached_by m old.host.tables a n permissions.Read) n steps).answer IsFault
-    given n steps =
-        let reached = reached_by m old.host.tables a n permissions.Read in
-        given_fault (kept reached) (access_fault reached) (windows reached.path) 0
-        (record { next = map taking_of steps; room = Some n }) (sinks_fail_so steps)
-
-    gave : (whole : Bool) (n : ℕ) (steps : List SinkStep) → IsAnswer (sends whole m old.host a n steps)
-    gave whole n steps =
-        let reached = reached_by m old.host.tables a n permissions.Read in
-        let g = given_by reached n steps in
-        beside_told (take g.taken (bytes_read reached.path old.host)) (moved_as whole n g.answer)
-        (moved whole n g.answer (given n steps))
-
-  outcome_told : RefusedLaw → (c : Command) → IsAnswer (outcome old c).0
-  outcome_told refused (command.FromRegions ns) = there (named old.regions ns) _ made
-  outcome_told refused (command.Insert layout region) =
-      there (slice_get old.layouts layout) _
-      (λ rs. there (slice_get old.regions region) _ (λ q. made (inserted (λ x. x) rs q)))
-  outcome_told refused (command.Remove layout base size) =
-      there (slice_get old.layouts layout) _ (λ rs. left (removed (λ q. q) rs base.0 size))
-  outcome_told refused (command.Plain layout) = there (slice_get old.layouts layout) _ (λ rs. tt)
-  outcome_told refused (command.NewMemory layout translator space on) =
-      there (slice_get old.layouts layout) _
-      (λ rs. there (slice_get old.translators translator) _
-      (λ table. there (slice_get old.host.spaces space) _ (λ pages. tt)))
-  outcome_told refused (command.ReplaceBackend memory layout) =
-      there (slice_get old.memories memory) _
-      (λ m. there m.iommu _ (λ s. there (slice_get old.layouts layout) _ (λ rs. tt)))
-  outcome_told refused (command.Enable memory on) =
-      there (slice_get old.memories memory) _ (λ m. there m.iommu _ (λ s. tt))
-  outcome_told refused (command.Read memory addr n) =
-      there (slice_get old.memories memory) _ (λ m. read m addr.0 n)
-  outcome_told refused (command.Write memory addr bytes) =
-      there (slice_get old.memories memory) _ (λ m. wrote m addr.0 bytes)
-  outcome_told refused (command.ReadSlice memory addr n) =
-      there (slice_get old.memories memory) _ (λ m. read_whole m addr.0 n)
-  outcome_told refused (command.WriteSlice memory addr bytes) =
-      there (slice_get old.memories memory) _ (λ m. wrote_whole m addr.0 bytes)
-  outcome_told refused (command.Store memory width addr value) =
-      there (slice_get old.memories memory) _ (λ m. stored m addr.0 (integer_of width) value)
-  outcome_told refused (command.Load memory width addr) =
-      there (slice_get old.memories memory) _ (λ m. loaded m addr.0 (integer_of width))
-  outcome_told refused (command.ReadFrom memory addr n source) =
-      there (slice_get old.memories memory) _ (λ m. got m addr.0 refused false n source)
-  outcome_told refused (command.ReadExactFrom memory addr n source) =
-      there (slice_get old.memories memory) _ (λ m. got m addr.0 refused true n source)
-  outcome_told refused (command.WriteTo memory addr n sink) =
-      there (slice_get old.memories memory) _ (λ m. gave m addr.0 false n sink)
-  outcome_told refused (command.WriteAllTo memory addr n sink) =
-      there (slice_get old.memories memory) _ (λ m. gave m addr.0 true n sink)
-  outcome_told refused (command.CheckRange memory addr n access) =
-      there (slice_get old.memories memory) _ (λ m. tt)
-  outcome_told refused (command.Dirty id) = there (bitmap_of old.host id) _ (λ set. tt)
-  outcome_told refused (command.Harvest id) = there (bitmap_of old.host id) _ (λ set. tt)
-  outcome_told refused (command.Copy from to) =
-      copied (has_block old.host from && has_block old.host to)
-      (ends_inside old.host from && ends_inside old.host to) (copy.copied old.host from to)
-  outcome_told refused (command.Set number iova to len perm) =
-      tabled number (table.Set iova.0 to.0 len perm) (slice_get old.host.tables number) (table.overruns iova.0 len)
-  outcome_told refused (command.Invalidate number iova len) =
-      tabled number (table.Invalidate iova.0 len) (slice_get old.host.tables number) (table.overruns iova.0 len)
-  outcome_told refused (command.InvalidateAll number) =
-      tabled number table.InvalidateAll (slice_get old.host.tables number) (table.overruns 0 0)
-  outcome_told refused (command.Lookup number iova len access) =
-      there (slice_get old.host.tables number) _ (λ t. looked_up (table.says t) iova.0 len access)
-
--- so a command that replies want of memory is one that may
-pub want-may-be : RefusedLaw → (old new : State) (c : Command) → Step old c reply.Memory new → MayWant old c
-want-may-be refused old new c step = elim step [
-  | inl e ↦ absurd (subst (λ (p : Reply × State). IsAnswer p.0) (sym e) (outcome_told old refused c))
-  | inr want ↦ want.1
-]
+pub layout_told : (e : GuestRegionCollectionError) → IsLayoutFault e → IsAnswer (reply_of_layout_error e)
+layout_told layouts.NoMemoryRegion h = tt
+layout_told layouts.MemoryRegionOverlap h = tt
+layout_told layouts.UnsortedMemoryRegions h = tt
+layout_told layouts.Memory h = h

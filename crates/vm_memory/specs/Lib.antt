@@ -1,13 +1,13 @@
 pub mod Copy
 pub mod Tables
 pub mod Transfers
+pub mod Effect
 pub mod Examples
 pub mod History
 pub mod Inside
 pub mod Iommu
 pub mod Lawful
 pub mod Machine
-pub mod Made
 pub mod Memories
 pub mod Parts
 pub mod Reply

@@ -1,4 +1,4 @@
--- A machine as a model: what a command answers and leaves, a step of it, and a run of steps.
+-- A machine as a model: what a command does, a step of it, and a run of steps.
 use Rattle.std.specs.Prelude.{◌≡◌, ◌⊎◌, ◌<◌, true, false, IsTrue, List, [], ◌∷◌, slice_get}
 use Rattle.std.specs.Prelude.{Some, IsSome, IsSomeAnd}
 use Rattle.vm_memory_base.specs.Pages.{dirty_pages, cleaned}
@@ -11,7 +11,8 @@ use Rattle.vm_memory_guest.specs.Window.{bitmap_of, with_bitmap}
 use Rattle.vm_memory.specs.Iommu.{behind}
 use Rattle.vm_memory.specs.State.{State, plain, named}
 use Rattle.vm_memory.specs.Copy.{copies}
-use Rattle.vm_memory.specs.Made.{if_there, new_layout, rest_layout, new_memory, turned, with_host, asks, changes_by}
+use Rattle.vm_memory.specs.Effect.{Effect, Replies, AddsMemory, Leaves, apply}
+use Rattle.vm_memory.specs.Effect.{if_there, laid_out, without, turned, leaves, asks, changes_by}
 use Rattle.vm_memory.specs.Reply.{reads, writes, reads_whole, writes_whole, checks}
 use Rattle.vm_memory.specs.Tables.{changes, looks_up}
 use Rattle.vm_memory.specs.Transfers.{receives, sends}
@@ -28,56 +29,56 @@ use Rattle.vm_memory.specs.declared.machine.command.Command.TheVariants.{WriteTo
 use Rattle.vm_memory.specs.declared.machine.command.Reply.{Reply}
 use Rattle.vm_memory.specs.declared.machine.command.Reply.TheVariants.{Pages, Memory}
 
+-- what a command does, where memory is not wanting
+abbrev pub effect : State → Command → Effect
+effect old (FromRegions numbers) = if_there (named old.regions numbers) (λ rs. laid_out rs (layout_error rs))
+effect old (Insert layout region) =
+    if_there (slice_get old.layouts layout)
+    (λ rs. if_there (slice_get old.regions region)
+    (λ r. let more = inserted (λ q. q) rs r in laid_out more (layout_error more)))
+effect old (Remove layout base size) =
+    if_there (slice_get old.layouts layout) (λ rs. without (removed (λ r. r) rs base.0 size))
+effect old (Plain layout) = if_there (slice_get old.layouts layout) (λ rs. AddsMemory (plain rs))
+effect old (NewMemory layout translator space on) =
+    if_there (slice_get old.layouts layout)
+    (λ rs. if_there (slice_get old.translators translator)
+    (λ table. if_there (slice_get old.host.spaces space)
+    (λ pages. AddsMemory (behind rs table space on))))
+effect old (ReplaceBackend memory layout) =
+    if_there (slice_get old.memories memory)
+    (λ m. if_there m.iommu
+    (λ s. if_there (slice_get old.layouts layout)
+    (λ rs. AddsMemory (record { regions = rs; iommu = Some s }))))
+effect old (Enable memory on) =
+    if_there (slice_get old.memories memory) (λ m. if_there m.iommu (λ s. turned memory m s on))
+effect old (Read memory addr count) = asks old memory (λ m host. reads m host addr.0 count)
+effect old (Write memory addr bytes) = changes_by old memory (λ m host. writes m host addr.0 bytes)
+effect old (ReadSlice memory addr count) = asks old memory (λ m host. reads_whole m host addr.0 count)
+effect old (WriteSlice memory addr bytes) = changes_by old memory (λ m host. writes_whole m host addr.0 bytes)
+effect old (Store memory width addr value) =
+    changes_by old memory (λ m host. stores m host addr.0 (integer_of width) value)
+effect old (Load memory width addr) = asks old memory (λ m host. loads m host addr.0 (integer_of width))
+effect old (ReadFrom memory addr count source) =
+    changes_by old memory (λ m host. receives false m host addr.0 count source)
+effect old (ReadExactFrom memory addr count source) =
+    changes_by old memory (λ m host. receives true m host addr.0 count source)
+effect old (WriteTo memory addr count sink) = asks old memory (λ m host. sends false m host addr.0 count sink)
+effect old (WriteAllTo memory addr count sink) = asks old memory (λ m host. sends true m host addr.0 count sink)
+effect old (CheckRange memory addr count access) = asks old memory (λ m host. checks m host addr.0 count access)
+effect old (Dirty id) = if_there (bitmap_of old.host id) (λ set. Replies (Pages (dirty_pages set)))
+effect old (Harvest id) =
+    if_there (bitmap_of old.host id) (λ set. Leaves (Pages (dirty_pages set)) (with_bitmap old.host id (cleaned set)))
+effect old (Copy from to) = leaves (copies old.host from to)
+effect old (Set number iova to len perm) =
+    leaves (changes old.host number iova.0 len (table.Set iova.0 to.0 len perm))
+effect old (Invalidate number iova len) = leaves (changes old.host number iova.0 len (table.Invalidate iova.0 len))
+effect old (InvalidateAll number) = leaves (changes old.host number 0 0 table.InvalidateAll)
+effect old (Lookup number iova len access) =
+    if_there (slice_get old.host.tables number) (λ t. Replies (looks_up (says t) iova.0 len access))
+
 -- what a command answers and leaves, where memory is not wanting
 abbrev pub outcome : State → Command → Reply × State
-outcome old (FromRegions numbers) =
-    if_there old (named old.regions numbers) (λ rs. new_layout old rs (layout_error rs))
-outcome old (Insert layout region) =
-    if_there old (slice_get old.layouts layout)
-    (λ rs. if_there old (slice_get old.regions region)
-    (λ r. let more = inserted (λ q. q) rs r in new_layout old more (layout_error more)))
-outcome old (Remove layout base size) =
-    if_there old (slice_get old.layouts layout)
-    (λ rs. rest_layout old (removed (λ r. r) rs base.0 size))
-outcome old (Plain layout) = if_there old (slice_get old.layouts layout) (λ rs. new_memory old (plain rs))
-outcome old (NewMemory layout translator space on) =
-    if_there old (slice_get old.layouts layout)
-    (λ rs. if_there old (slice_get old.translators translator)
-    (λ table. if_there old (slice_get old.host.spaces space)
-    (λ pages. new_memory old (behind rs table space on))))
-outcome old (ReplaceBackend memory layout) =
-    if_there old (slice_get old.memories memory)
-    (λ m. if_there old m.iommu
-    (λ s. if_there old (slice_get old.layouts layout)
-    (λ rs. new_memory old (record { regions = rs; iommu = Some s }))))
-outcome old (Enable memory on) =
-    if_there old (slice_get old.memories memory) (λ m. if_there old m.iommu (λ s. turned old memory m s on))
-outcome old (Read memory addr count) = asks old memory (λ m host. reads m host addr.0 count)
-outcome old (Write memory addr bytes) = changes_by old memory (λ m host. writes m host addr.0 bytes)
-outcome old (ReadSlice memory addr count) = asks old memory (λ m host. reads_whole m host addr.0 count)
-outcome old (WriteSlice memory addr bytes) = changes_by old memory (λ m host. writes_whole m host addr.0 bytes)
-outcome old (Store memory width addr value) =
-    changes_by old memory (λ m host. stores m host addr.0 (integer_of width) value)
-outcome old (Load memory width addr) = asks old memory (λ m host. loads m host addr.0 (integer_of width))
-outcome old (ReadFrom memory addr count source) =
-    changes_by old memory (λ m host. receives false m host addr.0 count source)
-outcome old (ReadExactFrom memory addr count source) =
-    changes_by old memory (λ m host. receives true m host addr.0 count source)
-outcome old (WriteTo memory addr count sink) = asks old memory (λ m host. sends false m host addr.0 count sink)
-outcome old (WriteAllTo memory addr count sink) = asks old memory (λ m host. sends true m host addr.0 count sink)
-outcome old (CheckRange memory addr count access) = asks old memory (λ m host. checks m host addr.0 count access)
-outcome old (Dirty id) = if_there old (bitmap_of old.host id) (λ set. (Pages (dirty_pages set), old))
-outcome old (Harvest id) =
-    if_there old (bitmap_of old.host id)
-    (λ set. with_host old (Pages (dirty_pages set), with_bitmap old.host id (cleaned set)))
-outcome old (Copy from to) = with_host old (copies old.host from to)
-outcome old (Set number iova to len perm) =
-    with_host old (changes old.host number iova.0 len (table.Set iova.0 to.0 len perm))
-outcome old (Invalidate number iova len) =
-    with_host old (changes old.host number iova.0 len (table.Invalidate iova.0 len))
-outcome old (InvalidateAll number) = with_host old (changes old.host number 0 0 table.InvalidateAll)
-outcome old (Lookup number iova len access) =
-    if_there old (slice_get old.host.tables number) (λ t. (looks_up (says t) iova.0 len access, old))
+outcome old c = apply old (effect old c)
 
 -- where memory may be wanting: for what is made, for a range that is mapped or no longer is, for the bytes, the pages
 -- and the ranges that a reply lists, for the room of a sink, and for a translation

@@ -3,7 +3,7 @@ use Rattle.std.proofs.lemmas.List.{take_all, take_more, append_assoc}
 use Rattle.vm_memory.specs.Machine.{Run}
 use Rattle.vm_memory.specs.Parts.{state_of}
 use Rattle.vm_memory.specs.Rounds.{bytes_of}
-use Rattle.vm_memory.proofs.StepLemmas.{Run-step}
+use Rattle.vm_memory.proofs.RunLemmas.{Run-step}
 use Rattle.vm_memory.proofs.machine.run.Goals as goal
 
 pub loop-command-preserved : goal.loop-command-preserved

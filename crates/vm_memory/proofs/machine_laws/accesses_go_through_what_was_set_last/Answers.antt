@@ -3,7 +3,8 @@ use Rattle.std.proofs.lemmas.Option.{none-some}
 use Rattle.vm_memory_base.specs.Table as table
 use Rattle.vm_memory_base.specs.Table.{Mapping, TableCall}
 use Rattle.vm_memory.specs.History.{table_calls, GoesThrough}
-use Rattle.vm_memory.proofs.HistoryLemmas.{history_laws, CallLaws, run_goes_through, run_goes_through_last}
+use Rattle.vm_memory.proofs.HistoryLemmas.{CallLaws, run_goes_through, run_goes_through_last}
+use Rattle.vm_memory.proofs.CallLemmas.{history_laws}
 use Rattle.vm_memory.proofs.HistoryLemmas.{through_a_set_range}
 use Rattle.vm_memory.proofs.machine_laws.accesses_go_through_what_was_set_last.Goals as goal
 

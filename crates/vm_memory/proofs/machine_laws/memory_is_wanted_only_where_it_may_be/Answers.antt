@@ -1,4 +1,4 @@
-use Rattle.vm_memory.proofs.WantLemmas.{want-may-be}
+use Rattle.vm_memory.proofs.RunLemmas.{want-may-be}
 use Rattle.vm_memory.proofs.machine_laws.memory_is_wanted_only_where_it_may_be.Goals as goal
 
 pub returns : goal.returns

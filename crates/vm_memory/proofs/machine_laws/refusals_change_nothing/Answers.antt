@@ -1,5 +1,6 @@
 use Rattle.vm_memory.specs.declared.machine.command.Reply.TheVariants as reply
-use Rattle.vm_memory.proofs.StepLemmas.{still-step, still-fault}
+use Rattle.vm_memory.proofs.RunLemmas.{still-step}
+use Rattle.vm_memory.proofs.StepLemmas.{still-fault}
 use Rattle.vm_memory.proofs.machine_laws.refusals_change_nothing.Goals as goal
 
 pub returns : goal.returns

@@ -1,5 +1,6 @@
-use Rattle.vm_memory.proofs.HistoryLemmas.{history_laws, CallLaws, run_leaves, run_says, run_says_last}
-use Rattle.vm_memory.proofs.HistoryLemmas.{run_says_as_before}
+use Rattle.vm_memory.proofs.CallLemmas.{history_laws}
+use Rattle.vm_memory.proofs.HistoryLemmas.{CallLaws, run_says, run_says_as_before, run_says_last}
+use Rattle.vm_memory.proofs.RunLemmas.{run_leaves}
 use Rattle.vm_memory.proofs.machine_laws.tables_say_what_was_set_last.Goals as goal
 
 pub returns : goal.returns
