@@ -6,6 +6,7 @@ pub mod Examples
 pub mod History
 pub mod Inside
 pub mod Iommu
+pub mod Kinds
 pub mod Lawful
 pub mod Machine
 pub mod Memories

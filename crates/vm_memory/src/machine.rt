@@ -7,7 +7,6 @@ ghost use Rattle.vm_memory.specs.Parts.{HoldsRegions, HoldsTables, state_of};
 ghost use Rattle.vm_memory.specs.Rounds.{IsTracked, RunsDirectly, KeepsImage, bytes_of};
 
 mod accesses;
-mod checks;
 pub mod command;
 mod copies;
 mod layouts;
@@ -24,6 +23,7 @@ mod typed;
 use crate::iommu::Iommu;
 use crate::machine_laws::runs_keep_images;
 use command::{Command, Reply};
+use copies::copy_in;
 use memory::MachineMemory;
 use std::alloc::{AllocError, Global};
 use std::marker::Model;
@@ -119,89 +119,24 @@ impl<R: GuestMemoryRegion, I: Iommu, B: ExactBitmap> Machine<R, I, B> {
             } => self.new_memory(*layout, *translator, *space, *on),
             Command::ReplaceBackend { memory, layout } => self.replace_backend(*memory, *layout),
             Command::Enable { memory, on } => self.enable(*memory, *on),
-            Command::Read {
-                memory,
-                addr,
-                count,
-            } => self.read(*memory, *addr, *count),
-            Command::Write {
-                memory,
-                addr,
-                bytes,
-            } => self.write(*memory, *addr, bytes.as_slice()),
-            Command::ReadSlice {
-                memory,
-                addr,
-                count,
-            } => self.read_slice(*memory, *addr, *count),
-            Command::WriteSlice {
-                memory,
-                addr,
-                bytes,
-            } => self.write_slice(*memory, *addr, bytes.as_slice()),
-            Command::Store {
-                memory,
-                width,
-                addr,
-                value,
-            } => self.store(*memory, *width, *addr, *value),
-            Command::Load {
-                memory,
-                width,
-                addr,
-            } => self.load(*memory, *width, *addr),
-            Command::ReadFrom {
-                memory,
-                addr,
-                count,
-                source,
-            } => self.read_from(*memory, *addr, *count, source.as_slice()),
-            Command::ReadExactFrom {
-                memory,
-                addr,
-                count,
-                source,
-            } => self.read_exact_from(*memory, *addr, *count, source.as_slice()),
-            Command::WriteTo {
-                memory,
-                addr,
-                count,
-                sink,
-            } => self.write_to(*memory, *addr, *count, sink.as_slice()),
-            Command::WriteAllTo {
-                memory,
-                addr,
-                count,
-                sink,
-            } => self.write_all_to(*memory, *addr, *count, sink.as_slice()),
-            Command::CheckRange {
-                memory,
-                addr,
-                count,
-                access,
-            } => self.check_range(*memory, *addr, *count, *access),
+            Command::Read { memory, .. }
+            | Command::Write { memory, .. }
+            | Command::ReadSlice { memory, .. }
+            | Command::WriteSlice { memory, .. }
+            | Command::Store { memory, .. }
+            | Command::Load { memory, .. }
+            | Command::ReadFrom { memory, .. }
+            | Command::ReadExactFrom { memory, .. }
+            | Command::WriteTo { memory, .. }
+            | Command::WriteAllTo { memory, .. }
+            | Command::CheckRange { memory, .. } => self.access(*memory, command),
             Command::Dirty(bitmap) => self.dirty(*bitmap),
             Command::Harvest(bitmap) => self.harvest(*bitmap),
-            Command::Copy { from, to } => self.copy(*from, *to),
-            Command::Set {
-                table,
-                iova,
-                map_to,
-                length,
-                perm,
-            } => self.set(*table, *iova, *map_to, *length, *perm),
-            Command::Invalidate {
-                table,
-                iova,
-                length,
-            } => self.invalidate(*table, *iova, *length),
-            Command::InvalidateAll(table) => self.invalidate_all(*table),
-            Command::Lookup {
-                table,
-                iova,
-                length,
-                access,
-            } => self.look_up(*table, *iova, *length, *access),
+            Command::Copy { from, to } => copy_in(&mut self.host, *from, *to),
+            Command::Set { table, .. }
+            | Command::Invalidate { table, .. }
+            | Command::InvalidateAll(table)
+            | Command::Lookup { table, .. } => self.on_table(*table, command),
         }
     }
 }

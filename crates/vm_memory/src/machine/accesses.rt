@@ -1,70 +1,123 @@
 //! The commands that access memories.
-ghost use Rattle.std.specs.Prelude.{◌≡◌, ◌⊎◌, length, IsOk, IfOk};
+ghost use Rattle.std.specs.Prelude.{◌≡◌, ◌⊎◌, length, IsOk, IfOk, Some};
 ghost use Rattle.vm_memory_guest.specs.Dirt.{with_pages};
 ghost use Rattle.vm_memory_guest.specs.Host.{shape_of, Holds};
 ghost use Rattle.vm_memory_guest.specs.Memory.{IsOn};
+ghost use Rattle.vm_memory.specs.Kinds.{accessed_memory};
 ghost use Rattle.vm_memory.specs.Machine.{Step};
 ghost use Rattle.vm_memory.specs.Parts.{state_of};
-ghost use Rattle.vm_memory.specs.Reply.{reads, writes, reads_whole, writes_whole, reply_of, reply_of_error};
-ghost use Rattle.vm_memory.specs.declared.machine.command.Command.TheVariants as command;
+ghost use Rattle.vm_memory.specs.Reply.{reads, writes, reads_whole, writes_whole, checks, reply_of, reply_of_error};
 
 use super::Machine;
-use super::command::{Fault, Reply};
+use super::command::{Command, Fault, Reply};
 use super::list::ByteList;
+use super::transfers::{receive, send};
+use super::typed::{load_from, store_word};
 use crate::iommu::Iommu;
 use std::alloc::{AllocError, Global};
-use vm_memory_base::{ExactBitmap, GuestAddress};
+use vm_memory_base::{ExactBitmap, GuestAddress, Permissions};
 use vm_memory_guest::access_laws::accesses_are_by_bytes;
 use vm_memory_guest::{
     Bytes, GuestMemory, GuestMemoryError, GuestMemoryRegion, GuestMemoryResult, HostMemory,
 };
 
 impl<R: GuestMemoryRegion, I: Iommu, B: ExactBitmap> Machine<R, I, B> {
-    pub(super) fn read(&mut self, memory: usize, addr: GuestAddress, count: usize) -> Reply
+    // A command that accesses a memory.
+    pub(super) fn access(&mut self, memory: usize, command: &Command) -> Reply
+        requires { accessed_memory command.now ≡ Some memory }
         ensures { let before = state_of R.region I.number B.pages self.old in
-            Step before (command.Read memory addr count) result (state_of R.region I.number B.pages self.new) }
+            Step before command.now result (state_of R.region I.number B.pages self.new) }
     {
         let Some(memory) = self.memories.get(memory) else {
             return Reply::NoSuch;
         };
-        let Ok(buffer) = zeroed(self.alloc, count) else {
-            return Reply::Memory;
-        };
-        read_into(memory, &self.host, buffer, addr)
-    }
-
-    pub(super) fn write(&mut self, memory: usize, addr: GuestAddress, bytes: &[u8]) -> Reply
-        ensures { let before = state_of R.region I.number B.pages self.old in
-            Step before (command.Write memory addr bytes.now) result (state_of R.region I.number B.pages self.new) }
-    {
-        let Some(memory) = self.memories.get(memory) else {
-            return Reply::NoSuch;
-        };
-        write_from(memory, &mut self.host, bytes, addr)
-    }
-
-    pub(super) fn read_slice(&mut self, memory: usize, addr: GuestAddress, count: usize) -> Reply
-        ensures { let before = state_of R.region I.number B.pages self.old in
-            Step before (command.ReadSlice memory addr count) result (state_of R.region I.number B.pages self.new) }
-    {
-        let Some(memory) = self.memories.get(memory) else {
-            return Reply::NoSuch;
-        };
-        let Ok(buffer) = zeroed(self.alloc, count) else {
-            return Reply::Memory;
-        };
-        fill(memory, &self.host, buffer, addr)
-    }
-
-    pub(super) fn write_slice(&mut self, memory: usize, addr: GuestAddress, bytes: &[u8]) -> Reply
-        ensures { let before = state_of R.region I.number B.pages self.old in
-            Step before (command.WriteSlice memory addr bytes.now) result
-            (state_of R.region I.number B.pages self.new) }
-    {
-        let Some(memory) = self.memories.get(memory) else {
-            return Reply::NoSuch;
-        };
-        write_whole(memory, &mut self.host, bytes, addr)
+        match command {
+            Command::Read { addr, count, .. } => match zeroed(self.alloc, *count) {
+                Ok(buffer) => read_into(memory, &self.host, buffer, *addr),
+                Err(_) => Reply::Memory,
+            },
+            Command::ReadSlice { addr, count, .. } => match zeroed(self.alloc, *count) {
+                Ok(buffer) => fill(memory, &self.host, buffer, *addr),
+                Err(_) => Reply::Memory,
+            },
+            Command::Write { addr, bytes, .. } => write_from(
+                memory,
+                &mut self.host,
+                bytes.as_slice(),
+                *addr,
+            ),
+            Command::WriteSlice { addr, bytes, .. } => {
+                write_whole(memory, &mut self.host, bytes.as_slice(), *addr)
+            }
+            Command::Store {
+                width,
+                addr,
+                value,
+                ..
+            } => store_word(memory, &mut self.host, *width, *addr, *value),
+            Command::Load { width, addr, .. } => load_from(memory, &self.host, *width, *addr),
+            Command::ReadFrom {
+                addr,
+                count,
+                source,
+                ..
+            } => receive(
+                memory,
+                &mut self.host,
+                *addr,
+                *count,
+                source.as_slice(),
+                false,
+            ),
+            Command::ReadExactFrom {
+                addr,
+                count,
+                source,
+                ..
+            } => receive(
+                memory,
+                &mut self.host,
+                *addr,
+                *count,
+                source.as_slice(),
+                true,
+            ),
+            Command::WriteTo {
+                addr,
+                count,
+                sink,
+                ..
+            } => send(
+                self.alloc,
+                memory,
+                &self.host,
+                *addr,
+                *count,
+                sink.as_slice(),
+                false,
+            ),
+            Command::WriteAllTo {
+                addr,
+                count,
+                sink,
+                ..
+            } => send(
+                self.alloc,
+                memory,
+                &self.host,
+                *addr,
+                *count,
+                sink.as_slice(),
+                true,
+            ),
+            Command::CheckRange {
+                addr,
+                count,
+                access,
+                ..
+            } => check_in(memory, &self.host, *addr, *count, *access),
+            _ => unreachable!(),
+        }
     }
 }
 
@@ -145,6 +198,24 @@ fn write_whole<M: GuestMemory, B: ExactBitmap>(
 {
     accesses_are_by_bytes::<B>();
     done(memory.write_slice(host, bytes, addr))
+}
+
+// Whether an access of a memory would reach all of its bytes.
+fn check_in<M: GuestMemory, B: ExactBitmap>(
+    memory: &M,
+    host: &HostMemory<B>,
+    addr: GuestAddress,
+    count: usize,
+    access: Permissions,
+) -> Reply
+    requires { Holds (shape_of host.now) (M.names memory.now) }
+    ensures { let m = M.memory memory.now in let before = with_pages B.pages host.now in
+        (result ≡ checks m before addr.0 count access) ⊎ ((result ≡ Reply.Memory) × IsOn m) }
+{
+    match memory.check_range(host, addr, count, access) {
+        Ok(all) => Reply::Truth(all),
+        Err(error) => refused(error),
+    }
 }
 
 fn zeroed(alloc: Global, count: usize) -> Result<Vec<u8>, AllocError>

@@ -4,13 +4,9 @@ ghost use Rattle.vm_memory_guest.specs.Dirt.{with_pages};
 ghost use Rattle.vm_memory_guest.specs.Host.{shape_of, Holds};
 ghost use Rattle.vm_memory_guest.specs.Window.{window_names};
 ghost use Rattle.vm_memory.specs.Copy.{copies, ends_inside};
-ghost use Rattle.vm_memory.specs.Machine.{Step};
-ghost use Rattle.vm_memory.specs.Parts.{state_of, range_window};
-ghost use Rattle.vm_memory.specs.declared.machine.command.Command.TheVariants as command;
+ghost use Rattle.vm_memory.specs.Parts.{range_window};
 
-use super::Machine;
 use super::command::{BlockRange, Reply};
-use crate::iommu::Iommu;
 use vm_memory_base::{ExactBitmap, GuestAddress, MemoryRegionAddress};
 use vm_memory_guest::host_laws::parts_of_a_block_are_held;
 use vm_memory_guest::typed_laws::copies_are_by_bytes;
@@ -18,17 +14,12 @@ use vm_memory_guest::{
     BlockId, GuestMemoryRegion, GuestRegionMmap, HostMemory, MmapRegion, VolatileSlice,
 };
 
-impl<R: GuestMemoryRegion, I: Iommu, B: ExactBitmap> Machine<R, I, B> {
-    pub(super) fn copy(&mut self, from: BlockRange, to: BlockRange) -> Reply
-        ensures { let before = state_of R.region I.number B.pages self.old in
-            Step before (command.Copy from to) result (state_of R.region I.number B.pages self.new) }
-    {
-        copy_in(&mut self.host, from, to)
-    }
-}
-
 // Copies a window of a host to another.
-fn copy_in<B: ExactBitmap>(host: &mut HostMemory<B>, from: BlockRange, to: BlockRange) -> Reply
+pub(super) fn copy_in<B: ExactBitmap>(
+    host: &mut HostMemory<B>,
+    from: BlockRange,
+    to: BlockRange,
+) -> Reply
     ensures copied { (result, with_pages B.pages host.new) ≡ copies (with_pages B.pages host.old) from to }
     ensures shape { shape_of host.new ≡ shape_of host.old }
 {

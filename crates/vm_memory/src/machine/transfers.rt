@@ -3,97 +3,22 @@ ghost use Rattle.std.specs.Prelude.{◌≡◌, ◌⊎◌, ◌<◌};
 ghost use Rattle.vm_memory_guest.specs.Dirt.{with_pages};
 ghost use Rattle.vm_memory_guest.specs.Host.{shape_of, Holds};
 ghost use Rattle.vm_memory_guest.specs.Memory.{IsOn};
-ghost use Rattle.vm_memory.specs.Machine.{Step};
-ghost use Rattle.vm_memory.specs.Parts.{state_of};
 ghost use Rattle.vm_memory.specs.Reply.{reply_of};
 ghost use Rattle.vm_memory.specs.Transfers.{beside_taken, receives, sends};
-ghost use Rattle.vm_memory.specs.declared.machine.command.Command.TheVariants as command;
 
-use super::Machine;
 use super::accesses::{done, refused};
 use super::command::{Ending, Reply};
 use super::list::ByteList;
-use crate::iommu::Iommu;
 use std::alloc::Global;
 use vm_memory_base::{ExactBitmap, GuestAddress, ScriptSink, ScriptSource, SinkStep, SourceStep};
 use vm_memory_guest::path_laws::windows_are_the_path;
 use vm_memory_guest::transfer_laws::{
     sinks_take_what_is_computed, transfers_in_are_computed, transfers_out_are_computed,
 };
-use vm_memory_guest::{Bytes, GuestMemory, GuestMemoryRegion, GuestMemoryResult, HostMemory};
-
-impl<R: GuestMemoryRegion, I: Iommu, B: ExactBitmap> Machine<R, I, B> {
-    pub(super) fn read_from(
-        &mut self,
-        memory: usize,
-        addr: GuestAddress,
-        count: usize,
-        source: &[SourceStep],
-    ) -> Reply
-        ensures { let before = state_of R.region I.number B.pages self.old in
-            Step before (command.ReadFrom memory addr count source.now) result
-            (state_of R.region I.number B.pages self.new) }
-    {
-        let Some(memory) = self.memories.get(memory) else {
-            return Reply::NoSuch;
-        };
-        receive(memory, &mut self.host, addr, count, source, false)
-    }
-
-    pub(super) fn read_exact_from(
-        &mut self,
-        memory: usize,
-        addr: GuestAddress,
-        count: usize,
-        source: &[SourceStep],
-    ) -> Reply
-        ensures { let before = state_of R.region I.number B.pages self.old in
-            Step before (command.ReadExactFrom memory addr count source.now) result
-            (state_of R.region I.number B.pages self.new) }
-    {
-        let Some(memory) = self.memories.get(memory) else {
-            return Reply::NoSuch;
-        };
-        receive(memory, &mut self.host, addr, count, source, true)
-    }
-
-    pub(super) fn write_to(
-        &mut self,
-        memory: usize,
-        addr: GuestAddress,
-        count: usize,
-        sink: &[SinkStep],
-    ) -> Reply
-        ensures { let before = state_of R.region I.number B.pages self.old in
-            Step before (command.WriteTo memory addr count sink.now) result
-            (state_of R.region I.number B.pages self.new) }
-    {
-        let Some(memory) = self.memories.get(memory) else {
-            return Reply::NoSuch;
-        };
-        send(self.alloc, memory, &self.host, addr, count, sink, false)
-    }
-
-    pub(super) fn write_all_to(
-        &mut self,
-        memory: usize,
-        addr: GuestAddress,
-        count: usize,
-        sink: &[SinkStep],
-    ) -> Reply
-        ensures { let before = state_of R.region I.number B.pages self.old in
-            Step before (command.WriteAllTo memory addr count sink.now) result
-            (state_of R.region I.number B.pages self.new) }
-    {
-        let Some(memory) = self.memories.get(memory) else {
-            return Reply::NoSuch;
-        };
-        send(self.alloc, memory, &self.host, addr, count, sink, true)
-    }
-}
+use vm_memory_guest::{Bytes, GuestMemory, GuestMemoryResult, HostMemory};
 
 // Receives bytes of a memory from a source: all, or those up to the first window that it does not fill.
-fn receive<M: GuestMemory, B: ExactBitmap>(
+pub(super) fn receive<M: GuestMemory, B: ExactBitmap>(
     memory: &M,
     host: &mut HostMemory<B>,
     addr: GuestAddress,
@@ -117,7 +42,7 @@ fn receive<M: GuestMemory, B: ExactBitmap>(
 }
 
 // Sends bytes of a memory to a sink that has room for as many: all, or those that it takes.
-fn send<M: GuestMemory, B: ExactBitmap>(
+pub(super) fn send<M: GuestMemory, B: ExactBitmap>(
     alloc: Global,
     memory: &M,
     host: &HostMemory<B>,

@@ -8,50 +8,17 @@ ghost use Rattle.vm_memory_guest.specs.Host.{shape_of, Holds};
 ghost use Rattle.vm_memory_guest.specs.Memory.{IsOn};
 ghost use Rattle.vm_memory_guest.specs.Typed.{answered};
 ghost use Rattle.vm_memory_guest.specs.declared.region.GuestMemoryError.TheVariants as errors;
-ghost use Rattle.vm_memory.specs.Machine.{Step};
-ghost use Rattle.vm_memory.specs.Parts.{state_of};
 ghost use Rattle.vm_memory.specs.Typed.{fits_width, integer_of, loads, stores, stores_bytes, taken_by};
-ghost use Rattle.vm_memory.specs.declared.machine.command.Command.TheVariants as command;
 
-use super::Machine;
 use super::accesses::{done, refused};
 use super::command::{Reply, Width};
-use crate::iommu::Iommu;
 use std::sync::atomic::Ordering;
 use vm_memory_base::{AtomicAccess, ExactBitmap, GuestAddress};
 use vm_memory_guest::typed_laws::loads_and_stores_are_by_bytes;
-use vm_memory_guest::{Bytes, GuestMemory, GuestMemoryRegion, GuestMemoryResult, HostMemory};
-
-impl<R: GuestMemoryRegion, I: Iommu, B: ExactBitmap> Machine<R, I, B> {
-    pub(super) fn store(
-        &mut self,
-        memory: usize,
-        width: Width,
-        addr: GuestAddress,
-        value: u64,
-    ) -> Reply
-        ensures { let before = state_of R.region I.number B.pages self.old in
-            Step before (command.Store memory width addr value) result (state_of R.region I.number B.pages self.new) }
-    {
-        let Some(memory) = self.memories.get(memory) else {
-            return Reply::NoSuch;
-        };
-        store_word(memory, &mut self.host, width, addr, value)
-    }
-
-    pub(super) fn load(&mut self, memory: usize, width: Width, addr: GuestAddress) -> Reply
-        ensures { let before = state_of R.region I.number B.pages self.old in
-            Step before (command.Load memory width addr) result (state_of R.region I.number B.pages self.new) }
-    {
-        let Some(memory) = self.memories.get(memory) else {
-            return Reply::NoSuch;
-        };
-        load_from(memory, &self.host, width, addr)
-    }
-}
+use vm_memory_guest::{Bytes, GuestMemory, GuestMemoryResult, HostMemory};
 
 // Stores a number as an integer of this width, if it is one.
-fn store_word<M: GuestMemory, B: ExactBitmap>(
+pub(super) fn store_word<M: GuestMemory, B: ExactBitmap>(
     memory: &M,
     host: &mut HostMemory<B>,
     width: Width,
@@ -96,7 +63,7 @@ fn store_value<T: AtomicAccess, M: GuestMemory, B: ExactBitmap>(
 }
 
 // Loads an integer of this width, and replies it.
-fn load_from<M: GuestMemory, B: ExactBitmap>(
+pub(super) fn load_from<M: GuestMemory, B: ExactBitmap>(
     memory: &M,
     host: &HostMemory<B>,
     width: Width,
