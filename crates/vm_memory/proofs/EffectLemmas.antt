@@ -23,9 +23,9 @@ use Rattle.vm_memory_guest.specs.declared.region.GuestRegionCollectionError.TheV
 use Rattle.vm_memory.specs.Copy.{copied, has_block, ends_inside}
 use Rattle.vm_memory.specs.Effect.{Effect, Replies, AddsLayout, AddsMemory, SetsMemory, Leaves}
 use Rattle.vm_memory.specs.Effect.{if_there, laid_out, without, leaves}
-use Rattle.vm_memory.specs.History.{table_call}
+use Rattle.vm_memory.specs.Commands.{table_call}
 use Rattle.vm_memory.specs.Lawful.{IsLaidOut, IsLawful}
-use Rattle.vm_memory.specs.Machine.{effect}
+use Rattle.vm_memory.specs.Commands.{effect}
 use Rattle.vm_memory.specs.Reply.{answer_of, whole_of, reached_by, reply_of, reply_of_layout_error, writes, writes_whole}
 use Rattle.vm_memory.specs.Rounds.{IsDirect, image_after}
 use Rattle.vm_memory.specs.State.{State, named}

@@ -9,7 +9,8 @@ use Rattle.vm_memory_guest.specs.Layout.{inserted, is_exactly, behind_first, rem
 use Rattle.vm_memory_guest.specs.Region.{Region, layout_error}
 use Rattle.vm_memory_guest.specs.declared.region.GuestRegionCollectionError.{GuestRegionCollectionError}
 use Rattle.vm_memory_guest.specs.declared.region.GuestRegionCollectionError.TheVariants as layout
-use Rattle.vm_memory.specs.Machine.{Step, MayWant, outcome}
+use Rattle.vm_memory.specs.Commands.{MayWant}
+use Rattle.vm_memory.specs.Machine.{Step, outcome}
 use Rattle.vm_memory.specs.Effect.{AddsLayout, apply, laid_out, without}
 use Rattle.vm_memory.specs.Parts.{Parts, state_of}
 use Rattle.vm_memory.specs.Reply.{reply_of_layout_error}

@@ -6,7 +6,8 @@ use Rattle.vm_memory_base.specs.Pages.{PageSet}
 use Rattle.vm_memory_guest.specs.Memory as guest
 use Rattle.vm_memory_guest.specs.Region.{Region}
 use Rattle.vm_memory.specs.Iommu.{Behind}
-use Rattle.vm_memory.specs.Machine.{Step, MayWant, outcome}
+use Rattle.vm_memory.specs.Commands.{MayWant}
+use Rattle.vm_memory.specs.Machine.{Step, outcome}
 use Rattle.vm_memory.specs.Effect.{AddsMemory, apply}
 use Rattle.vm_memory.proofs.BitmapLemmas.{set-same}
 use Rattle.vm_memory.specs.Memories.{memory_meant, turned_memory}

@@ -6,9 +6,11 @@ use Rattle.vm_memory_base.specs.Pages.{PageSet}
 use Rattle.vm_memory_base.specs.declared.bitmap.BitmapId.TheVariants.{Block}
 use Rattle.vm_memory_guest.specs.Host.{Host}
 use Rattle.vm_memory.specs.Effect.{Effect, Replies, AddsLayout, AddsMemory, SetsMemory, Leaves, apply}
-use Rattle.vm_memory.specs.History.{table_call, table_calls}
+use Rattle.vm_memory.specs.Commands.{table_call}
+use Rattle.vm_memory.specs.History.{table_calls}
 use Rattle.vm_memory.specs.Lawful.{IsLawful}
-use Rattle.vm_memory.specs.Machine.{MayWant, Step, Run, effect}
+use Rattle.vm_memory.specs.Commands.{MayWant, effect}
+use Rattle.vm_memory.specs.Machine.{Step, Run}
 use Rattle.vm_memory.specs.Rounds.{patched_with, bytes_of, pages_of, image_after, IsDirect, RunsDirectly, KeepsImage}
 use Rattle.vm_memory.specs.State.{State}
 use Rattle.vm_memory.specs.declared.machine.command.Command.{Command}

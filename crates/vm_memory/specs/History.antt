@@ -1,17 +1,15 @@
 -- What the commands of a run made of I/O tables, and how an access goes through one.
-use Rattle.std.specs.Prelude.{◌≡◌, ℕ, true, false, ◌==◌, if◌then◌else◌, List, [], ◌∷◌, ◌++◌, All, Option, Some}
+use Rattle.std.specs.Prelude.{◌≡◌, ℕ, true, false, List, [], ◌∷◌, ◌++◌, All, Option, Some}
 use Rattle.vm_memory_base.specs.Permissions.{allow}
-use Rattle.vm_memory_base.specs.Table as table
 use Rattle.vm_memory_base.specs.Table.{TableCall, covers, Mapping, target}
 use Rattle.vm_memory_base.specs.declared.iotlb.Permissions.{Permissions}
 use Rattle.vm_memory_guest.specs.Access.{Reached}
 use Rattle.vm_memory_guest.specs.Region.{Region, Byte, cell}
+use Rattle.vm_memory.specs.Commands.{table_call}
 use Rattle.vm_memory.specs.Machine.{Step, Run}
 use Rattle.vm_memory.specs.State.{State}
 use Rattle.vm_memory.specs.declared.machine.command.Command.{Command}
-use Rattle.vm_memory.specs.declared.machine.command.Command.TheVariants.{Set, Invalidate, InvalidateAll}
 use Rattle.vm_memory.specs.declared.machine.command.Reply.{Reply}
-use Rattle.vm_memory.specs.declared.machine.command.Reply.TheVariants.{Done}
 
 -- a command of a run, between those before it and those after it: its reply, between theirs, and the states that
 -- it was answered in and left
@@ -26,13 +24,6 @@ pub record AnsweredIn (old : State) (before : List Command) (c : Command) (after
   pub ran : Run old before earlier mid
   pub stepped : Step mid c reply next
   pub goes_on : Run next after later new
-
--- the calls of the table of this number that a command made: its own, if it is one of this table and was done
-abbrev pub table_call : ℕ → Command → Reply → List TableCall
-table_call number (Set t iova to len perm) Done = if t == number then table.Set iova.0 to.0 len perm ∷ [] else []
-table_call number (Invalidate t iova len) Done = if t == number then table.Invalidate iova.0 len ∷ [] else []
-table_call number (InvalidateAll t) Done = if t == number then table.InvalidateAll ∷ [] else []
-table_call number c r = []
 
 -- and those that commands made, in order
 abbrev pub table_calls : ℕ → List Command → List Reply → List TableCall

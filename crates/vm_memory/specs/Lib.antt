@@ -1,3 +1,4 @@
+pub mod Commands
 pub mod Copy
 pub mod Tables
 pub mod Transfers
@@ -6,7 +7,6 @@ pub mod Examples
 pub mod History
 pub mod Inside
 pub mod Iommu
-pub mod Kinds
 pub mod Lawful
 pub mod Machine
 pub mod Memories

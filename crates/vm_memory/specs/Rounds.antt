@@ -10,10 +10,11 @@ use Rattle.vm_memory_guest.specs.Dirt.{pages_at}
 use Rattle.vm_memory_guest.specs.Host.{Host, block_at}
 use Rattle.vm_memory_guest.specs.Memory.{IsOn}
 use Rattle.vm_memory_guest.specs.Window.{with_bitmap}
+use Rattle.vm_memory.specs.Commands.{written_memory}
 use Rattle.vm_memory.specs.Machine.{Run}
 use Rattle.vm_memory.specs.State.{State}
 use Rattle.vm_memory.specs.declared.machine.command.Command.{Command}
-use Rattle.vm_memory.specs.declared.machine.command.Command.TheVariants.{Write, WriteSlice, Store, ReadFrom, ReadExactFrom, Harvest}
+use Rattle.vm_memory.specs.declared.machine.command.Command.TheVariants.{Harvest}
 use Rattle.vm_memory.specs.declared.machine.command.Reply.{Reply}
 use Rattle.vm_memory.specs.declared.machine.command.Reply.TheVariants.{Pages}
 
@@ -62,15 +63,6 @@ Cover (Some s) len = len ≤ s.1 * s.0
 -- the pages of a block's bitmap cover the block
 abbrev pub IsTracked : ℕ → Host PageSet → Type 0
 IsTracked block host = Cover (shape (pages_of block host)) (length (bytes_of block host))
-
--- the memory that a command writes to, if it writes
-abbrev pub written_memory : Command → Option ℕ
-written_memory (Write memory addr bytes) = Some memory
-written_memory (WriteSlice memory addr bytes) = Some memory
-written_memory (Store memory width addr value) = Some memory
-written_memory (ReadFrom memory addr count source) = Some memory
-written_memory (ReadExactFrom memory addr count source) = Some memory
-written_memory c = None
 
 -- a command does not write to a memory whose IOMMU is on
 abbrev pub IsDirect : State → Command → Type 0

@@ -20,7 +20,8 @@ ghost use Rattle.vm_memory.specs.Examples.{at, low, high, bare, block_pages, spa
 ghost use Rattle.vm_memory.specs.Examples.{marked_host, marked, range, failed, two_bytes, four_bytes};
 ghost use Rattle.vm_memory.specs.Examples.{with_bytes, with_translated_bytes, no_region_at, not_translated, in_block};
 ghost use Rattle.vm_memory.specs.History.{table_calls};
-ghost use Rattle.vm_memory.specs.Machine.{outcome, MayWant, Step, Run};
+ghost use Rattle.vm_memory.specs.Commands.{MayWant};
+ghost use Rattle.vm_memory.specs.Machine.{outcome, Step, Run};
 ghost use Rattle.vm_memory.specs.Parts.{AreHeld, HoldsMemory, state_of};
 ghost use Rattle.vm_memory.specs.Reply.{reply_of_error, reply_of_layout_error};
 ghost use Rattle.vm_memory.specs.Rounds.{patched, image_after, MirrorsBlock, IsTracked, IsDirect};

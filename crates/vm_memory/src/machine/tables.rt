@@ -4,7 +4,7 @@ ghost use Rattle.vm_memory_base.specs.Lookup.{mapped_ranges};
 ghost use Rattle.vm_memory_base.specs.Table as tables;
 ghost use Rattle.vm_memory_base.specs.Table.{overruns};
 ghost use Rattle.vm_memory_guest.specs.Host.{shape_of};
-ghost use Rattle.vm_memory.specs.Kinds.{table_of};
+ghost use Rattle.vm_memory.specs.Commands.{table_of};
 ghost use Rattle.vm_memory.specs.Machine.{Step};
 ghost use Rattle.vm_memory.specs.Parts.{state_of};
 ghost use Rattle.vm_memory.specs.Tables.{changes, looks_up};

@@ -1,7 +1,7 @@
 use Rattle.std.proofs.Common.{◌≡◌, List, refl, inr, subst, sym}
 use Rattle.vm_memory_guest.specs.Host.{shape_of}
 use Rattle.vm_memory.specs.Iommu.{Behind}
-use Rattle.vm_memory.specs.Machine.{MayWant}
+use Rattle.vm_memory.specs.Commands.{MayWant}
 use Rattle.vm_memory.specs.Parts.{HoldsMemory, state_of}
 use Rattle.vm_memory.specs.declared.machine.command.Command.TheVariants as command
 use Rattle.vm_memory.specs.declared.machine.memory.MachineMemory.TheVariants.{Translated}
