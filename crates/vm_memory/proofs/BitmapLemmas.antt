@@ -1,6 +1,6 @@
 -- Bitmaps of a host by their names, and their dirty pages one after the other.
-use Rattle.std.proofs.Common.{◌≡◌, ℕ, ◌+◌, ◌-◌, ◌*◌, ◌^◌, ◌<◌, ◌≤◌, Bool, true, false, cond, List, [], ◌∷◌, ◌++◌, set, take, map, length, get_or, slice_get, Some, None, option_map, Result, Ok, Err, OnOk, refl, sym, ap, ◌∙◌, inl, inr, arith, add-zero, zero-add, mul-div_cancel, mul-le-mul_right}
-use Rattle.std.proofs.lemmas.List.{map-set, set-get_or, take_more, take_all, length-take-le}
+use Rattle.std.proofs.Common.{◌≡◌, ℕ, ◌+◌, ◌-◌, ◌*◌, ◌<◌, Bool, true, false, cond, List, [], ◌∷◌, ◌++◌, set, take, map, length, get_or, slice_get, Some, None, option_map, Result, Ok, Err, OnOk, refl, sym, ap, ◌∙◌, inl, inr, arith, add-zero, zero-add, mul-div_cancel}
+use Rattle.std.proofs.lemmas.List.{map-set, set-get_or, take_more, length-take-le}
 use Rattle.std.proofs.lemmas.Option.{slice_get-map, get_or_from_slice_get, none-some, same_Some}
 use Rattle.vm_memory_base.specs.Pages.{PageSet, IsPageSet, shape, is_dirty_at, dirty_from, dirty_pages, cleaned}
 use Rattle.vm_memory_base.specs.declared.bitmap.BitmapId.{BitmapId}

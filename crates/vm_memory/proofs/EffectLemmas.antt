@@ -26,7 +26,7 @@ use Rattle.vm_memory.specs.Effect.{if_there, laid_out, without, leaves}
 use Rattle.vm_memory.specs.Commands.{table_call}
 use Rattle.vm_memory.specs.Lawful.{IsLaidOut, IsLawful}
 use Rattle.vm_memory.specs.Commands.{effect}
-use Rattle.vm_memory.specs.Reply.{answer_of, whole_of, reached_by, reply_of, reply_of_layout_error, writes, writes_whole}
+use Rattle.vm_memory.specs.Reply.{answer_of, reached_by, reply_of, reply_of_layout_error, writes}
 use Rattle.vm_memory.specs.Rounds.{IsDirect, image_after}
 use Rattle.vm_memory.specs.State.{State, named}
 use Rattle.vm_memory.specs.Tables.{changed_table}
@@ -44,7 +44,7 @@ use Rattle.vm_memory.proofs.LayoutLemmas.{OfLeft, All-inserted, All-removed}
 use Rattle.vm_memory.proofs.RoundsLemmas.{AreListed, CleanedStay, WriteLaws, KeepsBlock, MarksItsCell, direct_marks}
 use Rattle.vm_memory.proofs.RoundsLemmas.{whole_marks, windows_mark, itself, itself_marks, after_copy-is, write_keeps}
 use Rattle.vm_memory.proofs.RoundsLemmas.{lent_keeps, harvest_keeps}
-use Rattle.vm_memory.proofs.StepLemmas.{IsStill, reached_none, reached_none_of_all, not_stored, not_received}
+use Rattle.vm_memory.proofs.StepLemmas.{IsStill, not_moved, reached_none, not_stored, not_received}
 use Rattle.vm_memory.proofs.TransferLemmas.{RefusedLaw}
 use Rattle.vm_memory.proofs.WantLemmas as answers
 use Rattle.vm_memory.proofs.WantLemmas.{IsAnswer, IsLayoutFault, layout_fault, layout_told}
@@ -227,20 +227,13 @@ module _ (old : State) (c : Command) (memory : ℕ) (m : Memory) (e : slice_get 
     own : (n : ℕ) → IsDirect old c → All MarksItsCell (for_write n).path
     own n direct = direct_marks (behind_of m.iommu) (off direct) m.regions old.host.tables a n permissions.Write
 
-    wrote : (bytes : List ℕ) → IsOf old c (leaves (writes m old.host a bytes))
-    wrote bytes =
-        let x = for_write (length bytes) in
-        written_to old c told (reply_of reply.Count (answer_of x (length bytes))) x.path bytes
-        (answers.wrote old.host m a bytes)
-        (λ still. reached_none x.path (option_map error_of x.fault) (length bytes) _ still refl) (own (length bytes))
-
-    wrote_whole : (bytes : List ℕ) → IsOf old c (leaves (writes_whole m old.host a bytes))
-    wrote_whole bytes =
-        let x = for_write (length bytes) in
-        written_to old c told (reply_of (λ (done : Unit {0}). reply.Done) (whole_of x (length bytes))) x.path bytes
-        (answers.wrote_whole old.host m a bytes)
-        (λ still. reached_none_of_all x.path (option_map error_of x.fault) (length bytes) _ still refl)
-        (own (length bytes))
+    wrote : (whole : Bool) (bytes : List ℕ) → IsOf old c (leaves (writes whole m old.host a bytes))
+    wrote whole bytes =
+        let n = length bytes in
+        let x = for_write n in
+        written_to old c told (writes whole m old.host a bytes).0 x.path bytes (answers.wrote old.host m a whole bytes)
+        (λ still. let e = not_moved whole n (answer_of x n) _ still refl in
+        reached_none x.path (option_map error_of x.fault) n e.0 e.1) (own n)
 
     stored : (bytes : List ℕ) (fits : Bool)
         → IsOf old c (leaves (cond fits (stores_bytes m old.host a bytes) (reply.BadRange, old.host)))
@@ -312,12 +305,12 @@ module _ (old : State) where
       there old _ (slice_get old.memories memory) _ (λ m e. (answers.read old.host m addr.0 n, silent _ tt _))
   command_has_effect (command.Write memory addr bytes) =
       there old _ (slice_get old.memories memory) _
-      (λ m e. wrote old _ memory m e tt (λ d. d) addr.0 bytes)
+      (λ m e. wrote old _ memory m e tt (λ d. d) addr.0 false bytes)
   command_has_effect (command.ReadSlice memory addr n) =
       there old _ (slice_get old.memories memory) _ (λ m e. (answers.read_whole old.host m addr.0 n, silent _ tt _))
   command_has_effect (command.WriteSlice memory addr bytes) =
       there old _ (slice_get old.memories memory) _
-      (λ m e. wrote_whole old _ memory m e tt (λ d. d) addr.0 bytes)
+      (λ m e. wrote old _ memory m e tt (λ d. d) addr.0 true bytes)
   command_has_effect (command.Store memory width addr value) =
       there old _ (slice_get old.memories memory) _
       (λ m e. stored old _ memory m e tt (λ d. d) addr.0 (to_le_bytes (integer_of width) value)

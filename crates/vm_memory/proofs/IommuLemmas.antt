@@ -1,5 +1,5 @@
 -- Memory behind an IOMMU: what a host holds of it, and its accesses.
-use Rattle.std.proofs.Common.{◌≡◌, ℕ, ◌<◌, ◌↔◌, Bool, true, List, [], ◌∷◌, ◌++◌, map, slice_get, Option, Some, IsSome, refl, sym, ap, subst, inl, inr, ◌⊎◌, ◌∙◌}
+use Rattle.std.proofs.Common.{◌≡◌, ℕ, ◌↔◌, Bool, true, List, [], ◌∷◌, ◌++◌, map, slice_get, Option, Some, IsSome, refl, sym, ap, subst, inl, inr, ◌⊎◌, ◌∙◌}
 use Rattle.vm_memory_base.specs.Lookup.{mapped_ranges}
 use Rattle.vm_memory_base.specs.Table.{Table, Says, says, is_allowed, pieces}
 use Rattle.vm_memory_base.specs.declared.iotlb.IommuError.{IommuError}

@@ -1,19 +1,18 @@
 -- Replies that tell of no change, and that none was made then.
-use Rattle.std.proofs.Common.{◌≡◌, ℕ, List, [], ◌∷◌, map, length, Bool, true, false, ◌&&◌, ◌==◌, nat_lt, cond, Option, Some, None, Result, Ok, Err, subst, refl, inl, inr, arith}
+use Rattle.std.proofs.Common.{◌∙◌, ◌≡◌, ℕ, List, [], ◌∷◌, map, length, Bool, true, false, ◌&&◌, ◌==◌, nat_lt, cond, Option, Some, None, Result, Ok, Err, subst, refl, inl, inr, arith}
 use Rattle.std.proofs.lemmas.Bool.{eqb-true, true≢false}
 use Rattle.vm_memory_base.specs.Pages.{PageSet}
 use Rattle.vm_memory_base.specs.Script.{next_of}
 use Rattle.vm_memory_base.specs.declared.io.script.SourceStep.{SourceStep}
 use Rattle.vm_memory_guest.specs.Access.{Reached, windows}
-use Rattle.vm_memory_guest.specs.Answer.{counted, exactly}
+use Rattle.vm_memory_guest.specs.Answer.{counted}
 use Rattle.vm_memory_guest.specs.Dealt.{received}
 use Rattle.vm_memory_guest.specs.Error.{of_window}
 use Rattle.vm_memory_guest.specs.Host.{Host}
 use Rattle.vm_memory_guest.specs.Typed.{path_given}
 use Rattle.vm_memory_guest.specs.declared.region.GuestMemoryError.{GuestMemoryError}
 use Rattle.vm_memory_guest.specs.declared.region.GuestMemoryError.TheVariants as errors
-use Rattle.vm_memory.specs.Reply.{reply_of, reply_of_error, is_partial}
-use Rattle.vm_memory.specs.Transfers.{moved_as}
+use Rattle.vm_memory.specs.Reply.{moved_as, reply_of, reply_of_error, is_partial}
 use Rattle.vm_memory.proofs.TransferLemmas.{RefusedLaw, io_of_window, is_io, scripts_fail_so}
 use Rattle.vm_memory.specs.declared.machine.command.Reply.{Reply}
 use Rattle.vm_memory.specs.declared.machine.command.Reply.TheVariants as reply
@@ -31,45 +30,31 @@ IsStill (reply.Fault (fault.PartialBuffer expected completed)) = ⊥
 IsStill (reply.Fault (fault.IOError kind)) = ⊥
 IsStill r = Unit {0}
 
--- a write that replies no count reached nothing
-pub reached_none : (xs : List Reached) (fault : Option GuestMemoryError) (n : ℕ) (r : Reply) → IsStill r
-    → r ≡ reply_of reply.Count (counted (length xs) fault n) → xs ≡ []
-reached_none [] fault n r still e = refl
-reached_none (x ∷ xs) None n r still e = absurd (subst IsStill e still)
-reached_none (x ∷ xs) (Some f) n r still e = go (nat_lt 0 n) (length (x ∷ xs) == 0) refl e
+-- a call that moves bytes and replies no change was answered by an error
+pub not_moved : (whole : Bool) (n : ℕ) (answer : Result ℕ GuestMemoryError) (r : Reply) → IsStill r
+    → r ≡ moved_as whole n answer
+    → (e : GuestMemoryError) × (answer ≡ Err e) × (r ≡ reply_of_error e)
+not_moved false n (Ok total) r still is = absurd (subst IsStill is still)
+not_moved false n (Err e) r still is = (e, refl, is)
+not_moved true n (Err e) r still is = (e, refl, is)
+not_moved true n (Ok total) r still is = go (total == n) is
   where
-    go : (b z : Bool) → (length (x ∷ xs) == 0) ≡ z
-        → r ≡ reply_of reply.Count (cond (b && z) (Err f) (Ok (length (x ∷ xs)))) → x ∷ xs ≡ []
-    go b true h e = absurd (omega (arith, eqb-true (length (x ∷ xs)) 0 h))
-    go true false h e = absurd (subst IsStill e still)
-    go false false h e = absurd (subst IsStill e still)
+    go : (b : Bool) → r ≡ reply_of (λ (done : Unit {0}). reply.Done) (cond b (Ok tt) (Err (errors.PartialBuffer n total)))
+        → (e : GuestMemoryError) × (Ok total ≡ Err e) × (r ≡ reply_of_error e)
+    go true is = absurd (subst IsStill is still)
+    go false is = absurd (subst IsStill is still)
 
--- a write of all bytes that is refused, and not in part, reached nothing
-pub reached_none_of_all : (xs : List Reached) (fault : Option GuestMemoryError) (n : ℕ) (r : Reply) → IsStill r
-    → r ≡ reply_of (λ (done : Unit {0}). reply.Done)
-    (exactly (λ (expected completed : ℕ). errors.PartialBuffer expected completed) (length xs) fault n)
-    → xs ≡ []
-reached_none_of_all [] fault n r still e = refl
-reached_none_of_all (x ∷ xs) None n r still e = go (length (x ∷ xs) == n) e
+-- an access that is answered by an error reached nothing
+pub reached_none : (xs : List Reached) (fault : Option GuestMemoryError) (n : ℕ) (e : GuestMemoryError)
+    → counted (length xs) fault n ≡ Err e → xs ≡ []
+reached_none [] fault n e is = refl
+reached_none (x ∷ xs) None n e is = absurd (cc)
+reached_none (x ∷ xs) (Some f) n e is = go (nat_lt 0 n) (length (x ∷ xs) == 0) refl is
   where
-    short : GuestMemoryError
-    short = errors.PartialBuffer n (length (x ∷ xs))
-
-    go : (b : Bool) → r ≡ reply_of (λ (done : Unit {0}). reply.Done) (cond b (Ok tt) (Err short)) → x ∷ xs ≡ []
-    go true e = absurd (subst IsStill e still)
-    go false e = absurd (subst IsStill e still)
-reached_none_of_all (x ∷ xs) (Some f) n r still e =
-    go (length (x ∷ xs) == n) (length (x ∷ xs) == 0) refl e
-  where
-    short : GuestMemoryError
-    short = errors.PartialBuffer n (length (x ∷ xs))
-
-    go : (b z : Bool) → (length (x ∷ xs) == 0) ≡ z
-        → r ≡ reply_of (λ (done : Unit {0}). reply.Done) (cond b (Ok tt) (cond z (Err f) (Err short)))
-        → x ∷ xs ≡ []
-    go b true h e = absurd (omega (arith, eqb-true (length (x ∷ xs)) 0 h))
-    go true false h e = absurd (subst IsStill e still)
-    go false false h e = absurd (subst IsStill e still)
+    go : (b z : Bool) → (length (x ∷ xs) == 0) ≡ z → cond (b && z) (Err f) (Ok (length (x ∷ xs))) ≡ Err e → x ∷ xs ≡ []
+    go b true h is = absurd (omega (arith, eqb-true (length (x ∷ xs)) 0 h))
+    go true false h is = absurd (cc)
+    go false false h is = absurd (cc)
 
 -- a store that does not reply that it is done took nothing
 pub not_stored : (t : Result (List Reached) GuestMemoryError) (r : Reply) → IsStill r
@@ -95,15 +80,8 @@ module _ (refused : RefusedLaw) (fault : Option GuestMemoryError) (xs : List Rea
       → (received of_window fault whole (windows xs) 0 (map next_of source) host).answer ≡ answer
       → r ≡ moved_as whole n answer
       → (received of_window fault whole (windows xs) 0 (map next_of source) host).host ≡ host
-  not_received false n (Ok total) same e = absurd (subst IsStill e still)
-  not_received false n (Err x) same e = not_received_by false x same e
-  not_received true n (Err x) same e = not_received_by true x same e
-  not_received true n (Ok total) same e = go (total == n) e
-    where
-      go : (b : Bool) → r ≡ reply_of (λ (done : Unit {0}). reply.Done) (cond b (Ok tt) (Err (errors.PartialBuffer n total)))
-          → (received of_window fault true (windows xs) 0 (map next_of source) host).host ≡ host
-      go true e = absurd (subst IsStill e still)
-      go false e = absurd (subst IsStill e still)
+  not_received whole n answer same is =
+      let e = not_moved whole n answer r still is in not_received_by whole e.0 (same ∙ e.1) e.2
 
 -- a fault that is not told of an access in part is one
 pub still-fault : (f : Fault) → is_partial f ≡ false → IsStill (reply.Fault f)

@@ -17,7 +17,7 @@ use Rattle.vm_memory_base.specs.declared.iotlb.Permissions.{Permissions}
 use Rattle.vm_memory_base.specs.declared.iotlb.Permissions.TheVariants as permissions
 use Rattle.vm_memory_guest.specs.Access as access
 use Rattle.vm_memory_guest.specs.Access.{Access, Reached, windows}
-use Rattle.vm_memory_guest.specs.Answer.{counted, exactly}
+use Rattle.vm_memory_guest.specs.Answer.{counted}
 use Rattle.vm_memory_guest.specs.Dealt.{Given, received, given_out, after_sent}
 use Rattle.vm_memory_guest.specs.Dirt.{bytes_read}
 use Rattle.vm_memory_guest.specs.Error.{error_of, of_window}
@@ -31,9 +31,9 @@ use Rattle.vm_memory_guest.specs.declared.region.GuestMemoryError.{GuestMemoryEr
 use Rattle.vm_memory_guest.specs.declared.region.GuestMemoryError.TheVariants as errors
 use Rattle.vm_memory_guest.specs.declared.region.GuestRegionCollectionError.{GuestRegionCollectionError}
 use Rattle.vm_memory_guest.specs.declared.region.GuestRegionCollectionError.TheVariants as layouts
-use Rattle.vm_memory.specs.Reply.{reached_by, reads, reads_whole, reply_of, reply_of_error, reply_of_layout_error, writes, writes_whole}
+use Rattle.vm_memory.specs.Reply.{answer_of, whole_of, moved_as, reached_by, reads, reads_whole, reply_of, reply_of_error, reply_of_layout_error, writes}
 use Rattle.vm_memory.specs.Tables.{looks_up}
-use Rattle.vm_memory.specs.Transfers.{beside_taken, dealt_to, given_by, moved_as, receives, sends}
+use Rattle.vm_memory.specs.Transfers.{beside_taken, dealt_to, given_by, receives, sends}
 use Rattle.vm_memory.specs.Typed.{loads, stores_bytes}
 use Rattle.vm_memory.specs.declared.machine.command.Reply.{Reply}
 use Rattle.vm_memory.specs.declared.machine.command.Reply.TheVariants as reply
@@ -94,21 +94,6 @@ counted_fault reached n (Some e) h = go (nat_lt 0 n && reached == 0)
     go : (b : Bool) → IfErr {T = ℕ} (cond b (Err e) (Ok reached)) IsFault
     go true = h
     go false = tt
-
-exactly_fault : (reached n : ℕ) (o : Option GuestMemoryError) → IfSome o IsFault
-    → IfErr (exactly partial reached o n) IsFault
-exactly_fault reached n None h = go (reached == n)
-  where
-    go : (b : Bool) → IfErr {T = Unit {0}} (cond b (Ok tt) (Err (errors.PartialBuffer n reached))) IsFault
-    go true = tt
-    go false = tt
-exactly_fault reached n (Some e) h = go (reached == n) (reached == 0)
-  where
-    go : (b z : Bool)
-        → IfErr {T = Unit {0}} (cond b (Ok tt) (cond z (Err e) (Err (errors.PartialBuffer n reached)))) IsFault
-    go true z = tt
-    go false true = h
-    go false false = tt
 
 typed_fault : (size : ℕ) (xs : List Reached) (o : Option GuestMemoryError) → IfSome o IsFault
     → IfErr (whole_path size xs o) IsFault
@@ -267,20 +252,28 @@ layout_fault (r ∷ rs) = neighbours_fault (r ∷ rs)
 
 -- ---- what commands reply
 
+moved : (whole : Bool) (n : ℕ) (answer : Result ℕ GuestMemoryError) → IfErr answer IsFault → IsAnswer (moved_as whole n answer)
+moved false n answer fault = told_of reply.Count answer (λ count. tt) fault
+moved true n answer fault =
+    told_of (λ (done : Unit {0}). reply.Done) (all_of partial n answer) (λ done. tt) (all_fault n answer fault)
+
 module _ (host : Host PageSet) (m : Memory) (a : ℕ) where
+  reached_fault : (n : ℕ) (access : Permissions) → IfErr (answer_of (reached_by m host.tables a n access) n) IsFault
+  reached_fault n access =
+      let reached = reached_by m host.tables a n access in
+      counted_fault (length reached.path) n (kept reached) (access_fault reached)
+
   pub read : (n : ℕ) → IsAnswer (reads m host a n)
   read n =
       let reached = reached_by m host.tables a n permissions.Read in
-      told_of (λ (count : ℕ). reply.Bytes (bytes_read reached.path host))
-      (counted (length reached.path) (kept reached) n) (λ count. tt)
-      (counted_fault (length reached.path) n (kept reached) (access_fault reached))
+      told_of (λ (count : ℕ). reply.Bytes (bytes_read reached.path host)) (answer_of reached n) (λ count. tt)
+      (reached_fault n permissions.Read)
 
   pub read_whole : (n : ℕ) → IsAnswer (reads_whole m host a n)
   read_whole n =
       let reached = reached_by m host.tables a n permissions.Read in
-      told_of (λ (done : Unit {0}). reply.Bytes (bytes_read reached.path host))
-      (exactly partial (length reached.path) (kept reached) n) (λ done. tt)
-      (exactly_fault (length reached.path) n (kept reached) (access_fault reached))
+      told_of (λ (done : Unit {0}). reply.Bytes (bytes_read reached.path host)) (whole_of n (answer_of reached n))
+      (λ done. tt) (all_fault n (answer_of reached n) (reached_fault n permissions.Read))
 
   pub loaded : (w : int.Width) → IsAnswer (loads m host a w)
   loaded w =
@@ -289,29 +282,16 @@ module _ (host : Host PageSet) (m : Memory) (a : ℕ) where
       (whole_path (byte_len w) reached.path (kept reached)) (λ xs. tt)
       (typed_fault (byte_len w) reached.path (kept reached) (access_fault reached))
 
-  pub wrote : (bytes : List ℕ) → IsAnswer (writes m host a bytes).0
-  wrote bytes =
-      let reached = reached_by m host.tables a (length bytes) permissions.Write in
-      told_of reply.Count (counted (length reached.path) (kept reached) (length bytes)) (λ count. tt)
-      (counted_fault (length reached.path) (length bytes) (kept reached) (access_fault reached))
-
-  pub wrote_whole : (bytes : List ℕ) → IsAnswer (writes_whole m host a bytes).0
-  wrote_whole bytes =
-      let reached = reached_by m host.tables a (length bytes) permissions.Write in
-      told_of (λ (done : Unit {0}). reply.Done)
-      (exactly partial (length reached.path) (kept reached) (length bytes)) (λ done. tt)
-      (exactly_fault (length reached.path) (length bytes) (kept reached) (access_fault reached))
+  pub wrote : (whole : Bool) (bytes : List ℕ) → IsAnswer (writes whole m host a bytes).0
+  wrote whole bytes =
+      let n = length bytes in
+      moved whole n (answer_of (reached_by m host.tables a n permissions.Write) n) (reached_fault n permissions.Write)
 
   pub stored : (bytes : List ℕ) → IsAnswer (stores_bytes m host a bytes).0
   stored bytes =
       let reached = reached_by m host.tables a (length bytes) permissions.Write in
       told_of (λ (xs : List Reached). reply.Done) (whole_path (length bytes) reached.path (kept reached))
       (λ xs. tt) (typed_fault (length bytes) reached.path (kept reached) (access_fault reached))
-
-  moved : (whole : Bool) (n : ℕ) (answer : Result ℕ GuestMemoryError) → IfErr answer IsFault → IsAnswer (moved_as whole n answer)
-  moved false n answer fault = told_of reply.Count answer (λ count. tt) fault
-  moved true n answer fault =
-      told_of (λ (done : Unit {0}). reply.Done) (all_of partial n answer) (λ done. tt) (all_fault n answer fault)
 
   pub got : RefusedLaw → (whole : Bool) (n : ℕ) (source : List SourceStep) → IsAnswer (receives whole m host a n source).0
   got refused whole n source =

@@ -13,7 +13,7 @@ use Rattle.vm_memory.specs.State.{State, plain, named}
 use Rattle.vm_memory.specs.Copy.{copies}
 use Rattle.vm_memory.specs.Effect.{Effect, Replies, AddsMemory, Leaves}
 use Rattle.vm_memory.specs.Effect.{if_there, laid_out, without, turned, leaves, asks, changes_by}
-use Rattle.vm_memory.specs.Reply.{reads, writes, reads_whole, writes_whole, checks}
+use Rattle.vm_memory.specs.Reply.{reads, reads_whole, writes, checks}
 use Rattle.vm_memory.specs.Tables.{changes, looks_up}
 use Rattle.vm_memory.specs.Transfers.{receives, sends}
 use Rattle.vm_memory.specs.Typed.{integer_of, fits_width, loads, stores}
@@ -52,9 +52,9 @@ effect old (ReplaceBackend memory layout) =
 effect old (Enable memory on) =
     if_there (slice_get old.memories memory) (λ m. if_there m.iommu (λ s. turned memory m s on))
 effect old (Read memory addr count) = asks old memory (λ m host. reads m host addr.0 count)
-effect old (Write memory addr bytes) = changes_by old memory (λ m host. writes m host addr.0 bytes)
+effect old (Write memory addr bytes) = changes_by old memory (λ m host. writes false m host addr.0 bytes)
 effect old (ReadSlice memory addr count) = asks old memory (λ m host. reads_whole m host addr.0 count)
-effect old (WriteSlice memory addr bytes) = changes_by old memory (λ m host. writes_whole m host addr.0 bytes)
+effect old (WriteSlice memory addr bytes) = changes_by old memory (λ m host. writes true m host addr.0 bytes)
 effect old (Store memory width addr value) =
     changes_by old memory (λ m host. stores m host addr.0 (integer_of width) value)
 effect old (Load memory width addr) = asks old memory (λ m host. loads m host addr.0 (integer_of width))

@@ -7,10 +7,11 @@ use Rattle.vm_memory_base.specs.declared.iotlb.Permissions.TheVariants as permis
 use Rattle.vm_memory_guest.specs.Host.{Host}
 use Rattle.vm_memory_guest.specs.Memory.{Memory, route}
 use Rattle.vm_memory_guest.specs.Access.{Access, access_of}
-use Rattle.vm_memory_guest.specs.Answer.{counted, exactly}
+use Rattle.vm_memory_guest.specs.Answer.{counted}
 use Rattle.vm_memory_guest.specs.Dirt.{after_write, bytes_read}
 use Rattle.vm_memory_guest.specs.Error.{error_of}
 use Rattle.vm_memory_guest.specs.Queries.{is_whole}
+use Rattle.vm_memory_guest.specs.Transfer.{all_of}
 use Rattle.vm_memory_guest.specs.declared.region.GuestMemoryError.{GuestMemoryError}
 use Rattle.vm_memory_guest.specs.declared.region.GuestMemoryError.TheVariants as errors
 use Rattle.vm_memory_guest.specs.declared.region.GuestRegionCollectionError.{GuestRegionCollectionError}
@@ -60,38 +61,35 @@ reached_by m tables a n access = access_of m.regions (route m tables) a n access
 abbrev pub answer_of : Access → ℕ → Result ℕ GuestMemoryError
 answer_of reached n = counted (length reached.path) (option_map error_of reached.fault) n
 
+-- where all of n bytes are wanted, fewer are an error
+abbrev pub whole_of : ℕ → Result ℕ GuestMemoryError → Result (Unit {0}) GuestMemoryError
+whole_of n answer = all_of (λ expected completed. errors.PartialBuffer expected completed) n answer
+
+-- a call that moves n bytes replies how many were moved, or that all were
+abbrev pub moved_as : Bool → ℕ → Result ℕ GuestMemoryError → Reply
+moved_as false n answer = reply_of Count answer
+moved_as true n answer = reply_of (λ done. Done) (whole_of n answer)
+
 -- a read replies the bytes of its path
 abbrev pub reads : Memory → Host PageSet → ℕ → ℕ → Reply
 reads m host a n =
     let reached = reached_by m host.tables a n permissions.Read in
     reply_of (λ count. Bytes (bytes_read reached.path host)) (answer_of reached n)
 
--- whether an access reached all of n bytes: nothing, or the error where it did not
-abbrev pub whole_of : Access → ℕ → Result (Unit {0}) GuestMemoryError
-whole_of reached n =
-    exactly (λ expected completed. errors.PartialBuffer expected completed) (length reached.path)
-    (option_map error_of reached.fault) n
-
 -- a read of all bytes replies those of its path, where it reached all
 abbrev pub reads_whole : Memory → Host PageSet → ℕ → ℕ → Reply
 reads_whole m host a n =
     let reached = reached_by m host.tables a n permissions.Read in
-    reply_of (λ done. Bytes (bytes_read reached.path host)) (whole_of reached n)
+    reply_of (λ done. Bytes (bytes_read reached.path host)) (whole_of n (answer_of reached n))
 
 -- a check replies whether an access would reach all of its n bytes
 abbrev pub checks : Memory → Host PageSet → ℕ → ℕ → Permissions → Reply
 checks m host a n access = Truth (is_whole (reached_by m host.tables a n access).path n)
 
--- a write replies the count, and leaves the bytes and their dirt in its path: it is empty where it was refused
-abbrev pub writes : Memory → Host PageSet → ℕ → List ℕ → Reply × Host PageSet
-writes m host a bytes =
+-- a write, of all bytes or of those that it reaches, leaves the bytes and their dirt in its path: it is empty where
+-- the write was refused
+abbrev pub writes : Bool → Memory → Host PageSet → ℕ → List ℕ → Reply × Host PageSet
+writes whole m host a bytes =
     let n = length bytes in
     let reached = reached_by m host.tables a n permissions.Write in
-    (reply_of Count (answer_of reached n), after_write reached.path bytes host)
-
--- a write of all bytes leaves those that have a place in its path, also where not all have
-abbrev pub writes_whole : Memory → Host PageSet → ℕ → List ℕ → Reply × Host PageSet
-writes_whole m host a bytes =
-    let n = length bytes in
-    let reached = reached_by m host.tables a n permissions.Write in
-    (reply_of (λ done. Done) (whole_of reached n), after_write reached.path bytes host)
+    (moved_as whole n (answer_of reached n), after_write reached.path bytes host)

@@ -1,5 +1,5 @@
 -- What a machine replies to transfers from sources and to sinks that follow a script, and what these leave.
-use Rattle.std.specs.Prelude.{ℕ, Bool, true, false, List, map, take, Some, Result, option_map}
+use Rattle.std.specs.Prelude.{ℕ, Bool, List, map, take, Some, option_map}
 use Rattle.vm_memory_base.specs.Pages.{PageSet}
 use Rattle.vm_memory_base.specs.Script.{next_of, taking_of}
 use Rattle.vm_memory_base.specs.declared.io.script.SinkStep.{SinkStep}
@@ -11,10 +11,8 @@ use Rattle.vm_memory_guest.specs.Dirt.{bytes_read}
 use Rattle.vm_memory_guest.specs.Error.{error_of, of_window}
 use Rattle.vm_memory_guest.specs.Host.{Host}
 use Rattle.vm_memory_guest.specs.Memory.{Memory}
-use Rattle.vm_memory_guest.specs.Transfer.{all_of}
 use Rattle.vm_memory_guest.specs.declared.region.GuestMemoryError.{GuestMemoryError}
-use Rattle.vm_memory_guest.specs.declared.region.GuestMemoryError.TheVariants as errors
-use Rattle.vm_memory.specs.Reply.{reached_by, reply_of}
+use Rattle.vm_memory.specs.Reply.{moved_as, reached_by}
 use Rattle.vm_memory.specs.declared.machine.command.Ending.TheVariants as ending
 use Rattle.vm_memory.specs.declared.machine.command.Reply.{Reply}
 use Rattle.vm_memory.specs.declared.machine.command.Reply.TheVariants.{Count, Done, Fault, Sent}
@@ -26,12 +24,6 @@ dealt_to until_full m host a n source =
     let reached = reached_by m host.tables a n permissions.Write in
     received of_window (option_map error_of reached.fault) until_full (windows reached.path) 0
     (map next_of source) host
-
--- a transfer of n bytes replies how many were moved, and one of all bytes whether all were
-abbrev pub moved_as : Bool → ℕ → Result ℕ GuestMemoryError → Reply
-moved_as false n answer = reply_of Count answer
-moved_as true n answer =
-    reply_of (λ done. Done) (all_of (λ expected completed. errors.PartialBuffer expected completed) n answer)
 
 -- a transfer in, of all bytes or of those that come
 abbrev pub receives : Bool → Memory → Host PageSet → ℕ → ℕ → List SourceStep → Reply × Host PageSet

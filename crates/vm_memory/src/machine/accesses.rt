@@ -1,12 +1,12 @@
 //! The commands that access memories.
-ghost use Rattle.std.specs.Prelude.{◌≡◌, ◌⊎◌, length, IsOk, IfOk, Some};
+ghost use Rattle.std.specs.Prelude.{◌≡◌, ◌⊎◌, true, false, length, IsOk, IfOk, Some};
 ghost use Rattle.vm_memory_guest.specs.Dirt.{with_pages};
 ghost use Rattle.vm_memory_guest.specs.Host.{shape_of, Holds};
 ghost use Rattle.vm_memory_guest.specs.Memory.{IsOn};
 ghost use Rattle.vm_memory.specs.Commands.{accessed_memory};
 ghost use Rattle.vm_memory.specs.Machine.{Step};
 ghost use Rattle.vm_memory.specs.Parts.{state_of};
-ghost use Rattle.vm_memory.specs.Reply.{reads, writes, reads_whole, writes_whole, checks, reply_of, reply_of_error};
+ghost use Rattle.vm_memory.specs.Reply.{reads, reads_whole, writes, checks, reply_of, reply_of_error};
 
 use super::Machine;
 use super::command::{Command, Fault, Reply};
@@ -152,7 +152,7 @@ fn write_from<M: GuestMemory, B: ExactBitmap>(
     requires { Holds (shape_of host.old) (M.names memory.now) }
     ensures written { let m = M.memory memory.now in let before = with_pages B.pages host.old in
         let after = with_pages B.pages host.new in
-        ((result, after) ≡ writes m before addr.0 bytes.now)
+        ((result, after) ≡ writes false m before addr.0 bytes.now)
         ⊎ ((result ≡ Reply.Memory) × IsOn m × (after ≡ before)) }
     ensures shape { shape_of host.new ≡ shape_of host.old }
 {
@@ -192,7 +192,7 @@ fn write_whole<M: GuestMemory, B: ExactBitmap>(
     requires { Holds (shape_of host.old) (M.names memory.now) }
     ensures written { let m = M.memory memory.now in let before = with_pages B.pages host.old in
         let after = with_pages B.pages host.new in
-        ((result, after) ≡ writes_whole m before addr.0 bytes.now)
+        ((result, after) ≡ writes true m before addr.0 bytes.now)
         ⊎ ((result ≡ Reply.Memory) × IsOn m × (after ≡ before)) }
     ensures shape { shape_of host.new ≡ shape_of host.old }
 {

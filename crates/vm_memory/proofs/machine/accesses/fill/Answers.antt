@@ -1,13 +1,15 @@
-use Rattle.std.proofs.Common.{◌≡◌, ◌≤◌, length, Ok, option_map, arith, inl}
+use Rattle.std.proofs.Common.{◌≡◌, ◌≤◌, ℕ, length, Ok, option_map, arith, refl, inl}
 use Rattle.std.proofs.lemmas.List.{take_all, with_items_is}
 use Rattle.vm_memory_base.specs.declared.iotlb.Permissions.TheVariants as permissions
 use Rattle.vm_memory_guest.specs.Dirt.{path_cells}
 use Rattle.vm_memory_guest.specs.Host.{bytes_at}
 use Rattle.vm_memory_guest.specs.Memory.{route}
 use Rattle.vm_memory_guest.specs.Error.{error_of}
+use Rattle.vm_memory_guest.specs.declared.region.GuestMemoryError.{GuestMemoryError}
 use Rattle.vm_memory_guest.specs.declared.region.GuestMemoryError.TheVariants as errors
-use Rattle.vm_memory.specs.Reply.{reached_by, whole_of}
-use Rattle.vm_memory.proofs.AccessLemmas.{exactly_is}
+use Rattle.vm_memory_guest.specs.Answer.{exactly}
+use Rattle.vm_memory.specs.Reply.{reached_by}
+use Rattle.vm_memory.proofs.AccessLemmas.{exactly_is, all_of-counted}
 use Rattle.vm_memory.proofs.machine.accesses.fill.Goals as goal
 
 pub returns-in-Ok : goal.returns-in-Ok
@@ -21,15 +23,16 @@ returns-in-Ok g c =
     let each = g.met.M.GuestMemory.each_fits c.args.memory.now in
     let reached = reached_by m host.tables c.args.addr.0 n permissions.Read in
     let given = rw c.as_mut_slice.ensures.value at c.in-Ok.ensures.answer in
-    let answer : Ok c.in-Ok.field-0 ≡ whole_of reached n =
+    let partial : ℕ → ℕ → GuestMemoryError = λ expected completed. errors.PartialBuffer expected completed in
+    let fault = option_map error_of reached.fault in
+    let answer : Ok c.in-Ok.field-0 ≡ exactly partial (length reached.path) fault n =
     rw (by_bytes.count m.regions way c.args.addr.0 n permissions.Read) at given.0 in
     let all : length reached.path ≡ n =
-    exactly_is (λ expected completed. errors.PartialBuffer expected completed) (length reached.path)
-    (option_map error_of reached.fault) n c.in-Ok.field-0 answer in
+    exactly_is partial (length reached.path) fault n c.in-Ok.field-0 answer in
     let len : length c.read_slice.new.buf ≡ buffer.len = omega (arith, buffer.ok.0) in
     let short : length c.read_slice.new.buf ≤ length reached.path = omega (arith, buffer.ok.0, len, all) in
     let whole = take_all (length reached.path) c.read_slice.new.buf short in
     let bytes : c.from_vec.result ≡ bytes_at host.blocks (path_cells reached.path) =
     rw (c.from_vec.ensures, with_items_is buffer c.read_slice.new.buf len, ← whole, given.1)
     (by_bytes.reads m.regions way c.args.addr.0 n permissions.Read host.blocks buffer.items each) in
-    inl (rw (← answer, bytes))
+    inl (rw (all_of-counted partial (length reached.path) fault n, ← answer, bytes) refl)
