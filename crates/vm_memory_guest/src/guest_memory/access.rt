@@ -94,7 +94,7 @@ impl<T: GuestMemory> Bytes<GuestAddress> for T {
         whole(expected, completed)
     }
 
-    #[inline]
+    #[inline(always)]
     fn write_obj<V: ByteValued, B: Bitmap>(
         &self,
         host: &mut HostMemory<B>,
@@ -106,7 +106,7 @@ impl<T: GuestMemory> Bytes<GuestAddress> for T {
         whole(V::size(), completed)
     }
 
-    #[inline]
+    #[inline(always)]
     fn read_obj<V: ByteValued, B: Bitmap>(
         &self,
         host: &HostMemory<B>,
@@ -120,7 +120,7 @@ impl<T: GuestMemory> Bytes<GuestAddress> for T {
         Ok(value)
     }
 
-    #[inline]
+    #[inline(always)]
     fn store<V: AtomicAccess, B: Bitmap>(
         &self,
         host: &mut HostMemory<B>,
@@ -135,7 +135,7 @@ impl<T: GuestMemory> Bytes<GuestAddress> for T {
         Ok(())
     }
 
-    #[inline]
+    #[inline(always)]
     fn load<V: AtomicAccess, B: Bitmap>(
         &self,
         host: &HostMemory<B>,
@@ -277,7 +277,7 @@ fn read_windows<M: GuestMemoryBackend, B: Bitmap>(
 }
 
 // Moves the bytes of a value into the windows that a walk gives, as `write_windows` does.
-#[inline]
+#[inline(always)]
 fn write_value<M: GuestMemoryBackend, V: ByteValued, B: Bitmap>(
     walk: IommuMemorySliceIterator<'_, M>,
     host: &mut HostMemory<B>,
@@ -305,7 +305,7 @@ fn write_value<M: GuestMemoryBackend, V: ByteValued, B: Bitmap>(
 }
 
 // Fills the bytes of a value from the windows that a walk gives, as `read_windows` does.
-#[inline]
+#[inline(always)]
 fn read_value<M: GuestMemoryBackend, V: ByteValued, B: Bitmap>(
     walk: IommuMemorySliceIterator<'_, M>,
     host: &HostMemory<B>,
@@ -333,7 +333,7 @@ fn read_value<M: GuestMemoryBackend, V: ByteValued, B: Bitmap>(
 }
 
 // The window of a load or a store of `size` bytes: the first that a walk gives.
-#[inline]
+#[inline(always)]
 fn first_window<M: GuestMemoryBackend>(
     mut walk: IommuMemorySliceIterator<'_, M>,
     size: usize,
@@ -352,7 +352,7 @@ fn first_window<M: GuestMemoryBackend>(
 }
 
 // Whether all that was expected was completed, as guest memory tells it.
-#[inline]
+#[inline(always)]
 fn whole(expected: usize, completed: usize) -> GuestMemoryResult<()>
     ensures { let short = GuestMemoryError.PartialBuffer expected completed in
         result ≡ (if completed == expected then Ok tt else Err short) }
