@@ -8,7 +8,7 @@ ghost use Rattle.vm_memory_base.specs.declared.iotlb.Permissions.TheVariants.{Re
 ghost use Rattle.vm_memory_guest.specs.Access.{access_of, windows};
 ghost use Rattle.vm_memory_guest.specs.Dealt.{given_out, received};
 ghost use Rattle.vm_memory_guest.specs.Error.{error_of, of_window};
-ghost use Rattle.vm_memory_guest.specs.Examples.{address_of, clean_pages, host_of, one_region, touching_regions, two_zero_blocks, zeros};
+ghost use Rattle.vm_memory_guest.specs.examples.Fixtures.{address_of, clean_pages, host_of, one_region, touching_regions, two_zero_blocks, zeros};
 ghost use Rattle.vm_memory_guest.specs.Memory.{Direct};
 ghost use Rattle.vm_memory_guest.specs.Transfer.{all_of};
 ghost use Rattle.vm_memory_guest.specs.declared.region.GuestMemoryError.TheVariants.{IOError, InvalidGuestAddress, PartialBuffer};
