@@ -3,7 +3,7 @@ pub mod Copy
 pub mod Tables
 pub mod Transfers
 pub mod Effect
-pub mod Examples
+pub mod examples
 pub mod History
 pub mod Inside
 pub mod Iommu

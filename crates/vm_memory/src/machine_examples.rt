@@ -16,9 +16,9 @@ ghost use Rattle.vm_memory_base.specs.declared.iotlb.Reason.TheVariants.{Missing
 ghost use Rattle.vm_memory_guest.specs.Region.{Region};
 ghost use Rattle.vm_memory_guest.specs.declared.region.GuestMemoryError.TheVariants as errors;
 ghost use Rattle.vm_memory_guest.specs.declared.region.GuestRegionCollectionError.TheVariants as layouts;
-ghost use Rattle.vm_memory.specs.Examples.{at, low, high, bare, block_pages, space_pages, host, machine, translated};
-ghost use Rattle.vm_memory.specs.Examples.{marked_host, marked, range, failed, two_bytes, four_bytes};
-ghost use Rattle.vm_memory.specs.Examples.{with_bytes, with_translated_bytes, no_region_at, not_translated, in_block};
+ghost use Rattle.vm_memory.specs.examples.Fixtures.{at, low, high, bare, block_pages, space_pages, host, machine, translated};
+ghost use Rattle.vm_memory.specs.examples.Fixtures.{marked_host, marked, range, failed, two_bytes, four_bytes};
+ghost use Rattle.vm_memory.specs.examples.Fixtures.{with_bytes, with_translated_bytes, no_region_at, not_translated, in_block};
 ghost use Rattle.vm_memory.specs.History.{table_calls};
 ghost use Rattle.vm_memory.specs.Commands.{MayWant};
 ghost use Rattle.vm_memory.specs.Machine.{outcome, Step, Run};
@@ -42,24 +42,111 @@ ghost use Rattle.vm_memory.specs.declared.machine.command.Reply.TheVariants.{Don
 ghost use Rattle.vm_memory.specs.declared.machine.command.Width.TheVariants.{One, Two, Four, Eight};
 ghost use Rattle.vm_memory.specs.declared.machine.command.Fault.TheVariants as fault;
 
-/// A check replies whether each byte of a range may be accessed so and is there, and changes nothing. Only an
-/// IOMMU that is on may want memory for it.
-pub fn checks_are_answered()
-    ensures whole { outcome machine (CheckRange 0 (at 2) 4 permissions.Write) ≡ (Truth true, machine) }
-    ensures into_a_hole { outcome machine (CheckRange 0 (at 6) 4 permissions.Read) ≡ (Truth false, machine) }
-    ensures bare_region { outcome machine (CheckRange 0 (at 12) 1 No) ≡ (Truth false, machine) }
-    ensures empty_in_a_hole { outcome machine (CheckRange 0 (at 8) 0 permissions.Read) ≡ (Truth true, machine) }
-    ensures translated { outcome machine (CheckRange 1 (at 16) 8 permissions.Read) ≡ (Truth true, machine) }
-    ensures not_allowed { outcome machine (CheckRange 1 (at 19) 2 permissions.Write) ≡ (Truth false, machine) }
-    ensures not_mapped { outcome machine (CheckRange 1 (at 2) 1 No) ≡ (Truth false, machine) }
-    ensures no_such { outcome machine (CheckRange 3 (at 0) 0 No) ≡ (NoSuch, machine) }
-    ensures never_wants { MayWant machine (CheckRange 0 (at 2) 4 permissions.Write) → ⊥ }
-    ensures may_want { MayWant machine (CheckRange 1 (at 16) 8 permissions.Read) }
+/// A layout of regions of the pool, or with a region more or one less, is the next, and the one before it stays; it
+/// may be left without a region. A memory has the regions of its layout and is the next. One over another layout has
+/// the IOMMU of the memory that it is made of, and only the IOMMU of the memory that is named is turned on or off.
+pub fn layouts_and_memories_are_made()
+    ensures made { outcome machine (FromRegions (1 ∷ 2 ∷ []))
+        ≡ (LayoutMade 1, record machine { layouts = (low ∷ high ∷ []) ∷ (high ∷ bare ∷ []) ∷ [] }) }
+    ensures removed { outcome machine (Remove 0 (at 0) 4)
+        ≡ (LayoutMade 1, record machine { layouts = (low ∷ high ∷ []) ∷ (high ∷ []) ∷ [] }) }
+    ensures other_length { outcome machine (Remove 0 (at 0) 2) ≡ (Fault fault.NoMemoryRegion, machine) }
+    ensures none_left { outcome (record machine { layouts = (low ∷ []) ∷ [] }) (Remove 0 (at 0) 4)
+        ≡ (LayoutMade 1, record machine { layouts = (low ∷ []) ∷ [] ∷ [] }) }
+    ensures into_none { outcome (record machine { layouts = [] ∷ [] }) (Insert 0 1)
+        ≡ (LayoutMade 1, record machine { layouts = [] ∷ (high ∷ []) ∷ [] }) }
+    ensures plain { outcome machine (Plain 0)
+        ≡ (MemoryMade 3, record machine { memories = machine.memories ++ plain (low ∷ high ∷ []) ∷ [] }) }
+    ensures behind_an_iommu { outcome machine (NewMemory 0 0 0 true)
+        ≡ (MemoryMade 3, record machine { memories = machine.memories ++ translated true ∷ [] }) }
+    ensures replaced { let more = record machine { layouts = machine.layouts ++ (bare ∷ []) ∷ [] } in
+        outcome more (ReplaceBackend 1 1)
+        ≡ (MemoryMade 3, record more { memories = machine.memories ++ behind (bare ∷ []) 0 0 true ∷ [] }) }
+    ensures replace_of_plain { outcome machine (ReplaceBackend 0 0) ≡ (NoSuch, machine) }
+    ensures turned_off { outcome machine (Enable 1 false)
+        ≡ (
+          Done,
+          record machine {
+            memories = plain (low ∷ high ∷ bare ∷ []) ∷ translated false ∷ translated false ∷ [];
+          },
+        ) }
+    ensures turn_of_plain { outcome machine (Enable 0 true) ≡ (NoSuch, machine) }
 {}
 
-/// A look-up replies its pieces, or what is not mapped and what is mapped without the access, and changes
-/// nothing. A change of a table goes no further than the last address.
-pub fn tables_are_commanded()
+/// Reads and writes go over touching regions, and stop at a hole and at a region without host bytes; of no byte they
+/// are no error. A write marks the pages of its bytes in their blocks. With an IOMMU that is on it goes where its
+/// addresses are mapped and marks the space, and where one address has no mapping that grants the access nothing is
+/// reached. With one that is off it is as without.
+pub fn bytes_are_answered()
+    ensures up_to_a_hole { outcome machine (Read 0 (at 6) 4) ≡ (Bytes (7 ∷ 8 ∷ []), machine) }
+    ensures bare_region { outcome machine (Read 0 (at 12) 1) ≡ (Fault fault.HostAddressNotAvailable, machine) }
+    ensures nothing_in_a_hole { outcome machine (Read 0 (at 8) 0) ≡ (Bytes [], machine) }
+    ensures whole_read_to_a_hole { outcome machine (ReadSlice 0 (at 6) 4) ≡ (Fault (fault.PartialBuffer 4 2), machine) }
+    ensures write_over_two_regions { outcome machine (Write 0 (at 3) (9 ∷ 10 ∷ []))
+        ≡ (
+          Count 2,
+          with_bytes (1 ∷ 2 ∷ 3 ∷ 9 ∷ []) (10 ∷ 6 ∷ 7 ∷ 8 ∷ []) (block_pages false true) (block_pages true false),
+        ) }
+    ensures write_in_a_hole { outcome machine (Write 0 (at 8) (9 ∷ [])) ≡ (Fault (no_region_at 8), machine) }
+    ensures whole_write_to_a_hole { outcome machine (WriteSlice 0 (at 7) (9 ∷ 10 ∷ []))
+        ≡ (
+          Fault (fault.PartialBuffer 2 1),
+          with_bytes (1 ∷ 2 ∷ 3 ∷ 4 ∷ []) (5 ∷ 6 ∷ 7 ∷ 9 ∷ []) (block_pages false false) (block_pages false true),
+        ) }
+    ensures translated_read { outcome machine (Read 1 (at 18) 4) ≡ (Bytes (5 ∷ 6 ∷ 5 ∷ 6 ∷ []), machine) }
+    ensures translated_write { outcome machine (Write 1 (at 16) (9 ∷ []))
+        ≡ (Count 1, with_translated_bytes (1 ∷ 2 ∷ 9 ∷ 4 ∷ []) (5 ∷ 6 ∷ 7 ∷ 8 ∷ [])) }
+    ensures not_mapped { outcome machine (Read 1 (at 2) 1)
+        ≡ (Fault (not_translated 2 1 MissingMapping), machine) }
+    ensures not_allowed { outcome machine (Write 1 (at 19) (9 ∷ 9 ∷ []))
+        ≡ (Fault (not_translated 19 2 AccessNotAllowed), machine) }
+    ensures write_that_is_off { outcome machine (Write 2 (at 2) (9 ∷ []))
+        ≡ (
+          Count 1,
+          with_bytes (1 ∷ 2 ∷ 9 ∷ 4 ∷ []) (5 ∷ 6 ∷ 7 ∷ 8 ∷ []) (block_pages false true) (block_pages false false),
+        ) }
+{}
+
+/// A store leaves the bytes of its value, the lowest first, and marks their pages. A value is stored and loaded at a
+/// place of its block that is a multiple of its width, in one region and through one mapping. A copy moves as many
+/// bytes as both windows have, as they were, and is refused where a window passes its block.
+pub fn values_and_copies_are_answered()
+    ensures store { outcome machine (Store 0 Two (at 2) (two_bytes 9 10))
+        ≡ (
+          Done,
+          with_bytes (1 ∷ 2 ∷ 9 ∷ 10 ∷ []) (5 ∷ 6 ∷ 7 ∷ 8 ∷ []) (block_pages false true) (block_pages false false),
+        ) }
+    ensures misaligned { outcome machine (Store 0 Two (at 1) 9) ≡ (Fault fault.InvalidBackendAddress, machine) }
+    ensures over_two_regions { outcome machine (Store 0 Eight (at 0) 9)
+        ≡ (Fault fault.InvalidBackendAddress, machine) }
+    ensures too_great { outcome machine (Store 0 One (at 8) 256) ≡ (BadRange, machine) }
+    ensures translated_store { outcome machine (Store 1 Two (at 16) (two_bytes 9 10))
+        ≡ (Done, with_translated_bytes (1 ∷ 2 ∷ 9 ∷ 10 ∷ []) (5 ∷ 6 ∷ 7 ∷ 8 ∷ [])) }
+    ensures load { outcome machine (Load 0 Four (at 4)) ≡ (Value (four_bytes 5 6 7 8), machine) }
+    ensures translated_load { outcome machine (Load 1 Four (at 20)) ≡ (Value (four_bytes 5 6 7 8), machine) }
+    ensures two_mappings { outcome machine (Load 1 Two (at 19)) ≡ (Fault fault.InvalidBackendAddress, machine) }
+    ensures overlapping { outcome machine (Copy (in_block 0 0 3) (in_block 0 1 3))
+        ≡ (
+          Done,
+          with_bytes (1 ∷ 1 ∷ 2 ∷ 3 ∷ []) (5 ∷ 6 ∷ 7 ∷ 8 ∷ []) (block_pages true true) (block_pages false false),
+        ) }
+    ensures lesser_length { outcome machine (Copy (in_block 0 2 2) (in_block 1 0 4))
+        ≡ (
+          Done,
+          with_bytes (1 ∷ 2 ∷ 3 ∷ 4 ∷ []) (3 ∷ 4 ∷ 7 ∷ 8 ∷ []) (block_pages false false) (block_pages true false),
+        ) }
+    ensures nothing { outcome machine (Copy (in_block 0 4 0) (in_block 1 0 4)) ≡ (Done, machine) }
+    ensures past_the_end { outcome machine (Copy (in_block 0 3 2) (in_block 1 0 4)) ≡ (BadRange, machine) }
+{}
+
+/// A check replies whether each byte of a range may be accessed so and is there. A look-up replies its pieces, or
+/// what is not mapped and what is mapped without the access. Neither changes anything. A change of a table goes no
+/// further than the last address.
+pub fn checks_and_tables_are_answered()
+    ensures check_into_a_hole { outcome machine (CheckRange 0 (at 6) 4 permissions.Read) ≡ (Truth false, machine) }
+    ensures check_of_a_bare_region { outcome machine (CheckRange 0 (at 12) 1 No) ≡ (Truth false, machine) }
+    ensures empty_check_in_a_hole { outcome machine (CheckRange 0 (at 8) 0 permissions.Read) ≡ (Truth true, machine) }
+    ensures check_not_allowed { outcome machine (CheckRange 1 (at 19) 2 permissions.Write) ≡ (Truth false, machine) }
     ensures pieces { outcome machine (Lookup 0 (at 18) 4 permissions.Read)
         ≡ (Pieces (mapped_ranges (range 4 2 ∷ range 4 2 ∷ [])), machine) }
     ensures no_piece { outcome machine (Lookup 0 (at 2) 0 permissions.Write) ≡ (Pieces [], machine) }
@@ -67,147 +154,158 @@ pub fn tables_are_commanded()
         ≡ (Fails (failed (range 15 1 ∷ []) (range 20 1 ∷ [])), machine) }
     ensures past_the_end { outcome machine (Lookup 0 (at (2 ^ 64 - 1)) 1 No)
         ≡ (Fails (failed (range (2 ^ 64 - 1) 1 ∷ []) []), machine) }
-    ensures no_such { outcome machine (Set 1 (at 0) (at 0) 1 permissions.Read) ≡ (NoSuch, machine) }
+    ensures no_table { outcome machine (Set 1 (at 0) (at 0) 1 permissions.Read) ≡ (NoSuch, machine) }
     ensures bad_range { outcome machine (Set 0 (at (2 ^ 64 - 1)) (at 0) 1 permissions.Read) ≡ (BadRange, machine) }
-    ensures clear { (outcome machine (InvalidateAll 0)).0 ≡ Done }
-    ensures clear_never_wants { MayWant machine (InvalidateAll 0) → ⊥ }
 {}
 
-/// The layout of regions of the pool is the next. No region at all, a region that reaches the next and a
-/// region above the next make none.
-pub fn layouts_are_made()
-    ensures made { outcome machine (FromRegions (1 ∷ 2 ∷ []))
-        ≡ (LayoutMade 1, record machine { layouts = (low ∷ high ∷ []) ∷ (high ∷ bare ∷ []) ∷ [] }) }
-    ensures no_region { outcome machine (FromRegions []) ≡ (Fault fault.NoMemoryRegion, machine) }
-    ensures overlap { outcome machine (FromRegions (0 ∷ 0 ∷ [])) ≡ (Fault fault.MemoryRegionOverlap, machine) }
-    ensures unsorted { outcome machine (FromRegions (1 ∷ 0 ∷ []))
-        ≡ (Fault fault.UnsortedMemoryRegions, machine) }
-{}
-
-/// A layout with a region more, or with one less, is the next, and the one before it stays.
-pub fn layouts_are_changed()
-    ensures inserted { outcome machine (Insert 0 2)
-        ≡ (LayoutMade 1, record machine { layouts = (low ∷ high ∷ []) ∷ (low ∷ high ∷ bare ∷ []) ∷ [] }) }
-    ensures overlap { outcome machine (Insert 0 1) ≡ (Fault fault.MemoryRegionOverlap, machine) }
-    ensures removed { outcome machine (Remove 0 (at 0) 4)
-        ≡ (LayoutMade 1, record machine { layouts = (low ∷ high ∷ []) ∷ (high ∷ []) ∷ [] }) }
-    ensures other_length { outcome machine (Remove 0 (at 0) 2) ≡ (Fault fault.NoMemoryRegion, machine) }
-    ensures other_start { outcome machine (Remove 0 (at 1) 4) ≡ (Fault fault.NoMemoryRegion, machine) }
-    ensures none_left { outcome (record machine { layouts = (low ∷ []) ∷ [] }) (Remove 0 (at 0) 4)
-        ≡ (LayoutMade 1, record machine { layouts = (low ∷ []) ∷ [] ∷ [] }) }
-    ensures into_none { outcome (record machine { layouts = [] ∷ [] }) (Insert 0 1)
-        ≡ (LayoutMade 1, record machine { layouts = [] ∷ (high ∷ []) ∷ [] }) }
-{}
-
-/// A plain memory has the regions of its layout, and is the next.
-pub fn memories_are_made()
-    ensures { outcome machine (Plain 0)
-        ≡ (MemoryMade 3, record machine { memories = machine.memories ++ plain (low ∷ high ∷ []) ∷ [] }) }
-{}
-
-/// A memory behind an IOMMU has the regions of its layout, the table of its translator and its space, and is the
-/// next. One over another layout has the IOMMU of the memory that it is made of, which stays.
-pub fn memories_behind_an_iommu_are_made()
-    ensures made { outcome machine (NewMemory 0 0 0 true)
-        ≡ (MemoryMade 3, record machine { memories = machine.memories ++ translated true ∷ [] }) }
-    ensures made_off { outcome machine (NewMemory 0 0 0 false)
-        ≡ (MemoryMade 3, record machine { memories = machine.memories ++ translated false ∷ [] }) }
-    ensures replaced { let more = record machine { layouts = machine.layouts ++ (bare ∷ []) ∷ [] } in
-        outcome more (ReplaceBackend 1 1)
-        ≡ (MemoryMade 3, record more { memories = machine.memories ++ behind (bare ∷ []) 0 0 true ∷ [] }) }
-    ensures no_layout { outcome machine (NewMemory 1 0 0 true) ≡ (NoSuch, machine) }
-    ensures no_translator { outcome machine (NewMemory 0 1 0 true) ≡ (NoSuch, machine) }
-    ensures no_space { outcome machine (NewMemory 0 0 1 true) ≡ (NoSuch, machine) }
-    ensures replace_of_none { outcome machine (ReplaceBackend 3 0) ≡ (NoSuch, machine) }
-    ensures replace_of_plain { outcome machine (ReplaceBackend 0 0) ≡ (NoSuch, machine) }
-    ensures replace_by_none { outcome machine (ReplaceBackend 1 1) ≡ (NoSuch, machine) }
-    ensures may_want { MayWant machine (NewMemory 0 0 0 true) }
-    ensures plain_never_wants { MayWant machine (ReplaceBackend 0 0) → ⊥ }
-{}
-
-/// The IOMMU of one memory is turned on or off, and no other. A memory that has none is told.
-pub fn memories_are_turned()
-    ensures off { outcome machine (Enable 1 false)
+/// Dirty pages are answered ascending, and stay dirty. A harvest answers them, and then none of them is dirty, and
+/// all other bitmaps are as before. A patch takes the bytes of the listed pages, and no others: the last page may be
+/// cut, and pages past it have no bytes.
+pub fn pages_are_harvested()
+    ensures dirty { outcome marked (Dirty (Block 1)) ≡ (Pages (0 ∷ 1 ∷ []), marked) }
+    ensures harvest { outcome marked (Harvest (Block 0))
         ≡ (
-          Done,
-          record machine {
-            memories = plain (low ∷ high ∷ bare ∷ []) ∷ translated false ∷ translated false ∷ [];
+          Pages (1 ∷ []),
+          record marked {
+            host = record marked_host { bitmaps = block_pages false false ∷ block_pages true true ∷ [] };
           },
         ) }
-    ensures on { outcome machine (Enable 2 true)
+    ensures harvest_of_a_space { outcome marked (Harvest (Space 0))
         ≡ (
-          Done,
-          record machine {
-            memories = plain (low ∷ high ∷ bare ∷ []) ∷ translated true ∷ translated true ∷ [];
-          },
+          Pages (0 ∷ []),
+          record marked { host = record marked_host { spaces = space_pages false false ∷ [] } },
         ) }
-    ensures of_plain { outcome machine (Enable 0 true) ≡ (NoSuch, machine) }
-    ensures of_none { outcome machine (Enable 3 true) ≡ (NoSuch, machine) }
-    ensures never_wants { MayWant machine (Enable 1 false) → ⊥ }
+    ensures patch { patched 2 (1 ∷ []) (6 ∷ 7 ∷ 8 ∷ 9 ∷ []) (1 ∷ 2 ∷ 3 ∷ 4 ∷ []) ≡ 1 ∷ 2 ∷ 8 ∷ 9 ∷ [] }
+    ensures cut { patched 2 (1 ∷ 7 ∷ []) (6 ∷ 7 ∷ 8 ∷ []) (1 ∷ 2 ∷ 3 ∷ []) ≡ 1 ∷ 2 ∷ 8 ∷ [] }
+    ensures no_page { patched 2 [] (6 ∷ 7 ∷ []) (1 ∷ 2 ∷ []) ≡ 1 ∷ 2 ∷ [] }
+    ensures image { image_after 0 marked_host (Harvest (Block 0)) (Pages (1 ∷ [])) (9 ∷ 9 ∷ 9 ∷ 9 ∷ [])
+        ≡ 9 ∷ 9 ∷ 3 ∷ 4 ∷ [] }
+    ensures image_of_another { image_after 0 marked_host (Harvest (Block 1)) (Pages (1 ∷ [])) (9 ∷ 9 ∷ 9 ∷ 9 ∷ [])
+        ≡ 9 ∷ 9 ∷ 9 ∷ 9 ∷ [] }
+    ensures image_of_a_refused { image_after 0 marked_host (Harvest (Block 0)) Memory (9 ∷ []) ≡ 9 ∷ [] }
 {}
 
-/// A number that names nothing is told, and changes nothing.
-pub fn numbers_that_name_nothing()
-    ensures region { outcome machine (FromRegions (0 ∷ 3 ∷ [])) ≡ (NoSuch, machine) }
-    ensures insert_into { outcome machine (Insert 1 0) ≡ (NoSuch, machine) }
-    ensures insert { outcome machine (Insert 0 3) ≡ (NoSuch, machine) }
-    ensures remove { outcome machine (Remove 1 (at 0) 4) ≡ (NoSuch, machine) }
-    ensures layout { outcome machine (Plain 1) ≡ (NoSuch, machine) }
-    ensures read { outcome machine (Read 3 (at 0) 1) ≡ (NoSuch, machine) }
-    ensures write { outcome machine (Write 3 (at 0) (9 ∷ [])) ≡ (NoSuch, machine) }
-    ensures dirty { outcome machine (Dirty (Block 2)) ≡ (NoSuch, machine) }
-    ensures harvest { outcome machine (Harvest (Space 1)) ≡ (NoSuch, machine) }
+/// An image mirrors a block where only bytes of dirty pages differ, and pages cover it that reach its end. A write to
+/// a memory whose IOMMU is on is not direct, and all else is.
+pub fn images_that_mirror_a_block()
+    ensures dirty_page { MirrorsBlock 0 marked_host (1 ∷ 2 ∷ 9 ∷ 9 ∷ []) }
+    ensures clean_page { MirrorsBlock 0 marked_host (1 ∷ 9 ∷ 3 ∷ 4 ∷ []) → ⊥ }
+    ensures shorter { MirrorsBlock 0 marked_host (1 ∷ 2 ∷ 3 ∷ []) → ⊥ }
+    ensures covered { IsTracked 0 host }
+    ensures past_the_pages { IsTracked 0 (record host { blocks = (1 ∷ 2 ∷ 3 ∷ 4 ∷ 5 ∷ []) ∷ [] }) → ⊥ }
+    ensures no_pages { IsTracked 0 (record host { bitmaps = None ∷ [] }) → ⊥ }
+    ensures direct { IsDirect machine (Write 0 (at 0) (9 ∷ [])) }
+    ensures direct_that_is_off { IsDirect machine (Write 2 (at 0) (9 ∷ [])) }
+    ensures not_direct { IsDirect machine (Write 1 (at 0) (9 ∷ [])) → ⊥ }
+    ensures transfer_in { IsDirect machine (ReadFrom 1 (at 16) 1 []) → ⊥ }
+    ensures transfer_out { IsDirect machine (WriteTo 1 (at 16) 1 []) }
+    ensures no_memory { IsDirect machine (Write 3 (at 0) (9 ∷ [])) }
 {}
 
-/// A read goes over touching regions, and stops at a hole and at a region without host bytes.
-pub fn reads_are_answered()
-    ensures over_two_regions { outcome machine (Read 0 (at 2) 4) ≡ (Bytes (3 ∷ 4 ∷ 5 ∷ 6 ∷ []), machine) }
-    ensures up_to_a_hole { outcome machine (Read 0 (at 6) 4) ≡ (Bytes (7 ∷ 8 ∷ []), machine) }
-    ensures in_a_hole { outcome machine (Read 0 (at 8) 1) ≡ (Fault (no_region_at 8), machine) }
-    ensures bare_region { outcome machine (Read 0 (at 12) 1) ≡ (Fault fault.HostAddressNotAvailable, machine) }
-    ensures nothing_in_a_hole { outcome machine (Read 0 (at 8) 0) ≡ (Bytes [], machine) }
+/// Memory may be wanting for what is made, for the bytes and the pages that are replied, and for a translation.
+pub fn who_may_want_memory()
+    ensures layout { MayWant machine (FromRegions (0 ∷ [])) }
+    ensures memory { MayWant machine (Plain 0) }
+    ensures read { MayWant machine (Read 0 (at 0) 1) }
+    ensures read_of_nothing { MayWant machine (Read 0 (at 0) 0) → ⊥ }
+    ensures write { MayWant machine (Write 0 (at 0) (9 ∷ [])) → ⊥ }
+    ensures transfer_out_of_nothing { MayWant machine (WriteTo 0 (at 0) 0 []) → ⊥ }
+    ensures translated_write { MayWant machine (Write 1 (at 0) (9 ∷ [])) }
+    ensures write_that_is_off { MayWant machine (Write 2 (at 0) (9 ∷ [])) → ⊥ }
+    ensures translated_store { MayWant machine (Store 1 One (at 0) 9) }
+    ensures store_too_great { MayWant machine (Store 1 One (at 0) 256) → ⊥ }
+    ensures copy { MayWant machine (Copy (in_block 0 0 1) (in_block 1 0 1)) → ⊥ }
+    ensures no_region { MayWant machine (FromRegions (0 ∷ 3 ∷ [])) → ⊥ }
+    ensures no_layout { MayWant machine (Plain 1) → ⊥ }
+    ensures no_remove { MayWant machine (Remove 0 (at 0) 2) → ⊥ }
+    ensures dirty { MayWant machine (Dirty (Block 0)) }
+    ensures no_bitmap { MayWant machine (Harvest (Block 2)) → ⊥ }
 {}
 
-/// A read of all bytes replies them, or how many there are.
-pub fn whole_reads_are_answered()
-    ensures over_two_regions { outcome machine (ReadSlice 0 (at 2) 4) ≡ (Bytes (3 ∷ 4 ∷ 5 ∷ 6 ∷ []), machine) }
-    ensures up_to_a_hole { outcome machine (ReadSlice 0 (at 6) 4) ≡ (Fault (fault.PartialBuffer 4 2), machine) }
-    ensures in_a_hole { outcome machine (ReadSlice 0 (at 8) 1) ≡ (Fault (no_region_at 8), machine) }
-    ensures nothing_in_a_hole { outcome machine (ReadSlice 0 (at 8) 0) ≡ (Bytes [], machine) }
-    ensures no_such { outcome machine (ReadSlice 3 (at 0) 1) ≡ (NoSuch, machine) }
+/// A step has its one answer, and no other but want of memory, which leaves the machine. A run answers each command
+/// by a step from where the one before ended. Of its commands on a table those are the table's calls that were done:
+/// not one past the last address, nor one for which memory was wanting, nor one of another table.
+pub fn steps_and_runs()
+    ensures names_nothing { outcome machine (FromRegions (0 ∷ 3 ∷ [])) ≡ (NoSuch, machine) }
+    ensures answer { Step machine (Read 0 (at 0) 2) (Bytes (1 ∷ 2 ∷ [])) machine }
+    ensures other_bytes { Step machine (Read 0 (at 0) 2) (Bytes (1 ∷ 3 ∷ [])) machine → ⊥ }
+    ensures want_of_memory { Step machine (Read 0 (at 0) 2) Memory machine }
+    ensures want_that_changes { Step machine (Plain 0) Memory (record machine { layouts = [] }) → ⊥ }
+    ensures want_of_a_write { Step machine (Write 0 (at 0) []) Memory machine → ⊥ }
+    ensures run { Run
+        (record machine { layouts = []; memories = [] })
+        (FromRegions (1 ∷ []) ∷ Plain 0 ∷ Write 0 (at 4) (9 ∷ []) ∷ Read 0 (at 4) 2 ∷ [])
+        (LayoutMade 0 ∷ MemoryMade 0 ∷ Count 1 ∷ Bytes (9 ∷ 6 ∷ []) ∷ [])
+        (record machine {
+          layouts = (high ∷ []) ∷ [];
+          memories = plain (high ∷ []) ∷ [];
+          host = record host {
+            blocks = (1 ∷ 2 ∷ 3 ∷ 4 ∷ []) ∷ (9 ∷ 6 ∷ 7 ∷ 8 ∷ []) ∷ [];
+            bitmaps = block_pages false false ∷ block_pages true false ∷ [];
+          };
+        }) }
+    ensures empty_run { Run machine [] [] machine }
+    ensures no_reply { Run machine (Plain 0 ∷ []) [] machine → ⊥ }
+    ensures calls { table_calls 0
+        (Set 0 (at 16) (at 2) 4 permissions.Read ∷ Set 0 (at (2 ^ 64 - 1)) (at 0) 1 permissions.Read
+        ∷ Set 1 (at 0) (at 8) 4 permissions.Write ∷ Invalidate 0 (at 18) 1 ∷ InvalidateAll 0 ∷ [])
+        (Done ∷ BadRange ∷ Done ∷ Memory ∷ Done ∷ [])
+        ≡ table.Set 16 2 4 permissions.Read ∷ table.InvalidateAll ∷ [] }
+    ensures calls_of_another { table_calls 1
+        (InvalidateAll 0 ∷ Set 1 (at 0) (at 8) 4 permissions.Write ∷ Invalidate 1 (at 1) 2 ∷ [])
+        (Done ∷ Done ∷ Done ∷ [])
+        ≡ table.Set 0 8 4 permissions.Write ∷ table.Invalidate 1 2 ∷ [] }
 {}
 
-/// A write leaves its bytes up to a hole, and marks their pages.
-pub fn writes_are_answered()
-    ensures over_two_regions { outcome machine (Write 0 (at 3) (9 ∷ 10 ∷ []))
-        ≡ (
-          Count 2,
-          with_bytes (1 ∷ 2 ∷ 3 ∷ 9 ∷ []) (10 ∷ 6 ∷ 7 ∷ 8 ∷ []) (block_pages false true) (block_pages true false),
-        ) }
-    ensures up_to_a_hole { outcome machine (Write 0 (at 7) (9 ∷ 10 ∷ []))
-        ≡ (
-          Count 1,
-          with_bytes (1 ∷ 2 ∷ 3 ∷ 4 ∷ []) (5 ∷ 6 ∷ 7 ∷ 9 ∷ []) (block_pages false false) (block_pages false true),
-        ) }
-    ensures in_a_hole { outcome machine (Write 0 (at 8) (9 ∷ [])) ≡ (Fault (no_region_at 8), machine) }
-    ensures nothing_in_a_hole { outcome machine (Write 0 (at 8) []) ≡ (Count 0, machine) }
-{}
-
-/// A write of all bytes leaves those that fit, and replies how many they are where they are not all.
-pub fn whole_writes_are_answered()
-    ensures over_two_regions { outcome machine (WriteSlice 0 (at 3) (9 ∷ 10 ∷ []))
-        ≡ (
-          Done,
-          with_bytes (1 ∷ 2 ∷ 3 ∷ 9 ∷ []) (10 ∷ 6 ∷ 7 ∷ 8 ∷ []) (block_pages false true) (block_pages true false),
-        ) }
-    ensures up_to_a_hole { outcome machine (WriteSlice 0 (at 7) (9 ∷ 10 ∷ []))
-        ≡ (
-          Fault (fault.PartialBuffer 2 1),
-          with_bytes (1 ∷ 2 ∷ 3 ∷ 4 ∷ []) (5 ∷ 6 ∷ 7 ∷ 9 ∷ []) (block_pages false false) (block_pages false true),
-        ) }
-    ensures in_a_hole { outcome machine (WriteSlice 0 (at 8) (9 ∷ [])) ≡ (Fault (no_region_at 8), machine) }
-    ensures nothing_in_a_hole { outcome machine (WriteSlice 0 (at 8) []) ≡ (Done, machine) }
-    ensures never_wants { MayWant machine (WriteSlice 0 (at 0) (9 ∷ [])) → ⊥ }
+/// A machine stands for what its regions, translators, memories and bitmaps mean. Its host holds the bytes of every
+/// region, the table of every translator, and what every memory names. An error is told by its name, and want of
+/// memory as such.
+pub fn what_a_machine_stands_for()
+    ensures state { state_of {R = Region} {I = ℕ} {B = PageSet} (λ r. r) (λ i. i) (λ b. b) (record {
+      host = host;
+      regions = low ∷ bare ∷ [];
+      translators = 0 ∷ [];
+      layouts = (low ∷ []) ∷ [];
+      memories = memory.Plain (bare ∷ []) ∷ memory.Translated (record {
+        backend = low ∷ [];
+        iommu = 0;
+        on = true;
+        space = 0;
+      }) ∷ [];
+    })
+        ≡ record {
+          regions = low ∷ bare ∷ [];
+          translators = 0 ∷ [];
+          layouts = (low ∷ []) ∷ [];
+          memories = plain (bare ∷ []) ∷ behind (low ∷ []) 0 0 true ∷ [];
+          host = host;
+        } }
+    ensures held { AreHeld {R = Region} {I = ℕ} {B = PageSet} (λ r. r) (λ i. i) (record {
+      host = host;
+      regions = low ∷ bare ∷ [];
+      translators = 0 ∷ [];
+      layouts = [];
+      memories = [];
+    }) }
+    ensures not_held { AreHeld {R = Region} {I = ℕ} {B = PageSet} (λ r. r) (λ i. i) (record {
+      host = record host { blocks = [] };
+      regions = low ∷ bare ∷ [];
+      translators = [];
+      layouts = [];
+      memories = [];
+    }) → ⊥ }
+    ensures no_table { AreHeld {R = Region} {I = ℕ} {B = PageSet} (λ r. r) (λ i. i) (record {
+      host = host;
+      regions = [];
+      translators = 1 ∷ [];
+      layouts = [];
+      memories = [];
+    }) → ⊥ }
+    ensures no_space { HoldsMemory {R = Region} {I = ℕ} {B = PageSet} (λ r. r) (λ i. i) host
+        (memory.Translated (record { backend = []; iommu = 0; on = false; space = 1 })) → ⊥ }
+    ensures error { reply_of_error (errors.PartialBuffer 4 2) ≡ Fault (fault.PartialBuffer 4 2) }
+    ensures memory_is_wanting { reply_of_error errors.Memory ≡ Memory }
+    ensures memory_of_a_layout { reply_of_layout_error layouts.Memory ≡ Memory }
 {}
 
 /// A transfer in leaves what its source gave, up to the first window that is not filled, or of all bytes until the
@@ -262,267 +360,4 @@ pub fn transfers_out_are_answered()
         ≡ (Sent (ending.Fault (not_translated 2 1 MissingMapping)) [], machine) }
     ensures no_such { outcome machine (WriteAllTo 3 (at 0) 1 []) ≡ (NoSuch, machine) }
     ensures may_want { MayWant machine (WriteAllTo 0 (at 0) 1 []) }
-{}
-
-/// With an IOMMU that is on an access goes where its addresses are mapped, and a write marks the space.
-/// Where one address has no mapping that grants the access, nothing is reached.
-pub fn accesses_are_translated()
-    ensures read { outcome machine (Read 1 (at 18) 4) ≡ (Bytes (5 ∷ 6 ∷ 5 ∷ 6 ∷ []), machine) }
-    ensures write { outcome machine (Write 1 (at 16) (9 ∷ []))
-        ≡ (Count 1, with_translated_bytes (1 ∷ 2 ∷ 9 ∷ 4 ∷ []) (5 ∷ 6 ∷ 7 ∷ 8 ∷ [])) }
-    ensures not_mapped { outcome machine (Read 1 (at 2) 1)
-        ≡ (Fault (not_translated 2 1 MissingMapping), machine) }
-    ensures not_allowed { outcome machine (Write 1 (at 19) (9 ∷ 9 ∷ []))
-        ≡ (Fault (not_translated 19 2 AccessNotAllowed), machine) }
-{}
-
-/// A memory whose IOMMU is off is accessed as one without.
-pub fn accesses_of_a_memory_that_is_off()
-    ensures read { outcome machine (Read 2 (at 2) 1) ≡ (Bytes (3 ∷ []), machine) }
-    ensures write { outcome machine (Write 2 (at 2) (9 ∷ []))
-        ≡ (
-          Count 1,
-          with_bytes (1 ∷ 2 ∷ 9 ∷ 4 ∷ []) (5 ∷ 6 ∷ 7 ∷ 8 ∷ []) (block_pages false true) (block_pages false false),
-        ) }
-{}
-
-/// A store leaves the bytes of its value, the lowest first, and marks their pages. It is refused where its
-/// place in the block is no multiple of its width, and where it lies in two regions. What it left is loaded.
-pub fn stores_are_answered()
-    ensures aligned { outcome machine (Store 0 Two (at 2) (two_bytes 9 10))
-        ≡ (
-          Done,
-          with_bytes (1 ∷ 2 ∷ 9 ∷ 10 ∷ []) (5 ∷ 6 ∷ 7 ∷ 8 ∷ []) (block_pages false true) (block_pages false false),
-        ) }
-    ensures misaligned { outcome machine (Store 0 Two (at 1) 9) ≡ (Fault fault.InvalidBackendAddress, machine) }
-    ensures over_two_regions { outcome machine (Store 0 Eight (at 0) 9)
-        ≡ (Fault fault.InvalidBackendAddress, machine) }
-    ensures in_a_hole { outcome machine (Store 0 One (at 8) 9) ≡ (Fault (no_region_at 8), machine) }
-    ensures too_great { outcome machine (Store 0 One (at 8) 256) ≡ (BadRange, machine) }
-    ensures no_memory { outcome machine (Store 3 One (at 0) 256) ≡ (NoSuch, machine) }
-    ensures translated { outcome machine (Store 1 Two (at 16) (two_bytes 9 10))
-        ≡ (Done, with_translated_bytes (1 ∷ 2 ∷ 9 ∷ 10 ∷ []) (5 ∷ 6 ∷ 7 ∷ 8 ∷ [])) }
-    ensures not_allowed { outcome machine (Store 1 One (at 20) 9)
-        ≡ (Fault (not_translated 20 1 AccessNotAllowed), machine) }
-    ensures loaded { let stored = (outcome machine (Store 0 Two (at 2) (two_bytes 9 10))).1 in
-        (outcome stored (Load 0 Two (at 2))).0 ≡ Value (two_bytes 9 10) }
-{}
-
-/// A load replies the value of its bytes, and is refused where a store would be.
-pub fn loads_are_answered()
-    ensures word { outcome machine (Load 0 Four (at 4)) ≡ (Value (four_bytes 5 6 7 8), machine) }
-    ensures byte { outcome machine (Load 0 One (at 3)) ≡ (Value 4, machine) }
-    ensures misaligned { outcome machine (Load 0 Four (at 2)) ≡ (Fault fault.InvalidBackendAddress, machine) }
-    ensures bare_region { outcome machine (Load 0 Two (at 12))
-        ≡ (Fault fault.HostAddressNotAvailable, machine) }
-    ensures no_memory { outcome machine (Load 3 One (at 0)) ≡ (NoSuch, machine) }
-    ensures readable { outcome machine (Load 1 Four (at 20)) ≡ (Value (four_bytes 5 6 7 8), machine) }
-    ensures two_mappings { outcome machine (Load 1 Two (at 19)) ≡ (Fault fault.InvalidBackendAddress, machine) }
-{}
-
-/// A copy moves as many bytes as both windows have, as they were, and marks those of the other. It is refused
-/// where a window passes its block.
-pub fn copies_are_answered()
-    ensures overlapping { outcome machine (Copy (in_block 0 0 3) (in_block 0 1 3))
-        ≡ (
-          Done,
-          with_bytes (1 ∷ 1 ∷ 2 ∷ 3 ∷ []) (5 ∷ 6 ∷ 7 ∷ 8 ∷ []) (block_pages true true) (block_pages false false),
-        ) }
-    ensures lesser_length { outcome machine (Copy (in_block 0 2 2) (in_block 1 0 4))
-        ≡ (
-          Done,
-          with_bytes (1 ∷ 2 ∷ 3 ∷ 4 ∷ []) (3 ∷ 4 ∷ 7 ∷ 8 ∷ []) (block_pages false false) (block_pages true false),
-        ) }
-    ensures nothing { outcome machine (Copy (in_block 0 4 0) (in_block 1 0 4)) ≡ (Done, machine) }
-    ensures past_the_end { outcome machine (Copy (in_block 0 3 2) (in_block 1 0 4)) ≡ (BadRange, machine) }
-    ensures other_past_the_end { outcome machine (Copy (in_block 0 3 1) (in_block 1 1 4))
-        ≡ (BadRange, machine) }
-    ensures no_block { outcome machine (Copy (in_block 0 3 2) (in_block 2 0 1)) ≡ (NoSuch, machine) }
-{}
-
-/// Dirty pages are answered ascending, and stay dirty.
-pub fn dirty_pages_are_answered()
-    ensures block { outcome marked (Dirty (Block 1)) ≡ (Pages (0 ∷ 1 ∷ []), marked) }
-    ensures space { outcome marked (Dirty (Space 0)) ≡ (Pages (0 ∷ []), marked) }
-    ensures clean { outcome machine (Dirty (Block 0)) ≡ (Pages [], machine) }
-{}
-
-/// A harvest answers them, and then none of them is dirty. It leaves all other bitmaps.
-pub fn harvests_are_answered()
-    ensures block { outcome marked (Harvest (Block 0))
-        ≡ (
-          Pages (1 ∷ []),
-          record marked {
-            host = record marked_host { bitmaps = block_pages false false ∷ block_pages true true ∷ [] };
-          },
-        ) }
-    ensures space { outcome marked (Harvest (Space 0))
-        ≡ (
-          Pages (0 ∷ []),
-          record marked { host = record marked_host { spaces = space_pages false false ∷ [] } },
-        ) }
-    ensures clean { outcome machine (Harvest (Block 1)) ≡ (Pages [], machine) }
-{}
-
-/// A patch takes the bytes of the listed pages, and no others. The last page may be cut, and pages past it
-/// have no bytes.
-pub fn patches_of_an_image()
-    ensures second { patched 2 (1 ∷ []) (6 ∷ 7 ∷ 8 ∷ 9 ∷ []) (1 ∷ 2 ∷ 3 ∷ 4 ∷ []) ≡ 1 ∷ 2 ∷ 8 ∷ 9 ∷ [] }
-    ensures cut { patched 2 (1 ∷ 7 ∷ []) (6 ∷ 7 ∷ 8 ∷ []) (1 ∷ 2 ∷ 3 ∷ []) ≡ 1 ∷ 2 ∷ 8 ∷ [] }
-    ensures no_page { patched 2 [] (6 ∷ 7 ∷ []) (1 ∷ 2 ∷ []) ≡ 1 ∷ 2 ∷ [] }
-    ensures harvest { image_after 0 marked_host (Harvest (Block 0)) (Pages (1 ∷ [])) (9 ∷ 9 ∷ 9 ∷ 9 ∷ [])
-        ≡ 9 ∷ 9 ∷ 3 ∷ 4 ∷ [] }
-    ensures other { image_after 0 marked_host (Harvest (Block 1)) (Pages (1 ∷ [])) (9 ∷ 9 ∷ 9 ∷ 9 ∷ [])
-        ≡ 9 ∷ 9 ∷ 9 ∷ 9 ∷ [] }
-    ensures refused { image_after 0 marked_host (Harvest (Block 0)) Memory (9 ∷ []) ≡ 9 ∷ [] }
-{}
-
-/// An image mirrors a block where only bytes of dirty pages differ, and pages cover it that reach its end.
-pub fn images_that_mirror_a_block()
-    ensures dirty_page { MirrorsBlock 0 marked_host (1 ∷ 2 ∷ 9 ∷ 9 ∷ []) }
-    ensures clean_page { MirrorsBlock 0 marked_host (1 ∷ 9 ∷ 3 ∷ 4 ∷ []) → ⊥ }
-    ensures shorter { MirrorsBlock 0 marked_host (1 ∷ 2 ∷ 3 ∷ []) → ⊥ }
-    ensures covered { IsTracked 0 host }
-    ensures past_the_pages { IsTracked 0 (record host { blocks = (1 ∷ 2 ∷ 3 ∷ 4 ∷ 5 ∷ []) ∷ [] }) → ⊥ }
-    ensures no_pages { IsTracked 0 (record host { bitmaps = None ∷ [] }) → ⊥ }
-{}
-
-/// A write to a memory whose IOMMU is on is not direct, and all else is.
-pub fn direct_commands()
-    ensures plain { IsDirect machine (Write 0 (at 0) (9 ∷ [])) }
-    ensures off { IsDirect machine (Write 2 (at 0) (9 ∷ [])) }
-    ensures on { IsDirect machine (Write 1 (at 0) (9 ∷ [])) → ⊥ }
-    ensures store { IsDirect machine (Store 1 One (at 16) 9) → ⊥ }
-    ensures transfer_in { IsDirect machine (ReadFrom 1 (at 16) 1 []) → ⊥ }
-    ensures transfer_out { IsDirect machine (WriteTo 1 (at 16) 1 []) }
-    ensures read { IsDirect machine (Read 1 (at 16) 1) }
-    ensures no_memory { IsDirect machine (Write 3 (at 0) (9 ∷ [])) }
-{}
-
-/// Memory may be wanting for what is made, for the bytes and the pages that are replied, and for a
-/// translation.
-pub fn who_may_want_memory()
-    ensures layout { MayWant machine (FromRegions (0 ∷ [])) }
-    ensures insert { MayWant machine (Insert 0 0) }
-    ensures remove { MayWant machine (Remove 0 (at 0) 4) }
-    ensures memory { MayWant machine (Plain 0) }
-    ensures read { MayWant machine (Read 0 (at 0) 1) }
-    ensures read_of_nothing { MayWant machine (Read 0 (at 0) 0) → ⊥ }
-    ensures write { MayWant machine (Write 0 (at 0) (9 ∷ [])) → ⊥ }
-    ensures transfer_out { MayWant machine (WriteTo 0 (at 0) 1 []) }
-    ensures transfer_out_of_nothing { MayWant machine (WriteTo 0 (at 0) 0 []) → ⊥ }
-    ensures translated_read { MayWant machine (Read 1 (at 0) 0) }
-    ensures translated_write { MayWant machine (Write 1 (at 0) (9 ∷ [])) }
-    ensures write_that_is_off { MayWant machine (Write 2 (at 0) (9 ∷ [])) → ⊥ }
-    ensures store { MayWant machine (Store 0 One (at 0) 9) → ⊥ }
-    ensures translated_store { MayWant machine (Store 1 One (at 0) 9) }
-    ensures store_too_great { MayWant machine (Store 1 One (at 0) 256) → ⊥ }
-    ensures translated_load { MayWant machine (Load 1 One (at 0)) }
-    ensures copy { MayWant machine (Copy (in_block 0 0 1) (in_block 1 0 1)) → ⊥ }
-    ensures load_that_is_off { MayWant machine (Load 2 One (at 0)) → ⊥ }
-    ensures no_region { MayWant machine (FromRegions (0 ∷ 3 ∷ [])) → ⊥ }
-    ensures no_layout { MayWant machine (Plain 1) → ⊥ }
-    ensures no_insert { MayWant machine (Insert 0 3) → ⊥ }
-    ensures no_remove { MayWant machine (Remove 0 (at 0) 2) → ⊥ }
-    ensures no_memory { MayWant machine (Read 3 (at 0) 1) → ⊥ }
-    ensures dirty { MayWant machine (Dirty (Block 0)) }
-    ensures harvest { MayWant machine (Harvest (Space 0)) }
-    ensures no_bitmap { MayWant machine (Harvest (Block 2)) → ⊥ }
-{}
-
-/// A step has its one answer, and no other but want of memory, which leaves the machine.
-pub fn steps_are_determined()
-    ensures answer { Step machine (Read 0 (at 0) 2) (Bytes (1 ∷ 2 ∷ [])) machine }
-    ensures other_bytes { Step machine (Read 0 (at 0) 2) (Bytes (1 ∷ 3 ∷ [])) machine → ⊥ }
-    ensures want_of_memory { Step machine (Read 0 (at 0) 2) Memory machine }
-    ensures want_that_changes { Step machine (Plain 0) Memory (record machine { layouts = [] }) → ⊥ }
-    ensures want_of_a_write { Step machine (Write 0 (at 0) []) Memory machine → ⊥ }
-{}
-
-/// A run answers each command by a step from where the one before ended.
-pub fn runs_of_a_machine()
-    ensures run { Run
-        (record machine { layouts = []; memories = [] })
-        (FromRegions (1 ∷ []) ∷ Plain 0 ∷ Write 0 (at 4) (9 ∷ []) ∷ Read 0 (at 4) 2 ∷ [])
-        (LayoutMade 0 ∷ MemoryMade 0 ∷ Count 1 ∷ Bytes (9 ∷ 6 ∷ []) ∷ [])
-        (record machine {
-          layouts = (high ∷ []) ∷ [];
-          memories = plain (high ∷ []) ∷ [];
-          host = record host {
-            blocks = (1 ∷ 2 ∷ 3 ∷ 4 ∷ []) ∷ (9 ∷ 6 ∷ 7 ∷ 8 ∷ []) ∷ [];
-            bitmaps = block_pages false false ∷ block_pages true false ∷ [];
-          };
-        }) }
-    ensures empty { Run machine [] [] machine }
-    ensures no_reply { Run machine (Plain 0 ∷ []) [] machine → ⊥ }
-{}
-
-/// An error is told by its name, and want of memory as such.
-pub fn replies_of_errors()
-    ensures partial { reply_of_error (errors.PartialBuffer 4 2) ≡ Fault (fault.PartialBuffer 4 2) }
-    ensures backend { reply_of_error errors.InvalidBackendAddress ≡ Fault fault.InvalidBackendAddress }
-    ensures memory { reply_of_error errors.Memory ≡ Memory }
-    ensures memory_of_a_layout { reply_of_layout_error layouts.Memory ≡ Memory }
-{}
-
-/// A machine stands for what its regions, translators, memories and bitmaps mean. Its host holds the bytes of
-/// every region, the table of every translator, and what every memory names.
-pub fn what_a_machine_stands_for()
-    ensures state { state_of {R = Region} {I = ℕ} {B = PageSet} (λ r. r) (λ i. i) (λ b. b) (record {
-      host = host;
-      regions = low ∷ bare ∷ [];
-      translators = 0 ∷ [];
-      layouts = (low ∷ []) ∷ [];
-      memories = memory.Plain (bare ∷ []) ∷ memory.Translated (record {
-        backend = low ∷ [];
-        iommu = 0;
-        on = true;
-        space = 0;
-      }) ∷ [];
-    })
-        ≡ record {
-          regions = low ∷ bare ∷ [];
-          translators = 0 ∷ [];
-          layouts = (low ∷ []) ∷ [];
-          memories = plain (bare ∷ []) ∷ behind (low ∷ []) 0 0 true ∷ [];
-          host = host;
-        } }
-    ensures held { AreHeld {R = Region} {I = ℕ} {B = PageSet} (λ r. r) (λ i. i) (record {
-      host = host;
-      regions = low ∷ bare ∷ [];
-      translators = 0 ∷ [];
-      layouts = [];
-      memories = [];
-    }) }
-    ensures not_held { AreHeld {R = Region} {I = ℕ} {B = PageSet} (λ r. r) (λ i. i) (record {
-      host = record host { blocks = [] };
-      regions = low ∷ bare ∷ [];
-      translators = [];
-      layouts = [];
-      memories = [];
-    }) → ⊥ }
-    ensures no_table { AreHeld {R = Region} {I = ℕ} {B = PageSet} (λ r. r) (λ i. i) (record {
-      host = host;
-      regions = [];
-      translators = 1 ∷ [];
-      layouts = [];
-      memories = [];
-    }) → ⊥ }
-    ensures no_space { HoldsMemory {R = Region} {I = ℕ} {B = PageSet} (λ r. r) (λ i. i) host
-        (memory.Translated (record { backend = []; iommu = 0; on = false; space = 1 })) → ⊥ }
-{}
-
-/// Of the commands on a table those are its calls that were done: not one past the last address, nor one for
-/// which memory was wanting, nor one of another table.
-pub fn calls_of_a_table()
-    ensures own { table_calls 0
-        (Set 0 (at 16) (at 2) 4 permissions.Read ∷ Set 0 (at (2 ^ 64 - 1)) (at 0) 1 permissions.Read
-        ∷ Set 1 (at 0) (at 8) 4 permissions.Write ∷ Invalidate 0 (at 18) 1 ∷ InvalidateAll 0 ∷ [])
-        (Done ∷ BadRange ∷ Done ∷ Memory ∷ Done ∷ [])
-        ≡ table.Set 16 2 4 permissions.Read ∷ table.InvalidateAll ∷ [] }
-    ensures of_another { table_calls 1
-        (InvalidateAll 0 ∷ Set 1 (at 0) (at 8) 4 permissions.Write ∷ Invalidate 1 (at 1) 2 ∷ [])
-        (Done ∷ Done ∷ Done ∷ [])
-        ≡ table.Set 0 8 4 permissions.Write ∷ table.Invalidate 1 2 ∷ [] }
-    ensures of_a_write { table_calls 0 (Write 1 (at 16) (9 ∷ []) ∷ []) (Count 1 ∷ []) ≡ [] }
 {}

@@ -10,7 +10,8 @@ use Rattle.vm_memory_guest.specs.Region.{Region, IsRegion}
 use Rattle.vm_memory_guest.specs.Memory.{Route, Direct, Through}
 use Rattle.vm_memory_guest.specs.Access.{Reached, Access, Fault, Meets, Stops, meets, path, first_fault, windows, stretches, allowed, refusal, access_of}
 use Rattle.vm_memory_guest.specs.Answer.{filled}
-use Rattle.vm_memory_guest.specs.Dirt.{MarksFollow, path_cells}
+use Rattle.vm_memory_guest.specs.Dirt.{path_cells}
+use Rattle.vm_memory_guest.proofs.DirtLaws.{MarksFollow}
 use Rattle.vm_memory_guest.specs.Window.{cells}
 use Rattle.vm_memory_guest.proofs.PathWalk.{path-none}
 use Rattle.vm_memory_guest.proofs.PathLaws.{path-ends, span-windows, cells-windows, marks-windows, windows-bases_direct, windows-bases_through}

@@ -9,7 +9,12 @@ use Rattle.vm_memory_base.specs.declared.bitmap.BitmapId.TheVariants.{Block, Spa
 use Rattle.vm_memory_guest.specs.Host.{Host, Cell, written}
 use Rattle.vm_memory_guest.specs.Window.{cells, MarksOne, Marks, MarksWindow, MarksAll, Writes, Window}
 use Rattle.vm_memory_guest.specs.Access.{Reached, windows}
-use Rattle.vm_memory_guest.specs.Dirt.{change_one, changed, marks_pages, dirtied, path_marks, window_marks, MarksFollow, path_cells, after_write, with_pages}
+use Rattle.vm_memory_guest.specs.Dirt.{change_one, changed, marks_pages, dirtied, path_marks, window_marks, path_cells, after_write, with_pages}
+
+-- the bytes of the windows of a path mark what the bytes of the path mark, at offsets of 64 bits
+pub record MarksFollow (xs : List Reached) : Type 0 where
+  pub same : path_marks xs ≡ flat_map window_marks (windows xs)
+  pub fit : All (λ w. w.bitmap.base + w.size ≤ 2 ^ 64) (windows xs)
 
 -- ---- one element of a list changed
 

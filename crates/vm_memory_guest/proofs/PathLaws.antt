@@ -17,7 +17,7 @@ use Rattle.vm_memory_guest.specs.Host.{Cell, Shape, Name, Holds, IsHeld, cells_f
 use Rattle.vm_memory_guest.specs.Memory.{Route, Direct, Through, mapping_of, translated, physical}
 use Rattle.vm_memory_guest.specs.Region.{Region, IsRegion, IsLayout, home, lies_in, lies_from, place_end, place_names, region_names}
 use Rattle.vm_memory_guest.specs.Window.{bitmap_name, window_names, span, cells, cells_of, Window}
-use Rattle.vm_memory_guest.proofs.HoldsLemmas.{Holds-parts, Holds-each}
+use Rattle.vm_memory_guest.proofs.HoldsLemmas.{Holds-each}
 use Rattle.vm_memory_guest.proofs.PathWalk.{stretch, path-none, lengthened-first, stretches-cut, stretches-joined, is_within-bounds, home-within, home-contains, home-same, window_in, windows-in_region}
 
 -- a path has at most the bytes that were asked for

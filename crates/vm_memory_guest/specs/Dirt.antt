@@ -1,10 +1,9 @@
 -- What accesses leave: bytes in cells, and the dirt of each byte.
-use Rattle.std.specs.Prelude.{◌≡◌, ℕ, ◌+◌, ◌/◌, ◌^◌, ◌≤◌, Bool, false, ◌==◌, List, [], ◌∷◌, All, map, flat_map, slice_get, slice_set, slice_index_or, Option, Some, None}
+use Rattle.std.specs.Prelude.{ℕ, ◌/◌, Bool, false, ◌==◌, List, [], ◌∷◌, map, slice_get, slice_set, slice_index_or, Option, Some, None}
 use Rattle.vm_memory_base.specs.Address.{numbers}
 use Rattle.vm_memory_base.specs.Pages.{PageSet, marked}
 use Rattle.vm_memory_base.specs.declared.bitmap.BitmapId.{BitmapId}
 use Rattle.vm_memory_base.specs.declared.bitmap.BitmapId.TheVariants.{Block, Space}
-use Rattle.vm_memory_guest.specs.Access as access
 use Rattle.vm_memory_guest.specs.Access.{Reached}
 use Rattle.vm_memory_guest.specs.Host.{Host, Cell, bytes_at, written}
 use Rattle.vm_memory_guest.specs.Window.{Window}
@@ -36,11 +35,6 @@ path_marks xs = map (λ x. (x.bitmap, x.mark)) xs
 -- those that each byte of a window marks
 abbrev pub window_marks : Window → List (BitmapId × ℕ)
 window_marks w = map (λ offset. (w.bitmap.id, offset)) (numbers w.bitmap.base w.size)
-
--- the bytes of the windows of a path mark what the bytes of the path mark, at offsets of 64 bits
-pub record MarksFollow (xs : List Reached) : Type 0 where
-  pub same : path_marks xs ≡ flat_map window_marks (access.windows xs)
-  pub fit : All (λ w. w.bitmap.base + w.size ≤ 2 ^ 64) (access.windows xs)
 
 -- the pages of a named bitmap. Where there is no such bitmap, there are none
 abbrev pub pages_at : BitmapId → Host PageSet → PageSet

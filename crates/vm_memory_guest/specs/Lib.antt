@@ -4,7 +4,7 @@ pub mod Collection
 pub mod Copy
 pub mod Dirt
 pub mod Error
-pub mod Examples
+pub mod examples
 pub mod Host
 pub mod Inside
 pub mod Layout

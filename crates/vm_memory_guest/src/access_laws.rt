@@ -1,17 +1,18 @@
 //! What an access of guest memory is, byte by byte: each function here is a theorem, and does nothing. It
 //! calls the theorems that it follows from.
-ghost use Rattle.std.specs.Prelude.{◌≡◌, ℕ, List, length, take, true, Some, All};
+ghost use Rattle.std.specs.Prelude.{◌≡◌, ℕ, ◌<◌, List, [], length, take, true, Some, Err, All};
+ghost use Rattle.vm_memory_base.specs.Pages.{PageSet};
 ghost use Rattle.vm_memory_base.specs.declared.iotlb.Permissions.{Permissions};
 ghost use Rattle.vm_memory_guest.specs.Access.{Fault, Stops, access_of, allowed, meets, windows};
-ghost use Rattle.vm_memory_guest.specs.Answer.{filled};
+ghost use Rattle.vm_memory_guest.specs.Answer.{counted, filled};
 ghost use Rattle.vm_memory_guest.specs.Dirt.{after_write, path_cells, with_pages};
 ghost use Rattle.vm_memory_guest.specs.Host.{Host, bytes_at};
 ghost use Rattle.vm_memory_guest.specs.Memory.{Route};
 ghost use Rattle.vm_memory_guest.specs.Region.{Region, IsRegion};
 ghost use Rattle.vm_memory_guest.specs.Window.{Writes, cells, span};
 
-use crate::effect_laws::windows_dirty_their_bytes;
 use vm_memory_base::ExactBitmap;
+use vm_memory_base::laws::pages::mark_is_by_bytes;
 use vm_memory_base::laws::table::allowed_where_each_address_grants;
 
 /// The windows of an access have as many bytes as it reaches, what they give to a buffer are the bytes of its
@@ -28,13 +29,16 @@ pub fn accesses_are_by_bytes<B: ExactBitmap>()
         → let xs = (access_of regions route a n access).path in Writes B.marks (windows xs) bytes old new
         → with_pages B.pages new ≡ after_write xs bytes (with_pages B.pages old) }
 {
-    windows_dirty_their_bytes::<B>();
+    mark_is_by_bytes();
     allowed_where_each_address_grants();
 }
 
-/// What keeps an allowed access from going on is what its first byte that it does not reach meets.
-pub fn accesses_stop_at_the_first_fault()
-    ensures { (regions : List Region) (route : Route) (a n : ℕ) (access : Permissions) (fault : Fault)
+/// What keeps an allowed access from going on is what its first byte that it does not reach meets. One that
+/// reaches no byte leaves everything, and answers what stopped it.
+pub fn accesses_stop_at_the_first_fault<E>()
+    ensures first { (regions : List Region) (route : Route) (a n : ℕ) (access : Permissions) (fault : Fault)
         → allowed route a n access ≡ true → (access_of regions route a n access).fault ≡ Some fault
         → meets regions route a (length (access_of regions route a n access).path) ≡ Stops fault }
+    ensures unchanged { (bytes : List ℕ) (host : Host PageSet) → after_write [] bytes host ≡ host }
+    ensures error { (e : E) (n : ℕ) → 0 < n → counted 0 (Some e) n ≡ Err e }
 {}

@@ -1,20 +1,17 @@
 //! What holds of bytes in cells, of writes and of dirt, whatever the code does: each function here is a
 //! theorem, and does nothing. It calls the theorems that it follows from.
-ghost use Rattle.std.specs.Prelude.{◌≡◌, ◌≢◌, ℕ, ◌/◌, ◌^◌, ◌<◌, ◌≤◌, false, true, List, [], ◌∷◌, ◌++◌, Some, Err, map, length, take, All, AllPairs, Contains};
+ghost use Rattle.std.specs.Prelude.{◌≡◌, ◌≢◌, ℕ, ◌/◌, ◌^◌, ◌<◌, ◌≤◌, false, true, List, ◌∷◌, ◌++◌, Some, map, length, take, All, AllPairs, Contains};
 ghost use Rattle.vm_memory_base.specs.Pages as page_set;
 ghost use Rattle.vm_memory_base.specs.Pages.{Pages, PageSet, is_dirty_at};
 ghost use Rattle.vm_memory_base.specs.declared.bitmap.BitmapId.{BitmapId};
-ghost use Rattle.vm_memory_guest.specs.Access.{Reached, windows};
-ghost use Rattle.vm_memory_guest.specs.Answer.{counted};
-ghost use Rattle.vm_memory_guest.specs.Dirt.{MarksFollow, after_write, bytes_read, dirtied, pages_at, path_cells, same_page, with_pages};
+ghost use Rattle.vm_memory_guest.specs.Access.{Reached};
+ghost use Rattle.vm_memory_guest.specs.Dirt.{after_write, bytes_read, pages_at, path_cells, same_page};
 ghost use Rattle.vm_memory_guest.specs.Host.{Cell, Host, block_at, byte_at, bytes_at, shape_of, written};
 ghost use Rattle.vm_memory_guest.specs.Window as window;
-ghost use Rattle.vm_memory_guest.specs.Window.{MarksAll, Window, Writes, span};
+ghost use Rattle.vm_memory_guest.specs.Window.{Window, Writes, span};
 
-use vm_memory_base::laws::pages::{
-    empty_mark, mark_is_by_bytes, mark_keeps_shape, mark_of_a_byte, marked_bytes_are_dirty,
-};
-use vm_memory_base::{Bitmap, ExactBitmap};
+use vm_memory_base::Bitmap;
+use vm_memory_base::laws::pages::{mark_keeps_shape, marked_bytes_are_dirty};
 
 /// What was written is read back, where each cell is met once.
 pub fn written_is_read_back()
@@ -40,14 +37,8 @@ pub fn last_write_wins()
         → byte_at (written (before ++ (cell ∷ after)) (bytes ++ (byte ∷ more)) blocks) cell ≡ byte }
 {}
 
-/// Writes one after the other are one write.
-pub fn writes_join<B: Bitmap>()
-    ensures { (ws vs : List Window) (bytes more : List ℕ) (old mid new : Host B)
-        → length bytes ≡ span ws → Writes B.marks ws bytes old mid → Writes B.marks vs more mid new
-        → Writes B.marks (ws ++ vs) (bytes ++ more) old new }
-{}
-
-/// A write keeps the tables, how long each block is, and how many bitmaps there are.
+/// A write keeps the tables, how long each block is, and how many bitmaps there are. Writes one after the other
+/// are one write.
 pub fn writes_keep_shapes<B: Bitmap>()
     ensures tables { (ws : List Window) (bytes : List ℕ) (old new : Host B)
         → Writes B.marks ws bytes old new → new.tables ≡ old.tables }
@@ -55,20 +46,10 @@ pub fn writes_keep_shapes<B: Bitmap>()
         → Writes B.marks ws bytes old new → shape_of new ≡ shape_of old }
     ensures bitmaps { (ws : List Window) (bytes : List ℕ) (old new : Host B)
         → Writes B.marks ws bytes old new → length new.bitmaps ≡ length old.bitmaps }
+    ensures joined { (ws vs : List Window) (bytes more : List ℕ) (old mid new : Host B)
+        → length bytes ≡ span ws → Writes B.marks ws bytes old mid → Writes B.marks vs more mid new
+        → Writes B.marks (ws ++ vs) (bytes ++ more) old new }
 {}
-
-/// Marks of windows are the dirt of their bytes, for exact bitmaps.
-pub fn windows_dirty_their_bytes<B: ExactBitmap>()
-    ensures marks { (xs : List Reached) (old new : Host B) → MarksFollow xs
-        → MarksAll B.marks (windows xs) old new
-        → with_pages B.pages new ≡ dirtied xs (with_pages B.pages old) }
-    ensures writes { (xs : List Reached) (bytes : List ℕ) (old new : Host B) → MarksFollow xs
-        → window.cells (windows xs) ≡ path_cells xs → Writes B.marks (windows xs) bytes old new
-        → with_pages B.pages new ≡ after_write xs bytes (with_pages B.pages old) }
-{
-    empty_mark();
-    mark_is_by_bytes();
-}
 
 /// What is written to a path is read back over the same path, in a host with exact bitmaps: where the path
 /// meets each cell once, each of its cells is a byte of its block, and there is a byte for each of them.
@@ -87,7 +68,7 @@ pub fn other_pages_stay()
         → is_dirty_at (pages_at id (after_write xs bytes host)) offset
         ≡ is_dirty_at (pages_at id host) offset }
 {
-    mark_of_a_byte();
+    marked_bytes_are_dirty();
 }
 
 /// The page of each byte of the path is dirty after a write, if there is one.
@@ -98,7 +79,6 @@ pub fn named_pages_are_dirty()
         → is_dirty_at (pages_at x.bitmap (after_write xs bytes host)) x.mark ≡ true }
 {
     mark_keeps_shape();
-    mark_of_a_byte();
     marked_bytes_are_dirty();
 }
 
@@ -126,9 +106,3 @@ pub fn path_writes_keep_shapes()
 {
     mark_keeps_shape();
 }
-
-/// A refused access leaves everything, and answers what refused it.
-pub fn refused_access_leaves_everything<E>()
-    ensures unchanged { (bytes : List ℕ) (host : Host PageSet) → after_write [] bytes host ≡ host }
-    ensures error { (e : E) (n : ℕ) → 0 < n → counted 0 (Some e) n ≡ Err e }
-{}

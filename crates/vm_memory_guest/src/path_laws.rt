@@ -14,21 +14,28 @@ ghost use Rattle.vm_memory_guest.specs.Region.{Region, IsRegion, IsLayout, home,
 ghost use Rattle.vm_memory_guest.specs.Walk.{reach_of};
 ghost use Rattle.vm_memory_guest.specs.Window.{cells, window_names};
 
-use vm_memory_base::laws::table::{allowed_where_each_address_grants, same_mappings};
+use vm_memory_base::laws::table::{
+    allowed_where_each_address_grants, canonical_list_decides_the_table,
+};
 
-/// The windows of a path put together are the path, and so are the marks of their bytes.
+/// The windows of a path put together are the path, and so are the marks of their bytes. Inside one region they are
+/// one window, and a host that holds the regions and the space holds them.
 pub fn windows_are_the_path()
     ensures bytes { (regions : List Region) (route : Route) (a n : ℕ) → All IsRegion regions
         → let xs = path (meets regions route a) 0 n in cells (windows xs) ≡ path_cells xs }
     ensures marks { (regions : List Region) (route : Route) (a n : ℕ) → All IsRegion regions
         → let xs = path (meets regions route a) 0 n in flat_map window_marks (windows xs) ≡ path_marks xs }
-{}
-
-/// The windows of a path inside one region are one window.
-pub fn windows_inside_a_region_are_one()
-    ensures { (regions : List Region) (a n : ℕ) (r : Region) (first : Cell) → IsLayout regions
+    ensures one { (regions : List Region) (a n : ℕ) (r : Region) (first : Cell) → IsLayout regions
         → home regions a ≡ Some r → r.place ≡ Some first → IsRegion r → 0 < n → a - r.start + n ≤ r.len
         → windows (path (meets regions Direct a) 0 n) ≡ window_at first (a - r.start) n ∷ [] }
+    ensures held { (shape : Shape) (regions : List Region) (a n : ℕ) → All IsRegion regions
+        → Holds shape (flat_map region_names regions)
+        → All (λ w. Holds shape (window_names w)) (windows (path (meets regions Direct a) 0 n)) }
+    ensures held_with_translation { (shape : Shape) (regions : List Region) (says : Says) (space a n : ℕ)
+        → All IsRegion regions → Holds shape (flat_map region_names regions)
+        → Holds shape (Space space ∷ [])
+        → All (λ w. Holds shape (window_names w))
+        (windows (path (meets regions (Through says space) a) 0 n)) }
 {}
 
 /// An access reaches at most what was asked, and all of it unless something stops it.
@@ -56,18 +63,6 @@ pub fn pieces_are_the_access()
         → marking space a (walk_of_pieces regions (mapped_ranges (pieces f a n)))
         ≡ reach_of (access_of regions (Through f space) a n access) }
 {
-    same_mappings();
+    canonical_list_decides_the_table();
     allowed_where_each_address_grants();
 }
-
-/// The windows of a memory that a host holds are held.
-pub fn windows_of_a_held_memory_are_held()
-    ensures without_translation { (shape : Shape) (regions : List Region) (a n : ℕ) → All IsRegion regions
-        → Holds shape (flat_map region_names regions)
-        → All (λ w. Holds shape (window_names w)) (windows (path (meets regions Direct a) 0 n)) }
-    ensures with_translation { (shape : Shape) (regions : List Region) (says : Says) (space a n : ℕ)
-        → All IsRegion regions → Holds shape (flat_map region_names regions)
-        → Holds shape (Space space ∷ [])
-        → All (λ w. Holds shape (window_names w))
-        (windows (path (meets regions (Through says space) a) 0 n)) }
-{}

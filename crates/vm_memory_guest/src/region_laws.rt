@@ -14,17 +14,13 @@ pub fn one_region_holds_an_address()
 {}
 
 /// The regions that pass the tests are the layouts of at least one region, and a layout is ascending and
-/// disjoint: each region ends below the start of every later one.
+/// disjoint: each region ends below the start of every later one. The fault of regions is the first of neighbours.
 pub fn layouts_pass_the_tests()
     ensures passes { (rs : List Region) → All IsRegion rs →
         (layout_error rs ≡ None) ↔ ((0 < length rs) × IsLayout rs) }
     ensures apart { (rs : List Region) → All IsRegion rs → IsLayout rs ↔ ((i j : ℕ) (d : Region) →
         i < j → j < length rs → last (slice_index_or rs i d) < (slice_index_or rs j d).start) }
-{}
-
-/// The fault of regions is the first of neighbours.
-pub fn fault_is_the_first()
-    ensures { (rs : List Region) (i : ℕ) (e : GuestRegionCollectionError) (d : Region) → i + 1 < length rs →
+    ensures first_fault { (rs : List Region) (i : ℕ) (e : GuestRegionCollectionError) (d : Region) → i + 1 < length rs →
         ((k : ℕ) → k < i → neighbours_of (slice_index_or rs k d) (slice_index_or rs (k + 1) d) ≡ Ok tt) →
         neighbours_of (slice_index_or rs i d) (slice_index_or rs (i + 1) d) ≡ Err e → layout_error rs ≡ Some e }
 {}

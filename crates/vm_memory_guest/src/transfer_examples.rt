@@ -1,4 +1,6 @@
 //! Transfers into and out of small memories that are written out, by computation.
+#![tactic(auto, unfolding(vm_memory_base::specs::Transfer::offers, vm_memory_base::specs::Transfer::sent, crate::specs::Access::path, crate::specs::Access::first_fault, crate::specs::Access::stretches, crate::specs::Dealt::received, crate::specs::Dealt::lent_again, crate::specs::Dealt::lent_rest, crate::specs::Dealt::given_out))]
+
 ghost use Rattle.std.specs.Prelude.{◌≡◌, ◌++◌, false, true, [], ◌∷◌, replicate, None, Ok, Err, option_map};
 ghost use Rattle.std.specs.declared.io.ErrorKind.TheVariants.{Interrupted, Other, WriteZero};
 ghost use Rattle.vm_memory_base.specs.Transfer.{Gives, Fails, Takes};
@@ -8,15 +10,18 @@ ghost use Rattle.vm_memory_base.specs.declared.iotlb.Permissions.TheVariants.{Re
 ghost use Rattle.vm_memory_guest.specs.Access.{access_of, windows};
 ghost use Rattle.vm_memory_guest.specs.Dealt.{given_out, received};
 ghost use Rattle.vm_memory_guest.specs.Error.{error_of, of_window};
-ghost use Rattle.vm_memory_guest.specs.Examples.{address_of, clean_pages, host_of, one_region, touching_regions, two_zero_blocks, zeros};
+ghost use Rattle.vm_memory_guest.specs.examples.Fixtures.{address_of, clean_pages, host_of, one_region, touching_regions, two_zero_blocks, zeros};
 ghost use Rattle.vm_memory_guest.specs.Memory.{Direct};
 ghost use Rattle.vm_memory_guest.specs.Transfer.{all_of};
 ghost use Rattle.vm_memory_guest.specs.declared.region.GuestMemoryError.TheVariants.{IOError, InvalidGuestAddress, PartialBuffer};
 
-/// Two touching regions of four bytes, with pages of one byte. A transfer stops at the first window that the
-/// source does not fill.
-pub fn short_read_at_a_cut()
-    ensures { let ws = windows (access_of touching_regions Direct 0 8 Write).path in
+/// Two touching regions of four bytes, with pages of one byte. A transfer stops at the first window that the source
+/// does not fill, and the exact form goes on until each is full; where the source ends before, the error says how
+/// many bytes came. A failed or interrupted try leaves its scribble, and marks all of the window that it was lent.
+/// 64 interruptions in a row are tried again, and the 65th is answered. Over an empty path the source is asked
+/// nothing, and a transfer of no byte answers 0.
+pub fn transfers_into_two_regions()
+    ensures short { let ws = windows (access_of touching_regions Direct 0 8 Write).path in
         let before = two_zero_blocks in
         let source = Gives (1 ∷ 2 ∷ []) ∷ Gives (3 ∷ 4 ∷ 5 ∷ 6 ∷ []) ∷ [] in
         received of_window None false ws 0 source before ≡ record {
@@ -27,12 +32,7 @@ pub fn short_read_at_a_cut()
             bitmaps = pages_with 1 (true ∷ true ∷ false ∷ false ∷ []) ∷ clean_pages 1 4 ∷ [];
           };
         } }
-{}
-
-/// The exact form goes on until each window is full. Where the source ends before, the error says how many
-/// bytes came.
-pub fn windows_that_are_filled()
-    ensures left { let ws = windows (access_of touching_regions Direct 0 8 Write).path in
+    ensures filled { let ws = windows (access_of touching_regions Direct 0 8 Write).path in
         let before = two_zero_blocks in
         let source = Gives (1 ∷ 2 ∷ []) ∷ Gives (3 ∷ 4 ∷ []) ∷ Gives (5 ∷ 6 ∷ []) ∷ [] in
         received of_window None true ws 0 source before ≡ record {
@@ -44,15 +44,11 @@ pub fn windows_that_are_filled()
                 ∷ pages_with 1 (true ∷ true ∷ false ∷ false ∷ []) ∷ [];
           };
         } }
-    ensures answer { all_of PartialBuffer 8 (Ok 6) ≡ Err (PartialBuffer 8 6) }
+    ensures ends { all_of PartialBuffer 8 (Ok 6) ≡ Err (PartialBuffer 8 6) }
     ensures nothing { let ws = windows (access_of touching_regions Direct 0 8 Write).path in
         let before = two_zero_blocks in
         all_of PartialBuffer 8 (received of_window None true ws 0 [] before).answer ≡ Err (PartialBuffer 8 0) }
-{}
-
-/// A failed try leaves its scribble, and marks all of the window that it was lent.
-pub fn scribble_of_a_failed_try()
-    ensures { let ws = windows (access_of touching_regions Direct 0 8 Write).path in
+    ensures scribble { let ws = windows (access_of touching_regions Direct 0 8 Write).path in
         let before = two_zero_blocks in
         let source = Gives (1 ∷ 2 ∷ 3 ∷ 4 ∷ []) ∷ Fails (9 ∷ []) (window_errors.IOError Other) ∷ [] in
         received of_window None false ws 0 source before ≡ record {
@@ -64,11 +60,7 @@ pub fn scribble_of_a_failed_try()
                 ∷ pages_with 1 (true ∷ true ∷ true ∷ true ∷ []) ∷ [];
           };
         } }
-{}
-
-/// 64 interruptions in a row are tried again, and the 65th is answered. An interrupted try marks the window.
-pub fn interruptions_of_a_transfer()
-    ensures as_many { let ws = windows (access_of (one_region 4) Direct 0 4 Write).path in
+    ensures interruptions { let ws = windows (access_of (one_region 4) Direct 0 4 Write).path in
         let before = host_of (zeros 4 ∷ []) (clean_pages 4 1 ∷ []) [] [] in
         let source = replicate 64 (Fails [] (window_errors.IOError Interrupted)) ++ Gives (1 ∷ 2 ∷ 3 ∷ 4 ∷ []) ∷ [] in
         (received of_window None false ws 0 source before).answer ≡ Ok 4 }
@@ -83,11 +75,6 @@ pub fn interruptions_of_a_transfer()
           blocks = (9 ∷ 0 ∷ 0 ∷ 0 ∷ []) ∷ [];
           bitmaps = pages_with 1 (true ∷ true ∷ true ∷ true ∷ []) ∷ [];
         } }
-{}
-
-/// A transfer over an empty path answers what stops it, asks the source nothing, and leaves everything. One of
-/// no byte answers 0.
-pub fn transfer_over_an_empty_path()
     ensures stopped { let reached = access_of touching_regions Direct 8 1 Write in
         let before = two_zero_blocks in
         let source = Gives (1 ∷ []) ∷ [] in

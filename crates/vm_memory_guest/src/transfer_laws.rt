@@ -14,7 +14,7 @@ ghost use Rattle.vm_memory_guest.specs.Transfer.{Fills, InOrder, Takes, UntilWho
 ghost use Rattle.vm_memory_guest.specs.Window.{Window, cells, span};
 ghost use Rattle.vm_memory_guest.specs.declared.region.GuestMemoryError.{GuestMemoryError};
 
-use vm_memory_base::laws::pages::{empty_mark, mark_keeps_shape, marked_bytes_are_dirty};
+use vm_memory_base::laws::pages::{mark_is_by_bytes, mark_keeps_shape, marked_bytes_are_dirty};
 use vm_memory_base::{ExactBitmap, ReadVolatile, WriteVolatile};
 
 /// A transfer in from a source that tells what it does, into a host with exact bitmaps: its answer, what the
@@ -28,7 +28,7 @@ pub fn transfers_in_are_computed<S: ReadVolatile, B: ExactBitmap>()
         → let dealt = received of_window fault until_full ws total next (with_pages B.pages old) in
         (answer ≡ dealt.answer) × (S.source after ≡ Some dealt.left) × (with_pages B.pages new ≡ dealt.host) }
 {
-    empty_mark();
+    mark_is_by_bytes();
 }
 
 /// A transfer in changes only bytes of the windows that it was lent, and marks each that it changes.

@@ -13,8 +13,8 @@ ghost use Rattle.vm_memory_base.specs.declared.iotlb.Reason.TheVariants.{AccessN
 ghost use Rattle.vm_memory_guest.specs.Access.{access_of};
 ghost use Rattle.vm_memory_guest.specs.Copy.{after_copy};
 ghost use Rattle.vm_memory_guest.specs.Dirt.{after_write, bytes_read};
-ghost use Rattle.vm_memory_guest.specs.Examples.{address_of, backed_region, block_window, cannot_resolve, clean_pages};
-ghost use Rattle.vm_memory_guest.specs.Examples.{host_of, one_region, touching_regions};
+ghost use Rattle.vm_memory_guest.specs.examples.Fixtures.{address_of, backed_region, block_window, cannot_resolve, clean_pages};
+ghost use Rattle.vm_memory_guest.specs.examples.Fixtures.{host_of, one_region, touching_regions};
 ghost use Rattle.vm_memory_guest.specs.Host.{cells_from};
 ghost use Rattle.vm_memory_guest.specs.Memory.{Direct, Through};
 ghost use Rattle.vm_memory_guest.specs.Typed.{aligned_of, answered, path_given, typed_path};
@@ -25,27 +25,19 @@ ghost use Rattle.vm_memory_guest.specs.declared.region.GuestMemoryError.TheVaria
   InvalidGuestAddress,
 };
 
-/// The alignment of a load or a store is that of its place in the block, wherever the window begins.
-pub fn alignment_is_by_the_block()
+/// A value is loaded or stored at a place of its block that is a multiple of its size, wherever the window begins,
+/// and in one window: not in two regions, also where these are neighbours in one block, nor over a hole or two
+/// mappings. With an IOMMU a store marks the space, and is refused where it is not permitted.
+pub fn loads_and_stores_that_are_cut()
     ensures aligned { aligned_of (block_window 0 0x11 8) 1 2 ≡ Ok (block_window 0 0x12 2) }
     ensures misaligned { aligned_of (block_window 0 0x10 8) 1 2 ≡ Err (Misaligned 0x11 2) }
     ensures past_the_end { aligned_of (block_window 0 0x10 8) 5 4 ≡ Err (OutOfBounds 9) }
-{}
-
-/// A value in one of two touching regions is loaded, at a multiple of its size. One that lies in both is not,
-/// also where these are neighbours in one block, nor one that ends in a hole. One that begins in a hole is
-/// refused as any access.
-pub fn loads_over_touching_regions()
-    ensures inside { let blocks = (1 ∷ 2 ∷ 3 ∷ 4 ∷ []) ∷ (5 ∷ 6 ∷ 7 ∷ 8 ∷ []) ∷ [] in
-        let host = host_of blocks (None ∷ None ∷ []) [] [] in
-        answered (λ xs. bytes_read xs host) (typed_path 2 (access_of touching_regions Direct 6 2 Read))
-        ≡ Ok (7 ∷ 8 ∷ []) }
-    ensures in_both { typed_path 4 (access_of touching_regions Direct 2 4 Read) ≡ Err InvalidBackendAddress }
-    ensures in_both_of_one_block { let regions = backed_region 0 4 0 0 ∷ backed_region 4 4 0 4 ∷ [] in
+    ensures in_two_regions { typed_path 4 (access_of touching_regions Direct 2 4 Read) ≡ Err InvalidBackendAddress }
+    ensures in_two_regions_of_one_block { let regions = backed_region 0 4 0 0 ∷ backed_region 4 4 0 4 ∷ [] in
         typed_path 8 (access_of regions Direct 0 8 Read) ≡ Err InvalidBackendAddress }
-    ensures misaligned { let regions = backed_region 1 4 0 0 ∷ [] in
+    ensures address_is_a_multiple { let regions = backed_region 1 4 0 0 ∷ [] in
         typed_path 2 (access_of regions Direct 2 2 Read) ≡ Err InvalidBackendAddress }
-    ensures aligned_in_the_block { let regions = backed_region 1 4 0 0 ∷ [] in
+    ensures place_is_a_multiple { let regions = backed_region 1 4 0 0 ∷ [] in
         let host = host_of ((1 ∷ 2 ∷ 3 ∷ 4 ∷ []) ∷ []) (None ∷ []) [] [] in
         answered (λ xs. bytes_read xs host) (typed_path 2 (access_of regions Direct 3 2 Read))
         ≡ Ok (3 ∷ 4 ∷ []) }
@@ -53,11 +45,6 @@ pub fn loads_over_touching_regions()
         ≡ Err InvalidBackendAddress }
     ensures begins_in_a_hole { typed_path 4 (access_of (one_region 4) Direct 4 4 Read)
         ≡ Err (InvalidGuestAddress (address_of 4)) }
-{}
-
-/// With an IOMMU a store marks the space, does not go over two mappings, and is refused where it is not
-/// permitted.
-pub fn stores_with_an_iommu()
     ensures refused { let route = Through (new_table_after (Set 8 0 4 Read ∷ [])) 0 in
         typed_path 2 (access_of (one_region 4) route 8 2 Write) ≡ Err (cannot_resolve 8 2 AccessNotAllowed) }
     ensures two_mappings { let says = new_table_after (Set 8 0 2 ReadWrite ∷ Set 10 2 2 Write ∷ []) in
@@ -70,9 +57,10 @@ pub fn stores_with_an_iommu()
         (pages_with 4 (false ∷ false ∷ true ∷ []) ∷ []) [] }
 {}
 
-/// Bytes are copied as they were, also over one another, and the pages of those that were copied to are
-/// dirty.
-pub fn copies_that_overlap()
+/// Bytes are copied as they were, also over one another, and the pages of those that were copied to are dirty. An
+/// array has the window of its values' bytes. One whose values or bytes are too many is refused as such, wherever it
+/// is.
+pub fn copies_and_arrays()
     ensures upwards { after_copy (cells_from 0 0 4) (cells_from 0 2 4)
         (host_of ((1 ∷ 2 ∷ 3 ∷ 4 ∷ 5 ∷ 6 ∷ []) ∷ []) (clean_pages 2 3 ∷ []) [] [])
         ≡ host_of ((1 ∷ 2 ∷ 1 ∷ 2 ∷ 3 ∷ 4 ∷ []) ∷ []) (pages_with 2 (false ∷ true ∷ true ∷ []) ∷ []) [] [] }
@@ -83,11 +71,6 @@ pub fn copies_that_overlap()
         (host_of ((1 ∷ 2 ∷ 3 ∷ []) ∷ (7 ∷ 8 ∷ 9 ∷ []) ∷ []) (clean_pages 2 2 ∷ clean_pages 2 2 ∷ []) [] [])
         ≡ host_of ((1 ∷ 2 ∷ 3 ∷ []) ∷ (2 ∷ 3 ∷ 9 ∷ []) ∷ [])
         (clean_pages 2 2 ∷ pages_with 2 (true ∷ false ∷ []) ∷ []) [] [] }
-{}
-
-/// An array has the window of its values' bytes. One whose values or bytes are too many is refused as such,
-/// wherever it is.
-pub fn arrays_in_a_window()
     ensures inside { array_of (subslice_of (block_window 0 0x10 8) 2) 3 2
         ≡ Ok (record { window = block_window 0 0x12 6; count = 3 }) }
     ensures past_the_end { array_of (subslice_of (block_window 0 0x10 8) 4) 3 2 ≡ Err (OutOfBounds 10) }

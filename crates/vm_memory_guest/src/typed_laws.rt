@@ -13,7 +13,7 @@ ghost use Rattle.vm_memory_guest.specs.Window.{Window, Writes, cells_of};
 
 use crate::access_laws::accesses_are_by_bytes;
 use vm_memory_base::ExactBitmap;
-use vm_memory_base::laws::pages::{empty_mark, mark_is_by_bytes};
+use vm_memory_base::laws::pages::mark_is_by_bytes;
 
 /// A load or a store takes all bytes of its access, or is refused: the window that it takes has just these
 /// bytes. A store to it of a host with exact bitmaps is the write of its bytes, one after the other.
@@ -44,6 +44,5 @@ pub fn copies_are_by_bytes<B: ExactBitmap>()
         with_pages B.pages new
         ≡ after_copy (cells_of (front from n)) (cells_of (front to n)) (with_pages B.pages old) }
 {
-    empty_mark();
     mark_is_by_bytes();
 }

@@ -4,12 +4,18 @@ ghost use Rattle.std.specs.Int.{div_ceil};
 ghost use Rattle.vm_memory_base.specs.Address.{is_within, numbers};
 ghost use Rattle.vm_memory_base.specs.Pages.{Pages, PageSet, shape, is_dirty_at, dirty_pages, takes, flags_after, flags_without, marked, marked_each, unmarked, cleaned, new_pages, dirty_words, IsPageSet, IsCleanFor};
 
-/// A mark of no bytes changes nothing.
-pub fn empty_mark()
-    ensures { (start : ℕ) (set : PageSet) → marked start 0 set ≡ set }
+/// A mark of no bytes changes nothing, and any mark is a mark of each of its bytes, one after another. So marks
+/// of neighbouring ranges are one mark.
+pub fn mark_is_by_bytes()
+    ensures empty { (start : ℕ) (set : PageSet) → marked start 0 set ≡ set }
+    ensures each { (start len : ℕ) (set : PageSet) → start + len ≤ 2 ^ 64
+        → marked_each (numbers start len) set ≡ marked start len set }
+    ensures neighbours { (start m n : ℕ) (set : PageSet) → start + (m + n) ≤ 2 ^ 64
+        → marked (start + m) n (marked start m set) ≡ marked start (m + n) set }
 {}
 
-/// A mark keeps the page size and the number of pages.
+/// A mark keeps the page size and the number of pages. It goes no further than the greatest offset, changes
+/// nothing past the last page, and nothing where no pages are tracked.
 pub fn mark_keeps_shape()
     ensures shape { (start len : ℕ) (set : PageSet) → shape (marked start len set) ≡ shape set }
     ensures pages { (start len : ℕ) (p : Pages) → (q : Pages) × (marked start len (Some p) ≡ Some q)
@@ -18,18 +24,28 @@ pub fn mark_keeps_shape()
     ensures shape_of_many { (offsets : List ℕ) (set : PageSet) → shape (marked_each offsets set) ≡ shape set }
     ensures valid_of_many { (offsets : List ℕ) (set : PageSet) → IsPageSet set
         → IsPageSet (marked_each offsets set) }
+    ensures to_the_greatest_offset { (start len : ℕ) (set : PageSet) → start < 2 ^ 64 → 2 ^ 64 ≤ start + len
+        → marked start len set ≡ marked start (2 ^ 64 - start) set }
+    ensures past_the_last_page { (start len : ℕ) (p : Pages) → length p.flags ≤ start / p.page_size
+        → marked start len (Some p) ≡ Some p }
+    ensures untracked { (start len : ℕ) → marked start len None ≡ None }
 {}
 
-/// A mark takes a page where one of its bytes lies in it, among the offsets of 64 bits.
-pub fn mark_takes_the_pages_of_its_bytes()
-    ensures { (size start len page : ℕ) → 0 < size → start < 2 ^ 64
+/// A byte that is marked is dirty, where its page is one of the set's, and no mark cleans a byte. A mark takes a
+/// page where one of its bytes lies in it, among the offsets of 64 bits, and makes no other page dirty.
+pub fn marked_bytes_are_dirty()
+    ensures marked { (start len offset : ℕ) (p : Pages) → 0 < p.page_size
+        → is_within start len offset ≡ true → offset < 2 ^ 64 → offset / p.page_size < length p.flags
+        → is_dirty_at (marked start len (Some p)) offset ≡ true }
+    ensures before { (start len offset : ℕ) (set : PageSet) → is_dirty_at set offset ≡ true
+        → is_dirty_at (marked start len set) offset ≡ true }
+    ensures own { (x offset : ℕ) (p : Pages) → x < 2 ^ 64 → x / p.page_size ≡ offset / p.page_size
+        → offset / p.page_size < length p.flags → is_dirty_at (marked x 1 (Some p)) offset ≡ true }
+    ensures other { (x offset : ℕ) (p : Pages) → (x / p.page_size ≡ offset / p.page_size → ⊥)
+        → is_dirty_at (marked x 1 (Some p)) offset ≡ is_dirty_at (Some p) offset }
+    ensures takes { (size start len page : ℕ) → 0 < size → start < 2 ^ 64
         → (takes size start len page ≡ true) ↔ ((offset : ℕ) × (is_within start len offset ≡ true)
         × (offset < 2 ^ 64) × (offset / size ≡ page)) }
-{}
-
-/// After a mark the dirty pages are those that were dirty and those that the mark takes, among the
-/// pages that there are.
-pub fn mark_dirties()
     ensures pages { (test : ℕ → Bool) (page : ℕ) (flags : List Bool) (i : ℕ)
         → slice_index_or (flags_after test page flags) i false
         ≡ (slice_index_or flags i false || (nat_lt i (length flags) && test (page + i))) }
@@ -37,43 +53,6 @@ pub fn mark_dirties()
         → is_dirty_at (marked start len (Some p)) offset
         ≡ (is_dirty_at (Some p) offset || (nat_lt (offset / p.page_size) (length p.flags)
         && takes p.page_size start len (offset / p.page_size))) }
-{}
-
-/// A byte that is marked is dirty, where its page is one of the set's, and no mark cleans a byte.
-pub fn marked_bytes_are_dirty()
-    ensures marked { (start len offset : ℕ) (p : Pages) → 0 < p.page_size
-        → is_within start len offset ≡ true → offset < 2 ^ 64 → offset / p.page_size < length p.flags
-        → is_dirty_at (marked start len (Some p)) offset ≡ true }
-    ensures before { (start len offset : ℕ) (set : PageSet) → is_dirty_at set offset ≡ true
-        → is_dirty_at (marked start len set) offset ≡ true }
-{}
-
-/// A mark of one byte makes its page dirty, where that is one of the set's, and changes no other.
-pub fn mark_of_a_byte()
-    ensures own { (x offset : ℕ) (p : Pages) → x < 2 ^ 64 → x / p.page_size ≡ offset / p.page_size
-        → offset / p.page_size < length p.flags → is_dirty_at (marked x 1 (Some p)) offset ≡ true }
-    ensures other { (x offset : ℕ) (p : Pages) → (x / p.page_size ≡ offset / p.page_size → ⊥)
-        → is_dirty_at (marked x 1 (Some p)) offset ≡ is_dirty_at (Some p) offset }
-{}
-
-/// A mark goes no further than the greatest offset, and changes nothing past the last page.
-pub fn mark_ends()
-    ensures offsets { (start len : ℕ) (set : PageSet) → start < 2 ^ 64 → 2 ^ 64 ≤ start + len
-        → marked start len set ≡ marked start (2 ^ 64 - start) set }
-    ensures pages { (start len : ℕ) (p : Pages) → length p.flags ≤ start / p.page_size
-        → marked start len (Some p) ≡ Some p }
-{}
-
-/// A mark is a mark of each of its bytes, one after another.
-pub fn mark_is_by_bytes()
-    ensures { (start len : ℕ) (set : PageSet) → start + len ≤ 2 ^ 64
-        → marked_each (numbers start len) set ≡ marked start len set }
-{}
-
-/// Marks of neighbouring ranges are one mark.
-pub fn neighbouring_marks()
-    ensures { (start m n : ℕ) (set : PageSet) → start + (m + n) ≤ 2 ^ 64
-        → marked (start + m) n (marked start m set) ≡ marked start (m + n) set }
 {}
 
 /// Marks may be made in any order and more than once.
@@ -86,19 +65,6 @@ pub fn mark_order()
         → marked start len (marked start len set) ≡ marked start len set }
 {}
 
-/// Undoing a mark makes its pages clean, and no other, and keeps the shape.
-pub fn unmark_cleans()
-    ensures pages { (test : ℕ → Bool) (page : ℕ) (flags : List Bool) (i : ℕ)
-        → slice_index_or (flags_without test page flags) i false
-        ≡ (slice_index_or flags i false && not (test (page + i))) }
-    ensures bytes { (start len offset : ℕ) (p : Pages) → is_dirty_at (unmarked start len (Some p)) offset
-        ≡ (is_dirty_at (Some p) offset && not (takes p.page_size start len (offset / p.page_size))) }
-    ensures after_a_mark { (start len : ℕ) (set : PageSet)
-        → unmarked start len (marked start len set) ≡ unmarked start len set }
-    ensures shape { (start len : ℕ) (set : PageSet) → shape (unmarked start len set) ≡ shape set }
-    ensures valid { (start len : ℕ) (set : PageSet) → IsPageSet set → IsPageSet (unmarked start len set) }
-{}
-
 /// New pages are clean and cover their bytes, and each of these lies in one of them.
 pub fn new_pages_cover()
     ensures clean { (size bytes : ℕ) → 0 < size → IsCleanFor bytes (new_pages size bytes) }
@@ -109,36 +75,36 @@ pub fn new_pages_cover()
         → offset / p.page_size < length p.flags }
 {}
 
-/// Each page is a bit of the words, which have no other bits.
-pub fn words_have_the_pages()
-    ensures bits { (p : Pages) (word bit : ℕ) → bit < 64
-        → slice_index (dirty_words (Some p)) word / 2 ^ bit % 2
-        ≡ (if slice_index_or p.flags (64 * word + bit) false then 1 else 0) }
-    ensures count { (p : Pages) → length (dirty_words (Some p)) ≡ div_ceil (length p.flags) 64 }
-    ensures fits { (p : Pages) (word : ℕ) → slice_index (dirty_words (Some p)) word < 2 ^ 64 }
-{}
-
-/// Where nothing is tracked nothing is dirty, before and after each mark.
-pub fn nothing_tracked()
-    ensures marked { (start len : ℕ) → marked start len None ≡ None }
-    ensures clean { (offset : ℕ) → is_dirty_at None offset ≡ false }
-    ensures no_page { dirty_pages None ≡ [] }
-{}
-
-/// Cleaning leaves the same pages, and none of them dirty.
+/// Cleaning leaves the same pages, and none of them dirty. Undoing a mark makes its pages clean and no other.
 pub fn cleaned_is_clean()
     ensures no_page { (set : PageSet) → dirty_pages (cleaned set) ≡ [] }
     ensures no_byte { (set : PageSet) (offset : ℕ) → is_dirty_at (cleaned set) offset ≡ false }
     ensures shape { (set : PageSet) → shape (cleaned set) ≡ shape set }
     ensures valid { (set : PageSet) → IsPageSet set → IsPageSet (cleaned set) }
+    ensures undone_pages { (test : ℕ → Bool) (page : ℕ) (flags : List Bool) (i : ℕ)
+        → slice_index_or (flags_without test page flags) i false
+        ≡ (slice_index_or flags i false && not (test (page + i))) }
+    ensures undone_bytes { (start len offset : ℕ) (p : Pages) → is_dirty_at (unmarked start len (Some p)) offset
+        ≡ (is_dirty_at (Some p) offset && not (takes p.page_size start len (offset / p.page_size))) }
+    ensures undone_after_a_mark { (start len : ℕ) (set : PageSet)
+        → unmarked start len (marked start len set) ≡ unmarked start len set }
+    ensures undone_shape { (start len : ℕ) (set : PageSet) → shape (unmarked start len set) ≡ shape set }
+    ensures undone_valid { (start len : ℕ) (set : PageSet) → IsPageSet set → IsPageSet (unmarked start len set) }
 {}
 
-/// The dirty pages are listed, no other pages are, and they ascend. Together with the shape they decide
-/// the page set.
+/// The dirty pages are listed, no other pages are, and they ascend. Together with the shape they decide the page
+/// set. Each page is a bit of the words, which have no other bits. Where nothing is tracked nothing is dirty.
 pub fn dirty_pages_are_listed()
     ensures exactly { (p : Pages) (page : ℕ) → Contains (dirty_pages (Some p)) page
         ↔ (slice_index_or p.flags page false ≡ true) }
     ensures decide { (p q : Pages) → shape (Some p) ≡ shape (Some q)
         → dirty_pages (Some p) ≡ dirty_pages (Some q) → p ≡ q }
     ensures ascending { (set : PageSet) → AllPairs (λ page other. page < other) (dirty_pages set) }
+    ensures bits { (p : Pages) (word bit : ℕ) → bit < 64
+        → slice_index (dirty_words (Some p)) word / 2 ^ bit % 2
+        ≡ (if slice_index_or p.flags (64 * word + bit) false then 1 else 0) }
+    ensures words { (p : Pages) → length (dirty_words (Some p)) ≡ div_ceil (length p.flags) 64 }
+    ensures words_fit { (p : Pages) (word : ℕ) → slice_index (dirty_words (Some p)) word < 2 ^ 64 }
+    ensures untracked_clean { (offset : ℕ) → is_dirty_at None offset ≡ false }
+    ensures untracked_no_page { dirty_pages None ≡ [] }
 {}

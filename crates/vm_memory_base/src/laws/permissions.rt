@@ -5,7 +5,7 @@ ghost use Rattle.vm_memory_base.specs.declared.iotlb.Permissions.TheVariants.{No
 ghost use Rattle.vm_memory_base.specs.Permissions.{has_read, has_write, union, intersection, allow, same};
 ghost use Rattle.vm_memory_base.specs.Runs.{TestsEquality};
 
-/// An access is allowed where each of its bits is permitted.
+/// An access is allowed where each of its bits is permitted, which is an order on sets of permissions.
 pub fn allowed_by_bits()
     ensures bits { (a access : Permissions) → (allow a access ≡ true)
         ↔ ((has_read access ≡ true → has_read a ≡ true)
@@ -14,32 +14,21 @@ pub fn allowed_by_bits()
     ensures all_permitted { (access : Permissions) → allow ReadWrite access ≡ true }
     ensures read_asked { (a : Permissions) → allow a Read ≡ has_read a }
     ensures write_asked { (a : Permissions) → allow a Write ≡ has_write a }
-{}
-
-/// To allow is an order on sets of permissions.
-pub fn allowing_is_an_order()
     ensures reflexive { (a : Permissions) → allow a a ≡ true }
     ensures transitive { (a b c : Permissions) → allow a b ≡ true → allow b c ≡ true → allow a c ≡ true }
     ensures antisymmetric { (a b : Permissions) → allow a b ≡ true → allow b a ≡ true → a ≡ b }
 {}
 
-/// A union has the bits of either set, and is allowed where both are.
-pub fn union_of_permissions()
-    ensures read { (a b : Permissions) → has_read (union a b) ≡ (has_read a || has_read b) }
-    ensures write { (a b : Permissions) → has_write (union a b) ≡ (has_write a || has_write b) }
-    ensures least { (a b c : Permissions) → allow c (union a b) ≡ (allow c a && allow c b) }
-    ensures commutes { (a b : Permissions) → union a b ≡ union b a }
-{}
-
-/// An intersection has the bits of both sets, and allows what both allow.
-pub fn intersection_of_permissions()
-    ensures read { (a b : Permissions) → has_read (intersection a b) ≡ (has_read a && has_read b) }
-    ensures write { (a b : Permissions) → has_write (intersection a b) ≡ (has_write a && has_write b) }
-    ensures greatest { (a b c : Permissions) → allow (intersection a b) c ≡ (allow a c && allow b c) }
-    ensures commutes { (a b : Permissions) → intersection a b ≡ intersection b a }
-{}
-
-/// `same` tells whether two sets are equal.
-pub fn same_permissions()
-    ensures { TestsEquality same }
+/// A union has the bits of either set, and is allowed where both are. An intersection has the bits of both sets,
+/// and allows what both allow. `same` tells whether two sets are equal.
+pub fn permissions_are_sets()
+    ensures union_read { (a b : Permissions) → has_read (union a b) ≡ (has_read a || has_read b) }
+    ensures union_write { (a b : Permissions) → has_write (union a b) ≡ (has_write a || has_write b) }
+    ensures union_least { (a b c : Permissions) → allow c (union a b) ≡ (allow c a && allow c b) }
+    ensures union_commutes { (a b : Permissions) → union a b ≡ union b a }
+    ensures intersection_read { (a b : Permissions) → has_read (intersection a b) ≡ (has_read a && has_read b) }
+    ensures intersection_write { (a b : Permissions) → has_write (intersection a b) ≡ (has_write a && has_write b) }
+    ensures intersection_greatest { (a b c : Permissions) → allow (intersection a b) c ≡ (allow a c && allow b c) }
+    ensures intersection_commutes { (a b : Permissions) → intersection a b ≡ intersection b a }
+    ensures same { TestsEquality same }
 {}

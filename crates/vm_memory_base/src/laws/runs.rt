@@ -3,16 +3,21 @@ ghost use Rattle.std.specs.Prelude.{◌≡◌, ℕ, ◌+◌, ◌<◌, ◌≤◌,
 ghost use Rattle.vm_memory_base.specs.Address.{is_within};
 ghost use Rattle.vm_memory_base.specs.Runs.{Run, TestsEquality, runs, IsCanonical, value_at, cut_to};
 
-/// The runs of a function are canonical.
-pub fn runs_are_canonical<K>()
-    ensures { (same : K → K → Bool) → TestsEquality same → (f : ℕ → Option K) (a n : ℕ)
+/// The runs of a function are canonical. They say what it says of the addresses asked for, and nothing of others.
+/// Functions have the same runs exactly where they agree at each of these, and a canonical list is the list of
+/// the runs of what it says.
+pub fn runs_decide_the_function<K>()
+    ensures canonical { (same : K → K → Bool) → TestsEquality same → (f : ℕ → Option K) (a n : ℕ)
         → IsCanonical same (runs same f a n) }
-{}
-
-/// They say what the function says of the addresses asked for, and nothing of others.
-pub fn runs_say_what_the_function_says<K>()
-    ensures { (same : K → K → Bool) → TestsEquality same → (f : ℕ → Option K) (a n x : ℕ)
+    ensures values { (same : K → K → Bool) → TestsEquality same → (f : ℕ → Option K) (a n x : ℕ)
         → value_at (runs same f a n) x ≡ (if is_within a n x then f x else None) }
+    ensures same_runs { (same : K → K → Bool) → TestsEquality same → (f g : ℕ → Option K) (a n : ℕ)
+        → ((x : ℕ) → a ≤ x → x < a + n → f x ≡ g x) → runs same f a n ≡ runs same g a n }
+    ensures same_values { (same : K → K → Bool) → TestsEquality same → (f g : ℕ → Option K) (a n : ℕ)
+        → runs same f a n ≡ runs same g a n → (x : ℕ) → a ≤ x → x < a + n → f x ≡ g x }
+    ensures of_a_list { (same : K → K → Bool) → TestsEquality same → (rs : List (Run K)) (a n : ℕ)
+        → IsCanonical same rs → ((x : ℕ) → is_within a n x ≡ false → value_at rs x ≡ None)
+        → runs same (value_at rs) a n ≡ rs }
 {}
 
 /// Canonical lists that say the same of each address are one list.
@@ -21,31 +26,13 @@ pub fn canonical_list_is_unique<K>()
         → IsCanonical same ss → ((x : ℕ) → value_at rs x ≡ value_at ss x) → rs ≡ ss }
 {}
 
-/// Functions have the same runs exactly where they agree at each address asked for.
-pub fn runs_decide_the_function<K>()
-    ensures same_runs { (same : K → K → Bool) → TestsEquality same → (f g : ℕ → Option K) (a n : ℕ)
-        → ((x : ℕ) → a ≤ x → x < a + n → f x ≡ g x) → runs same f a n ≡ runs same g a n }
-    ensures same_values { (same : K → K → Bool) → TestsEquality same → (f g : ℕ → Option K) (a n : ℕ)
-        → runs same f a n ≡ runs same g a n → (x : ℕ) → a ≤ x → x < a + n → f x ≡ g x }
-{}
-
-/// A canonical list is the list of the runs of what it says.
-pub fn canonical_list_is_its_runs<K>()
-    ensures { (same : K → K → Bool) → TestsEquality same → (rs : List (Run K)) (a n : ℕ)
-        → IsCanonical same rs → ((x : ℕ) → is_within a n x ≡ false → value_at rs x ≡ None)
-        → runs same (value_at rs) a n ≡ rs }
-{}
-
-/// A list that is cut to a range stays canonical, and says of the range what it said before.
-pub fn cut_keeps<K>()
+/// The runs of a part are the runs of the whole, cut to the part. A list that is cut stays canonical, and says of
+/// the part what it said before.
+pub fn runs_are_cut<K>()
     ensures canonical { (same : K → K → Bool) (a n : ℕ) (rs : List (Run K)) → IsCanonical same rs
         → IsCanonical same (cut_to a n rs) }
     ensures values { (a n : ℕ) (rs : List (Run K)) (x : ℕ)
         → value_at (cut_to a n rs) x ≡ (if is_within a n x then value_at rs x else None) }
-{}
-
-/// The runs of a part are the runs of the whole, cut to the part.
-pub fn runs_are_cut<K>()
     ensures of_a_list { (same : K → K → Bool) → TestsEquality same → (rs : List (Run K)) (a n : ℕ)
         → IsCanonical same rs → runs same (value_at rs) a n ≡ cut_to a n rs }
     ensures of_a_function { (same : K → K → Bool) → TestsEquality same

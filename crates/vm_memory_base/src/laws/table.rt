@@ -8,9 +8,9 @@ ghost use Rattle.vm_memory_base.specs.declared.iotlb.Reason.TheVariants.{Missing
 
 use crate::iotlb::Iotlb;
 
-/// A call changes what is said of the addresses that it covers, and of no other. A call of length 0
-/// covers none.
-pub fn call_changes_what_it_covers()
+/// A call changes what is said of the addresses that it covers, and of no other; one of length 0 covers none. So
+/// the last call that covers an address decides what is said of it, and where none does nothing is changed.
+pub fn last_call_decides()
     ensures elsewhere { (call : TableCall) (x : ℕ) (old : Option Mapping) → covers call x ≡ false
         → says_after call x old ≡ old }
     ensures set { (iova to len x : ℕ) (permissions : Permissions) (old : Option Mapping)
@@ -24,11 +24,6 @@ pub fn call_changes_what_it_covers()
         → says_after (Set iova to 0 permissions) x old ≡ old }
     ensures invalidated_nothing { (iova x : ℕ) (old : Option Mapping)
         → says_after (Invalidate iova 0) x old ≡ old }
-{}
-
-/// The last call that covers an address decides what is said of it, and where none does nothing is
-/// changed.
-pub fn last_call_decides()
     ensures one_more { (calls : List TableCall) (call : TableCall) (x : ℕ) (old : Option Mapping)
         → says_after_all (calls ++ call ∷ []) x old ≡ says_after call x (says_after_all calls x old) }
     ensures last { (earlier later : List TableCall) (call : TableCall) (x : ℕ) (old : Option Mapping)
@@ -38,36 +33,24 @@ pub fn last_call_decides()
         → All (λ call. covers call x ≡ false) calls → says_after_all calls x old ≡ old }
 {}
 
-/// A range that is set leads, address by address, to the range from its target on, modulo 2 ^ 64.
+/// A range that is set leads, address by address, to the range from its target on, modulo 2 ^ 64. It is one range
+/// with one behind it whose targets follow its own, with the same permissions, and alone in a new table one run.
 pub fn targets_follow_addresses()
     ensures set { (iova to x : ℕ) (permissions : Permissions) → iova < 2 ^ 64 → iova ≤ x
         → target x (record { difference = difference iova to; permissions = permissions })
         ≡ step to (x - iova) }
     ensures steps { (x i : ℕ) (m : Mapping) → target (x + i) m ≡ step (target x m) i }
-{}
-
-/// A range that is set behind another, with targets that follow its targets and the same permissions,
-/// is one range with it.
-pub fn neighbouring_sets()
-    ensures { (iova to m n x : ℕ) (permissions : Permissions) (old : Option Mapping) → iova + m ≤ 2 ^ 64
+    ensures neighbours { (iova to m n x : ℕ) (permissions : Permissions) (old : Option Mapping) → iova + m ≤ 2 ^ 64
         → says_after_all (Set iova to m permissions ∷ Set (iova + m) (step to m) n permissions ∷ []) x old
         ≡ says_after (Set iova to (m + n) permissions) x old }
-{}
-
-/// One range that is set in a new table is one run.
-pub fn set_in_a_new_table()
-    ensures { (iova to len : ℕ) (permissions : Permissions) → 0 < len → iova + len ≤ 2 ^ 64
+    ensures alone { (iova to len : ℕ) (permissions : Permissions) → 0 < len → iova + len ≤ 2 ^ 64
         → let mapping : Mapping = record { difference = difference iova to; permissions = permissions } in
         canonical_list (new_table_after (Set iova to len permissions ∷ []))
         ≡ record { start = iova; len = len; value = mapping } ∷ [] }
 {}
 
-/// `same_mapping` tells whether two mappings are equal.
-pub fn same_mappings()
-    ensures { TestsEquality same_mapping }
-{}
-
-/// Tables have one canonical list exactly where they say the same of each address.
+/// Tables have one canonical list exactly where they say the same of each address. `same_mapping` tells whether two
+/// mappings are equal.
 pub fn canonical_list_decides_the_table()
     ensures canonical { (f : Says) → IsCanonical same_mapping (canonical_list f) }
     ensures values { (f : Says) (x : ℕ) → x < 2 ^ 64 → value_at (canonical_list f) x ≡ f x }
@@ -77,6 +60,7 @@ pub fn canonical_list_decides_the_table()
         → f x ≡ g x }
     ensures one_list { (rs ss : List (Run Mapping)) → IsCanonical same_mapping rs
         → IsCanonical same_mapping ss → ((x : ℕ) → value_at rs x ≡ value_at ss x) → rs ≡ ss }
+    ensures same_mapping { TestsEquality same_mapping }
 {}
 
 /// A kept list that is canonical, and says nothing past the last address, is the canonical list of
@@ -91,12 +75,6 @@ pub fn kept_list_is_the_canonical_list()
         → canonical_list (says table) ≡ table.ranges }
 {}
 
-/// A test passes at each address exactly where it passes at the n addresses one by one.
-pub fn each_address()
-    ensures { (test : Option Mapping → Bool) (f : Says) (a n : ℕ)
-        → (each test f a n ≡ true) ↔ ((x : ℕ) → a ≤ x → x < a + n → test (f x) ≡ true) }
-{}
-
 /// An access is allowed to no address, and to addresses of which each grants it and the end is an
 /// address too.
 pub fn allowed_where_each_address_grants()
@@ -105,20 +83,14 @@ pub fn allowed_where_each_address_grants()
         ↔ ((n ≡ 0) ⊎ ((a + n < 2 ^ 64) × ((x : ℕ) → a ≤ x → x < a + n → grants access (f x) ≡ true))) }
 {}
 
-/// An access is allowed exactly where its look-up has no miss and no failure. An empty range that
-/// begins past the last address is allowed though it is missed.
-pub fn allowed_without_miss_or_failure()
-    ensures { (f : Says) (a n : ℕ) (access : Permissions) → (n ≡ 0 → a < 2 ^ 64)
-        → (is_allowed f a n access ≡ true) ↔ ((misses f a n ≡ []) × (failures f a n access ≡ [])) }
-{}
-
 /// An access is refused for a missing mapping where anything is missed, and else for its permissions.
 pub fn reason_of_a_refusal()
     ensures missing { (f : Says) (a n : ℕ) → (misses f a n ≡ [] → ⊥) → reason f a n ≡ MissingMapping }
     ensures not_allowed { (f : Says) (a n : ℕ) → misses f a n ≡ [] → reason f a n ≡ AccessNotAllowed }
 {}
 
-/// The pieces of a look-up are the canonical list, cut to the addresses asked for.
+/// The pieces of a look-up are the canonical list, cut to the addresses asked for, and the failures the runs of
+/// these whose mapping forbids the access.
 pub fn pieces_are_cut()
     ensures runs { (f : Says) (a n : ℕ) → a + n ≤ 2 ^ 64
         → runs same_mapping f a n ≡ cut_to a n (canonical_list f) }
@@ -126,25 +98,16 @@ pub fn pieces_are_cut()
         → pieces f a n ≡ map piece_of (cut_to a n (canonical_list f)) }
     ensures of_a_kept_list { (rs : List (Run Mapping)) (a n : ℕ) → IsCanonical same_mapping rs
         → pieces (value_at rs) a n ≡ map piece_of (cut_to a n rs) }
-{}
-
-/// The failures are the runs of the addresses asked for whose mapping forbids the access.
-pub fn failures_are_runs()
-    ensures { (f : Says) (a n : ℕ) (access : Permissions) → overruns a n ≡ false
+    ensures failures { (f : Says) (a n : ℕ) (access : Permissions) → overruns a n ≡ false
         → failures f a n access
         ≡ map range_of (filter (λ r. forbids access r.value) (runs same_mapping f a n)) }
 {}
 
-/// The pieces and the misses of a look-up have, together, as many addresses as are asked for.
-pub fn pieces_and_misses_add_up()
-    ensures together { (f : Says) (a n : ℕ) → overruns a n ≡ false
-        → sum_by (λ r. r.len) (pieces f a n) + sum_by (λ r. r.len) (misses f a n) ≡ n }
-    ensures mapped { (f : Says) (a n : ℕ) → each is_some f a n ≡ true
-        → sum_by (λ r. r.len) (pieces f a n) ≡ n }
-{}
-
-/// The pieces are, address by address, the targets of what is asked for, the misses the addresses
-/// with no mapping, and the failures those whose mapping forbids the access.
+/// The pieces are, address by address, the targets of what is asked for, the misses the addresses with no
+/// mapping, and the failures those whose mapping forbids the access. The pieces and the misses have, together, as
+/// many addresses as are asked for. An access is allowed exactly where its look-up has no miss and no failure; an
+/// empty range that begins past the last address is allowed though it is missed. A test passes at each address
+/// exactly where it passes at the addresses one by one.
 pub fn look_up_by_addresses()
     ensures targets { (f : Says) (a n : ℕ) → flat_map addresses (pieces f a n)
         ≡ flat_map (λ x. target_if_any x (f x)) (numbers a n) }
@@ -154,6 +117,14 @@ pub fn look_up_by_addresses()
     ensures failed { (f : Says) (a n : ℕ) (access : Permissions) → overruns a n ≡ false
         → flat_map (λ r. numbers r.base r.len) (failures f a n access)
         ≡ filter (λ x. is_some (if_forbidden access (f x))) (numbers a n) }
+    ensures together { (f : Says) (a n : ℕ) → overruns a n ≡ false
+        → sum_by (λ r. r.len) (pieces f a n) + sum_by (λ r. r.len) (misses f a n) ≡ n }
+    ensures mapped { (f : Says) (a n : ℕ) → each is_some f a n ≡ true
+        → sum_by (λ r. r.len) (pieces f a n) ≡ n }
+    ensures allowed { (f : Says) (a n : ℕ) (access : Permissions) → (n ≡ 0 → a < 2 ^ 64)
+        → (is_allowed f a n access ≡ true) ↔ ((misses f a n ≡ []) × (failures f a n access ≡ [])) }
+    ensures each { (test : Option Mapping → Bool) (f : Says) (a n : ℕ)
+        → (each test f a n ≡ true) ↔ ((x : ℕ) → a ≤ x → x < a + n → test (f x) ≡ true) }
 {}
 
 /// Two tables that say the same of each address are equal: they keep the same ranges, and answer every

@@ -1,11 +1,16 @@
 //! Sources and sinks in small cases, by computation.
+#![tactic(auto, unfolding(crate::specs::Transfer::tries, crate::specs::Transfer::filled, crate::specs::Transfer::offers, crate::specs::Transfer::sent))]
+
 ghost use Rattle.std.specs.Prelude.{◌≡◌, ◌++◌, false, [], ◌∷◌, replicate, Some, None};
 ghost use Rattle.vm_memory_base.specs.Transfer.{Gives, Fails, tried, tries, filled_whole, Takes, Refuses, offered, offers, sent};
 ghost use Rattle.vm_memory_base.specs.declared.io.VolatileMemoryError.TheVariants.{IOError};
 ghost use Rattle.std.specs.declared.io.ErrorKind.TheVariants.{Interrupted, Other, UnexpectedEof, WriteZero};
 
-/// What a source does not give at one try it gives at the next, and after its end it gives nothing.
-pub fn tries_of_a_source()
+/// What a source does not give at one try it gives at the next, and after a failure its scribble stays. 64
+/// interruptions in a row are tried again, and the 65th is answered. A buffer is filled by as many tries as that
+/// takes. Where the source ends before, what is filled may have changed, and all where a try was interrupted or
+/// failed. A source that knows that it is short refuses at once.
+pub fn what_sources_give()
     ensures short { tried 4 (Gives (1 ∷ 2 ∷ []) ∷ Fails [] (IOError Other) ∷ [])
         ≡ record { bytes = 1 ∷ 2 ∷ []; answer = Ok 2; left = Fails [] (IOError Other) ∷ [] } }
     ensures part { tried 2 (Gives (1 ∷ 2 ∷ 3 ∷ []) ∷ [])
@@ -14,30 +19,17 @@ pub fn tries_of_a_source()
         ≡ record { bytes = 7 ∷ 8 ∷ []; answer = Err (IOError Other); left = [] } }
     ensures nothing_asked { tried 0 (Fails (7 ∷ []) (IOError Other) ∷ [])
         ≡ record { bytes = []; answer = Ok 0; left = Fails (7 ∷ []) (IOError Other) ∷ [] } }
-    ensures ended { tried 3 [] ≡ record { bytes = []; answer = Ok 0; left = [] } }
-{}
-
-/// 64 interruptions in a row are tried again, and the 65th is answered.
-pub fn interruptions_of_a_source()
-    ensures as_many { let source = replicate 64 (Fails [] (IOError Interrupted)) ++ Gives (1 ∷ 2 ∷ []) ∷ [] in
+    ensures interruptions { let source = replicate 64 (Fails [] (IOError Interrupted)) ++ Gives (1 ∷ 2 ∷ []) ∷ [] in
         (tries 64 false (0 ∷ 0 ∷ []) source).answer ≡ Ok 2 }
     ensures one_more { let source = replicate 65 (Fails [] (IOError Interrupted)) ++ Gives (1 ∷ 2 ∷ []) ∷ [] in
         (tries 64 false (0 ∷ 0 ∷ []) source).answer ≡ Err (IOError Interrupted) }
-    ensures left { let source = replicate 65 (Fails [] (IOError Interrupted)) ++ Gives (1 ∷ 2 ∷ []) ∷ [] in
-        (tries 64 false (0 ∷ 0 ∷ []) source).left ≡ Gives (1 ∷ 2 ∷ []) ∷ [] }
     ensures scribbled { (tries 64 false (0 ∷ 0 ∷ []) (Fails (9 ∷ []) (IOError Interrupted) ∷ [])).buffer
         ≡ 9 ∷ 0 ∷ [] }
-{}
-
-/// A buffer is filled by as many tries as that takes. Where the source ends before, what is filled may have
-/// changed, and all where a try was interrupted or failed. A source that knows that it is short refuses at
-/// once.
-pub fn buffers_that_are_filled()
-    ensures whole { filled_whole None (0 ∷ 0 ∷ 0 ∷ []) (Gives (1 ∷ []) ∷ Gives (2 ∷ 3 ∷ 4 ∷ []) ∷ [])
+    ensures filled { filled_whole None (0 ∷ 0 ∷ 0 ∷ []) (Gives (1 ∷ []) ∷ Gives (2 ∷ 3 ∷ 4 ∷ []) ∷ [])
         ≡ record { buffer = 1 ∷ 2 ∷ 3 ∷ []; answer = Ok tt; left = Gives (4 ∷ []) ∷ [] } }
     ensures ends { (filled_whole None (0 ∷ 0 ∷ 0 ∷ []) (Gives (1 ∷ []) ∷ [])).answer
         ≡ Err (record { touched = 1; error = IOError UnexpectedEof }) }
-    ensures interrupted { let source = Fails [] (IOError Interrupted) ∷ Gives (1 ∷ []) ∷ [] in
+    ensures ends_interrupted { let source = Fails [] (IOError Interrupted) ∷ Gives (1 ∷ []) ∷ [] in
         (filled_whole None (0 ∷ 0 ∷ 0 ∷ []) source).answer
         ≡ Err (record { touched = 3; error = IOError UnexpectedEof }) }
     ensures fails { filled_whole None (0 ∷ 0 ∷ 0 ∷ []) (Gives (1 ∷ []) ∷ Fails (9 ∷ []) (IOError Other) ∷ [])
@@ -52,11 +44,11 @@ pub fn buffers_that_are_filled()
           answer = Err (record { touched = 0; error = IOError UnexpectedEof });
           left = Gives (1 ∷ []) ∷ [];
         } }
-    ensures empty { (filled_whole None [] (Fails (9 ∷ []) (IOError Other) ∷ [])).answer ≡ Ok tt }
 {}
 
-/// A sink takes at most what it has room for.
-pub fn tries_of_a_sink()
+/// A sink takes at most what it has room for. Bytes are sent by as many tries as that takes, up to 64 interruptions
+/// in a row, and a sink that takes none of those that are left ends it.
+pub fn what_sinks_take()
     ensures most { offered 5 (record { next = Takes 3 ∷ []; room = Some 4 })
         ≡ record { answer = Ok 3; left = record { next = []; room = Some 1 } } }
     ensures room { offered 5 (record { next = []; room = Some 4 })
@@ -65,15 +57,11 @@ pub fn tries_of_a_sink()
         ≡ record { answer = Ok 5; left = record { next = []; room = None } } }
     ensures refuses { offered 5 (record { next = Refuses (IOError Other) ∷ []; room = Some 4 })
         ≡ record { answer = Err (IOError Other); left = record { next = []; room = Some 4 } } }
-{}
-
-/// Bytes are sent by as many tries as that takes, and a sink that takes none of those that are left ends it.
-pub fn bytes_that_are_sent()
-    ensures whole { sent 8 0 8 (record { next = Takes 3 ∷ []; room = None })
+    ensures sent { sent 8 0 8 (record { next = Takes 3 ∷ []; room = None })
         ≡ record { count = 8; answer = Ok tt; left = record { next = []; room = None } } }
     ensures stops { sent 8 0 8 (record { next = Takes 3 ∷ Takes 0 ∷ []; room = None })
         ≡ record { count = 3; answer = Err (IOError WriteZero); left = record { next = []; room = None } } }
-    ensures as_many { let next = replicate 64 (Refuses (IOError Interrupted)) in
+    ensures interruptions { let next = replicate 64 (Refuses (IOError Interrupted)) in
         (offers 64 2 (record { next = next; room = None })).answer ≡ Ok 2 }
     ensures one_more { let next = replicate 65 (Refuses (IOError Interrupted)) in
         (offers 64 2 (record { next = next; room = None })).answer ≡ Err (IOError Interrupted) }

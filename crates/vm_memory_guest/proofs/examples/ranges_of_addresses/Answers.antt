@@ -1,11 +1,9 @@
 use Rattle.std.proofs.Common.{refl}
-use Rattle.vm_memory_guest.specs.Examples.{clean_pages}
+use Rattle.vm_memory_guest.specs.examples.Fixtures.{clean_pages}
 use Rattle.vm_memory_guest.proofs.examples.ranges_of_addresses.Goals as goal
 
 pub returns : goal.returns
 returns c = record {
-  no_size = refl;
-  long = refl;
   size_first = refl;
   past = refl;
   fits = refl;

@@ -1,8 +1,13 @@
-use Rattle.vm_memory_guest.proofs.PathLaws.{cells-windows, marks-windows}
+use Rattle.vm_memory_guest.specs.Memory.{Direct, Through}
+use Rattle.vm_memory_guest.proofs.PathLaws.{cells-windows, marks-windows, windows-one, windows-all_held}
 use Rattle.vm_memory_guest.proofs.path_laws.windows_are_the_path.Goals as goal
 
-pub returns-clause-bytes : goal.returns-clause-bytes
-returns-clause-bytes c = cells-windows
-
-pub returns-clause-marks : goal.returns-clause-marks
-returns-clause-marks c = marks-windows
+pub returns : goal.returns
+returns c = record {
+  bytes = cells-windows;
+  marks = marks-windows;
+  one = windows-one;
+  held = λ shape regions a n each held. windows-all_held shape regions Direct a n each held tt;
+  held_with_translation = λ shape regions says space a n each held space_held.
+      windows-all_held shape regions (Through says space) a n each held space_held;
+}

@@ -1,5 +1,5 @@
-use Rattle.std.proofs.Common.{◌-◌, ◌^◌, Ok, refl}
-use Rattle.vm_memory_guest.specs.Examples.{backed_region}
+use Rattle.std.proofs.Common.{refl, ◌-◌, ◌^◌, Ok}
+use Rattle.vm_memory_guest.specs.examples.Fixtures.{backed_region}
 use Rattle.vm_memory_guest.specs.TryAccess.{Nowhere, Last, More}
 use Rattle.vm_memory_guest.proofs.query_examples.accesses_by_a_callback.Goals as goal
 

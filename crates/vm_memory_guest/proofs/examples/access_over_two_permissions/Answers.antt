@@ -1,8 +1,0 @@
-use Rattle.std.proofs.Common.{refl}
-use Rattle.vm_memory_base.specs.Table.{each}
-use Rattle.vm_memory_guest.specs.Access.{path, first_fault, stretches}
-use Rattle.vm_memory_guest.proofs.examples.access_over_two_permissions.Goals as goal
-
-pub returns : goal.returns
-unfolding path first_fault stretches each
-returns c = record { write = (refl, refl, refl, refl, refl); read = (refl, refl, refl) }
