@@ -1,5 +1,5 @@
 -- Short names for the values that the small cases of module `examples` speak of.
-use Rattle.std.specs.Prelude.{◌≡◌, ℕ, Bool, true, false, List, [], ◌∷◌, length, replicate, Some, None, Result, Ok}
+use Rattle.std.specs.Prelude.{◌≡◌, ℕ, Bool, true, false, List, [], ◌∷◌, length, replicate, Some, None, option_map, Result, Ok}
 use Rattle.vm_memory_base.specs.Pages.{PageSet, marked, pages_with}
 use Rattle.vm_memory_base.specs.Runs.{Run}
 use Rattle.vm_memory_base.specs.Table.{Table, Mapping}
@@ -10,14 +10,15 @@ use Rattle.vm_memory_base.specs.declared.bitmap.BitmapId.TheVariants.{Block}
 use Rattle.vm_memory_base.specs.declared.iotlb.IommuError.TheVariants.{CannotResolve}
 use Rattle.vm_memory_base.specs.declared.iotlb.Permissions.{Permissions}
 use Rattle.vm_memory_base.specs.declared.iotlb.Reason.{Reason}
-use Rattle.vm_memory_guest.specs.Access.{Access, Fault, Partial}
+use Rattle.vm_memory_guest.specs.Access.{Access, Fault}
 use Rattle.vm_memory_guest.specs.Answer.{counted, exactly}
+use Rattle.vm_memory_guest.specs.Error.{error_of}
 use Rattle.vm_memory_guest.specs.Host.{Host, Shape, Cell}
 use Rattle.vm_memory_guest.specs.Memory.{Memory}
 use Rattle.vm_memory_guest.specs.Region.{Region}
 use Rattle.vm_memory_guest.specs.Window.{Window}
 use Rattle.vm_memory_guest.specs.declared.region.GuestMemoryError.{GuestMemoryError}
-use Rattle.vm_memory_guest.specs.declared.region.GuestMemoryError.TheVariants.{IommuError}
+use Rattle.vm_memory_guest.specs.declared.region.GuestMemoryError.TheVariants.{IommuError, PartialBuffer}
 use Rattle.vm_memory_guest.specs.declared.volatile_memory.host_address.HostAddress.{HostAddress}
 
 -- a byte of a block
@@ -134,8 +135,8 @@ abbrev pub answer_of : Access → ℕ → Result ℕ Fault
 answer_of access n = counted (length access.path) access.fault n
 
 -- the answer to an access that wants all n bytes
-abbrev pub exact_answer_of : Access → ℕ → Result (Unit {0}) Fault
-exact_answer_of access n = exactly Partial (length access.path) access.fault n
+abbrev pub exact_answer_of : Access → ℕ → Result (Unit {0}) GuestMemoryError
+exact_answer_of access n = exactly PartialBuffer (length access.path) (option_map error_of access.fault) n
 
 -- the error that tells that the translation of len addresses from base on was refused
 abbrev pub cannot_resolve : ℕ → ℕ → Reason → GuestMemoryError

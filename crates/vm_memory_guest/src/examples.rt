@@ -8,7 +8,7 @@ ghost use Rattle.vm_memory_base.specs.declared.bitmap.BitmapId.TheVariants.{Spac
 ghost use Rattle.vm_memory_base.specs.declared.io.VolatileMemoryError.TheVariants.{OutOfBounds, Overflow};
 ghost use Rattle.vm_memory_base.specs.declared.iotlb.Permissions.TheVariants.{Read, Write, ReadWrite};
 ghost use Rattle.vm_memory_base.specs.declared.iotlb.Reason.TheVariants.{MissingMapping, AccessNotAllowed};
-ghost use Rattle.vm_memory_guest.specs.Access.{access_of, windows, NoRegion, NoHostBytes, Refused, Partial};
+ghost use Rattle.vm_memory_guest.specs.Access.{access_of, windows, NoRegion, NoHostBytes, Refused};
 ghost use Rattle.vm_memory_guest.specs.Answer.{told, counted, exactly, filled, window_reach};
 ghost use Rattle.vm_memory_guest.specs.Dirt.{after_write, bytes_read, path_cells};
 ghost use Rattle.vm_memory_guest.specs.Error.{error_of};
@@ -216,7 +216,7 @@ pub fn write_into_a_hole()
     ensures comes_to_it { let reached = access_of regions_with_hole Direct 2 4 Write in
         (windows reached.path ≡ block_window 0 2 2 ∷ [])
         × (answer_of reached 4 ≡ Ok 2)
-        × (exact_answer_of reached 4 ≡ Err (Partial 4 2))
+        × (exact_answer_of reached 4 ≡ Err (PartialBuffer 4 2))
         × (reached.fault ≡ Some (NoRegion 4)) }
     ensures left { let reached = access_of regions_with_hole Direct 2 4 Write in
         let before = host_of (zeros 4 ∷ zeros 4 ∷ []) (clean_pages 2 2 ∷ clean_pages 2 2 ∷ []) [] [] in
@@ -226,7 +226,7 @@ pub fn write_into_a_hole()
         } }
     ensures begins_there { let reached = access_of regions_with_hole Direct 4 1 Write in
         (answer_of reached 1 ≡ Err (NoRegion 4))
-        × (exact_answer_of reached 1 ≡ Err (NoRegion 4)) }
+        × (exact_answer_of reached 1 ≡ Err (InvalidGuestAddress (address_of 4))) }
 {}
 
 /// An access does not go on behind a hole.
@@ -276,7 +276,7 @@ pub fn region_without_host_bytes()
         (windows reached.path ≡ block_window 0 2 2 ∷ [])
         × (answer_of reached 4 ≡ Ok 2)
         × (reached.fault ≡ Some NoHostBytes)
-        × (exact_answer_of reached 4 ≡ Err (Partial 4 2)) }
+        × (exact_answer_of reached 4 ≡ Err (PartialBuffer 4 2)) }
     ensures begins_there { let regions = backed_region 0 4 0 0 ∷ bare_region 4 4 ∷ [] in
         let reached = access_of regions Direct 4 1 Read in
         (answer_of reached 1 ≡ Err NoHostBytes)
@@ -291,7 +291,7 @@ pub fn access_over_two_permissions()
         let host = host_of (numbers 1 8 ∷ []) (clean_pages 4 2 ∷ []) (clean_pages 4 2 ∷ []) [] in
         (reached.path ≡ [])
         × (answer_of reached 2 ≡ Err (Refused 3 2 AccessNotAllowed))
-        × (exact_answer_of reached 2 ≡ Err (Refused 3 2 AccessNotAllowed))
+        × (exact_answer_of reached 2 ≡ Err (cannot_resolve 3 2 AccessNotAllowed))
         × (option_map error_of reached.fault ≡ Some (cannot_resolve 3 2 AccessNotAllowed))
         × (after_write reached.path (9 ∷ 9 ∷ []) host ≡ host) }
     ensures read { let says = new_table_after (Set 0 0 4 ReadWrite ∷ Set 4 4 4 Read ∷ []) in
