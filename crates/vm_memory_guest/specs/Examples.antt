@@ -53,7 +53,7 @@ touching_regions = two_regions 0 4
 abbrev pub regions_with_hole : List Region
 regions_with_hole = two_regions 0 8
 
--- an address
+-- a number as a guest address
 abbrev pub address_of : ℕ → GuestAddress
 address_of a = record { 0 = a }
 
@@ -118,7 +118,7 @@ memory_switched on regions table space = record {
   iommu = Some (record { behind = record { table = table; space = space }; on = on });
 }
 
--- the same where it is on
+-- regions behind an IOMMU that is on
 abbrev pub memory_with_iommu : List Region → ℕ → ℕ → Memory
 memory_with_iommu regions table space = memory_switched true regions table space
 
@@ -149,7 +149,7 @@ cannot_resolve base len reason = IommuError (CannotResolve (record {
 abbrev pub host_cell : ℕ → ℕ → HostAddress
 host_cell block offset = record { block = record { 0 = block }; offset = offset }
 
--- regions as they are
+-- a region means itself
 abbrev pub itself : Region → Region
 itself r = r
 

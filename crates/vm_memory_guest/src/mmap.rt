@@ -185,7 +185,7 @@ impl GuestRegionMmap {
         GuestRegionMmap::new(*mapping, guest_base)
     }
 
-    /// The block.
+    /// The block that has the bytes of the region.
     #[inline]
     pub fn get_mmap(&self) -> MmapRegion
         ensures { result ≡ self.now.mapping }

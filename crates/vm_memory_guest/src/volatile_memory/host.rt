@@ -129,7 +129,7 @@ impl HostShape {
 
 /// A value that names parts of a host: blocks, places in them, spaces and tables.
 pub trait Named {
-    /// What it names.
+    /// The parts of a host that the value names.
     ghost names: { Self → List Name };
 
     /// Whether everything that it names is in a host of this shape.
@@ -337,7 +337,7 @@ impl<B> HostMemory<B> {
         }
     }
 
-    /// A table.
+    /// Lends the table of this number.
     pub fn table(&self, table: TlbId) -> &Iotlb
         requires { Holds (shape_of self.now) (names.Tlb table.0 ∷ []) }
         ensures { slice_get self.now.tables table.0 ≡ Some result.now }
@@ -345,7 +345,7 @@ impl<B> HostMemory<B> {
         &self.tables[table.0]
     }
 
-    /// A table, to change.
+    /// Lends the table of this number to be changed.
     pub fn table_mut(&mut self, table: TlbId) -> &mut Iotlb
         requires { Holds (shape_of self.old) (names.Tlb table.0 ∷ []) }
         ensures* lends { sem 𝓛
