@@ -1,8 +1,8 @@
--- Bitmaps of a host by their names, and their dirty pages one after the other.
-use Rattle.std.proofs.Common.{◌≡◌, ℕ, ◌+◌, ◌-◌, ◌*◌, ◌<◌, Bool, true, false, cond, List, [], ◌∷◌, ◌++◌, set, take, map, length, get_or, slice_get, Some, None, option_map, Result, Ok, Err, OnOk, refl, sym, ap, ◌∙◌, inl, inr, arith, add-zero, zero-add, mul-div_cancel}
-use Rattle.std.proofs.lemmas.List.{map-set, set-get_or, take_more, length-take-le}
-use Rattle.std.proofs.lemmas.Option.{slice_get-map, get_or_from_slice_get, none-some, same_Some}
-use Rattle.vm_memory_base.specs.Pages.{PageSet, IsPageSet, shape, is_dirty_at, dirty_from, dirty_pages, cleaned}
+-- Bitmaps of a host by their names.
+use Rattle.std.proofs.Common.{◌≡◌, ℕ, List, set, map, slice_get, Some, None, option_map, Result, Ok, Err, OnOk, refl, sym, ap, ◌∙◌, inl, inr}
+use Rattle.std.proofs.lemmas.List.{map-set, set-get_or}
+use Rattle.std.proofs.lemmas.Option.{slice_get-map, get_or_from_slice_get}
+use Rattle.vm_memory_base.specs.Pages.{PageSet, dirty_pages, cleaned}
 use Rattle.vm_memory_base.specs.declared.bitmap.BitmapId.{BitmapId}
 use Rattle.vm_memory_base.specs.declared.bitmap.BitmapId.TheVariants.{Block, Space}
 use Rattle.vm_memory_guest.specs.Dirt.{with_pages}
@@ -85,39 +85,3 @@ module _ {R I B E : Type 0} (region : R → Region) (number_of : I → ℕ) (pag
           (ap (with_pages pages) left ∙ with_pages-with_bitmap pages m.host (Block block) after
           ∙ ap (with_bitmap (with_pages pages m.host) (Block block)) clean),
     )
-
--- ---- dirty pages one after the other
-
-dirty_from-append : (page : ℕ) (xs ys : List Bool)
-    → dirty_from page (xs ++ ys) ≡ dirty_from page xs ++ dirty_from (page + length xs) ys
-dirty_from-append page [] ys = ap (λ (n : ℕ). dirty_from n ys) (sym (add-zero page))
-dirty_from-append page (true ∷ xs) ys =
-    let next : page + 1 + length xs ≡ page + length (true ∷ xs) = omega arith in
-    ap (λ (ps : List ℕ). page ∷ ps)
-    (dirty_from-append (page + 1) xs ys ∙ ap (λ (n : ℕ). dirty_from (page + 1) xs ++ dirty_from n ys) next)
-dirty_from-append page (false ∷ xs) ys =
-    let next : page + 1 + length xs ≡ page + length (false ∷ xs) = omega arith in
-    dirty_from-append (page + 1) xs ys ∙ ap (λ (n : ℕ). dirty_from (page + 1) xs ++ dirty_from n ys) next
-
--- the dirty ones of the first pages
-abbrev pub dirty_below : PageSet → ℕ → List ℕ
-dirty_below None count = []
-dirty_below (Some p) count = dirty_from 0 (take count p.flags)
-
--- pages of this size and number, whose offsets are of 64 bits
-module _ (size count : ℕ) where
-  -- one page more
-  pub dirty_below-more : (set : PageSet) (page : ℕ) → IsPageSet set → shape set ≡ Some (size, count) → page < count
-      → dirty_below set (page + 1) ≡ dirty_below set page ++ cond (is_dirty_at set (page * size)) (page ∷ []) []
-  dirty_below-more None page fits is below = absurd (none-some (size, count) is)
-  dirty_below-more (Some p) page fits is below =
-      let s = same_Some (p.page_size, length p.flags) (size, count) is in
-      let n : length p.flags ≡ count = ap (λ (t : ℕ × ℕ). t.1) s in
-      let z : p.page_size ≡ size = ap (λ (t : ℕ × ℕ). t.0) s in
-      let within : page < length p.flags = omega arith in
-      let at : is_dirty_at (Some p) (page * size) ≡ get_or p.flags page false =
-      ap (λ (k : ℕ). get_or p.flags k false) (rw (← z) (mul-div_cancel page fits.0)) in
-      let first : length (take page p.flags) ≡ page = length-take-le page p.flags (omega arith) in
-      ap (dirty_from 0) (take_more p.flags page false within)
-      ∙ dirty_from-append 0 (take page p.flags) (get_or p.flags page false ∷ [])
-      ∙ rw (zero-add, first, at) refl

@@ -79,7 +79,6 @@ kept_fault None = tt
 kept_fault (Some (access.NoRegion a)) = tt
 kept_fault (Some access.NoHostBytes) = tt
 kept_fault (Some (access.Refused iova len reason)) = tt
-kept_fault (Some (access.Partial expected completed)) = tt
 
 abbrev kept : Access → Option GuestMemoryError
 kept reached = option_map error_of reached.fault

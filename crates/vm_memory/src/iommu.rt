@@ -245,14 +245,14 @@ impl<M: GuestMemoryBackend, I: Iommu> IommuMemory<M, I> {
         self.use_iommu
     }
 
-    /// The IOMMU.
+    /// Lends the IOMMU that translates where it is on.
     pub fn iommu(&self) -> &Arc<I>
         ensures { result.now.value ≡ self.now.iommu }
     {
         &self.iommu
     }
 
-    /// The backend.
+    /// Lends the backend, whose addresses are physical.
     pub fn get_backend(&self) -> &M
         ensures { result.now ≡ self.now.backend }
     {

@@ -84,14 +84,14 @@ impl<R: GuestMemoryRegion, I: Iommu, B> Machine<R, I, B> {
         }
     }
 
-    /// The host.
+    /// Lends the host, with what the commands so far left in it.
     pub fn host(&self) -> &HostMemory<B>
         ensures { result.now ≡ self.now.host }
     {
         &self.host
     }
 
-    /// The host back.
+    /// Gives the host back, with what the commands left in it.
     pub fn into_host(self) -> HostMemory<B>
         ensures { result ≡ self.host }
     {

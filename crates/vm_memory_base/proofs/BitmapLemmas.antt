@@ -1,5 +1,5 @@
 -- The flags and words of a bitmap.
-use Rattle.std.proofs.Common.{◌≡◌, ℕ, zero, suc, ◌+◌, ◌-◌, ◌*◌, ◌/◌, ◌%◌, ◌^◌, ◌<◌, ◌≤◌, Bool, true, false, not, ◌&&◌, ◌||◌, cond, ltb, leb, Vec, List, [], ◌∷◌, ◌++◌, length, get_or, take, drop, replicate, Option, Some, None, min, refl, subst, sym, ap, inl, inr, ◌∙◌, arith, add-zero, zero-add, length-append, length-drop}
+use Rattle.std.proofs.Common.{◌≡◌, ℕ, zero, suc, ◌+◌, ◌-◌, ◌*◌, ◌/◌, ◌%◌, ◌^◌, ◌<◌, ◌≤◌, Bool, true, false, not, ◌&&◌, ◌||◌, cond, ltb, leb, Vec, List, [], ◌∷◌, ◌++◌, length, get_or, take, drop, replicate, Option, Some, None, min, refl, subst, sym, ap, inl, inr, ◌∙◌, arith, add-zero, zero-add, mul-div_cancel, length-append, length-drop}
 use Rattle.std.specs.Int.{div_ceil}
 use Rattle.std.specs.declared.alloc.Global.{Global}
 use Rattle.std.specs.List.{All, Contains}
@@ -9,7 +9,8 @@ use Rattle.std.proofs.lemmas.Bool.{lt-ltb, le-leb, le-ltb, lt-leb, cases_lt}
 use Rattle.std.proofs.lemmas.Grind.{div_ceil_times}
 use Rattle.std.proofs.lemmas.Nat.{div_below}
 use Rattle.std.proofs.lemmas.List.Elements.{All-head}
-use Rattle.std.proofs.lemmas.List.{get_or-take, get_or-drop, get_or-replicate, get_or_append_left, get_or-append_right, length-take, length-take-le, length-replicate, ext_get_or, take_all, drop-drop, drop_all}
+use Rattle.std.proofs.lemmas.List.{get_or-take, get_or-drop, get_or-replicate, get_or_append_left, get_or-append_right, length-take, length-take-le, length-replicate, ext_get_or, take_more, take_all, drop-drop, drop_all}
+use Rattle.std.proofs.lemmas.Option.{none-some, same_Some}
 use Rattle.vm_memory_base.specs.Pages.{Pages, PageSet, shape, is_dirty_at, dirty_from, dirty_pages, dirty_words, takes, flags_after, flags_without, marked, unmarked, new_pages, all_clean, word_of, words_of, IsPageSet, IsCleanFor, pages_with}
 use Rattle.vm_memory_base.proofs.PagesLaws.{length-flags_after, get_or-flags_after, from_page, Contains-dirty_pages}
 
@@ -120,19 +121,56 @@ replicate-all_clean (dirty ∷ flags) = ap (λ (fs : List Bool). false ∷ fs) (
 
 -- ---- the list of the dirty pages, one flag after the other
 
-pub dirty_from-clean : (page : ℕ) (flags : List Bool) → dirty_from page (flags ++ false ∷ []) ≡ dirty_from page flags
-dirty_from-clean page [] = refl
-dirty_from-clean page (true ∷ flags) = ap (λ (ps : List ℕ). page ∷ ps) (dirty_from-clean (page + 1) flags)
-dirty_from-clean page (false ∷ flags) = dirty_from-clean (page + 1) flags
+dirty_from-last : (page : ℕ) (flags : List Bool) (d : Bool)
+    → dirty_from page (flags ++ d ∷ []) ≡ dirty_from page flags ++ cond d ((page + length flags) ∷ []) []
+dirty_from-last page [] true = ap (λ (p : ℕ). p ∷ []) (sym (add-zero page))
+dirty_from-last page [] false = refl
+dirty_from-last page (true ∷ flags) d =
+    let e : page + 1 + length flags ≡ page + suc (length flags) = omega arith in
+    ap (λ (ps : List ℕ). page ∷ ps) (dirty_from-last (page + 1) flags d ∙ rw e refl)
+dirty_from-last page (false ∷ flags) d =
+    let e : page + 1 + length flags ≡ page + suc (length flags) = omega arith in
+    dirty_from-last (page + 1) flags d ∙ rw e refl
 
-pub dirty_from-dirty : (page : ℕ) (flags : List Bool) → dirty_from page (flags ++ true ∷ []) ≡ dirty_from page flags ++ (page + length flags) ∷ []
-dirty_from-dirty page [] = ap (λ (p : ℕ). p ∷ []) (sym (add-zero page))
-dirty_from-dirty page (true ∷ flags) =
-    let e : page + 1 + length flags ≡ page + suc (length flags) = omega arith in
-    ap (λ (ps : List ℕ). page ∷ ps) (dirty_from-dirty (page + 1) flags ∙ rw e refl)
-dirty_from-dirty page (false ∷ flags) =
-    let e : page + 1 + length flags ≡ page + suc (length flags) = omega arith in
-    dirty_from-dirty (page + 1) flags ∙ rw e refl
+-- the dirty ones of one page more
+pub dirty_from-more : (flags : List Bool) (page : ℕ) → page < length flags
+    → dirty_from 0 (take (page + 1) flags) ≡ dirty_from 0 (take page flags) ++ cond (get_or flags page false) (page ∷ []) []
+dirty_from-more flags page inside =
+    let front : length (take page flags) ≡ page = length-take-le page flags (omega arith) in
+    ap (dirty_from 0) (take_more flags page false inside)
+    ∙ dirty_from-last 0 (take page flags) (get_or flags page false)
+    ∙ rw (zero-add, front) refl
+
+-- where nothing is tracked, no page is dirty
+pub nothing_dirty : (set : PageSet) → shape set ≡ None → dirty_pages set ≡ []
+nothing_dirty None is = refl
+nothing_dirty (Some p) is = absurd (none-some (p.page_size, length p.flags) (sym is))
+
+-- the dirty ones of the first pages
+abbrev pub dirty_below : PageSet → ℕ → List ℕ
+dirty_below None count = []
+dirty_below (Some p) count = dirty_from 0 (take count p.flags)
+
+-- of a set of so many pages of this size, whose offsets are of 64 bits
+module _ (size count : ℕ) where
+  pub dirty_below-more : (set : PageSet) (page : ℕ) → IsPageSet set → shape set ≡ Some (size, count) → page < count
+      → dirty_below set (page + 1) ≡ dirty_below set page ++ cond (is_dirty_at set (page * size)) (page ∷ []) []
+  dirty_below-more None page fits is below = absurd (none-some (size, count) is)
+  dirty_below-more (Some p) page fits is below =
+      let s = same_Some (p.page_size, length p.flags) (size, count) is in
+      let n : length p.flags ≡ count = ap (λ (t : ℕ × ℕ). t.1) s in
+      let z : p.page_size ≡ size = ap (λ (t : ℕ × ℕ). t.0) s in
+      let at : is_dirty_at (Some p) (page * size) ≡ get_or p.flags page false =
+      ap (λ (k : ℕ). get_or p.flags k false) (rw (← z) (mul-div_cancel page fits.0)) in
+      rw at (dirty_from-more p.flags page (omega arith))
+
+  pub dirty_below-all : (set : PageSet) (page : ℕ) → shape set ≡ Some (size, count) → count ≤ page
+      → dirty_below set page ≡ dirty_pages set
+  dirty_below-all None page is past = refl
+  dirty_below-all (Some p) page is past =
+      let s = same_Some (p.page_size, length p.flags) (size, count) is in
+      let n : length p.flags ≡ count = ap (λ (t : ℕ × ℕ). t.1) s in
+      ap (dirty_from 0) (take_all page p.flags (omega arith))
 
 -- ---- words, one bit and one word after the other
 

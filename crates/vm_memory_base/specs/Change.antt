@@ -21,7 +21,7 @@ pub record IsKept (rs : List (Run Mapping)) : Type 0 where
   pub canonical : IsCanonical same_mapping rs
   pub ends : EndBelow (2 ^ 64) rs
 
--- what there is, as a list
+-- a list of the one item, if there is one
 abbrev pub if_any : {X : Type 0} → Option X → List X
 if_any None = []
 if_any (Some x) = x ∷ []

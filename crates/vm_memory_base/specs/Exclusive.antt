@@ -4,7 +4,7 @@ use Rattle.std.specs.NonZero.{non_zero_usize_get}
 use Rattle.vm_memory_base.specs.Pages.{Pages}
 use Rattle.vm_memory_base.specs.declared.bitmap.exclusive.ExclusiveBitmap.{ExclusiveBitmap}
 
--- its pages
+-- the pages of a bitmap: their size, and which are dirty
 abbrev pub pages_of : ExclusiveBitmap → Pages
 pages_of b = record { page_size = non_zero_usize_get b.page_size; flags = b.flags.items }
 

@@ -75,11 +75,12 @@ abbrev pub unmarked : ℕ → ℕ → PageSet → PageSet
 unmarked start len None = None
 unmarked start len (Some p) = pages_with p.page_size (flags_without (takes p.page_size start len) 0 p.flags)
 
--- the same pages, all clean
+-- as many flags, all of clean pages
 abbrev pub all_clean : List Bool → List Bool
 all_clean [] = []
 all_clean (dirty ∷ flags) = false ∷ all_clean flags
 
+-- the same pages, all clean
 abbrev pub cleaned : PageSet → PageSet
 cleaned None = None
 cleaned (Some p) = pages_with p.page_size (all_clean p.flags)

@@ -32,7 +32,7 @@ intersection a b = of_bits (has_read a && has_read b) (has_write a && has_write 
 abbrev pub allow : Permissions → Permissions → Bool
 allow a access = (not (has_read access) || has_read a) && (not (has_write access) || has_write a)
 
--- the same bits
+-- whether two sets have the same bits
 abbrev pub same : Permissions → Permissions → Bool
 same No No = true
 same Read Read = true

@@ -44,6 +44,21 @@ pub trait ExactBitmap: Bitmap {
     fn shape(&self) -> Option<(usize, usize)>
         ensures { result ≡ page_set.shape (pages self.now) };
 
+    /// The numbers of the dirty pages, ascending. `AllocError` where there is no memory for the list.
+    fn dirty_pages(&self, alloc: Global) -> Result<Vec<usize>, AllocError>
+        ensures { IfOk result (λ dirty. dirty.items ≡ page_set.dirty_pages (pages self.now)) }
+    {
+        let mut dirty = Vec::new(alloc);
+        if let Some((page_size, count)) = self.shape() {
+            for page in 0..count {
+                if self.dirty_at(page * page_size) {
+                    dirty.push(page)?;
+                }
+            }
+        }
+        Ok(dirty)
+    }
+
     /// Takes the dirty pages: gives their numbers, ascending, and makes them clean. `AllocError` where
     /// there is no memory for the list, and then nothing is changed.
     fn harvest(&mut self, alloc: Global) -> Result<Vec<usize>, AllocError>
@@ -161,6 +176,13 @@ impl<B: ExactBitmap> ExactBitmap for Option<B> {
         match self {
             Some(bitmap) => bitmap.shape(),
             None => None,
+        }
+    }
+
+    fn dirty_pages(&self, alloc: Global) -> Result<Vec<usize>, AllocError> {
+        match self {
+            Some(bitmap) => bitmap.dirty_pages(alloc),
+            None => Ok(Vec::new(alloc)),
         }
     }
 

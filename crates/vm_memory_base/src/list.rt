@@ -25,14 +25,14 @@ impl<T> Items<T> {
         Items { items }
     }
 
-    /// The items.
+    /// Lends the items as a slice.
     pub fn as_slice(&self) -> &[T]
         ensures { result.now ≡ self.now }
     {
         self.items.as_slice()
     }
 
-    /// The vector back.
+    /// Gives back the vector of the items.
     pub fn into_vec(self) -> Vec<T>
         ensures { result.items ≡ self }
     {
@@ -41,5 +41,5 @@ impl<T> Items<T> {
     }
 }
 
-/// Bytes.
+/// A list of bytes.
 pub type ByteList = Items<u8>;

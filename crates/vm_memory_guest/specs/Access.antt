@@ -11,13 +11,12 @@ use Rattle.vm_memory_guest.specs.Region.{Byte, Bare, Hole}
 use Rattle.vm_memory_guest.specs.Memory.{Route, Direct, Through, mapping_of, physical}
 use Rattle.vm_memory_guest.specs.Window.{Window}
 
--- why an access goes no further: no region holds the address, its region has no host bytes, the translation
--- of a range was refused, or only so many of the expected bytes were reached
+-- why an access goes no further: no region holds the address, its region has no host bytes, or the
+-- translation of a range was refused
 pub data Fault : Type 0 where
   NoRegion : (address : ℕ) → Fault
   NoHostBytes : Fault
   Refused : (iova len : ℕ) (reason : Reason) → Fault
-  Partial : (expected completed : ℕ) → Fault
 
 -- a byte that an access reaches: its cell, the region that holds it, the mapping that led there, and the
 -- offset of a bitmap that a write marks

@@ -10,7 +10,7 @@ pub record Reach (E : Type 0) : Type 0 where
   pub windows : List Window
   pub fault : Option E
 
--- the same, with what stops it told as an error
+-- what is reached, with what stops it told as an error
 abbrev pub told : {F E : Type 0} → (F → E) → Reach F → Reach E
 told error reach = record { windows = reach.windows; fault = option_map error reach.fault }
 

@@ -3,7 +3,7 @@ use Rattle.vm_memory_base.specs.declared.io.VolatileMemoryError.{VolatileMemoryE
 use Rattle.vm_memory_base.specs.declared.io.VolatileMemoryError.TheVariants.{OutOfBounds, Overflow, TooBig, Misaligned}
 use Rattle.vm_memory_base.specs.declared.io.VolatileMemoryError.TheVariants as window
 use Rattle.vm_memory_base.specs.declared.iotlb.IommuError.TheVariants.{CannotResolve}
-use Rattle.vm_memory_guest.specs.Access.{Fault, NoRegion, NoHostBytes, Refused, Partial}
+use Rattle.vm_memory_guest.specs.Access.{Fault, NoRegion, NoHostBytes, Refused}
 use Rattle.vm_memory_guest.specs.declared.region.GuestMemoryError.{GuestMemoryError}
 use Rattle.vm_memory_guest.specs.declared.region.GuestMemoryError.TheVariants.{IOError, InvalidBackendAddress, InvalidGuestAddress, HostAddressNotAvailable, IommuError, PartialBuffer, Memory}
 
@@ -13,7 +13,6 @@ error_of (NoRegion a) = InvalidGuestAddress (record { 0 = a })
 error_of NoHostBytes = HostAddressNotAvailable
 error_of (Refused iova len reason) =
     IommuError (CannotResolve (record { base = record { 0 = iova }; length = len }) reason)
-error_of (Partial expected completed) = PartialBuffer expected completed
 
 -- an access that does not fit its window does not fit the region
 abbrev pub of_window : VolatileMemoryError → GuestMemoryError

@@ -61,11 +61,11 @@ abbrev pub lies_in : Option Region → ℕ → Lies
 lies_in None a = Hole
 lies_in (Some r) a = lies_from r r.place (a - r.start)
 
--- the cell of an address
+-- what lies at an address, among regions
 abbrev pub cell : List Region → ℕ → Lies
 cell regions a = lies_in (home regions a) a
 
--- the same addresses
+-- regions of the same addresses
 abbrev pub same_region : Region → Region → Bool
 same_region q r = q.start == r.start && q.len == r.len
 

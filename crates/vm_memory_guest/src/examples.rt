@@ -8,7 +8,7 @@ ghost use Rattle.vm_memory_base.specs.declared.bitmap.BitmapId.TheVariants.{Spac
 ghost use Rattle.vm_memory_base.specs.declared.io.VolatileMemoryError.TheVariants.{OutOfBounds, Overflow};
 ghost use Rattle.vm_memory_base.specs.declared.iotlb.Permissions.TheVariants.{Read, Write, ReadWrite};
 ghost use Rattle.vm_memory_base.specs.declared.iotlb.Reason.TheVariants.{MissingMapping, AccessNotAllowed};
-ghost use Rattle.vm_memory_guest.specs.Access.{access_of, windows, NoRegion, NoHostBytes, Refused, Partial};
+ghost use Rattle.vm_memory_guest.specs.Access.{access_of, windows, NoRegion, NoHostBytes, Refused};
 ghost use Rattle.vm_memory_guest.specs.Answer.{told, counted, exactly, filled, window_reach};
 ghost use Rattle.vm_memory_guest.specs.Dirt.{after_write, bytes_read, path_cells};
 ghost use Rattle.vm_memory_guest.specs.Error.{error_of};
@@ -150,7 +150,7 @@ pub fn accesses_of_regions()
     ensures into_a_hole { let reached = access_of regions_with_hole Direct 2 4 Write in
         (windows reached.path ≡ block_window 0 2 2 ∷ [])
         × (answer_of reached 4 ≡ Ok 2)
-        × (exact_answer_of reached 4 ≡ Err (Partial 4 2))
+        × (exact_answer_of reached 4 ≡ Err (PartialBuffer 4 2))
         × (reached.fault ≡ Some (NoRegion 4)) }
     ensures left_before_a_hole { let reached = access_of regions_with_hole Direct 2 4 Write in
         let before = host_of (zeros 4 ∷ zeros 4 ∷ []) (clean_pages 2 2 ∷ clean_pages 2 2 ∷ []) [] [] in
@@ -160,7 +160,7 @@ pub fn accesses_of_regions()
         } }
     ensures from_a_hole { let reached = access_of regions_with_hole Direct 4 1 Write in
         (answer_of reached 1 ≡ Err (NoRegion 4))
-        × (exact_answer_of reached 1 ≡ Err (NoRegion 4)) }
+        × (exact_answer_of reached 1 ≡ Err (InvalidGuestAddress (address_of 4))) }
     ensures over_a_hole { let reached = access_of regions_with_hole Direct 2 8 Read in
         path_cells reached.path ≡ cell_of 0 2 ∷ cell_of 0 3 ∷ [] }
     ensures empty_in_a_hole { let reached = access_of regions_with_hole Direct 4 0 Write in
@@ -190,7 +190,7 @@ pub fn accesses_of_regions()
         (windows reached.path ≡ block_window 0 2 2 ∷ [])
         × (answer_of reached 4 ≡ Ok 2)
         × (reached.fault ≡ Some NoHostBytes)
-        × (exact_answer_of reached 4 ≡ Err (Partial 4 2)) }
+        × (exact_answer_of reached 4 ≡ Err (PartialBuffer 4 2)) }
     ensures from_no_host_bytes { let regions = backed_region 0 4 0 0 ∷ bare_region 4 4 ∷ [] in
         let reached = access_of regions Direct 4 1 Read in
         (answer_of reached 1 ≡ Err NoHostBytes)
@@ -207,7 +207,7 @@ pub fn accesses_through_an_iommu()
         let host = host_of (numbers 1 8 ∷ []) (clean_pages 4 2 ∷ []) (clean_pages 4 2 ∷ []) [] in
         (reached.path ≡ [])
         × (answer_of reached 2 ≡ Err (Refused 3 2 AccessNotAllowed))
-        × (exact_answer_of reached 2 ≡ Err (Refused 3 2 AccessNotAllowed))
+        × (exact_answer_of reached 2 ≡ Err (cannot_resolve 3 2 AccessNotAllowed))
         × (option_map error_of reached.fault ≡ Some (cannot_resolve 3 2 AccessNotAllowed))
         × (after_write reached.path (9 ∷ 9 ∷ []) host ≡ host) }
     ensures two_permissions { let says = new_table_after (Set 0 0 4 ReadWrite ∷ Set 4 4 4 Read ∷ []) in

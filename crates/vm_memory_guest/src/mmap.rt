@@ -17,9 +17,7 @@ use crate::region::{
     GuestRegionCollectionError,
 };
 use crate::region_bytes::GuestMemoryRegionBytes;
-use crate::volatile_memory::host::{
-    BlockId, HostMemory, HostShape, MAX_BLOCK, MmapRegionError, Named,
-};
+use crate::volatile_memory::host::{BlockId, HostMemory, HostShape, MmapRegionError, Named};
 use crate::volatile_memory::memory::VolatileMemory;
 use crate::volatile_memory::slice::VolatileSlice;
 use std::alloc::{AllocError, Global};
@@ -187,7 +185,7 @@ impl GuestRegionMmap {
         GuestRegionMmap::new(*mapping, guest_base)
     }
 
-    /// The block.
+    /// The block that has the bytes of the region.
     #[inline]
     pub fn get_mmap(&self) -> MmapRegion
         ensures { result ≡ self.now.mapping }
@@ -300,7 +298,7 @@ impl GuestRegionMmap {
         ensures kept { (names : List Name) →
             Holds (shape_of host.old) names → Holds (shape_of host.new) names }
     {
-        if size == 0 || size > MAX_BLOCK {
+        if !HostShape::is_block_size(size) {
             return Err(FromRangesError::MmapRegion(MmapRegionError::InvalidSize));
         }
         if size as u64 > u64::MAX - addr.0 {

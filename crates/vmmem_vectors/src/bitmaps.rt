@@ -43,6 +43,8 @@ fn marks_and_harvests<B: ExactBitmap>(
     assert!(rt; bitmap.dirty_at(0x1fff));
     assert!(rt; !bitmap.dirty_at(0x2000));
     assert!(rt; bitmap.shape() == Some((0x1000, 3)));
+    let pages = bitmap.dirty_pages(alloc)?;
+    assert!(rt; pages.as_slice() == [0, 1].as_slice());
     let pages = bitmap.harvest(alloc)?;
     assert!(rt; pages.as_slice() == [0, 1].as_slice());
     let pages = bitmap.harvest(alloc)?;
@@ -59,7 +61,9 @@ fn harvests(rt: HostRuntime) -> Result<(), Fail> {
     none.mark_dirty(0, 1);
     assert!(rt; !none.dirty_at(0));
     assert!(rt; none.shape().is_none());
+    assert!(rt; none.dirty_pages(rt.alloc())?.len() == 0);
     assert!(rt; none.harvest(rt.alloc())?.len() == 0);
+    assert!(rt; ().dirty_pages(rt.alloc())?.len() == 0);
     assert!(rt; ().harvest(rt.alloc())?.len() == 0);
     Ok(())
 }

@@ -6,7 +6,7 @@ use std::sync::Arc;
 use std::sync::atomic::Ordering;
 use std::test::Fail;
 use vm_memory::{
-    Bitmap, BitmapId, Bytes, ExclusiveBitmap, GuestAddress, GuestMemory, GuestMemoryBackend,
+    BitmapId, Bytes, ExactBitmap, ExclusiveBitmap, GuestAddress, GuestMemory, GuestMemoryBackend,
     GuestMemoryMmap, HostMemory, Iommu, IommuMemory, NewBitmap, Permissions, TableIommu, TlbId,
 };
 
@@ -199,19 +199,12 @@ fn memory_behind(alloc: Global, host: &mut Host, mappings: &[Mapping]) -> Result
     Ok(IommuMemory::new(alloc, layout, iommu, false, space))
 }
 
-// The dirty pages of a bitmap, of the first 16.
+// The dirty pages of a bitmap of the host.
 fn dirty_pages(alloc: Global, host: &Host, bitmap: BitmapId) -> Result<Vec<usize>, Fail> {
     if !host.shape().has_bitmap(bitmap) {
         return Err(Fail::new("the host has the bitmap"));
     }
-    let bitmap = host.bitmap(bitmap);
-    let mut dirty = Vec::new(alloc);
-    for page in 0..16usize {
-        if bitmap.dirty_at(page * 0x1000) {
-            dirty.push(page)?;
-        }
-    }
-    Ok(dirty)
+    Ok(host.bitmap(bitmap).dirty_pages(alloc)?)
 }
 
 // What each access answers that writes 2 bytes.

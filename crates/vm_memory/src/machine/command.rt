@@ -213,7 +213,7 @@ pub enum Fault {
 pub enum Ending {
     /// How many bytes the sink took.
     Count(usize),
-    /// It took all.
+    /// The sink took all bytes.
     Done,
     /// The call was refused, or the sink failed.
     Fault(Fault),
@@ -226,13 +226,13 @@ pub enum Reply {
     LayoutMade(usize),
     /// The number of the memory that was made.
     MemoryMade(usize),
-    /// All was done.
+    /// The command did all that it asks for, and has nothing to tell.
     Done,
     /// How many bytes were moved.
     Count(usize),
     /// The value that was loaded.
     Value(u64),
-    /// Whether it is so.
+    /// Whether the range may be accessed.
     Truth(bool),
     /// The bytes that were read.
     Bytes(ByteList),
@@ -246,10 +246,10 @@ pub enum Reply {
     Fails(IotlbFails),
     /// The call was refused.
     Fault(Fault),
-    /// A number names nothing.
+    /// A number of the command names nothing.
     NoSuch,
-    /// A range does not fit.
+    /// A range of the command passes its block or the greatest address, or its value has too many bytes.
     BadRange,
-    /// There was no memory.
+    /// There was no memory for the command.
     Memory,
 }

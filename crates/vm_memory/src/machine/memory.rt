@@ -15,9 +15,9 @@ use vm_memory_guest::{
 /// A memory of a machine. Each access of a machine is one of guest memory, whichever this is.
 #[derive(Drop)]
 pub enum MachineMemory<R: GuestMemoryRegion, I: Iommu> {
-    /// A layout.
+    /// A layout whose addresses are physical.
     Plain(GuestRegionCollection<R>),
-    /// A layout behind an IOMMU.
+    /// A layout behind an IOMMU, which may be off.
     Translated(IommuMemory<GuestRegionCollection<R>, I>),
 }
 

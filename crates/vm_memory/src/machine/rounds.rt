@@ -36,7 +36,7 @@ impl<R: GuestMemoryRegion, I: Iommu, B: ExactBitmap> Machine<R, I, B> {
     }
 }
 
-// The same of a host.
+// Copies the dirty pages of a block of a host into an image of it, and makes them clean.
 fn sync_in<B: ExactBitmap>(
     alloc: Global,
     host: &mut HostMemory<B>,

@@ -12,7 +12,9 @@ use std::num::NonZeroUsize;
 use std::sync::Arc;
 use vm_memory_base::{ExclusiveBitmap, GuestAddress};
 use vm_memory_guest::host_laws::{names_are_held_one_by_one, parts_of_a_block_are_held};
-use vm_memory_guest::{BlockId, GuestRegionMmap, HostMemory, MmapRegion, MmapRegionError, TlbId};
+use vm_memory_guest::{
+    BlockId, GuestRegionMmap, HostMemory, HostShape, MmapRegion, MmapRegionError, TlbId,
+};
 
 /// The machine that a script commands.
 pub(super) type ScriptMachine = Machine<GuestRegionMmap, TableIommu, ExclusiveBitmap>;
@@ -70,7 +72,7 @@ impl Pools {
 
     // The size comes before the bitmap, which may find no memory.
     fn make_block(&mut self, size: usize, page_size: NonZeroUsize) -> SetupReply {
-        if size == 0 || size > MAX_BLOCK {
+        if !HostShape::is_block_size(size) {
             return SetupReply::InvalidSize;
         }
         let Ok(bitmap) = ExclusiveBitmap::new(self.alloc, size, page_size) else {
@@ -128,8 +130,6 @@ impl Pools {
         }
     }
 }
-
-const MAX_BLOCK: usize = 0x7fff_ffff_ffff_ffff;
 
 fn add<T: Drop>(alloc: Global, pool: &mut Vec<Arc<T>>, one: T) -> Result<(), AllocError>
     ensures ok { OnOk result (regions_of pool.new ≡ regions_of pool.old ++ one ∷ []) }

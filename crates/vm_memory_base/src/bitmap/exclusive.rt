@@ -151,19 +151,6 @@ fn words(alloc: Global, flags: &[bool]) -> Result<Vec<u64>, AllocError>
     Ok(words)
 }
 
-// The numbers of the dirty pages, ascending.
-fn dirty_pages(alloc: Global, flags: &[bool]) -> Result<Vec<usize>, AllocError>
-    ensures { IfOk result (λ dirty. dirty.items ≡ page_set.dirty_from 0 flags.now) }
-{
-    let mut dirty_pages = Vec::new(alloc);
-    for (page, dirty) in flags.iter().enumerate() {
-        if *dirty {
-            dirty_pages.push(page)?;
-        }
-    }
-    Ok(dirty_pages)
-}
-
 impl Bitmap for ExclusiveBitmap {
     ghost use Rattle.vm_memory_base.specs.Exclusive.{pages_of, bytes_of};
 
@@ -210,13 +197,23 @@ impl ExactBitmap for ExclusiveBitmap {
         Some((self.page_size.get(), self.flags.len()))
     }
 
+    fn dirty_pages(&self, alloc: Global) -> Result<Vec<usize>, AllocError> {
+        let mut dirty_pages = Vec::new(alloc);
+        for (page, dirty) in self.flags.iter().enumerate() {
+            if *dirty {
+                dirty_pages.push(page)?;
+            }
+        }
+        Ok(dirty_pages)
+    }
+
     fn harvest(&mut self, alloc: Global) -> Result<Vec<usize>, AllocError>
         ensures dirty { IfOk result (λ dirty. dirty.items ≡ page_set.dirty_pages (Some (pages_of self.old))) }
         ensures clean { OnOk result (Some (pages_of self.new) ≡ page_set.cleaned (Some (pages_of self.old))) }
         ensures refused { OnErr result (self.new ≡ self.old) }
         ensures bytes { bytes_of self.new ≡ bytes_of self.old }
     {
-        let dirty = dirty_pages(alloc, &self.flags)?;
+        let dirty = self.dirty_pages(alloc)?;
         self.reset();
         Ok(dirty)
     }

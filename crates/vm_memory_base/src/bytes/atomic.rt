@@ -16,13 +16,13 @@ use std::sync::atomic::{
 pub trait AtomicAccess: ByteValued
     + From<<<Self as AtomicAccess>::A as AtomicInteger>::V>
     + Into<<<Self as AtomicAccess>::A as AtomicInteger>::V> {
-    /// The atomic integer.
+    /// The atomic integer that stands for a value of the type.
     type A: AtomicInteger;
 
     // A value takes as many bytes as the atomic integer's.
     ghost same_width: { Self.width ≡ Self.A.V.width };
 
-    // That are 1 to 8 bytes.
+    // A value has 1 to 8 bytes.
     ghost fits_word: { (0 < Self.width) × (Self.width ≤ 8) };
 
     // The bytes stay when a value is converted, either way.

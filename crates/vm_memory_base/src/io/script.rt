@@ -168,7 +168,7 @@ impl<'a> ScriptSink<'a> {
                 self.room -= count;
                 count
             }
-            // There was room.
+            // It does not come to this: the vector has room for these bytes.
             Err(_) => 0,
         }
     }

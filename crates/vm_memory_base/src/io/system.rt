@@ -7,7 +7,7 @@ use std::io::{Read, Stdout, Write};
 use std::net::TcpStream;
 use std::os::unix::net::UnixStream;
 
-// One read.
+// Reads once into a buffer: the answer is how many bytes came.
 fn read_from<R: Read>(reader: &mut R, buf: &mut [u8]) -> VolatileMemoryResult<usize>
     ensures { IfOk result (λ count. count ≤ length buf.old) }
 {
@@ -16,7 +16,7 @@ fn read_from<R: Read>(reader: &mut R, buf: &mut [u8]) -> VolatileMemoryResult<us
         .map_err(|error| VolatileMemoryError::IOError(IoError::from(error)))
 }
 
-// One write.
+// Writes a buffer once: the answer is how many bytes were taken.
 fn write_to<W: Write>(writer: &mut W, buf: &[u8]) -> VolatileMemoryResult<usize>
     ensures { IfOk result (λ count. count ≤ length buf.now) }
 {

@@ -47,14 +47,14 @@ impl IovaRangeList {
         IovaRangeList { ranges }
     }
 
-    /// The ranges.
+    /// Lends the ranges as a slice.
     pub fn as_slice(&self) -> &[IovaRange]
         ensures { map range_in result.now ≡ self.now }
     {
         self.ranges.as_slice()
     }
 
-    /// The vector back.
+    /// Gives back the vector of the ranges.
     pub fn into_vec(self) -> Vec<IovaRange>
         ensures { map range_in result.items ≡ self }
     {
@@ -66,9 +66,9 @@ impl IovaRangeList {
 /// Why a look-up failed, by parts of the range that was asked for.
 #[derive(Debug, Drop)]
 pub struct IotlbFails {
-    /// What is not mapped.
+    /// The parts that are not mapped.
     pub misses: IovaRangeList,
-    /// What is mapped, but without the access.
+    /// The parts that are mapped, but without the access.
     pub access_fails: IovaRangeList,
 }
 

@@ -1,5 +1,5 @@
 -- Short names for the values that small cases speak of.
-use Rattle.std.specs.Prelude.{◌≡◌, ℕ, Bool, true, false, List, [], ◌∷◌, length, replicate, Some, None, Result, Ok}
+use Rattle.std.specs.Prelude.{◌≡◌, ℕ, Bool, true, false, List, [], ◌∷◌, length, replicate, Some, None, option_map, Result, Ok}
 use Rattle.vm_memory_base.specs.Pages.{PageSet, marked, pages_with}
 use Rattle.vm_memory_base.specs.Runs.{Run}
 use Rattle.vm_memory_base.specs.Table.{Table, Mapping}
@@ -10,14 +10,15 @@ use Rattle.vm_memory_base.specs.declared.bitmap.BitmapId.TheVariants.{Block}
 use Rattle.vm_memory_base.specs.declared.iotlb.IommuError.TheVariants.{CannotResolve}
 use Rattle.vm_memory_base.specs.declared.iotlb.Permissions.{Permissions}
 use Rattle.vm_memory_base.specs.declared.iotlb.Reason.{Reason}
-use Rattle.vm_memory_guest.specs.Access.{Access, Fault, Partial}
+use Rattle.vm_memory_guest.specs.Access.{Access, Fault}
 use Rattle.vm_memory_guest.specs.Answer.{counted, exactly}
+use Rattle.vm_memory_guest.specs.Error.{error_of}
 use Rattle.vm_memory_guest.specs.Host.{Host, Shape, Cell}
 use Rattle.vm_memory_guest.specs.Memory.{Memory}
 use Rattle.vm_memory_guest.specs.Region.{Region}
 use Rattle.vm_memory_guest.specs.Window.{Window}
 use Rattle.vm_memory_guest.specs.declared.region.GuestMemoryError.{GuestMemoryError}
-use Rattle.vm_memory_guest.specs.declared.region.GuestMemoryError.TheVariants.{IommuError}
+use Rattle.vm_memory_guest.specs.declared.region.GuestMemoryError.TheVariants.{IommuError, PartialBuffer}
 
 -- a byte of a block
 abbrev pub cell_of : ℕ → ℕ → Cell
@@ -51,7 +52,7 @@ touching_regions = two_regions 0 4
 abbrev pub regions_with_hole : List Region
 regions_with_hole = two_regions 0 8
 
--- an address
+-- a number as a guest address
 abbrev pub address_of : ℕ → GuestAddress
 address_of a = record { 0 = a }
 
@@ -116,7 +117,7 @@ memory_switched on regions table space = record {
   iommu = Some (record { behind = record { table = table; space = space }; on = on });
 }
 
--- the same where it is on
+-- regions behind an IOMMU that is on
 abbrev pub memory_with_iommu : List Region → ℕ → ℕ → Memory
 memory_with_iommu regions table space = memory_switched true regions table space
 
@@ -133,8 +134,8 @@ abbrev pub answer_of : Access → ℕ → Result ℕ Fault
 answer_of access n = counted (length access.path) access.fault n
 
 -- the answer to an access that wants all n bytes
-abbrev pub exact_answer_of : Access → ℕ → Result (Unit {0}) Fault
-exact_answer_of access n = exactly Partial (length access.path) access.fault n
+abbrev pub exact_answer_of : Access → ℕ → Result (Unit {0}) GuestMemoryError
+exact_answer_of access n = exactly PartialBuffer (length access.path) (option_map error_of access.fault) n
 
 -- the error that tells that the translation of len addresses from base on was refused
 abbrev pub cannot_resolve : ℕ → ℕ → Reason → GuestMemoryError

@@ -39,7 +39,7 @@ impl<'a, M: GuestMemoryBackend> Model for PiecesBehind<'a, M> {
 }
 
 impl<'a, M: GuestMemoryBackend> PiecesBehind<'a, M> {
-    // All of these pieces.
+    // What a walk through these pieces has before it.
     pub(super) fn new(
         mem: &'a M,
         pieces: Vec<MappedRange>,

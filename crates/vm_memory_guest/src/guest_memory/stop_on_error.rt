@@ -43,13 +43,13 @@ pub trait GuestMemorySliceIterator: Iterator<Item = GuestMemoryResult<VolatileSl
         }
     }
 
-    /// It may always be asked for the next.
+    /// A walk may always be asked for its next item.
     ghost can: { (it : Self) → Self.can_next it };
 
-    /// It ends.
+    /// A walk ends.
     ghost ends: { (it : Self) → IsFinite (Self.remaining it) };
 
-    /// It gives what it has left.
+    /// A walk gives the windows that it has left, in order, and then its error.
     ghost gives: { (old : Self) (item : Option (Result Window GuestMemoryError)) (new : Self)
         → Self.next_gives old item new → YieldsFirst (λ it. items_of (left it)) old item new };
 }

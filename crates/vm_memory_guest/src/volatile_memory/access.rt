@@ -25,7 +25,7 @@ use vm_memory_base::{AtomicAccess, Bitmap, ByteValued, ReadVolatile, WriteVolati
 /// memory.read_slice(&host, &mut buffer, address)?;
 /// ```
 pub trait Bytes<A>: Named {
-    /// Why an access was refused.
+    /// The error that tells why an access was refused.
     type E;
 
     /// What an access of so many bytes at an address reaches, in a host with these tables.

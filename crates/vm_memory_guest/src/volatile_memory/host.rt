@@ -28,6 +28,9 @@ pub struct SpaceId(pub usize);
 #[derive(Clone, Copy, Debug, PartialEq, Eq)]
 pub struct TlbId(pub usize);
 
+// The length of the longest block in bytes.
+const MAX_BLOCK: usize = 0x7fff_ffff_ffff_ffff;
+
 /// Why a block could not be made.
 #[derive(Debug, Drop, Error)]
 pub enum MmapRegionError {
@@ -65,6 +68,13 @@ impl HostShape {
             spaces: 0,
             tables: 0,
         }
+    }
+
+    /// Whether a block may have so many bytes: 1 to 2^63 - 1.
+    pub fn is_block_size(size: usize) -> bool
+        ensures { IsTrue result ↔ ((0 < size) × (size < 2 ^ 63)) }
+    {
+        0 < size && size <= MAX_BLOCK
     }
 
     fn push_block(&mut self, size: usize) -> Result<(), AllocError>
@@ -119,7 +129,7 @@ impl HostShape {
 
 /// A value that names parts of a host: blocks, places in them, spaces and tables.
 pub trait Named {
-    /// What it names.
+    /// The parts of a host that the value names.
     ghost names: { Self → List Name };
 
     /// Whether everything that it names is in a host of this shape.
@@ -212,7 +222,7 @@ impl<B> HostMemory<B> {
         ensures kept { (names : List Name) → Holds (shape_of self.old) names
             → Holds (shape_of self.new) names }
     {
-        if size == 0 || size > MAX_BLOCK {
+        if !HostShape::is_block_size(size) {
             return Err(MmapRegionError::InvalidSize);
         }
         self.add_block(size, bitmap)
@@ -327,7 +337,7 @@ impl<B> HostMemory<B> {
         }
     }
 
-    /// A table.
+    /// Lends the table of this number.
     pub fn table(&self, table: TlbId) -> &Iotlb
         requires { Holds (shape_of self.now) (names.Tlb table.0 ∷ []) }
         ensures { slice_get self.now.tables table.0 ≡ Some result.now }
@@ -335,7 +345,7 @@ impl<B> HostMemory<B> {
         &self.tables[table.0]
     }
 
-    /// A table, to change.
+    /// Lends the table of this number to be changed.
     pub fn table_mut(&mut self, table: TlbId) -> &mut Iotlb
         requires { Holds (shape_of self.old) (names.Tlb table.0 ∷ []) }
         ensures* lends { sem 𝓛
@@ -551,12 +561,10 @@ impl<B: NewBitmap + Drop> HostMemory<B> {
         ensures kept { (names : List Name) → Holds (shape_of self.old) names
             → Holds (shape_of self.new) names }
     {
-        if size == 0 || size > MAX_BLOCK {
+        if !HostShape::is_block_size(size) {
             return Err(MmapRegionError::InvalidSize);
         }
         let bitmap = B::with_len(self.alloc, size).map_err(|_| MmapRegionError::Memory)?;
         self.new_block_with(size, bitmap)
     }
 }
-
-pub(crate) const MAX_BLOCK: usize = 0x7fff_ffff_ffff_ffff;

@@ -1,4 +1,4 @@
-use Rattle.std.proofs.Common.{◌≡◌, ℕ, ◌-◌, ◌≤◌, None, Err, refl, ap, ◌∙◌, inl, inr, arith}
+use Rattle.std.proofs.Common.{◌≡◌, ℕ, ◌-◌, ◌^◌, ◌<◌, ◌≤◌, None, Err, refl, ap, ◌∙◌, inl, inr, arith, rules}
 use Rattle.std.proofs.lemmas.Bool.Decides.{nat_tests}
 use Rattle.std.proofs.lemmas.Result.{err_from_is_err_and}
 use Rattle.vm_memory_base.specs.declared.address.GuestAddress.{GuestAddress}
@@ -14,18 +14,20 @@ told : (addr : GuestAddress) (size : ℕ) (e : MmapRegionError) → (e ≡ block
 told addr size block.InvalidSize other none = absurd (other refl)
 told addr size block.Memory other none = none
 
-fits : (addr : GuestAddress) (size : ℕ) → (size ≡ 0 → ⊥) → size ≤ 9223372036854775807
-    → size ≤ 18446744073709551615 - addr.0 → range_error addr size ≡ None
+fits : (addr : GuestAddress) (size : ℕ) → 0 < size → size < 2 ^ 63 → size ≤ 18446744073709551615 - addr.0
+    → range_error addr size ≡ None
 fits addr size some bound room = grind (arith, nat_tests)
 
 pub returns-in_err-new-clause-region : goal.returns-in_err-new-clause-region
 returns-in_err-new-clause-region g c =
     let e = c.in_err-new.field-0.0 in
+    let size = c.args.size in
+    let sized : (0 < size) × (size < 2 ^ 63) = c.is_block_size.ensures.0 (search rules) in
     let valid : e ≡ block.InvalidSize → ⊥ =
     λ is. elim (c.new.ensures.invalid.0 (c.in_err-new.was ∙ ap (λ (x : MmapRegionError). Err x) is)) [
-      | inl none ↦ c.if-size-eq0.false none
-      | inr long ↦ omega (arith, c.if-size-gt-MAX_BLOCK.false, long)
+      | inl none ↦ omega (arith, sized.0)
+      | inr long ↦ omega (arith, sized.1, long)
     ] in
-    let good = fits c.args.addr c.args.size c.if-size-eq0.false c.if-size-gt-MAX_BLOCK.false c.if-size-addr.false in
+    let good = fits c.args.addr size sized.0 sized.1 c.if-size-addr.false in
     let p = err_from_is_err_and c.from_residual.result c.from_residual.ensures.1 in
-    rw (p.1, p.2) (told c.args.addr c.args.size e valid good)
+    rw (p.1, p.2) (told c.args.addr size e valid good)
