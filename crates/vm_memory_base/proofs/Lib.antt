@@ -9,4 +9,5 @@ pub mod ByteLemmas
 pub mod ArrayLemmas
 pub mod BitmapLemmas
 pub mod PieceLemmas
+pub mod TurnLemmas
 pub mod TransferLemmas

@@ -1,6 +1,8 @@
 //! Sources and sinks in small cases, by computation.
+#![tactic(auto, unfolding(crate::specs::Transfer::again_upto, crate::specs::Transfer::rest_of))]
+
 ghost use Rattle.std.specs.Prelude.{◌≡◌, ◌++◌, false, [], ◌∷◌, replicate, Some, None};
-ghost use Rattle.vm_memory_base.specs.Transfer.{Gives, Fails, tried, tries, filled_whole, Takes, Refuses, offered, offers, sent};
+ghost use Rattle.vm_memory_base.specs.Transfer.{Gives, Fails, tried, again, lending, lent_once, filled_whole, Takes, Refuses, offered, Whole, Dry, sent, sent_as};
 ghost use Rattle.vm_memory_base.specs.declared.io.VolatileMemoryError.TheVariants.{IOError};
 ghost use Rattle.std.specs.declared.io.ErrorKind.TheVariants.{Interrupted, Other, UnexpectedEof, WriteZero};
 
@@ -20,13 +22,13 @@ pub fn tries_of_a_source()
 /// 64 interruptions in a row are tried again, and the 65th is answered.
 pub fn interruptions_of_a_source()
     ensures as_many { let source = replicate 64 (Fails [] (IOError Interrupted)) ++ Gives (1 ∷ 2 ∷ []) ∷ [] in
-        (tries 64 false (0 ∷ 0 ∷ []) source).answer ≡ Ok 2 }
+        (again lent_once (lending (0 ∷ 0 ∷ []) source)).answer ≡ Ok 2 }
     ensures one_more { let source = replicate 65 (Fails [] (IOError Interrupted)) ++ Gives (1 ∷ 2 ∷ []) ∷ [] in
-        (tries 64 false (0 ∷ 0 ∷ []) source).answer ≡ Err (IOError Interrupted) }
+        (again lent_once (lending (0 ∷ 0 ∷ []) source)).answer ≡ Err (IOError Interrupted) }
     ensures left { let source = replicate 65 (Fails [] (IOError Interrupted)) ++ Gives (1 ∷ 2 ∷ []) ∷ [] in
-        (tries 64 false (0 ∷ 0 ∷ []) source).left ≡ Gives (1 ∷ 2 ∷ []) ∷ [] }
-    ensures scribbled { (tries 64 false (0 ∷ 0 ∷ []) (Fails (9 ∷ []) (IOError Interrupted) ∷ [])).buffer
-        ≡ 9 ∷ 0 ∷ [] }
+        (again lent_once (lending (0 ∷ 0 ∷ []) source)).left.next ≡ Gives (1 ∷ 2 ∷ []) ∷ [] }
+    ensures scribbled { let source = Fails (9 ∷ []) (IOError Interrupted) ∷ [] in
+        (again lent_once (lending (0 ∷ 0 ∷ []) source)).left.buffer ≡ 9 ∷ 0 ∷ [] }
 {}
 
 /// A buffer is filled by as many tries as that takes. Where the source ends before, what is filled may have
@@ -69,12 +71,13 @@ pub fn tries_of_a_sink()
 
 /// Bytes are sent by as many tries as that takes, and a sink that takes none of those that are left ends it.
 pub fn bytes_that_are_sent()
-    ensures whole { sent 8 0 8 (record { next = Takes 3 ∷ []; room = None })
-        ≡ record { count = 8; answer = Ok tt; left = record { next = []; room = None } } }
-    ensures stops { sent 8 0 8 (record { next = Takes 3 ∷ Takes 0 ∷ []; room = None })
-        ≡ record { count = 3; answer = Err (IOError WriteZero); left = record { next = []; room = None } } }
+    ensures whole { sent 8 (record { next = Takes 3 ∷ []; room = None })
+        ≡ record { count = 8; stop = Whole; left = record { next = []; room = None } } }
+    ensures stops { sent 8 (record { next = Takes 3 ∷ Takes 0 ∷ []; room = None })
+        ≡ record { count = 3; stop = Dry; left = record { next = []; room = None } } }
+    ensures answers { (sent_as Whole ≡ Ok tt) × (sent_as Dry ≡ Err (IOError WriteZero)) }
     ensures as_many { let next = replicate 64 (Refuses (IOError Interrupted)) in
-        (offers 64 2 (record { next = next; room = None })).answer ≡ Ok 2 }
+        (again (offered 2) (record { next = next; room = None })).answer ≡ Ok 2 }
     ensures one_more { let next = replicate 65 (Refuses (IOError Interrupted)) in
-        (offers 64 2 (record { next = next; room = None })).answer ≡ Err (IOError Interrupted) }
+        (again (offered 2) (record { next = next; room = None })).answer ≡ Err (IOError Interrupted) }
 {}
