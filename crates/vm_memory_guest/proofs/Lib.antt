@@ -25,6 +25,7 @@ pub mod QueryLemmas
 pub mod TryLemmas
 pub mod WholeRanges
 pub mod AccessLemmas
+pub mod OrderLaws
 pub mod OrderLemmas
 pub mod DealtLaws
 pub mod GivenLaws

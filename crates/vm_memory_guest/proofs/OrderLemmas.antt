@@ -20,7 +20,6 @@ use Rattle.vm_memory_guest.specs.Window.{Window, span, subslice_of}
 use Rattle.vm_memory_guest.specs.declared.region.GuestMemoryError.{GuestMemoryError}
 use Rattle.vm_memory_guest.specs.declared.region.GuestMemoryError.TheVariants as errors
 use Rattle.vm_memory_guest.proofs.AccessLemmas.{Came, Gave, Ends, came_first, came_more, came-fits, accessed-refused}
-use Rattle.vm_memory_guest.proofs.WrittenLaws.{span-append}
 
 module _ {X E : Type 0} (failure : VolatileMemoryError → E) (fault : Option E) (Moves : Window → X → Result ℕ VolatileMemoryError → X → Type 0) (w : Window) (ws : List Window) (total : ℕ) (old mid : X) (moved : Result ℕ VolatileMemoryError)
     (moves : Moves w old moved mid) where
