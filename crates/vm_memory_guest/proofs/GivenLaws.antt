@@ -5,7 +5,7 @@ use Rattle.vm_memory_base.specs.Transfer.{Sink, Keeps, Made, SendsAs, sent, sent
 use Rattle.vm_memory_base.specs.declared.io.VolatileMemoryError.{VolatileMemoryError}
 use Rattle.vm_memory_base.specs.declared.io.VolatileMemoryError.TheVariants.{Memory}
 use Rattle.vm_memory_base.proofs.TurnLemmas.{Does}
-use Rattle.vm_memory_guest.specs.Dealt.{after_move, given, given_out, in_order}
+use Rattle.vm_memory_guest.specs.Dealt.{after_move, given_out, in_order, sent_whole}
 use Rattle.vm_memory_guest.specs.Transfer.{InOrder, Sends, ended}
 use Rattle.vm_memory_guest.specs.Typed.{answered}
 use Rattle.vm_memory_guest.specs.Window.{Window, cells, cells_of, span}
@@ -29,7 +29,7 @@ module _ {S E : Type 0} (sink : S → Option Sink) (taken : S → Option (List �
   IsGiven x y = sink x ≡ Some y.0
 
   sends_does : (w : Window) (x z : S) (moved : Result ℕ VolatileMemoryError) (y : Sink × ℕ) → IsGiven x y → Moves w x moved z
-      → Does IsGiven wants x moved z (given w y)
+      → Does IsGiven wants x moved z (sent_whole w y)
   sends_does w x z moved y like m =
       elim (subst (λ (o : Option Sink). SendsAs (wants x) o w.size m.count m.sent (sink z)) like m.tried) [
         | inl wanted ↦ inl (m.told ∙ ap (answered (λ all. w.size)) wanted.0, wanted.1)
@@ -41,7 +41,7 @@ module _ {S E : Type 0} (sink : S → Option Sink) (taken : S → Option (List �
       → let g = given_out failure fault ws total state in
       (Wanted answer old ⊎ ((answer ≡ g.answer) × (sink new ≡ Some g.left)))
   given_is ws total state old answer new tells h =
-      order_does failure fault IsGiven wants Moves given sends_does (λ w x z moved m. m.wanted) ws total old answer new
+      order_does failure fault IsGiven wants Moves sent_whole sends_does (λ w x z moved m. m.wanted) ws total old answer new
       (state, total) tells h
 
   -- ---- what the sink took
@@ -54,7 +54,7 @@ module _ {S E : Type 0} (sink : S → Option Sink) (taken : S → Option (List �
 
   -- where all of a window was taken, the next is sent
   goes_on : (w : Window) (ws : List Window) (total : ℕ) (mid : S) (answer : Result ℕ E) (new : S)
-      → Then failure fault IsGiven wants Moves given w ws total mid answer new (Ok w.size)
+      → Then failure fault IsGiven wants Moves sent_whole w ws total mid answer new (Ok w.size)
       → InOrder failure fault Moves ws (total + w.size) mid answer new
   goes_on w ws total mid answer new h =
       let same : (w.size == w.size) ≡ true = grind (arith, nat_tests) in
@@ -100,11 +100,11 @@ module _ {S E : Type 0} (sink : S → Option Sink) (taken : S → Option (List �
       (moved : Result ℕ VolatileMemoryError) (m : Moves w old moved mid)
       → taken mid ≡ Some (before ++ take m.count (bytes_at blocks (cells_of w)))
       → ((now : List ℕ) → taken mid ≡ Some now → InOrder failure fault Moves ws (total + w.size) mid answer new
-      → Took now (total + w.size) ws mid (in_order failure fault given ws (total + w.size)) answer new)
+      → Took now (total + w.size) ws mid (in_order failure fault sent_whole ws (total + w.size)) answer new)
       → (r : Result (Unit {0}) VolatileMemoryError) → m.sent ≡ r → OnOk r (m.count ≡ w.size)
-      → Then failure fault IsGiven wants Moves given w ws total mid answer new (answered (λ all. w.size) r)
+      → Then failure fault IsGiven wants Moves sent_whole w ws total mid answer new (answered (λ all. w.size) r)
       → Took before total (w ∷ ws) old (λ y. let s = sent w.size y.0 in after_move failure total w (s.left, y.1 + s.count)
-      (answered (λ all. w.size) (sent_as s.stop)) (λ now. in_order failure fault given ws now (s.left, y.1 + s.count))) answer new
+      (answered (λ all. w.size) (sent_as s.stop)) (λ now. in_order failure fault sent_whole ws now (s.left, y.1 + s.count))) answer new
   took_on w ws before total old mid answer new moved m has more (Err e) is whole h =
       let k = m.count in
       let within : k ≤ w.size = m.within in
@@ -144,7 +144,7 @@ module _ {S E : Type 0} (sink : S → Option Sink) (taken : S → Option (List �
 
   pub taken_is : (ws : List Window) (total : ℕ) (before : List ℕ) (old : S) (answer : Result ℕ E) (new : S)
       → taken old ≡ Some before → InOrder failure fault Moves ws total old answer new
-      → Took before total ws old (in_order failure fault given ws total) answer new
+      → Took before total ws old (in_order failure fault sent_whole ws total) answer new
   unfolding InOrder in_order
   taken_is [] total before old answer new keeps h = (
     0,
@@ -158,4 +158,4 @@ module _ {S E : Type 0} (sink : S → Option Sink) (taken : S → Option (List �
       let has = subst (λ (o : Option (List ℕ)). Keeps o (bytes_at blocks (cells_of w)) m.count (taken h.1)) keeps m.keeps in
       took_on w ws before total old h.1 answer new h.0 m has
       (λ now at k. taken_is ws (total + w.size) now h.1 answer new at k) m.sent refl m.whole
-      (subst (λ (r : Result ℕ VolatileMemoryError). Then failure fault IsGiven wants Moves given w ws total h.1 answer new r) m.told h.3)
+      (subst (λ (r : Result ℕ VolatileMemoryError). Then failure fault IsGiven wants Moves sent_whole w ws total h.1 answer new r) m.told h.3)

@@ -62,8 +62,8 @@ received failure fault until_full ws total source host =
     record { answer = m.answer; left = m.left.0; host = m.left.1 }
 
 -- the bytes of a window are offered to a sink, which took so many before, until all are taken
-abbrev pub given : Window → Sink × ℕ → Made VolatileMemoryError (Sink × ℕ)
-given w x =
+abbrev pub sent_whole : Window → Sink × ℕ → Made VolatileMemoryError (Sink × ℕ)
+sent_whole w x =
     let s = sent w.size x.0 in
     record { answer = answered (λ all. w.size) (sent_as s.stop); left = (s.left, x.1 + s.count) }
 
@@ -76,5 +76,5 @@ pub record Given (E : Type 0) : Type 0 where
 -- the bytes of windows are offered one window after the other, each until all of its bytes are taken
 abbrev pub given_out : {E : Type 0} → (VolatileMemoryError → E) → Option E → List Window → ℕ → Sink → Given E
 given_out failure fault ws total sink =
-    let m = in_order failure fault given ws total (sink, total) in
+    let m = in_order failure fault sent_whole ws total (sink, total) in
     record { answer = m.answer; taken = m.left.1; left = m.left.0 }
