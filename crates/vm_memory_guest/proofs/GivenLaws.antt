@@ -54,7 +54,7 @@ module _ {S E : Type 0} (sink : S → Option Sink) (taken : S → Option (List �
 
   -- where all of a window was taken, the next is sent
   goes_on : (w : Window) (ws : List Window) (total : ℕ) (mid : S) (answer : Result ℕ E) (new : S)
-      → Then failure fault IsGiven wants Moves sent_whole w ws total mid answer new (Ok w.size)
+      → Then failure fault Moves w ws total mid answer new (Ok w.size)
       → InOrder failure fault Moves ws (total + w.size) mid answer new
   goes_on w ws total mid answer new h =
       let same : (w.size == w.size) ≡ true = grind (arith, nat_tests) in
@@ -102,7 +102,7 @@ module _ {S E : Type 0} (sink : S → Option Sink) (taken : S → Option (List �
       → ((now : List ℕ) → taken mid ≡ Some now → InOrder failure fault Moves ws (total + w.size) mid answer new
       → Took now (total + w.size) ws mid (in_order failure fault sent_whole ws (total + w.size)) answer new)
       → (r : Result (Unit {0}) VolatileMemoryError) → m.sent ≡ r → OnOk r (m.count ≡ w.size)
-      → Then failure fault IsGiven wants Moves sent_whole w ws total mid answer new (answered (λ all. w.size) r)
+      → Then failure fault Moves w ws total mid answer new (answered (λ all. w.size) r)
       → Took before total (w ∷ ws) old (λ y. let s = sent w.size y.0 in after_move failure total w (s.left, y.1 + s.count)
       (answered (λ all. w.size) (sent_as s.stop)) (λ now. in_order failure fault sent_whole ws now (s.left, y.1 + s.count))) answer new
   took_on w ws before total old mid answer new moved m has more (Err e) is whole h =
@@ -158,4 +158,4 @@ module _ {S E : Type 0} (sink : S → Option Sink) (taken : S → Option (List �
       let has = subst (λ (o : Option (List ℕ)). Keeps o (bytes_at blocks (cells_of w)) m.count (taken h.1)) keeps m.keeps in
       took_on w ws before total old h.1 answer new h.0 m has
       (λ now at k. taken_is ws (total + w.size) now h.1 answer new at k) m.sent refl m.whole
-      (subst (λ (r : Result ℕ VolatileMemoryError). Then failure fault IsGiven wants Moves sent_whole w ws total h.1 answer new r) m.told h.3)
+      (subst (λ (r : Result ℕ VolatileMemoryError). Then failure fault Moves w ws total h.1 answer new r) m.told h.3)

@@ -10,6 +10,15 @@ use Rattle.vm_memory_guest.specs.Dealt.{after_move, in_order}
 use Rattle.vm_memory_guest.specs.Transfer.{InOrder, ended}
 use Rattle.vm_memory_guest.specs.Window.{Window}
 
+-- what follows the move of a window
+abbrev pub Then : {X E : Type 0} → (VolatileMemoryError → E) → Option E
+    → (Window → X → Result ℕ VolatileMemoryError → X → Type 0) → Window → List Window → ℕ → X → Result ℕ E → X
+    → Result ℕ VolatileMemoryError → Type 0
+Then failure fault Moves w ws total mid answer new moved = MatchResult moved
+    (λ count. MatchBool (count == w.size) (InOrder failure fault Moves ws (total + count) mid answer new)
+    ((answer ≡ Ok (total + count)) × (new ≡ mid)))
+    (λ e. (answer ≡ Err (failure e)) × (new ≡ mid))
+
 -- ---- what is computed
 
 module _ {X Y E : Type 0} (failure : VolatileMemoryError → E) (fault : Option E) (Like : X → Y → Type 0)
@@ -19,15 +28,8 @@ module _ {X Y E : Type 0} (failure : VolatileMemoryError → E) (fault : Option 
   abbrev pub Comes : X → Result ℕ E → X → Made E Y → Type 0
   Comes x answer new made = ((answer ≡ Err (failure Memory)) × Wants x) ⊎ ((answer ≡ made.answer) × Like new made.left)
 
-  -- what follows the move of a window
-  abbrev pub Then : Window → List Window → ℕ → X → Result ℕ E → X → Result ℕ VolatileMemoryError → Type 0
-  Then w ws total mid answer new moved = MatchResult moved
-      (λ count. MatchBool (count == w.size) (InOrder failure fault Moves ws (total + count) mid answer new)
-      ((answer ≡ Ok (total + count)) × (new ≡ mid)))
-      (λ e. (answer ≡ Err (failure e)) × (new ≡ mid))
-
   goes_on : (w : Window) (ws : List Window) (total : ℕ) (mid : X) (answer : Result ℕ E) (new : X) (y : Y) → Like mid y
-      → (moved : Result ℕ VolatileMemoryError) → Then w ws total mid answer new moved
+      → (moved : Result ℕ VolatileMemoryError) → Then failure fault Moves w ws total mid answer new moved
       → ((now : ℕ) → InOrder failure fault Moves ws now mid answer new
       → Comes mid answer new (in_order failure fault move ws now y))
       → Comes mid answer new (after_move failure total w y moved (λ now. in_order failure fault move ws now y))
@@ -52,7 +54,7 @@ module _ {X Y E : Type 0} (failure : VolatileMemoryError → E) (fault : Option 
   order_does each back [] total old answer new y like h = inr (h.0, subst (λ (x : X). Like x y) (sym h.1) like)
   order_does each back (w ∷ ws) total old answer new y like h =
       let m = move w y in
-      let follows = λ (moved : Result ℕ VolatileMemoryError). Then w ws total h.1 answer new moved in
+      let follows = λ (moved : Result ℕ VolatileMemoryError). Then failure fault Moves w ws total h.1 answer new moved in
       elim (each w old h.1 h.0 y like h.2) [
         | inl wanted ↦ inl ((subst follows wanted.0 h.3).0, wanted.1)
         | inr does ↦ elim (goes_on w ws total h.1 answer new m.left does.1 m.answer (subst follows does.0 h.3)

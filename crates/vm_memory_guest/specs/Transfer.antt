@@ -124,10 +124,13 @@ module _ {E : Type 0} where
   all_of partial n (Ok total) = if total == n then Ok tt else Err (partial n total)
   all_of partial n (Err e) = Err e
 
-  -- a transfer was made. Or it answered that there was no memory, where it may want some, and asked and
-  -- changed nothing
-  abbrev pub Transfers : {T X : Type 0} → E → Type 0 → X → Result T E → X → Type 0 → Type 0
-  Transfers memory may_want old answer new made = ((answer ≡ Err memory) × may_want × (new ≡ old)) ⊎ made
+  -- a transfer moved the windows that are to be moved, and how that ended is told so. Or it answered that there
+  -- was no memory, where it may want some, and asked and changed nothing
+  abbrev pub Transfers : {T X : Type 0} → E → Type 0 → (VolatileMemoryError → E) → Reach E
+      → (Window → X → Result ℕ VolatileMemoryError → X → Type 0) → (Result ℕ E → Result T E) → X → Result T E → X
+      → Type 0
+  Transfers memory may_want failure r Moves told old answer new = ((answer ≡ Err memory) × may_want × (new ≡ old))
+      ⊎ ((total : Result ℕ E) × (answer ≡ told total) × InOrder failure r.fault Moves r.windows 0 old total new)
 
   -- one window, or why there is none
   abbrev pub only : Result Window E → Reach E
