@@ -1,34 +1,34 @@
 -- Tries again, and turns until all is moved: what came of them is what is computed, and they keep what each keeps.
-use Rattle.std.proofs.Common.{◌≡◌, ◌≢◌, ◌⊎◌, inl, inr, ℕ, zero, suc, ◌+◌, ◌-◌, ◌<◌, ◌≤◌, Bool, true, false, Result, Ok, Err, IfErr, refl, sym, ap, subst, ◌∙◌, arith}
+use Rattle.std.proofs.Common.{◌≡◌, ◌≢◌, ◌⊎◌, inl, inr, ℕ, zero, suc, ◌+◌, ◌-◌, ◌<◌, ◌≤◌, Bool, true, false, Ok, Err, IfErr, refl, sym, ap, subst, ◌∙◌, arith}
 use Rattle.std.proofs.lemmas.Bool.Decides.{nat_tests}
 use Rattle.std.specs.Prelude.{nat_lt, if◌then◌else◌}
 use mathlib.Core.Bool.{true≢false}
-use Rattle.vm_memory_base.specs.Transfer.{is_interrupted, Made, again_upto, Stop, Whole, Dry, Failed, Moved, turned, rest_of, AgainUpto, Last, Done, Retry, Again, RestOf, AllMoved, NoneMoved, TurnFailed, SomeMoved, WholeOf}
+use Rattle.vm_memory_base.specs.Transfer.{Answer, is_interrupted, Made, again_upto, Stop, Whole, Dry, Failed, Moved, after_turn, rest_of, AgainUpto, Last, Done, Retry, Again, RestOf, AllMoved, NoneMoved, TurnFailed, SomeMoved, WholeOf}
 use Rattle.vm_memory_base.specs.declared.io.VolatileMemoryError.{VolatileMemoryError}
 use Rattle.vm_memory_base.specs.declared.io.VolatileMemoryError.TheVariants.{Memory}
 
 -- ---- loops
 
-module _ {X : Type 0} (Try : X → Result ℕ VolatileMemoryError → X → Type 0) where
+module _ {X : Type 0} (Try : X → Answer → X → Type 0) where
   -- the tries from the start are those that are left
   abbrev pub AgainLeft : X → ℕ → X → Type 0
-  AgainLeft start left now = (answer : Result ℕ VolatileMemoryError) (new : X) → AgainUpto Try left now answer new
+  AgainLeft start left now = (answer : Answer) (new : X) → AgainUpto Try left now answer new
       → Again Try start answer new
 
-  pub again_more : {start now mid : X} {tried : Result ℕ VolatileMemoryError} (left : ℕ) → AgainLeft start left now
+  pub again_more : {start now mid : X} {tried : Answer} (left : ℕ) → AgainLeft start left now
       → 0 < left → Try now tried mid → is_interrupted tried ≡ true → AgainLeft start (left - 1) mid
   again_more zero so_far some t is answer new rest = absurd (omega arith)
   again_more {mid = mid} (suc more) so_far some t is answer new rest =
       let same : suc more - 1 ≡ more = omega arith in
       so_far answer new (Retry t is (subst (λ n. AgainUpto Try n mid answer new) same rest))
 
-  pub again_done : {start now new : X} {answer : Result ℕ VolatileMemoryError} (left : ℕ) → AgainLeft start left now
+  pub again_done : {start now new : X} {answer : Answer} (left : ℕ) → AgainLeft start left now
       → Try now answer new → (is_interrupted answer ≡ false ⊎ (left ≤ 0)) → Again Try start answer new
   again_done left so_far t (inl is) = so_far _ _ (Done t is)
   again_done zero so_far t (inr spent) = so_far _ _ (Last t)
   again_done (suc more) so_far t (inr spent) = absurd (omega arith)
 
-module _ {X : Type 0} (Turn : ℕ → X → Result ℕ VolatileMemoryError → X → Type 0) (n : ℕ) where
+module _ {X : Type 0} (Turn : ℕ → X → Answer → X → Type 0) (n : ℕ) where
   -- the turns from the start are those of the rest
   abbrev pub RestLeft : X → ℕ → X → Type 0
   RestLeft start done now = (total : ℕ) (stop : Stop) (new : X) → RestOf Turn n done now total stop new
@@ -43,21 +43,21 @@ module _ {X : Type 0} (Turn : ℕ → X → Result ℕ VolatileMemoryError → X
 
 module _ {X Y : Type 0} (Like : X → Y → Type 0) (Wants : X → Type 0) where
   -- what came of a try is what is computed. Or memory was wanted
-  abbrev pub Does : X → Result ℕ VolatileMemoryError → X → Made VolatileMemoryError Y → Type 0
+  abbrev pub Does : X → Answer → X → Made VolatileMemoryError Y → Type 0
   Does x answer new made = ((answer ≡ Err Memory) × Wants x) ⊎ ((answer ≡ made.answer) × Like new made.left)
 
   abbrev pub DoesWhole : X → ℕ → Stop → X → Moved Y → Type 0
   DoesWhole x count stop new moved =
       ((stop ≡ Failed Memory) × Wants x) ⊎ ((count ≡ moved.count) × (stop ≡ moved.stop) × Like new moved.left)
 
-  module _ (Try : X → Result ℕ VolatileMemoryError → X → Type 0) (try : Y → Made VolatileMemoryError Y)
-      (each : (x z : X) (answer : Result ℕ VolatileMemoryError) (y : Y) → Like x y → Try x answer z → Does x answer z (try y))
-      (back : (x z : X) (answer : Result ℕ VolatileMemoryError) → Try x answer z → Wants z → Wants x) where
-    told : (b : Bool) (answer : Result ℕ VolatileMemoryError) (y : Y) → answer ≡ (try y).answer → is_interrupted answer ≡ b
+  module _ (Try : X → Answer → X → Type 0) (try : Y → Made VolatileMemoryError Y)
+      (each : (x z : X) (answer : Answer) (y : Y) → Like x y → Try x answer z → Does x answer z (try y))
+      (back : (x z : X) (answer : Answer) → Try x answer z → Wants z → Wants x) where
+    told : (b : Bool) (answer : Answer) (y : Y) → answer ≡ (try y).answer → is_interrupted answer ≡ b
         → is_interrupted (try y).answer ≡ b
-    told b answer y same is = sym (ap (λ (r : Result ℕ VolatileMemoryError). is_interrupted r) same) ∙ is
+    told b answer y same is = sym (ap (λ (r : Answer). is_interrupted r) same) ∙ is
 
-    pub again_does : {more : ℕ} {x z : X} {answer : Result ℕ VolatileMemoryError} → AgainUpto Try more x answer z → (y : Y)
+    pub again_does : {more : ℕ} {x z : X} {answer : Answer} → AgainUpto Try more x answer z → (y : Y)
         → Like x y → Does x answer z (again_upto try more y)
     unfolding again_upto
     again_does {x = x} {z = z} {answer = answer} (Last t) y like = each x z answer y like t
@@ -68,26 +68,26 @@ module _ {X Y : Type 0} (Like : X → Y → Type 0) (Wants : X → Type 0) where
     ]
     again_does {more = suc more} {x = x} {z = z} {answer = answer} (Retry {y = mid} {tried = tried} t is rest) y like = elim (each x mid tried y like t) [
       | inl wanted ↦
-          absurd (true≢false (sym is ∙ ap (λ (r : Result ℕ VolatileMemoryError). is_interrupted r) wanted.0))
+          absurd (true≢false (sym is ∙ ap (λ (r : Answer). is_interrupted r) wanted.0))
       | inr does ↦ rw (told true tried y does.0 is) (elim (again_does rest (try y).left does.1) [
         | inl wanted ↦ inl (wanted.0, back x mid tried t wanted.1)
         | inr others ↦ inr others
       ])
     ]
 
-  module _ (Turn : ℕ → X → Result ℕ VolatileMemoryError → X → Type 0) (turn : ℕ → Y → Made VolatileMemoryError Y) (n : ℕ)
-      (each : (done : ℕ) (x z : X) (answer : Result ℕ VolatileMemoryError) (y : Y) → done < n → Like x y → Turn done x answer z
+  module _ (Turn : ℕ → X → Answer → X → Type 0) (turn : ℕ → Y → Made VolatileMemoryError Y) (n : ℕ)
+      (each : (done : ℕ) (x z : X) (answer : Answer) (y : Y) → done < n → Like x y → Turn done x answer z
       → Does x answer z (turn done y))
-      (back : (done : ℕ) (x z : X) (answer : Result ℕ VolatileMemoryError) → Turn done x answer z → Wants z → Wants x) where
+      (back : (done : ℕ) (x z : X) (answer : Answer) → Turn done x answer z → Wants z → Wants x) where
     ends : (turns done : ℕ) (y : Y) → n ≤ done → rest_of turn n turns done y ≡ record { count = done; stop = Whole; left = y }
     unfolding rest_of
     ends zero done y full = refl
     ends (suc turns) done y full =
         let none : nat_lt done n ≡ false = grind (arith, nat_tests) in rw none refl
 
-    goes_on : (turns done : ℕ) (y : Y) (answer : Result ℕ VolatileMemoryError) → done < n → n - done ≤ turns
+    goes_on : (turns done : ℕ) (y : Y) (answer : Answer) → done < n → n - done ≤ turns
         → answer ≡ (turn done y).answer → rest_of turn n turns done y
-        ≡ turned done (turn done y).left answer (λ now. rest_of turn n (turns - 1) now (turn done y).left)
+        ≡ after_turn done (turn done y).left answer (λ now. rest_of turn n (turns - 1) now (turn done y).left)
     unfolding rest_of
     goes_on zero done y answer some enough same = absurd (omega arith)
     goes_on (suc turns) done y answer some enough same =
@@ -144,8 +144,8 @@ module _ {X : Type 0} (Kept : X → Type 0) (Good : VolatileMemoryError → Type
       let t = try x in let k = each x h in
       either (is_interrupted t.answer) (again_upto try more t.left) t (again_keeps try each more t.left k.0) k
 
-  after : (done : ℕ) (x : X) (answer : Result ℕ VolatileMemoryError) (more : ℕ → Moved X) → Kept x → IfErr answer Good
-      → ((now : ℕ) → KeptByAll (more now)) → KeptByAll (turned done x answer more)
+  after : (done : ℕ) (x : X) (answer : Answer) (more : ℕ → Moved X) → Kept x → IfErr answer Good
+      → ((now : ℕ) → KeptByAll (more now)) → KeptByAll (after_turn done x answer more)
   after done x (Ok zero) more h good rest = (h, tt)
   after done x (Ok (suc count)) more h good rest = rest (done + suc count)
   after done x (Err e) more h good rest = (h, good)
@@ -154,7 +154,7 @@ module _ {X : Type 0} (Kept : X → Type 0) (Good : VolatileMemoryError → Type
   tested : (turn : ℕ → X → Made VolatileMemoryError X) (n turns done : ℕ) (x : X) → Kept x
       → (done < n → KeptBy (turn done x))
       → ((now : ℕ) → Kept (turn done x).left → KeptByAll (rest_of turn n turns now (turn done x).left))
-      → (b : Bool) → nat_lt done n ≡ b → KeptByAll (if b then turned done (turn done x).left (turn done x).answer
+      → (b : Bool) → nat_lt done n ≡ b → KeptByAll (if b then after_turn done (turn done x).left (turn done x).answer
       (λ now. rest_of turn n turns now (turn done x).left) else record { count = done; stop = Whole; left = x })
   tested turn n turns done x h each rest false none = (h, tt)
   tested turn n turns done x h each rest true some =

@@ -6,6 +6,10 @@ use Rattle.vm_memory_base.specs.declared.io.ReadExactFault.{ReadExactFault}
 use Rattle.vm_memory_base.specs.declared.io.VolatileMemoryError.{VolatileMemoryError}
 use Rattle.vm_memory_base.specs.declared.io.VolatileMemoryError.TheVariants.{OutOfBounds, Overflow, TooBig, Misaligned, IOError, PartialBuffer, Memory}
 
+-- what a try answers: how many bytes it moved, or why it failed
+abbrev pub Answer : Type 0
+Answer = Result ℕ VolatileMemoryError
+
 -- what a source does next: it gives these bytes, at as many tries as it takes, or it fails at one try, after
 -- a scribble over the beginning of what it was lent
 pub data Next : Type 0 where
@@ -16,7 +20,7 @@ pub data Next : Type 0 where
 -- next
 pub record Tried : Type 0 where
   pub bytes : List ℕ
-  pub answer : Result ℕ VolatileMemoryError
+  pub answer : Answer
   pub left : List Next
 
 -- bytes that are still to be given, if there are any
@@ -60,7 +64,7 @@ abbrev pub is_interrupted : {T : Type 0} → Result T VolatileMemoryError → Bo
 is_interrupted (Ok count) = false
 is_interrupted (Err e) = is_interrupted_by e
 
-abbrev pub count_of : Result ℕ VolatileMemoryError → ℕ
+abbrev pub count_of : Answer → ℕ
 count_of (Ok count) = count
 count_of (Err e) = 0
 
@@ -96,16 +100,16 @@ pub record Moved (X : Type 0) : Type 0 where
   pub left : X
 
 -- how many bytes that is, or the error
-abbrev pub counted_as : ℕ → Stop → Result ℕ VolatileMemoryError
+abbrev pub counted_as : ℕ → Stop → Answer
 counted_as count Whole = Ok count
 counted_as count Dry = Ok count
 counted_as count (Failed e) = Err e
 
 -- what follows a turn, behind the bytes that were moved before it
-abbrev pub turned : {X : Type 0} → ℕ → X → Result ℕ VolatileMemoryError → (ℕ → Moved X) → Moved X
-turned done x (Ok zero) more = record { count = done; stop = Dry; left = x }
-turned done x (Ok (suc count)) more = more (done + suc count)
-turned done x (Err e) more = record { count = done; stop = Failed e; left = x }
+abbrev pub after_turn : {X : Type 0} → ℕ → X → Answer → (ℕ → Moved X) → Moved X
+after_turn done x (Ok zero) more = record { count = done; stop = Dry; left = x }
+after_turn done x (Ok (suc count)) more = more (done + suc count)
+after_turn done x (Err e) more = record { count = done; stop = Failed e; left = x }
 
 -- the rest of n bytes is moved by turns, each from where the one before ended, until all are moved or a turn
 -- moves none
@@ -113,25 +117,25 @@ unfoldable pub rest_of : {X : Type 0} → (ℕ → X → Made VolatileMemoryErro
 rest_of turn n zero done x = record { count = done; stop = Whole; left = x }
 rest_of turn n (suc turns) done x =
     let t = turn done x in
-    if nat_lt done n then turned done t.left t.answer (λ now. rest_of turn n turns now t.left)
+    if nat_lt done n then after_turn done t.left t.answer (λ now. rest_of turn n turns now t.left)
     else record { count = done; stop = Whole; left = x }
 
 abbrev pub whole_of : {X : Type 0} → (ℕ → X → Made VolatileMemoryError X) → ℕ → X → Moved X
 whole_of turn n x = rest_of turn n n 0 x
 
 -- the same of a try, and of turns, of which a relation says what may come of them
-module _ {X : Type 0} (Try : X → Result ℕ VolatileMemoryError → X → Type 0) where
-  pub data AgainUpto : ℕ → X → Result ℕ VolatileMemoryError → X → Type 0 where
-    Last : {x y : X} {answer : Result ℕ VolatileMemoryError} → Try x answer y → AgainUpto 0 x answer y
-    Done : {x y : X} {more : ℕ} {answer : Result ℕ VolatileMemoryError} → Try x answer y
+module _ {X : Type 0} (Try : X → Answer → X → Type 0) where
+  pub data AgainUpto : ℕ → X → Answer → X → Type 0 where
+    Last : {x y : X} {answer : Answer} → Try x answer y → AgainUpto 0 x answer y
+    Done : {x y : X} {more : ℕ} {answer : Answer} → Try x answer y
         → is_interrupted answer ≡ false → AgainUpto more x answer y
-    Retry : {x y z : X} {more : ℕ} {tried answer : Result ℕ VolatileMemoryError} → Try x tried y
+    Retry : {x y z : X} {more : ℕ} {tried answer : Answer} → Try x tried y
         → is_interrupted tried ≡ true → AgainUpto more y answer z → AgainUpto (suc more) x answer z
 
-  abbrev pub Again : X → Result ℕ VolatileMemoryError → X → Type 0
+  abbrev pub Again : X → Answer → X → Type 0
   Again = AgainUpto retries
 
-module _ {X : Type 0} (Turn : ℕ → X → Result ℕ VolatileMemoryError → X → Type 0) (n : ℕ) where
+module _ {X : Type 0} (Turn : ℕ → X → Answer → X → Type 0) (n : ℕ) where
   pub data RestOf : ℕ → X → ℕ → Stop → X → Type 0 where
     AllMoved : {done : ℕ} {x : X} → n ≤ done → RestOf done x done Whole x
     NoneMoved : {done : ℕ} {x y : X} → done < n → Turn done x (Ok 0) y → RestOf done x done Dry y
@@ -146,14 +150,14 @@ module _ {X : Type 0} (Turn : ℕ → X → Result ℕ VolatileMemoryError → X
 -- ---- sources
 
 -- where a source tells what it does next: one try of it, over this buffer
-abbrev pub ReadsAs : Option (List Next) → List ℕ → Result ℕ VolatileMemoryError → List ℕ
+abbrev pub ReadsAs : Option (List Next) → List ℕ → Answer → List ℕ
     → Option (List Next) → Type 0
 ReadsAs source old answer new after = IfSome source (λ next.
     let t = tried (length old) next in
     (answer ≡ t.answer) × (new ≡ with_front t.bytes old) × (after ≡ Some t.left))
 
 -- one try of a source that is lent a buffer, and whether it was interrupted so far
-abbrev pub Reads : {S : Type 0} → (S → Option (List Next)) → S × List ℕ × Bool → Result ℕ VolatileMemoryError
+abbrev pub Reads : {S : Type 0} → (S → Option (List Next)) → S × List ℕ × Bool → Answer
     → S × List ℕ × Bool → Type 0
 Reads source old answer new =
     ReadsAs (source old.0) old.1 answer new.1 (source new.0) × (new.2 ≡ (old.2 || is_interrupted answer))
@@ -261,7 +265,7 @@ abbrev pub offered : ℕ → Sink → Made VolatileMemoryError Sink
 offered n sink = offered_next n sink.next sink.room
 
 -- a sink that tells what it does next was offered n bytes. Or it wanted memory, where it may, and took none
-abbrev pub TakesAs : Type 0 → Option Sink → ℕ → Result ℕ VolatileMemoryError → Option Sink → Type 0
+abbrev pub TakesAs : Type 0 → Option Sink → ℕ → Answer → Option Sink → Type 0
 TakesAs may_want sink n answer after = IfSome sink (λ before.
     let o = offered n before in
     ((answer ≡ Err Memory) × may_want × (after ≡ Some before)) ⊎ ((answer ≡ o.answer) × (after ≡ Some o.left)))
@@ -272,7 +276,7 @@ Keeps None bytes count after = Unit {0}
 Keeps (Some before) bytes count after = after ≡ Some (before ++ take count bytes)
 
 -- a sink that tells what it does next was offered n bytes by tries. Or it wanted memory, where it may
-abbrev pub OffersAs : Type 0 → Option Sink → ℕ → Result ℕ VolatileMemoryError → Option Sink → Type 0
+abbrev pub OffersAs : Type 0 → Option Sink → ℕ → Answer → Option Sink → Type 0
 OffersAs may_want sink n answer after = IfSome sink (λ before.
     let o = again (offered n) before in
     ((answer ≡ Err Memory) × may_want) ⊎ ((answer ≡ o.answer) × (after ≡ Some o.left)))

@@ -1,8 +1,7 @@
 -- A transfer in from a source that tells what it does, into a host with exact bitmaps, is computed.
-use Rattle.std.proofs.Common.{◌≡◌, ℕ, ◌-◌, Bool, true, false, List, Option, Some, Result, inl, inr, ap₂, subst, ◌∙◌, arith}
+use Rattle.std.proofs.Common.{◌≡◌, ℕ, ◌-◌, Bool, true, false, List, Option, Some, inl, inr, ap₂, subst, ◌∙◌, arith}
 use Rattle.vm_memory_base.specs.Pages.{PageSet, marked}
-use Rattle.vm_memory_base.specs.Transfer.{Next, ReadsAs, Again, again, counted_as}
-use Rattle.vm_memory_base.specs.declared.io.VolatileMemoryError.{VolatileMemoryError}
+use Rattle.vm_memory_base.specs.Transfer.{Answer, Next, ReadsAs, Again, again, counted_as}
 use Rattle.vm_memory_base.proofs.TurnLemmas.{Does, again_does, rest_does}
 use Rattle.vm_memory_guest.specs.Copy.{front}
 use Rattle.vm_memory_guest.specs.Dealt.{dealt, dirty_window, lent}
@@ -19,7 +18,7 @@ module _ {S B : Type 0} (source : S → Option (List Next)) (marks : B → ℕ �
   abbrev pub IsDealt : S × Host B → List Next × Host PageSet → Type 0
   IsDealt x y = (source x.0 ≡ Some y.0) × (with_pages pages x.1 ≡ y.1)
 
-  lends_does : (w : Window) (x z : S × Host B) (answer : Result ℕ VolatileMemoryError) (y : List Next × Host PageSet)
+  lends_does : (w : Window) (x z : S × Host B) (answer : Answer) (y : List Next × Host PageSet)
       → IsDealt x y → Lends source marks w x answer z → Does IsDealt (λ x. ⊥) x answer z (lent w y)
   lends_does w x z answer y like l =
       let buffer = bytes_at x.1.blocks (cells_of w) in
@@ -30,18 +29,18 @@ module _ {S B : Type 0} (source : S → Option (List Next)) (marks : B → ℕ �
         (
           told.2,
           with_pages-MarksWindow marks pages exact empty (front w (marked_of w.size answer)) (there l.bytes) z.1 l.marked
-              ∙ ap₂ (λ (a : Result ℕ VolatileMemoryError) (bytes : List ℕ). dirty_window (front w (marked_of w.size a))
+              ∙ ap₂ (λ (a : Answer) (bytes : List ℕ). dirty_window (front w (marked_of w.size a))
               (with_pages pages (there bytes))) told.0 told.1,
         ),
       ))
 
-  again_lends : (w : Window) (x z : S × Host B) (answer : Result ℕ VolatileMemoryError) (y : List Next × Host PageSet)
+  again_lends : (w : Window) (x z : S × Host B) (answer : Answer) (y : List Next × Host PageSet)
       → IsDealt x y → Again (Lends source marks w) x answer z → Does IsDealt (λ x. ⊥) x answer z (again (lent w) y)
   again_lends w x z answer y like tries =
       again_does IsDealt (λ x. ⊥) (Lends source marks w) (lent w) (lends_does w) (λ x z a t no. no) tries y like
 
   pub fills_does : (known : S → Option ℕ) (until_full : Bool) (w : Window) (x z : S × Host B)
-      (answer : Result ℕ VolatileMemoryError) (y : List Next × Host PageSet) → IsDealt x y
+      (answer : Answer) (y : List Next × Host PageSet) → IsDealt x y
       → Fills source known marks (filling until_full) w x answer z → Does IsDealt (λ x. ⊥) x answer z (dealt until_full w y)
   fills_does known false w x z answer y like tries = again_lends w x z answer y like tries
   fills_does known true w x z answer y like rest =

@@ -1,7 +1,7 @@
 -- A transfer out to a sink that tells what it does is computed.
 use Rattle.std.proofs.Common.{◌≡◌, ◌⊎◌, inl, inr, ℕ, ◌+◌, ◌≤◌, ◌==◌, Bool, true, MatchBool, List, [], ◌∷◌, ◌++◌, take, Option, Some, None, Result, Ok, Err, OnOk, IfOk, append_assoc, append-nil, refl, sym, ap, subst, ◌∙◌, arith}
 use Rattle.std.proofs.lemmas.Bool.Decides.{nat_tests}
-use Rattle.vm_memory_base.specs.Transfer.{Sink, Keeps, Made, SendsAs, sent, sent_as}
+use Rattle.vm_memory_base.specs.Transfer.{Answer, Sink, Keeps, Made, SendsAs, sent, sent_as}
 use Rattle.vm_memory_base.specs.declared.io.VolatileMemoryError.{VolatileMemoryError}
 use Rattle.vm_memory_base.specs.declared.io.VolatileMemoryError.TheVariants.{Memory}
 use Rattle.vm_memory_base.proofs.TurnLemmas.{Does}
@@ -21,14 +21,14 @@ module _ {S E : Type 0} (sink : S → Option Sink) (taken : S → Option (List �
   abbrev pub Wanted : Result ℕ E → S → Type 0
   Wanted answer old = (answer ≡ Err (failure Memory)) × wants old
 
-  abbrev Moves : Window → S → Result ℕ VolatileMemoryError → S → Type 0
+  abbrev Moves : Window → S → Answer → S → Type 0
   Moves = Sends sink taken wants blocks
 
   -- the same as is computed
   abbrev IsGiven : S → Sink × ℕ → Type 0
   IsGiven x y = sink x ≡ Some y.0
 
-  sends_does : (w : Window) (x z : S) (moved : Result ℕ VolatileMemoryError) (y : Sink × ℕ) → IsGiven x y → Moves w x moved z
+  sends_does : (w : Window) (x z : S) (moved : Answer) (y : Sink × ℕ) → IsGiven x y → Moves w x moved z
       → Does IsGiven wants x moved z (sent_whole w y)
   sends_does w x z moved y like m =
       elim (subst (λ (o : Option Sink). SendsAs (wants x) o w.size m.count m.sent (sink z)) like m.tried) [
@@ -97,7 +97,7 @@ module _ {S E : Type 0} (sink : S → Option Sink) (taken : S → Option (List �
       ∙ ap (λ (bs : List ℕ). before ++ bs) (sym (ap (take (w.size + n)) all ∙ ap (λ (k : ℕ). take (k + n) (bytes ++ rest)) (sym (length-bytes blocks w)) ∙ take-append-add bytes rest n))
 
   took_on : (w : Window) (ws : List Window) (before : List ℕ) (total : ℕ) (old mid : S) (answer : Result ℕ E) (new : S)
-      (moved : Result ℕ VolatileMemoryError) (m : Moves w old moved mid)
+      (moved : Answer) (m : Moves w old moved mid)
       → taken mid ≡ Some (before ++ take m.count (bytes_at blocks (cells_of w)))
       → ((now : List ℕ) → taken mid ≡ Some now → InOrder failure fault Moves ws (total + w.size) mid answer new
       → Took now (total + w.size) ws mid (in_order failure fault sent_whole ws (total + w.size)) answer new)
@@ -158,4 +158,4 @@ module _ {S E : Type 0} (sink : S → Option Sink) (taken : S → Option (List �
       let has = subst (λ (o : Option (List ℕ)). Keeps o (bytes_at blocks (cells_of w)) m.count (taken h.1)) keeps m.keeps in
       took_on w ws before total old h.1 answer new h.0 m has
       (λ now at k. taken_is ws (total + w.size) now h.1 answer new at k) m.sent refl m.whole
-      (subst (λ (r : Result ℕ VolatileMemoryError). Then failure fault Moves w ws total h.1 answer new r) m.told h.3)
+      (subst (λ (r : Answer). Then failure fault Moves w ws total h.1 answer new r) m.told h.3)

@@ -7,7 +7,7 @@ use Rattle.std.proofs.lemmas.List.{length-take, set-get_or}
 use Rattle.std.proofs.lemmas.List.Elements.{All-cons, All-head, All-nil, All-tail}
 use Rattle.vm_memory_base.specs.Address.{is_within}
 use Rattle.vm_memory_base.specs.Pages.{Pages, PageSet, shape, is_dirty_at, in_view, marked}
-use Rattle.vm_memory_base.specs.Transfer.{Next, Gives, Fails, giving, tried, with_front, Stop, Whole, Dry, Failed, counted_as, again, retries, whole_of}
+use Rattle.vm_memory_base.specs.Transfer.{Answer, Next, Gives, Fails, giving, tried, with_front, Stop, Whole, Dry, Failed, counted_as, again, retries, whole_of}
 use Rattle.vm_memory_base.specs.declared.bitmap.BitmapId.{BitmapId}
 use Rattle.vm_memory_base.specs.declared.bitmap.BitmapId.TheVariants.{Block, Space}
 use Rattle.vm_memory_base.specs.declared.io.VolatileMemoryError.{VolatileMemoryError}
@@ -342,7 +342,7 @@ module _ (shape_stays : ShapeStays) (stays : DirtyPagesStay) (dirties : MarkedBy
         Kept : List Next × Host PageSet → Type 0
         Kept x = MarksChanges ws host x.1
 
-        any : (r : Result ℕ VolatileMemoryError) → IfErr r (λ e. Unit {0})
+        any : (r : Answer) → IfErr r (λ e. Unit {0})
         any (Ok count) = tt
         any (Err e) = tt
 

@@ -2,7 +2,7 @@
 use Rattle.std.proofs.Common.{◌≡◌, ◌⊎◌, inl, inr, ℕ, suc, ◌+◌, ◌<◌, ◌==◌, Bool, true, false, if◌then◌else◌, MatchBool, MatchResult, List, [], ◌∷◌, Option, Some, None, Result, Ok, Err, IfErr, All, Contains, refl, sym, subst, arith}
 use Rattle.std.proofs.lemmas.Bool.Decides.{nat_tests}
 use Rattle.std.proofs.lemmas.List.Elements.{All-head, All-tail}
-use Rattle.vm_memory_base.specs.Transfer.{Made}
+use Rattle.vm_memory_base.specs.Transfer.{Answer, Made}
 use Rattle.vm_memory_base.specs.declared.io.VolatileMemoryError.{VolatileMemoryError}
 use Rattle.vm_memory_base.specs.declared.io.VolatileMemoryError.TheVariants.{Memory}
 use Rattle.vm_memory_base.proofs.TurnLemmas.{Does, KeptBy}
@@ -12,8 +12,8 @@ use Rattle.vm_memory_guest.specs.Window.{Window}
 
 -- what follows the move of a window
 abbrev pub Then : {X E : Type 0} → (VolatileMemoryError → E) → Option E
-    → (Window → X → Result ℕ VolatileMemoryError → X → Type 0) → Window → List Window → ℕ → X → Result ℕ E → X
-    → Result ℕ VolatileMemoryError → Type 0
+    → (Window → X → Answer → X → Type 0) → Window → List Window → ℕ → X → Result ℕ E → X
+    → Answer → Type 0
 Then failure fault Moves w ws total mid answer new moved = MatchResult moved
     (λ count. MatchBool (count == w.size) (InOrder failure fault Moves ws (total + count) mid answer new)
     ((answer ≡ Ok (total + count)) × (new ≡ mid)))
@@ -22,14 +22,14 @@ Then failure fault Moves w ws total mid answer new moved = MatchResult moved
 -- ---- what is computed
 
 module _ {X Y E : Type 0} (failure : VolatileMemoryError → E) (fault : Option E) (Like : X → Y → Type 0)
-    (Wants : X → Type 0) (Moves : Window → X → Result ℕ VolatileMemoryError → X → Type 0)
+    (Wants : X → Type 0) (Moves : Window → X → Answer → X → Type 0)
     (move : Window → Y → Made VolatileMemoryError Y) where
   -- what comes of the windows is what is computed. Or memory was wanted
   abbrev pub Comes : X → Result ℕ E → X → Made E Y → Type 0
   Comes x answer new made = ((answer ≡ Err (failure Memory)) × Wants x) ⊎ ((answer ≡ made.answer) × Like new made.left)
 
   goes_on : (w : Window) (ws : List Window) (total : ℕ) (mid : X) (answer : Result ℕ E) (new : X) (y : Y) → Like mid y
-      → (moved : Result ℕ VolatileMemoryError) → Then failure fault Moves w ws total mid answer new moved
+      → (moved : Answer) → Then failure fault Moves w ws total mid answer new moved
       → ((now : ℕ) → InOrder failure fault Moves ws now mid answer new
       → Comes mid answer new (in_order failure fault move ws now y))
       → Comes mid answer new (after_move failure total w y moved (λ now. in_order failure fault move ws now y))
@@ -44,9 +44,9 @@ module _ {X Y E : Type 0} (failure : VolatileMemoryError → E) (fault : Option 
       go true h = others (total + count) h
       go false h = inr (h.0, subst (λ (x : X). Like x y) (sym h.1) like)
 
-  pub order_does : ((w : Window) (x z : X) (moved : Result ℕ VolatileMemoryError) (y : Y) → Like x y → Moves w x moved z
+  pub order_does : ((w : Window) (x z : X) (moved : Answer) (y : Y) → Like x y → Moves w x moved z
       → Does Like Wants x moved z (move w y))
-      → ((w : Window) (x z : X) (moved : Result ℕ VolatileMemoryError) → Moves w x moved z → Wants z → Wants x)
+      → ((w : Window) (x z : X) (moved : Answer) → Moves w x moved z → Wants z → Wants x)
       → (ws : List Window) (total : ℕ) (old : X) (answer : Result ℕ E) (new : X) (y : Y) → Like old y
       → InOrder failure fault Moves ws total old answer new
       → Comes old answer new (in_order failure fault move ws total y)
@@ -54,7 +54,7 @@ module _ {X Y E : Type 0} (failure : VolatileMemoryError → E) (fault : Option 
   order_does each back [] total old answer new y like h = inr (h.0, subst (λ (x : X). Like x y) (sym h.1) like)
   order_does each back (w ∷ ws) total old answer new y like h =
       let m = move w y in
-      let follows = λ (moved : Result ℕ VolatileMemoryError). Then failure fault Moves w ws total h.1 answer new moved in
+      let follows = λ (moved : Answer). Then failure fault Moves w ws total h.1 answer new moved in
       elim (each w old h.1 h.0 y like h.2) [
         | inl wanted ↦ inl ((subst follows wanted.0 h.3).0, wanted.1)
         | inr does ↦ elim (goes_on w ws total h.1 answer new m.left does.1 m.answer (subst follows does.0 h.3)
@@ -84,7 +84,7 @@ module _ {X E : Type 0} (failure : VolatileMemoryError → E) (fault : Option E)
       go true none = inr (is, λ some. (grind (arith, nat_tests), refl))
       go false none = tt
 
-  moved_why : (w : Window) (ws : List Window) (total : ℕ) (x mid : X) (moved : Result ℕ VolatileMemoryError)
+  moved_why : (w : Window) (ws : List Window) (total : ℕ) (x mid : X) (moved : Answer)
       (more : ℕ → Made E X) → Kept mid → IfErr moved Good → ((now : ℕ) → KeptInOrder ws now mid (more now))
       → KeptInOrder (w ∷ ws) total x (after_move failure total w mid moved more)
   moved_why w ws total x mid (Err e) more kept good others = (kept, inl (e, good, refl))

@@ -1,6 +1,7 @@
 -- Windows that are moved one after the other by a source or to a sink.
 use Rattle.std.proofs.Common.{◌≡◌, ◌≢◌, ◌⊎◌, inl, inr, IfOk, MatchBool, Bool, if◌then◌else◌, ℕ, false, true, ◌+◌, ◌≤◌, ◌==◌, List, [], ◌∷◌, ◌++◌, Option, Some, None, option_map, Result, Ok, Err, refl, sym, ap, subst, ◌∙◌, arith}
 use Rattle.std.proofs.lemmas.Bool.Decides.{nat_tests}
+use Rattle.vm_memory_base.specs.Transfer.{Answer}
 use Rattle.vm_memory_base.specs.declared.io.VolatileMemoryError.{VolatileMemoryError}
 use Rattle.vm_memory_guest.specs.Access.{Fault}
 use Rattle.vm_memory_guest.specs.Answer.{Reach, told}
@@ -22,7 +23,7 @@ use Rattle.vm_memory_guest.specs.declared.region.GuestMemoryError.TheVariants as
 use Rattle.vm_memory_guest.proofs.AccessLemmas.{Came, Gave, Ends, came_first, came_more, came-fits, accessed-refused}
 use Rattle.vm_memory_guest.proofs.OrderLaws.{Then}
 
-module _ {X E : Type 0} (failure : VolatileMemoryError → E) (fault : Option E) (Moves : Window → X → Result ℕ VolatileMemoryError → X → Type 0) (w : Window) (ws : List Window) (total : ℕ) (old mid : X) (moved : Result ℕ VolatileMemoryError)
+module _ {X E : Type 0} (failure : VolatileMemoryError → E) (fault : Option E) (Moves : Window → X → Answer → X → Type 0) (w : Window) (ws : List Window) (total : ℕ) (old mid : X) (moved : Answer)
     (moves : Moves w old moved mid) where
   -- a window was moved whole, and the others follow
   pub order_more : (count : ℕ) (answer : Result ℕ E) (new : X) → moved ≡ Ok count → count ≡ w.size → InOrder failure fault Moves ws (total + count) mid answer new → InOrder failure fault Moves (w ∷ ws) total old answer new
@@ -44,15 +45,15 @@ module _ {X E : Type 0} (failure : VolatileMemoryError → E) (fault : Option E)
   order_fails e is = (moved, mid, moves, rw is (refl, refl))
 
 -- no window is left
-pub order_ends : {X E : Type 0} (failure : VolatileMemoryError → E) (fault : Option E) (Moves : Window → X → Result ℕ VolatileMemoryError → X → Type 0) (total : ℕ) (x : X) → InOrder failure fault Moves [] total x (ended total fault) x
+pub order_ends : {X E : Type 0} (failure : VolatileMemoryError → E) (fault : Option E) (Moves : Window → X → Answer → X → Type 0) (total : ℕ) (x : X) → InOrder failure fault Moves [] total x (ended total fault) x
 unfolding InOrder
 order_ends failure fault Moves total x = (refl, refl)
 
 -- the windows of a walk, in order
-abbrev pub Walked : {X : Type 0} (Moves : Window → X → Result ℕ VolatileMemoryError → X → Type 0) → Reach Fault → List Window → ℕ → X → Result ℕ GuestMemoryError → X → Type 0
+abbrev pub Walked : {X : Type 0} (Moves : Window → X → Answer → X → Type 0) → Reach Fault → List Window → ℕ → X → Result ℕ GuestMemoryError → X → Type 0
 Walked Moves start ws total old answer new = InOrder of_window (option_map error_of start.fault) Moves ws total old answer new
 
-module _ {X : Type 0} (Moves : Window → X → Result ℕ VolatileMemoryError → X → Type 0) where
+module _ {X : Type 0} (Moves : Window → X → Answer → X → Type 0) where
   -- windows of a walk were moved so far, and what follows makes the whole
   pub record Moved (start left : Reach Fault) (initial now : X) (total : ℕ) : Type 0 where
     pub done : List Window
@@ -62,7 +63,7 @@ module _ {X : Type 0} (Moves : Window → X → Result ℕ VolatileMemoryError �
   pub moved_first : (start : Reach Fault) (x : X) → Moved start start x x 0
   moved_first start x = record { done = []; came = came_first start; rest = λ answer new so. so }
 
-  module _ {start left next : Reach Fault} {w : Window} {initial now : X} {total : ℕ} (m : Moved start left initial now total) (gives : Gave left next w) (mid : X) (moved : Result ℕ VolatileMemoryError) (moves : Moves w now moved mid) where
+  module _ {start left next : Reach Fault} {w : Window} {initial now : X} {total : ℕ} (m : Moved start left initial now total) (gives : Gave left next w) (mid : X) (moved : Answer) (moves : Moves w now moved mid) where
     to_left : (answer : Result ℕ GuestMemoryError) (new : X) → Walked Moves start (w ∷ next.windows) total now answer new → Walked Moves start start.windows 0 initial answer new
     to_left answer new so = m.rest answer new (subst (λ (ws : List Window). Walked Moves start ws total now answer new) (sym gives.windows) so)
 
@@ -93,12 +94,12 @@ module _ {X : Type 0} (Moves : Window → X → Result ℕ VolatileMemoryError �
     moved_whole ends = moved_ends ends
 
 -- nothing is moved
-order_none : {X E : Type 0} (failure : VolatileMemoryError → E) (Moves : Window → X → Result ℕ VolatileMemoryError → X → Type 0) (x : X) (e : E) (r : Reach E) → r ≡ record { windows = []; fault = Some e } → InOrder failure r.fault Moves r.windows 0 x (Err e) x
+order_none : {X E : Type 0} (failure : VolatileMemoryError → E) (Moves : Window → X → Answer → X → Type 0) (x : X) (e : E) (r : Reach E) → r ≡ record { windows = []; fault = Some e } → InOrder failure r.fault Moves r.windows 0 x (Err e) x
 order_none failure Moves x e r is = subst (λ (y : Reach _). InOrder failure y.fault Moves y.windows 0 x (Err e) x) (sym is) (order_ends failure (Some e) Moves 0 x)
 
 -- transfers of guest memory
 module _ (memory : Memory) (tables : List Table) (a n : ℕ) (access : Permissions) {X T : Type 0}
-    (Moves : Window → X → Result ℕ VolatileMemoryError → X → Type 0) (how : Result ℕ GuestMemoryError → Result T GuestMemoryError) where
+    (Moves : Window → X → Answer → X → Type 0) (how : Result ℕ GuestMemoryError → Result T GuestMemoryError) where
   abbrev pub Moved-all : X → Result T GuestMemoryError → X → Type 0
   Moved-all = Transfers errors.Memory (IsOn memory) of_window (told error_of (reached memory tables a n access)) Moves how
 
@@ -126,27 +127,27 @@ at_most-all (Ok total) k n most within = omega arith
 at_most-all (Err e) k n most within = tt
 
 -- a window alone: the answer is that of its move
-module _ {X : Type 0} (Moves : Window → X → Result ℕ VolatileMemoryError → X → Type 0) (w : Window) (old mid : X) where
-  ends_one : (count : ℕ) (b : Bool) → MatchBool b (InOrder (λ e. e) None Moves [] (0 + count) mid (Ok count) mid) (◌≡◌ {A = Result ℕ VolatileMemoryError} (Ok count) (Ok (0 + count)) × (mid ≡ mid))
+module _ {X : Type 0} (Moves : Window → X → Answer → X → Type 0) (w : Window) (old mid : X) where
+  ends_one : (count : ℕ) (b : Bool) → MatchBool b (InOrder (λ e. e) None Moves [] (0 + count) mid (Ok count) mid) (◌≡◌ {A = Answer} (Ok count) (Ok (0 + count)) × (mid ≡ mid))
   unfolding InOrder
   ends_one count true = (ap (λ (n : ℕ). Ok n) (omega arith), refl)
   ends_one count false = (ap (λ (n : ℕ). Ok n) (omega arith), refl)
 
-  order_one : (moved : Result ℕ VolatileMemoryError) → Moves w old moved mid → InOrder (λ e. e) None Moves (w ∷ []) 0 old moved mid
+  order_one : (moved : Answer) → Moves w old moved mid → InOrder (λ e. e) None Moves (w ∷ []) 0 old moved mid
   unfolding InOrder
   order_one (Ok count) moves = (Ok count, mid, moves, ends_one count (count == w.size))
   order_one (Err e) moves = (Err e, mid, moves, (refl, refl))
 
 -- transfers of a window: one window is moved, or none
-module _ {X T : Type 0} (Moves : Window → X → Result ℕ VolatileMemoryError → X → Type 0)
-    (how : Result ℕ VolatileMemoryError → Result T VolatileMemoryError) (r : Reach VolatileMemoryError) where
+module _ {X T : Type 0} (Moves : Window → X → Answer → X → Type 0)
+    (how : Answer → Result T VolatileMemoryError) (r : Reach VolatileMemoryError) where
   abbrev pub Moved-part : X → Result T VolatileMemoryError → X → Type 0
   Moved-part = Transfers window.Memory ⊥ (λ e. e) r Moves how
 
   pub part_refused : (x : X) (e : VolatileMemoryError) → r ≡ only (Err e) → Err e ≡ how (Err e) → Moved-part x (Err e) x
   part_refused x e is tells = inr (Err e, tells, order_none (λ e. e) Moves x e r is)
 
-  pub part_moved : (w : Window) (old new : X) (moved : Result ℕ VolatileMemoryError) (answer : Result T VolatileMemoryError)
+  pub part_moved : (w : Window) (old new : X) (moved : Answer) (answer : Result T VolatileMemoryError)
       → r ≡ only (Ok w) → Moves w old moved new → answer ≡ how moved → Moved-part old answer new
   part_moved w old new moved answer is moves tells = inr (
     moved,
@@ -156,14 +157,14 @@ module _ {X T : Type 0} (Moves : Window → X → Result ℕ VolatileMemoryError
   )
 
 -- an answer of a window alone, where all n bytes are wanted and it has as many
-pub all_of_one : (n : ℕ) (w : Window) (moved : Result ℕ VolatileMemoryError) → IfOk moved (λ count. count ≡ w.size) → w.size ≡ n → answered (λ all. tt) moved ≡ all_of PartialBuffer n moved
+pub all_of_one : (n : ℕ) (w : Window) (moved : Answer) → IfOk moved (λ count. count ≡ w.size) → w.size ≡ n → answered (λ all. tt) moved ≡ all_of PartialBuffer n moved
 all_of_one n w (Ok count) all size =
     let same : (count == n) ≡ true = let c = all in grind (arith, nat_tests) in
     rw same refl
 all_of_one n w (Err e) all size = refl
 
 -- moves of windows in order, with their errors told otherwise
-module _ {X E : Type 0} (failure : VolatileMemoryError → E) (fault : Option VolatileMemoryError) (Moves : Window → X → Result ℕ VolatileMemoryError → X → Type 0) where
+module _ {X E : Type 0} (failure : VolatileMemoryError → E) (fault : Option VolatileMemoryError) (Moves : Window → X → Answer → X → Type 0) where
   ended_told : (total : ℕ) (o : Option VolatileMemoryError) → result_map_both (λ x. x) failure (ended total o) ≡ ended total (option_map failure o)
   ended_told total None = refl
   ended_told total (Some e) = go (total == 0)
@@ -172,18 +173,18 @@ module _ {X E : Type 0} (failure : VolatileMemoryError → E) (fault : Option Vo
       go true = refl
       go false = refl
 
-  told_whole : (ws : List Window) (total : ℕ) (answer : Result ℕ VolatileMemoryError) (new mid : X) (count : ℕ) → (InOrder (λ e. e) fault Moves ws (total + count) mid answer new → InOrder failure (option_map failure fault) Moves ws (total + count) mid (result_map_both (λ x. x) failure answer) new)
+  told_whole : (ws : List Window) (total : ℕ) (answer : Answer) (new mid : X) (count : ℕ) → (InOrder (λ e. e) fault Moves ws (total + count) mid answer new → InOrder failure (option_map failure fault) Moves ws (total + count) mid (result_map_both (λ x. x) failure answer) new)
       → (b : Bool) → MatchBool b (InOrder (λ e. e) fault Moves ws (total + count) mid answer new) ((answer ≡ Ok (total + count)) × (new ≡ mid))
       → MatchBool b (InOrder failure (option_map failure fault) Moves ws (total + count) mid (result_map_both (λ x. x) failure answer) new) ((result_map_both (λ x. x) failure answer ≡ Ok (total + count)) × (new ≡ mid))
   told_whole ws total answer new mid count more true h = more h
   told_whole ws total answer new mid count more false h = (ap (result_map_both (λ x. x) failure) h.0, h.1)
 
-  told_more : (w : Window) (ws : List Window) (total : ℕ) (answer : Result ℕ VolatileMemoryError) (new mid : X) → ((count : ℕ) → InOrder (λ e. e) fault Moves ws (total + count) mid answer new → InOrder failure (option_map failure fault) Moves ws (total + count) mid (result_map_both (λ x. x) failure answer) new)
-      → (moved : Result ℕ VolatileMemoryError) → Then (λ e. e) fault Moves w ws total mid answer new moved → Then failure (option_map failure fault) Moves w ws total mid (result_map_both (λ x. x) failure answer) new moved
+  told_more : (w : Window) (ws : List Window) (total : ℕ) (answer : Answer) (new mid : X) → ((count : ℕ) → InOrder (λ e. e) fault Moves ws (total + count) mid answer new → InOrder failure (option_map failure fault) Moves ws (total + count) mid (result_map_both (λ x. x) failure answer) new)
+      → (moved : Answer) → Then (λ e. e) fault Moves w ws total mid answer new moved → Then failure (option_map failure fault) Moves w ws total mid (result_map_both (λ x. x) failure answer) new moved
   told_more w ws total answer new mid more (Ok count) h = told_whole ws total answer new mid count (more count) (count == w.size) h
   told_more w ws total answer new mid more (Err e) h = (ap (result_map_both (λ x. x) failure) h.0, h.1)
 
-  pub order_told : (ws : List Window) (total : ℕ) (old : X) (answer : Result ℕ VolatileMemoryError) (new : X) → InOrder (λ e. e) fault Moves ws total old answer new
+  pub order_told : (ws : List Window) (total : ℕ) (old : X) (answer : Answer) (new : X) → InOrder (λ e. e) fault Moves ws total old answer new
       → InOrder failure (option_map failure fault) Moves ws total old (result_map_both (λ x. x) failure answer) new
   unfolding InOrder
   order_told [] total old answer new so = (ap (result_map_both (λ x. x) failure) so.0 ∙ ended_told total fault, so.1)
@@ -191,7 +192,7 @@ module _ {X E : Type 0} (failure : VolatileMemoryError → E) (fault : Option Vo
       (so.0, so.1, so.2, told_more w ws total answer new so.1 (λ count h. order_told ws (total + count) so.1 answer new h) so.0 so.3)
 
 -- the answer of a window where all bytes are wanted, as guest memory tells it
-pub all_of_told : (n : ℕ) (total : Result ℕ VolatileMemoryError) → as_guest (all_of PartialBuffer n total) ≡ all_of errors.PartialBuffer n (as_guest total)
+pub all_of_told : (n : ℕ) (total : Answer) → as_guest (all_of PartialBuffer n total) ≡ all_of errors.PartialBuffer n (as_guest total)
 all_of_told n (Err e) = refl
 all_of_told n (Ok total) = go (total == n)
   where
@@ -210,9 +211,9 @@ all_of_sent n w (Ok all) size =
 all_of_sent n w (Err e) size = refl
 
 -- transfers of a region are those of its window
-module _ {X T : Type 0} (Moves : Window → X → Result ℕ VolatileMemoryError → X → Type 0)
-    (how : Result ℕ VolatileMemoryError → Result T VolatileMemoryError) (how-told : Result ℕ GuestMemoryError → Result T GuestMemoryError)
-    (tells : (total : Result ℕ VolatileMemoryError) → as_guest (how total) ≡ how-told (as_guest total))
+module _ {X T : Type 0} (Moves : Window → X → Answer → X → Type 0)
+    (how : Answer → Result T VolatileMemoryError) (how-told : Result ℕ GuestMemoryError → Result T GuestMemoryError)
+    (tells : (total : Answer) → as_guest (how total) ≡ how-told (as_guest total))
     (f : Window → Reach VolatileMemoryError) (o : Result Window GuestMemoryError) where
   abbrev pub Moved-in : X → Result T GuestMemoryError → X → Type 0
   Moved-in = Transfers errors.Memory ⊥ of_window (moved_in o f) Moves how-told

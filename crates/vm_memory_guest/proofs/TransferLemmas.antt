@@ -1,6 +1,6 @@
 -- Sinks that were offered the bytes of a window.
 use Rattle.std.proofs.Common.{◌≡◌, ℕ, ◌≤◌, List, length, Option, Result, OnOk, ap, ◌∙◌, refl, subst}
-use Rattle.vm_memory_base.specs.Transfer.{Sink, Keeps, OffersAs, SendsAs, count_of}
+use Rattle.vm_memory_base.specs.Transfer.{Answer, Sink, Keeps, OffersAs, SendsAs, count_of}
 use Rattle.vm_memory_base.specs.declared.io.VolatileMemoryError.{VolatileMemoryError}
 use Rattle.vm_memory_guest.specs.Host.{bytes_at}
 use Rattle.vm_memory_guest.specs.Transfer.{Offers, Sends}
@@ -20,7 +20,7 @@ sends_of sink taken wants blocks w old new bytes result is sends wanted =
     record { count = sized.0; sent = result; within = sized.1; whole = sized.2; keeps = sized.3; tried = sized.4; told = refl; wanted = wanted }
 
 -- a sink was offered the bytes of a window by one try
-pub offers_of : {S : Type 0} (sink : S → Option Sink) (taken : S → Option (List ℕ)) (wants : S → Type 0) (blocks : List (List ℕ)) (w : Window) (old new : S) (bytes : List ℕ) (result : Result ℕ VolatileMemoryError)
+pub offers_of : {S : Type 0} (sink : S → Option Sink) (taken : S → Option (List ℕ)) (wants : S → Type 0) (blocks : List (List ℕ)) (w : Window) (old new : S) (bytes : List ℕ) (result : Answer)
     → bytes ≡ bytes_at blocks (cells_of w) → OffersAs (wants old) (sink old) (length bytes) result (sink new) → Keeps (taken old) bytes (count_of result) (taken new)
     → (wants new → wants old) → Offers sink taken wants blocks w old result new
 offers_of sink taken wants blocks w old new bytes result is tells keeps wanted = record {

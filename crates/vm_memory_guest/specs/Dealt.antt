@@ -2,7 +2,7 @@
 -- order.
 use Rattle.std.specs.Prelude.{ℕ, ◌+◌, ◌-◌, ◌==◌, Bool, true, false, if◌then◌else◌, List, [], ◌∷◌, length, Option, Result, Ok, Err}
 use Rattle.vm_memory_base.specs.Pages.{PageSet}
-use Rattle.vm_memory_base.specs.Transfer.{Next, Sink, tried, with_front, Made, again, whole_of, counted_as, sent, sent_as}
+use Rattle.vm_memory_base.specs.Transfer.{Answer, Next, Sink, tried, with_front, Made, again, whole_of, counted_as, sent, sent_as}
 use Rattle.vm_memory_base.specs.declared.io.VolatileMemoryError.{VolatileMemoryError}
 use Rattle.vm_memory_guest.specs.Copy.{front}
 use Rattle.vm_memory_guest.specs.Dirt.{marks_pages}
@@ -12,7 +12,7 @@ use Rattle.vm_memory_guest.specs.Typed.{answered}
 use Rattle.vm_memory_guest.specs.Window.{Window, cells_of, part}
 
 -- what follows the move of a window, behind so many bytes: the others, where it was moved whole
-abbrev pub after_move : {E X : Type 0} → (VolatileMemoryError → E) → ℕ → Window → X → Result ℕ VolatileMemoryError
+abbrev pub after_move : {E X : Type 0} → (VolatileMemoryError → E) → ℕ → Window → X → Answer
     → (ℕ → Made E X) → Made E X
 after_move failure total w x (Ok count) more =
     if count == w.size then more (total + count) else record { answer = Ok (total + count); left = x }

@@ -1,6 +1,5 @@
 use Rattle.std.proofs.Common.{◌-◌, ◌≤◌, length}
-use Rattle.vm_memory_base.specs.Transfer.{Keeps}
-use Rattle.vm_memory_base.proofs.TransferLemmas.{OffersOf}
+use Rattle.vm_memory_base.proofs.TransferLemmas.{OffersBehind}
 use Rattle.vm_memory_base.proofs.TurnLemmas.{RestLeft}
 use Rattle.vm_memory_base.proofs.io.WriteVolatile.write_all_volatile.Given as goal
 
@@ -8,10 +7,8 @@ abbrev pub invariant-loop-done : goal.invariant-loop-done
 invariant-loop-done g l =
     record {
       within : l.done ≤ length l.buf;
-      rest : RestLeft (λ done. OffersOf g.Self.WriteVolatile.sink g.Self.WriteVolatile.may_want (length l.buf - done))
+      rest : RestLeft (OffersBehind g.Self.WriteVolatile.sink g.Self.WriteVolatile.taken g.Self.WriteVolatile.may_want l.buf)
           (length l.buf) l.initial.self l.done l.self;
-      keeps : Keeps (g.Self.WriteVolatile.taken l.initial.self) l.buf l.done (g.Self.WriteVolatile.taken l.self);
-      wants : g.Self.WriteVolatile.may_want l.self → g.Self.WriteVolatile.may_want l.initial.self;
     }
 
 abbrev pub decreases-loop-done : goal.decreases-loop-done

@@ -1,6 +1,5 @@
-use Rattle.std.proofs.Common.{◌≡◌, ℕ, Result, ◌-◌, ◌<◌, ◌≤◌, ◌∙◌, refl, ap, subst, Ok, Err, arith}
-use Rattle.vm_memory_base.specs.Transfer.{Again, Whole, Dry, Failed, AllMoved, NoneMoved, TurnFailed}
-use Rattle.vm_memory_base.specs.declared.io.VolatileMemoryError.{VolatileMemoryError}
+use Rattle.std.proofs.Common.{◌≡◌, ℕ, ◌-◌, ◌<◌, ◌≤◌, ◌∙◌, refl, ap, subst, Ok, Err, arith}
+use Rattle.vm_memory_base.specs.Transfer.{Answer, Again, Whole, Dry, Failed, AllMoved, NoneMoved, TurnFailed}
 use Rattle.vm_memory_base.proofs.TurnLemmas.{rest_more}
 use Rattle.vm_memory_guest.specs.Transfer.{Lends}
 use Rattle.vm_memory_guest.specs.Window.{Window, part}
@@ -18,7 +17,7 @@ is_rest g c =
     c.part-rest.ensures
     ∙ ap (λ n. part c.args.window.now c.loop-filled.filled (n - c.loop-filled.filled)) c.len-size.ensures
 
-turn : (g : Over) (c : After-read_from g) (answer : Result ℕ VolatileMemoryError) → c.read_from.result ≡ answer
+turn : (g : Over) (c : After-read_from g) (answer : Answer) → c.read_from.result ≡ answer
     → let w = c.args.window.now in let l = c.loop-filled in
     Again (Lends g.S.ReadVolatile.source g.B.Bitmap.marks (part w l.filled (w.size - l.filled))) (l.source, l.self) answer
     (c.read_from.new.source, c.read_from.new.self)
