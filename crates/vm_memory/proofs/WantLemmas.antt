@@ -1,5 +1,5 @@
 -- What calls reply where memory is not wanting is never that it is.
-use Rattle.std.proofs.Common.{◌≡◌, ℕ, zero, suc, ◌+◌, ◌-◌, ◌%◌, List, [], ◌∷◌, map, take, length, Bool, true, false, ◌&&◌, ◌==◌, nat_lt, nat_le, cond, Option, Some, None, Result, Ok, Err, IfErr, IfSome, option_map, subst, refl, sym, inl, inr}
+use Rattle.std.proofs.Common.{◌≡◌, ℕ, ◌-◌, ◌%◌, List, [], ◌∷◌, map, take, length, Bool, true, false, ◌&&◌, ◌==◌, nat_lt, nat_le, cond, Option, Some, None, Result, Ok, Err, IfErr, IfSome, option_map, subst, refl, sym, inl, inr, ◌⊎◌}
 use Rattle.std.proofs.lemmas.Bool.{true≢false}
 use Rattle.std.specs.Int as int
 use Rattle.std.specs.Int.{byte_len}
@@ -7,7 +7,7 @@ use Rattle.vm_memory_base.specs.Lookup.{mapped_ranges}
 use Rattle.vm_memory_base.specs.Pages.{PageSet}
 use Rattle.vm_memory_base.specs.Script.{next_of, taking_of}
 use Rattle.vm_memory_base.specs.Table as table
-use Rattle.vm_memory_base.specs.Transfer.{Taking, Takes, Refuses, Sink, Offered, Sent, count_of, is_interrupted, offered, offered_next, offers, sent, sent_by}
+use Rattle.vm_memory_base.specs.Transfer.{Taking, Takes, Refuses, Sink, Stop, Whole, Dry, Failed, again, retries, offered, offered_next, sent, sent_as}
 use Rattle.vm_memory_base.specs.declared.io.VolatileMemoryError.{VolatileMemoryError}
 use Rattle.vm_memory_base.specs.declared.io.VolatileMemoryError.TheVariants as window
 use Rattle.vm_memory_base.specs.declared.io.script.SinkStep.{SinkStep}
@@ -18,14 +18,14 @@ use Rattle.vm_memory_base.specs.declared.iotlb.Permissions.TheVariants as permis
 use Rattle.vm_memory_guest.specs.Access as access
 use Rattle.vm_memory_guest.specs.Access.{Access, Reached, windows}
 use Rattle.vm_memory_guest.specs.Answer.{counted}
-use Rattle.vm_memory_guest.specs.Dealt.{Given, received, given_out, after_sent}
+use Rattle.vm_memory_guest.specs.Dealt.{received, given_out, sent_whole}
 use Rattle.vm_memory_guest.specs.Dirt.{bytes_read}
 use Rattle.vm_memory_guest.specs.Error.{error_of, of_window}
 use Rattle.vm_memory_guest.specs.Host.{Host}
 use Rattle.vm_memory_guest.specs.Memory.{Memory}
 use Rattle.vm_memory_guest.specs.Region.{Region, last, first_error, neighbours_error, layout_error}
-use Rattle.vm_memory_guest.specs.Transfer.{all_of, ended}
-use Rattle.vm_memory_guest.specs.Typed.{is_uncut, whole_path}
+use Rattle.vm_memory_guest.specs.Transfer.{all_of}
+use Rattle.vm_memory_guest.specs.Typed.{answered, is_uncut, whole_path}
 use Rattle.vm_memory_guest.specs.Window.{Window}
 use Rattle.vm_memory_guest.specs.declared.region.GuestMemoryError.{GuestMemoryError}
 use Rattle.vm_memory_guest.specs.declared.region.GuestMemoryError.TheVariants as errors
@@ -37,6 +37,8 @@ use Rattle.vm_memory.specs.Transfers.{beside_taken, dealt_to, given_by, receives
 use Rattle.vm_memory.specs.Typed.{loads, stores_bytes}
 use Rattle.vm_memory.specs.declared.machine.command.Reply.{Reply}
 use Rattle.vm_memory.specs.declared.machine.command.Reply.TheVariants as reply
+use Rattle.vm_memory_base.specs.lemmas.Turns.{KeptBy, IfFailed, again_keeps, rest_keeps}
+use Rattle.vm_memory_guest.specs.lemmas.Orders.{order_keeps}
 use Rattle.vm_memory.proofs.TransferLemmas.{RefusedLaw, is_io, scripts_fail_so}
 
 -- replies and errors that do not tell of a want of memory
@@ -115,14 +117,6 @@ io_fault (window.Misaligned addr alignment) h = tt
 io_fault (window.PartialBuffer expected completed) h = tt
 io_fault window.Memory h = absurd (true≢false (sym h))
 
-ended_fault : (total : ℕ) (o : Option GuestMemoryError) → IfSome o IsFault → IfErr (ended total o) IsFault
-ended_fault total None h = tt
-ended_fault total (Some e) h = go (total == 0)
-  where
-    go : (b : Bool) → IfErr {T = ℕ} (cond b (Err e) (Ok total)) IsFault
-    go true = h
-    go false = tt
-
 all_fault : (n : ℕ) (r : Result ℕ GuestMemoryError) → IfErr r IsFault
     → IfErr (all_of partial n r) IsFault
 all_fault n (Err e) h = h
@@ -154,64 +148,40 @@ sinks_fail_so (sinks.Take count ∷ steps) = sinks_fail_so steps
 sinks_fail_so (sinks.Interrupted ∷ steps) = (refl, sinks_fail_so steps)
 sinks_fail_so (sinks.Fail ∷ steps) = (refl, sinks_fail_so steps)
 
-abbrev FailedSo : {T : Type 0} → Result T VolatileMemoryError → Sink → Type 0
-FailedSo answer left = IfErr answer (λ e. is_io e ≡ true) × FailsSo left.next
+abbrev IsIo : VolatileMemoryError → Type 0
+IsIo e = is_io e ≡ true
 
 offered_so : (n : ℕ) (next : List Taking) (room : Option ℕ) → FailsSo next
-    → FailedSo (offered_next n next room).answer (offered_next n next room).left
+    → KeptBy (λ (s : Sink). FailsSo s.next) IsIo (offered_next n next room)
 offered_so n [] room h = (tt, tt)
-offered_so n (Takes count ∷ rest) room h = (tt, h)
-offered_so n (Refuses e ∷ rest) room h = h
+offered_so n (Takes count ∷ rest) room h = (h, tt)
+offered_so n (Refuses e ∷ rest) room h = (h.1, h.0)
 
-either_so : (b : Bool) (again first : Offered) → FailedSo again.answer again.left → FailedSo first.answer first.left
-    → FailedSo (cond b again first).answer (cond b again first).left
-either_so true again first h k = h
-either_so false again first h k = k
+sent_io : (size : ℕ) (stop : Stop) → IfFailed (λ (s : Sink). FailsSo s.next) IsIo stop
+    → IfErr (answered (λ all. size) (sent_as stop)) IsIo
+sent_io size Whole good = tt
+sent_io size Dry good = refl
+sent_io size (Failed e) good = good
 
-offers_so : (more n : ℕ) (state : Sink) → FailsSo state.next
-    → FailedSo (offers more n state).answer (offers more n state).left
-unfolding offers
-offers_so zero n state h = offered_so n state.next state.room h
-offers_so (suc more) n state h =
-    let o = offered n state in
-    let first = offered_so n state.next state.room h in
-    either_so (is_interrupted o.answer) (offers more n o.left) o (offers_so more n o.left first.1) first
-
-sent_by_so : (done : ℕ) (o : Offered) (answer : Result ℕ VolatileMemoryError) (more : Sent) → FailedSo answer o.left
-    → FailedSo more.answer more.left → FailedSo (sent_by done o answer more).answer (sent_by done o answer more).left
-sent_by_so done o (Ok zero) more h rest = (refl, h.1)
-sent_by_so done o (Ok (suc count)) more h rest = rest
-sent_by_so done o (Err e) more h rest = h
-
-sent_so : (turns done rest : ℕ) (state : Sink) → FailsSo state.next
-    → FailedSo (sent turns done rest state).answer (sent turns done rest state).left
-unfolding sent
-sent_so turns done zero state h = (tt, h)
-sent_so zero done (suc rest) state h = (refl, h)
-sent_so (suc turns) done (suc rest) state h =
-    let o = offers 64 (suc rest) state in
-    let first = offers_so 64 (suc rest) state h in
-    let count = count_of o.answer in
-    sent_by_so done o o.answer (sent turns (done + count) (suc rest - count) o.left) first
-    (sent_so turns (done + count) (suc rest - count) o.left first.1)
-
-after_sent_fault : (r : Result (Unit {0}) VolatileMemoryError) (more : Given GuestMemoryError)
-    (failed : VolatileMemoryError → Given GuestMemoryError) → IfErr r (λ e. is_io e ≡ true)
-    → IfErr more.answer IsFault → ((e : VolatileMemoryError) → is_io e ≡ true → IfErr (failed e).answer IsFault)
-    → IfErr (after_sent r more failed).answer IsFault
-after_sent_fault (Ok done) more failed h rest each = rest
-after_sent_fault (Err e) more failed h rest each = each e h
+given_so : (w : Window) (x : Sink × ℕ) → FailsSo x.0.next → KeptBy (λ (y : Sink × ℕ). FailsSo y.0.next) IsIo (sent_whole w x)
+given_so w x h =
+    let Kept = λ (s : Sink). FailsSo s.next in
+    let k = rest_keeps Kept IsIo (λ done. again (offered (w.size - done))) w.size
+    (λ done s some. again_keeps Kept IsIo (offered (w.size - done)) (λ s. offered_so (w.size - done) s.next s.room) retries s)
+    w.size 0 x.0 h in
+    (k.0, sent_io w.size (sent w.size x.0).stop k.1)
 
 given_fault : (o : Option GuestMemoryError) → IfSome o IsFault → (ws : List Window) (total : ℕ) (state : Sink)
     → FailsSo state.next → IfErr (given_out of_window o ws total state).answer IsFault
-unfolding given_out
-given_fault o met [] total state h = ended_fault total o met
-given_fault o met (w ∷ ws) total state h =
-    let s = sent w.size 0 w.size state in
-    let so = sent_so w.size 0 w.size state h in
-    after_sent_fault s.answer (given_out of_window o ws (total + w.size) s.left)
-    (λ e. record { answer = Err (of_window e); taken = total + s.count; left = s.left }) so.0
-    (given_fault o met ws (total + w.size) s.left so.1) io_fault
+given_fault o met ws total state h =
+    go _ (given_out of_window o ws total state).answer
+    (order_keeps of_window o sent_whole (λ (x : Sink × ℕ). FailsSo x.0.next) IsIo ws (λ w among. given_so w) total (state, total) h).1
+  where
+    go : (P : GuestMemoryError → Type 0) (r : Result ℕ GuestMemoryError)
+        → IfErr r (λ e. ((v : VolatileMemoryError) × IsIo v × (e ≡ of_window v)) ⊎ ((o ≡ Some e) × P e)) → IfErr r IsFault
+    go P (Ok total) why = tt
+    go P (Err e) (inl failed) = subst IsFault (sym failed.2) (io_fault failed.0 failed.1)
+    go P (Err e) (inr fault) = subst (λ (p : Option GuestMemoryError). IfSome p IsFault) fault.0 met
 
 beside_told : (taken : List ℕ) (r : Reply) → IsAnswer r → IsAnswer (beside_taken taken r)
 beside_told taken (reply.LayoutMade n) h = tt

@@ -1,5 +1,5 @@
 //! What a machine answers and leaves in small cases: each function here is a theorem, and does nothing.
-#![tactic(auto, unfolding(vm_memory_base::specs::Runs::runs, vm_memory_base::specs::Table::each, vm_memory_base::specs::Transfer::offers, vm_memory_base::specs::Transfer::sent, vm_memory_guest::specs::Access::path, vm_memory_guest::specs::Access::first_fault, vm_memory_guest::specs::Access::stretches, vm_memory_guest::specs::Dealt::received, vm_memory_guest::specs::Dealt::lent_again, vm_memory_guest::specs::Dealt::lent_rest, vm_memory_guest::specs::Dealt::given_out))]
+#![tactic(auto, unfolding(vm_memory_base::specs::Runs::runs, vm_memory_base::specs::Table::each, vm_memory_base::specs::Transfer::again_upto, vm_memory_base::specs::Transfer::rest_of, vm_memory_guest::specs::Access::path, vm_memory_guest::specs::Access::first_fault, vm_memory_guest::specs::Access::stretches, vm_memory_guest::specs::Dealt::in_order))]
 
 ghost use Rattle.std.specs.Prelude.{◌≡◌, ℕ, ◌-◌, ◌^◌, [], ◌∷◌, ◌++◌, None, true, false};
 ghost use Rattle.vm_memory_base.specs.Lookup.{mapped_ranges};

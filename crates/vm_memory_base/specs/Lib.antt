@@ -15,3 +15,4 @@ pub mod Transfer
 pub mod Script
 pub mod ByteCodes
 pub mod ArrayCodes
+pub mod lemmas

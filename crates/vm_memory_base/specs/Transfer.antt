@@ -1,10 +1,14 @@
 -- Sources and sinks of bytes: what they do at a try, where they tell it, and tries again after interruptions.
-use Rattle.std.specs.Prelude.{◌≡◌, ◌⊎◌, ℕ, zero, suc, ◌+◌, ◌-◌, Bool, true, false, nat_lt, if◌then◌else◌, min, List, [], ◌∷◌, ◌++◌, length, take, drop, Option, Some, None, option_map, Result, Ok, Err}
+use Rattle.std.specs.Prelude.{◌≡◌, ◌⊎◌, ℕ, zero, suc, ◌+◌, ◌-◌, ◌<◌, ◌≤◌, Bool, true, false, ◌||◌, nat_lt, if◌then◌else◌, min, List, [], ◌∷◌, ◌++◌, length, take, drop, Option, Some, None, IfSome, option_map, Result, Ok, Err}
 use Rattle.std.specs.declared.io.ErrorKind.{ErrorKind}
 use Rattle.std.specs.declared.io.ErrorKind.TheVariants.{Interrupted, WriteZero, UnexpectedEof}
 use Rattle.vm_memory_base.specs.declared.io.ReadExactFault.{ReadExactFault}
 use Rattle.vm_memory_base.specs.declared.io.VolatileMemoryError.{VolatileMemoryError}
 use Rattle.vm_memory_base.specs.declared.io.VolatileMemoryError.TheVariants.{OutOfBounds, Overflow, TooBig, Misaligned, IOError, PartialBuffer, Memory}
+
+-- what a try answers: how many bytes it moved, or why it failed
+abbrev pub Answer : Type 0
+Answer = Result ℕ VolatileMemoryError
 
 -- what a source does next: it gives these bytes, at as many tries as it takes, or it fails at one try, after
 -- a scribble over the beginning of what it was lent
@@ -16,7 +20,7 @@ pub data Next : Type 0 where
 -- next
 pub record Tried : Type 0 where
   pub bytes : List ℕ
-  pub answer : Result ℕ VolatileMemoryError
+  pub answer : Answer
   pub left : List Next
 
 -- bytes that are still to be given, if there are any
@@ -60,41 +64,131 @@ abbrev pub is_interrupted : {T : Type 0} → Result T VolatileMemoryError → Bo
 is_interrupted (Ok count) = false
 is_interrupted (Err e) = is_interrupted_by e
 
--- where a source tells what it does next: one try of it, over this buffer
-abbrev pub ReadsAs : Option (List Next) → List ℕ → Result ℕ VolatileMemoryError → List ℕ
-    → Option (List Next) → Type 0
-ReadsAs None old answer new after = Unit {0}
-ReadsAs (Some next) old answer new after =
-    let t = tried (length old) next in
-    (answer ≡ t.answer) × (new ≡ with_front t.bytes old) × (after ≡ Some t.left)
+abbrev pub count_of : Answer → ℕ
+count_of (Ok count) = count
+count_of (Err e) = 0
 
--- tries of one buffer: what it is then, the answer of the last, what the source does next, and whether one
--- of the tries so far was interrupted
-pub record Tries : Type 0 where
-  pub buffer : List ℕ
-  pub answer : Result ℕ VolatileMemoryError
-  pub left : List Next
-  pub interrupted : Bool
+-- ---- turns of any kind: of a source, of a sink, or of a window that is lent
 
-abbrev pub one_try : Bool → List ℕ → List Next → Tries
-one_try interrupted buffer source =
-    let t = tried (length buffer) source in
-    record { buffer = with_front t.bytes buffer; answer = t.answer; left = t.left; interrupted = interrupted }
+-- what was answered, and the state after it
+pub record Made (E X : Type 0) : Type 0 where
+  pub answer : Result ℕ E
+  pub left : X
+
+-- how many times in a row a try is made again after an interruption
+abbrev pub retries : ℕ
+retries = 64
 
 -- a try, and again after an interruption, at most so many times in a row
-unfoldable pub tries : ℕ → Bool → List ℕ → List Next → Tries
-tries zero interrupted buffer source = one_try interrupted buffer source
-tries (suc more) interrupted buffer source =
-    let t = one_try interrupted buffer source in
-    if is_interrupted t.answer then tries more true t.buffer t.left else t
+unfoldable pub again_upto : {X : Type 0} → (X → Made VolatileMemoryError X) → ℕ → X → Made VolatileMemoryError X
+again_upto try zero x = try x
+again_upto try (suc more) x = let t = try x in if is_interrupted t.answer then again_upto try more t.left else t
 
--- where a source tells what it does next: tries of it over one buffer
-abbrev pub TriesAs : ℕ → Option (List Next) → Bool → List ℕ → Result ℕ VolatileMemoryError → Bool → List ℕ
+abbrev pub again : {X : Type 0} → (X → Made VolatileMemoryError X) → X → Made VolatileMemoryError X
+again try = again_upto try retries
+
+-- why no more bytes are moved: all are, the last turn moved none, or it failed
+pub data Stop : Type 0 where
+  Whole : Stop
+  Dry : Stop
+  Failed : (error : VolatileMemoryError) → Stop
+
+-- what came of turns: how many bytes they moved, why not more, and the state after them
+pub record Moved (X : Type 0) : Type 0 where
+  pub count : ℕ
+  pub stop : Stop
+  pub left : X
+
+-- how many bytes that is, or the error
+abbrev pub counted_as : ℕ → Stop → Answer
+counted_as count Whole = Ok count
+counted_as count Dry = Ok count
+counted_as count (Failed e) = Err e
+
+-- what follows a turn, behind the bytes that were moved before it
+abbrev pub after_turn : {X : Type 0} → ℕ → X → Answer → (ℕ → Moved X) → Moved X
+after_turn done x (Ok zero) more = record { count = done; stop = Dry; left = x }
+after_turn done x (Ok (suc count)) more = more (done + suc count)
+after_turn done x (Err e) more = record { count = done; stop = Failed e; left = x }
+
+-- the rest of n bytes is moved by turns, each from where the one before ended, until all are moved or a turn
+-- moves none
+unfoldable pub rest_of : {X : Type 0} → (ℕ → X → Made VolatileMemoryError X) → (n turns done : ℕ) → X → Moved X
+rest_of turn n zero done x = record { count = done; stop = Whole; left = x }
+rest_of turn n (suc turns) done x =
+    let t = turn done x in
+    if nat_lt done n then after_turn done t.left t.answer (λ now. rest_of turn n turns now t.left)
+    else record { count = done; stop = Whole; left = x }
+
+abbrev pub whole_of : {X : Type 0} → (ℕ → X → Made VolatileMemoryError X) → ℕ → X → Moved X
+whole_of turn n x = rest_of turn n n 0 x
+
+-- the same of a try, and of turns, of which a relation says what may come of them
+module _ {X : Type 0} (Try : X → Answer → X → Type 0) where
+  pub data AgainUpto : ℕ → X → Answer → X → Type 0 where
+    Last : {x y : X} {answer : Answer} → Try x answer y → AgainUpto 0 x answer y
+    Done : {x y : X} {more : ℕ} {answer : Answer} → Try x answer y
+        → is_interrupted answer ≡ false → AgainUpto more x answer y
+    Retry : {x y z : X} {more : ℕ} {tried answer : Answer} → Try x tried y
+        → is_interrupted tried ≡ true → AgainUpto more y answer z → AgainUpto (suc more) x answer z
+
+  abbrev pub Again : X → Answer → X → Type 0
+  Again = AgainUpto retries
+
+module _ {X : Type 0} (Turn : ℕ → X → Answer → X → Type 0) (n : ℕ) where
+  pub data RestOf : ℕ → X → ℕ → Stop → X → Type 0 where
+    AllMoved : {done : ℕ} {x : X} → n ≤ done → RestOf done x done Whole x
+    NoneMoved : {done : ℕ} {x y : X} → done < n → Turn done x (Ok 0) y → RestOf done x done Dry y
+    TurnFailed : {done : ℕ} {x y : X} {error : VolatileMemoryError} → done < n → Turn done x (Err error) y
+        → RestOf done x done (Failed error) y
+    SomeMoved : {done count total : ℕ} {x y z : X} {stop : Stop} → done < n → Turn done x (Ok count) y
+        → 0 < count → RestOf (done + count) y total stop z → RestOf done x total stop z
+
+  abbrev pub WholeOf : X → ℕ → Stop → X → Type 0
+  WholeOf = RestOf 0
+
+-- ---- sources
+
+-- where a source tells what it does next: one try of it, over this buffer
+abbrev pub ReadsAs : Option (List Next) → List ℕ → Answer → List ℕ
     → Option (List Next) → Type 0
-TriesAs more None flag old answer interrupted new after = Unit {0}
-TriesAs more (Some next) flag old answer interrupted new after =
-    let t = tries more flag old next in
-    (answer ≡ t.answer) × (interrupted ≡ t.interrupted) × (new ≡ t.buffer) × (after ≡ Some t.left)
+ReadsAs source old answer new after = IfSome source (λ next.
+    let t = tried (length old) next in
+    (answer ≡ t.answer) × (new ≡ with_front t.bytes old) × (after ≡ Some t.left))
+
+-- one try of a source that is lent a buffer, and whether it was interrupted so far
+abbrev pub Reads : {S : Type 0} → (S → Option (List Next)) → S × List ℕ × Bool → Answer
+    → S × List ℕ × Bool → Type 0
+Reads source old answer new =
+    ReadsAs (source old.0) old.1 answer new.1 (source new.0) × (new.2 ≡ (old.2 || is_interrupted answer))
+
+-- a source that is lent a buffer: what that is, what the source does next, and whether a try was interrupted
+pub record Lending : Type 0 where
+  pub buffer : List ℕ
+  pub next : List Next
+  pub interrupted : Bool
+
+abbrev pub lending : List ℕ → List Next → Lending
+lending buffer next = record { buffer = buffer; next = next; interrupted = false }
+
+-- one try
+abbrev pub lent_once : Lending → Made VolatileMemoryError Lending
+lent_once l =
+    let t = tried (length l.buffer) l.next in
+    record {
+      answer = t.answer;
+      left = record {
+        buffer = with_front t.bytes l.buffer;
+        next = t.left;
+        interrupted = l.interrupted || is_interrupted t.answer;
+      };
+    }
+
+-- tries of what is left of the buffer
+abbrev pub lent_behind : ℕ → Lending → Made VolatileMemoryError Lending
+lent_behind done l =
+    let t = again lent_once (record l { buffer = drop done l.buffer }) in
+    record { answer = t.answer; left = record t.left { buffer = take done l.buffer ++ t.left.buffer } }
 
 -- a buffer that a source was to fill: what it is then, the answer, and what the source does next
 pub record Filled : Type 0 where
@@ -102,52 +196,42 @@ pub record Filled : Type 0 where
   pub answer : Result (Unit {0}) ReadExactFault
   pub left : List Next
 
-abbrev pub unfilled : List ℕ → ℕ → VolatileMemoryError → List Next → Filled
-unfilled buffer touched error left = record {
-  buffer = buffer;
-  answer = Err (record { touched = touched; error = error });
-  left = left;
-}
-
--- behind the bytes that are filled: more, where the tries gave some; the end of the source, where they gave
--- none; or their error
-abbrev pub filled_by : List ℕ → Tries → Result ℕ VolatileMemoryError → Filled → Filled
-filled_by done t (Ok zero) more = unfilled (done ++ t.buffer)
-    (if t.interrupted then length (done ++ t.buffer) else length done) (IOError UnexpectedEof) t.left
-filled_by done t (Ok (suc count)) more = more
-filled_by done t (Err e) more = unfilled (done ++ t.buffer) (length (done ++ t.buffer)) e t.left
-
-abbrev pub count_of : Result ℕ VolatileMemoryError → ℕ
-count_of (Ok count) = count
-count_of (Err e) = 0
-
--- the rest of a buffer is filled by tries, each in turn from where the one before ended
-unfoldable pub filled : (turns : ℕ) → Bool → (done rest : List ℕ) → List Next → Filled
-filled turns interrupted done [] source = record { buffer = done; answer = Ok tt; left = source }
-filled zero interrupted done (b ∷ bs) source = unfilled (done ++ b ∷ bs) 0 (IOError UnexpectedEof) source
-filled (suc turns) interrupted done (b ∷ bs) source =
-    let t = tries 64 interrupted (b ∷ bs) source in
-    let count = count_of t.answer in
-    filled_by done t t.answer (filled turns t.interrupted (done ++ take count t.buffer) (drop count t.buffer) t.left)
+-- how much of n bytes may have changed, and why not all are filled
+abbrev pub filled_as : ℕ → Bool → ℕ → Stop → Result (Unit {0}) ReadExactFault
+filled_as n interrupted count Whole = Ok tt
+filled_as n interrupted count Dry =
+    Err (record { touched = if interrupted then n else count; error = IOError UnexpectedEof })
+filled_as n interrupted count (Failed e) = Err (record { touched = n; error = e })
 
 -- whether a source that knows how many bytes it has left has fewer than n
 abbrev pub is_short : Option ℕ → ℕ → Bool
 is_short None n = false
 is_short (Some left) n = nat_lt left n
 
--- a whole buffer is filled. A source that knows that it has too few bytes left refuses at once
+-- a whole buffer is filled by tries. A source that knows that it has too few bytes left refuses at once
 abbrev pub filled_whole : Option ℕ → List ℕ → List Next → Filled
 filled_whole known buffer source =
-    if is_short known (length buffer) then unfilled buffer 0 (IOError UnexpectedEof) source
-    else filled (length buffer) false [] buffer source
+    let n = length buffer in
+    let m = whole_of lent_behind n (lending buffer source) in
+    if is_short known n then record {
+      buffer = buffer;
+      answer = Err (record { touched = 0; error = IOError UnexpectedEof });
+      left = source;
+    }
+    else record {
+      buffer = m.left.buffer;
+      answer = filled_as n m.left.interrupted m.count m.stop;
+      left = m.left.next;
+    }
 
 -- where a source tells what it does next: it fills a buffer
 abbrev pub FillsAs : Option ℕ → Option (List Next) → List ℕ → Result (Unit {0}) ReadExactFault → List ℕ
     → Option (List Next) → Type 0
-FillsAs known None old answer new after = Unit {0}
-FillsAs known (Some next) old answer new after =
+FillsAs known source old answer new after = IfSome source (λ next.
     let f = filled_whole known old next in
-    (answer ≡ f.answer) × (new ≡ f.buffer) × (after ≡ Some f.left)
+    (answer ≡ f.answer) × (new ≡ f.buffer) × (after ≡ Some f.left))
+
+-- ---- sinks
 
 -- what a sink does next: it takes at most so many bytes at one try, or it fails at one
 pub data Taking : Type 0 where
@@ -160,79 +244,57 @@ pub record Sink : Type 0 where
   pub next : List Taking
   pub room : Option ℕ
 
--- one try of a sink: its answer, and what it is then
-pub record Offered : Type 0 where
-  pub answer : Result ℕ VolatileMemoryError
-  pub left : Sink
-
 abbrev pub room_for : Option ℕ → ℕ → ℕ
 room_for None n = n
 room_for (Some room) n = min n room
 
-abbrev pub taking : ℕ → List Taking → Option ℕ → Offered
+abbrev pub taking : ℕ → List Taking → Option ℕ → Made VolatileMemoryError Sink
 taking count next room = record {
   answer = Ok count;
   left = record { next = next; room = option_map (λ r. r - count) room };
 }
 
 -- a sink is offered n bytes
-abbrev pub offered_next : ℕ → List Taking → Option ℕ → Offered
+abbrev pub offered_next : ℕ → List Taking → Option ℕ → Made VolatileMemoryError Sink
 offered_next n [] room = taking (room_for room n) [] room
 offered_next n (Takes count ∷ rest) room = taking (min count (room_for room n)) rest room
 offered_next n (Refuses e ∷ rest) room =
     record { answer = Err e; left = record { next = rest; room = room } }
 
-abbrev pub offered : ℕ → Sink → Offered
+abbrev pub offered : ℕ → Sink → Made VolatileMemoryError Sink
 offered n sink = offered_next n sink.next sink.room
 
 -- a sink that tells what it does next was offered n bytes. Or it wanted memory, where it may, and took none
-abbrev pub TakesAs : Type 0 → Option Sink → ℕ → Result ℕ VolatileMemoryError → Option Sink → Type 0
-TakesAs may_want None n answer after = Unit {0}
-TakesAs may_want (Some sink) n answer after =
-    let o = offered n sink in
-    ((answer ≡ Err Memory) × may_want × (after ≡ Some sink)) ⊎ ((answer ≡ o.answer) × (after ≡ Some o.left))
+abbrev pub TakesAs : Type 0 → Option Sink → ℕ → Answer → Option Sink → Type 0
+TakesAs may_want sink n answer after = IfSome sink (λ before.
+    let o = offered n before in
+    ((answer ≡ Err Memory) × may_want × (after ≡ Some before)) ⊎ ((answer ≡ o.answer) × (after ≡ Some o.left)))
 
 -- a sink that keeps what it takes has taken the first bytes of what it was offered
 abbrev pub Keeps : Option (List ℕ) → List ℕ → ℕ → Option (List ℕ) → Type 0
 Keeps None bytes count after = Unit {0}
 Keeps (Some before) bytes count after = after ≡ Some (before ++ take count bytes)
 
--- a try, and again after an interruption, at most so many times in a row
-unfoldable pub offers : ℕ → ℕ → Sink → Offered
-offers zero n sink = offered n sink
-offers (suc more) n sink = let o = offered n sink in if is_interrupted o.answer then offers more n o.left else o
-
 -- a sink that tells what it does next was offered n bytes by tries. Or it wanted memory, where it may
-abbrev pub OffersAs : Type 0 → ℕ → Option Sink → ℕ → Result ℕ VolatileMemoryError → Option Sink → Type 0
-OffersAs may_want more None n answer after = Unit {0}
-OffersAs may_want more (Some sink) n answer after =
-    let o = offers more n sink in
-    ((answer ≡ Err Memory) × may_want) ⊎ ((answer ≡ o.answer) × (after ≡ Some o.left))
+abbrev pub OffersAs : Type 0 → Option Sink → ℕ → Answer → Option Sink → Type 0
+OffersAs may_want sink n answer after = IfSome sink (λ before.
+    let o = again (offered n) before in
+    ((answer ≡ Err Memory) × may_want) ⊎ ((answer ≡ o.answer) × (after ≡ Some o.left)))
 
--- bytes that a sink was to take: how many it took, the answer, and what it is then
-pub record Sent : Type 0 where
-  pub count : ℕ
-  pub answer : Result (Unit {0}) VolatileMemoryError
-  pub left : Sink
+-- n bytes are sent to a sink by tries, each of what is left of them
+abbrev pub sent : ℕ → Sink → Moved Sink
+sent n = whole_of (λ done. again (offered (n - done))) n
 
-abbrev pub sent_by : ℕ → Offered → Result ℕ VolatileMemoryError → Sent → Sent
-sent_by done o (Ok zero) more = record { count = done; answer = Err (IOError WriteZero); left = o.left }
-sent_by done o (Ok (suc count)) more = more
-sent_by done o (Err e) more = record { count = done; answer = Err e; left = o.left }
-
--- the rest of the bytes is offered by tries, each in turn from where the one before ended
-unfoldable pub sent : (turns done rest : ℕ) → Sink → Sent
-sent turns done zero sink = record { count = done; answer = Ok tt; left = sink }
-sent zero done (suc rest) sink = record { count = done; answer = Err (IOError WriteZero); left = sink }
-sent (suc turns) done (suc rest) sink =
-    let o = offers 64 (suc rest) sink in
-    let count = count_of o.answer in
-    sent_by done o o.answer (sent turns (done + count) (suc rest - count) o.left)
+-- what is answered where the sink took all, took none of what was left, or failed
+abbrev pub sent_as : Stop → Result (Unit {0}) VolatileMemoryError
+sent_as Whole = Ok tt
+sent_as Dry = Err (IOError WriteZero)
+sent_as (Failed e) = Err e
 
 -- a sink that tells what it does next was given n bytes, and took so many. Or it wanted memory, where it may
 abbrev pub SendsAs : Type 0 → Option Sink → ℕ → ℕ → Result (Unit {0}) VolatileMemoryError → Option Sink
     → Type 0
-SendsAs may_want None n count answer after = Unit {0}
-SendsAs may_want (Some sink) n count answer after =
-    let s = sent n 0 n sink in
-    ((answer ≡ Err Memory) × may_want) ⊎ ((answer ≡ s.answer) × (count ≡ s.count) × (after ≡ Some s.left))
+SendsAs may_want sink n count answer after = IfSome sink (λ before.
+    let s = sent n before in
+    ((answer ≡ Err Memory) × may_want)
+    ⊎ ((answer ≡ sent_as s.stop) × (count ≡ s.count) × (after ≡ Some s.left)))

@@ -11,7 +11,7 @@ mod turns;
 
 pub use self::script::{ScriptSink, ScriptSource, SinkStep, SourceStep};
 use self::turns::read_again;
-pub use self::turns::{is_interrupted, offer_again};
+pub use self::turns::{RETRIES, is_interrupted, offer_again};
 use std::fmt;
 use std::io::{self, ErrorKind};
 use std::marker::Model;

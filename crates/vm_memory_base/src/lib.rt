@@ -19,7 +19,7 @@ pub use bitmap::{Bitmap, BitmapId, BitmapRef, ExactBitmap, ExclusiveBitmap, NewB
 pub use bytes::{AtomicAccess, ByteSized, ByteValued, FixedInteger};
 pub use endian::{Be16, Be32, Be64, BeSize, BigEndian, Le16, Le32, Le64, LeSize, LittleEndian};
 pub use io::{
-    IoError, ReadExactFault, ReadVolatile, ScriptSink, ScriptSource, SinkStep, SourceStep,
+    IoError, RETRIES, ReadExactFault, ReadVolatile, ScriptSink, ScriptSource, SinkStep, SourceStep,
     VolatileMemoryError, VolatileMemoryResult, WriteVolatile, is_interrupted, offer_again,
 };
 pub use iotlb::{

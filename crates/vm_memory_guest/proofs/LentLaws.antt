@@ -1,5 +1,5 @@
 -- What transfers in leave of a host, and how they fail.
-use Rattle.std.proofs.Common.{◌≡◌, ◌≢◌, ◌⊎◌, inl, inr, ℕ, zero, suc, ◌+◌, ◌-◌, ◌*◌, ◌/◌, ◌%◌, ◌^◌, ◌<◌, ◌≤◌, ◌==◌, Bool, true, false, if◌then◌else◌, List, [], ◌∷◌, map, length, get_or, set, Option, Some, None, Result, Ok, Err, All, Contains, drop, refl, sym, ap, ap₂, subst, ◌∙◌, arith}
+use Rattle.std.proofs.Common.{◌≡◌, ◌≢◌, ◌⊎◌, inl, inr, ℕ, zero, suc, ◌+◌, ◌-◌, ◌*◌, ◌/◌, ◌%◌, ◌^◌, ◌<◌, ◌≤◌, Bool, true, false, if◌then◌else◌, List, [], ◌∷◌, map, length, get_or, set, Option, Some, None, Result, Ok, Err, IfErr, All, Contains, drop, refl, sym, ap, ap₂, subst, ◌∙◌, arith}
 use Rattle.std.proofs.Math.Nat.{div-lt_iff_lt-mul, mod-eq_of_lt}
 use Rattle.std.proofs.lemmas.Bool.{cases_eq}
 use Rattle.std.proofs.lemmas.Bool.Decides.{nat_tests}
@@ -7,19 +7,21 @@ use Rattle.std.proofs.lemmas.List.{length-take, set-get_or}
 use Rattle.std.proofs.lemmas.List.Elements.{All-cons, All-head, All-nil, All-tail}
 use Rattle.vm_memory_base.specs.Address.{is_within}
 use Rattle.vm_memory_base.specs.Pages.{Pages, PageSet, shape, is_dirty_at, in_view, marked}
-use Rattle.vm_memory_base.specs.Transfer.{Next, Gives, Fails, giving, is_interrupted, tried, with_front}
+use Rattle.vm_memory_base.specs.Transfer.{Answer, Next, Gives, Fails, giving, tried, with_front, Stop, Whole, Dry, Failed, counted_as, again, retries, whole_of}
 use Rattle.vm_memory_base.specs.declared.bitmap.BitmapId.{BitmapId}
 use Rattle.vm_memory_base.specs.declared.bitmap.BitmapId.TheVariants.{Block, Space}
 use Rattle.vm_memory_base.specs.declared.io.VolatileMemoryError.{VolatileMemoryError}
 use Rattle.vm_memory_guest.specs.Access.{Reached, Stretch, is_cut, lengthened, stretches, window_of, windows}
-use Rattle.vm_memory_guest.specs.Dealt.{Dealt, after_answer, answering, dealt, lent, lent_again, lent_rest, received}
+use Rattle.vm_memory_guest.specs.Dealt.{dealt, in_order, lent, received}
 use Rattle.vm_memory_guest.specs.Dirt.{marks_pages, pages_at}
 use Rattle.vm_memory_guest.specs.Host.{Host, Cell, block_at, byte_at, bytes_at, cells_from, with_byte, written}
 use Rattle.vm_memory_guest.specs.Lent.{IsDirty, IsMarked, MarksChanges, fails_as}
-use Rattle.vm_memory_guest.specs.Transfer.{ended, marked_of}
+use Rattle.vm_memory_guest.specs.Transfer.{marked_of}
 use Rattle.vm_memory_guest.specs.Window.{Window, cells_of, part}
 use Rattle.vm_memory_guest.proofs.EffectLaws.{DirtyPagesStay, ShapeStays, Kept-marks_pages, blocks-marks_pages, is_dirty_at-marks_stays, pages_at-marks, pages_at-with_blocks}
 use Rattle.vm_memory_guest.proofs.HostLemmas.{length-bytes}
+use Rattle.vm_memory_base.specs.lemmas.Turns.{KeptBy, IfFailed, again_keeps, rest_keeps}
+use Rattle.vm_memory_guest.specs.lemmas.Orders.{Why, order_keeps}
 use Rattle.vm_memory_guest.proofs.WrittenLaws.{byte_at-with_byte_other, lengths-written}
 
 -- ---- bytes that come to the front of a window
@@ -195,22 +197,17 @@ wider_changes ws vs old new each c = record {
   ];
 }
 
--- a window among more
-first_changes : (w : Window) (ws : List Window) (old new : Host PageSet) → MarksChanges (w ∷ []) old new
-    → MarksChanges (w ∷ ws) old new
-first_changes w ws old new = wider_changes (w ∷ []) (w ∷ ws) old new each
+-- a window that is one of more
+among_changes : (w : Window) (ws : List Window) (old new : Host PageSet) → Contains ws w
+    → MarksChanges (w ∷ []) old new → MarksChanges ws old new
+among_changes w ws old new one = wider_changes (w ∷ []) ws old new each
   where
-    among : (v : Window) → Contains (w ∷ []) v → Contains (w ∷ ws) v
-    among v (zero, l, is) = (0, omega arith, is)
+    among : (v : Window) → Contains (w ∷ []) v → Contains ws v
+    among v (zero, l, is) = subst (λ (u : Window). Contains ws u) is one
     among v (suc k, l, is) = absurd (omega arith)
 
-    each : (cell : Cell) → IsMarked (w ∷ []) cell new → IsMarked (w ∷ ws) cell new
-    each cell m = marked_among (w ∷ []) (w ∷ ws) new new cell m (among m.window m.among) m.dirty
-
-other_changes : (w : Window) (ws : List Window) (old new : Host PageSet) → MarksChanges ws old new
-    → MarksChanges (w ∷ ws) old new
-other_changes w ws old new = wider_changes ws (w ∷ ws) old new (λ cell m.
-    marked_among ws (w ∷ ws) new new cell m (suc m.among.0, omega (arith, m.among.1), m.among.2) m.dirty)
+    each : (cell : Cell) → IsMarked (w ∷ []) cell new → IsMarked ws cell new
+    each cell m = marked_among (w ∷ []) ws new new cell m (among m.window m.among) m.dirty
 
 -- a part of a window
 part_changes : (w : Window) (filled len : ℕ) (old new : Host PageSet) → filled + len ≤ w.size
@@ -255,17 +252,25 @@ abbrev pub MarkedBytesAreDirty : Type 0
 MarkedBytesAreDirty = (start len offset : ℕ) (p : Pages) → 0 < p.page_size → is_within start len offset ≡ true
     → offset < 2 ^ 64 → offset / p.page_size < length p.flags → is_dirty_at (marked start len (Some p)) offset ≡ true
 
--- what holds of both hands of a test, and after each answer
-chosen : {E : Type 0} (P : Dealt E → Type 0) (b : Bool) (d e : Dealt E) → (b ≡ true → P d) → (b ≡ false → P e)
-    → P (if b then d else e)
-chosen P true d e h k = h refl
-chosen P false d e h k = k refl
+-- what each try keeps, of a window and of its parts, is kept where it is lent, once or until it is full
+module _ (Kept : List Next × Host PageSet → Type 0) (Good : VolatileMemoryError → Type 0) where
+  counted_good : (count : ℕ) (stop : Stop) → IfFailed Kept Good stop → IfErr (counted_as count stop) Good
+  counted_good count Whole good = tt
+  counted_good count Dry good = tt
+  counted_good count (Failed e) good = good
 
-followed : {E : Type 0} (P : Dealt E → Type 0) (r : Result ℕ VolatileMemoryError) (more : ℕ → Dealt E)
-    (failed : VolatileMemoryError → Dealt E) → ((count : ℕ) → r ≡ Ok count → P (more count))
-    → ((e : VolatileMemoryError) → r ≡ Err e → P (failed e)) → P (after_answer r more failed)
-followed P (Ok count) more failed h k = h count refl
-followed P (Err e) more failed h k = k e refl
+  dealt_keeps : (w : Window) → ((x : List Next × Host PageSet) → Kept x → KeptBy Kept Good (lent w x))
+      → ((filled : ℕ) → filled < w.size → (x : List Next × Host PageSet) → Kept x
+      → KeptBy Kept Good (lent (part w filled (w.size - filled)) x))
+      → (until_full : Bool) (x : List Next × Host PageSet) → Kept x → KeptBy Kept Good (dealt until_full w x)
+  dealt_keeps w each behind false x kept = again_keeps Kept Good (lent w) each retries x kept
+  dealt_keeps w each behind true x kept =
+      let turn = λ (filled : ℕ). again (lent (part w filled (w.size - filled))) in
+      let m = whole_of turn w.size x in
+      let k = rest_keeps Kept Good turn w.size
+      (λ filled x some. again_keeps Kept Good (lent (part w filled (w.size - filled))) (behind filled some) retries x)
+      w.size 0 x kept in
+      (k.0, counted_good m.count m.stop k.1)
 
 module _ (shape_stays : ShapeStays) (stays : DirtyPagesStay) (dirties : MarkedBytesAreDirty) where
   -- a byte of a mark is dirty
@@ -289,7 +294,7 @@ module _ (shape_stays : ShapeStays) (stays : DirtyPagesStay) (dirties : MarkedBy
       positive n (suc size) x h = omega arith
 
   lent_changes : (w : Window) (source : List Next) (host : Host PageSet)
-      → MarksChanges (w ∷ []) host (lent w source host).host
+      → MarksChanges (w ∷ []) host (lent w (source, host)).left.1
   lent_changes w source host =
       let buffer : List ℕ = bytes_at host.blocks (cells_of w) in
       let t = tried (length buffer) source in
@@ -327,61 +332,33 @@ module _ (shape_stays : ShapeStays) (stays : DirtyPagesStay) (dirties : MarkedBy
         ];
       }
 
-  again_changes : (more : ℕ) (w : Window) (source : List Next) (host : Host PageSet)
-      → MarksChanges (w ∷ []) host (lent_again more w source host).host
-  unfolding lent_again
-  again_changes zero w source host = lent_changes w source host
-  again_changes (suc more) w source host =
-      let d = lent w source host in
-      let next = lent_again more w d.left d.host in
-      let first = lent_changes w source host in
-      chosen (λ (x : Dealt VolatileMemoryError). MarksChanges (w ∷ []) host x.host) (is_interrupted d.answer) next d
-      (λ is. both_changes (w ∷ []) host d.host next.host first (again_changes more w d.left d.host)) (λ is. first)
-
-  rest_changes : (w : Window) (turns filled rest : ℕ) (source : List Next) (host : Host PageSet)
-      → (0 < rest → filled + rest ≤ w.size)
-      → MarksChanges (w ∷ []) host (lent_rest w turns filled rest source host).host
-  unfolding lent_rest
-  rest_changes w turns filled zero source host fits = same_changes (w ∷ []) host
-  rest_changes w zero filled (suc rest) source host fits = same_changes (w ∷ []) host
-  rest_changes w (suc turns) filled (suc rest) source host fits =
-      let v = part w filled (suc rest) in
-      let d = lent_again 64 v source host in
-      let inside : filled + suc rest ≤ w.size = fits (omega arith) in
-      let first = part_changes w filled (suc rest) host d.host inside (again_changes 64 v source host) in
-      let P = λ (x : Dealt VolatileMemoryError). MarksChanges (w ∷ []) host x.host in
-      followed P d.answer
-      (λ count. if count == 0 then answering (Ok filled) d
-      else lent_rest w turns (filled + count) (suc rest - count) d.left d.host) (λ e. d)
-      (λ count is. let next = lent_rest w turns (filled + count) (suc rest - count) d.left d.host in
-      chosen P (count == 0) (answering (Ok filled) d) next (λ none. first)
-      (λ some. both_changes (w ∷ []) host d.host next.host first
-      (rest_changes w turns (filled + count) (suc rest - count) d.left d.host (λ left. omega arith))))
-      (λ e is. first)
-
-  dealt_changes : (until_full : Bool) (w : Window) (source : List Next) (host : Host PageSet)
-      → MarksChanges (w ∷ []) host (dealt until_full w source host).host
-  dealt_changes true w source host = rest_changes w w.size 0 w.size source host (λ some. omega arith)
-  dealt_changes false w source host = again_changes 64 w source host
-
+  -- a transfer in marks what it changes
   module _ {E : Type 0} (failure : VolatileMemoryError → E) (fault : Option E) (until_full : Bool) where
-    -- a transfer in marks what it changes
     pub received_changes : (ws : List Window) (total : ℕ) (source : List Next) (host : Host PageSet)
         → MarksChanges ws host (received failure fault until_full ws total source host).host
-    unfolding received
-    received_changes [] total source host = same_changes [] host
-    received_changes (w ∷ ws) total source host =
-        let d = dealt until_full w source host in
-        let first = first_changes w ws host d.host (dealt_changes until_full w source host) in
-        let P = λ (x : Dealt E). MarksChanges (w ∷ ws) host x.host in
-        followed P d.answer
-        (λ count. if count == w.size then received failure fault until_full ws (total + count) d.left d.host
-        else answering (Ok (total + count)) d) (λ e. answering (Err (failure e)) d)
-        (λ count is. let next = received failure fault until_full ws (total + count) d.left d.host in
-        chosen P (count == w.size) next (answering (Ok (total + count)) d)
-        (λ whole. both_changes (w ∷ ws) host d.host next.host first
-        (other_changes w ws d.host next.host (received_changes ws (total + count) d.left d.host))) (λ part. first))
-        (λ e is. first)
+    received_changes ws total source host =
+        (order_keeps failure fault (dealt until_full) Kept (λ e. Unit {0}) ws each total (source, host) (same_changes ws host)).0
+      where
+        Kept : List Next × Host PageSet → Type 0
+        Kept x = MarksChanges ws host x.1
+
+        any : (r : Answer) → IfErr r (λ e. Unit {0})
+        any (Ok count) = tt
+        any (Err e) = tt
+
+        each : (w : Window) → Contains ws w → (x : List Next × Host PageSet) → Kept x
+            → KeptBy Kept (λ e. Unit {0}) (dealt until_full w x)
+        each w among = dealt_keeps Kept (λ e. Unit {0}) w
+            (λ x kept. (on x kept (lent w x).left.1 (lent_changes w x.0 x.1), any (lent w x).answer))
+            (λ filled some x kept. let v = part w filled (w.size - filled) in (
+              on x kept (lent v x).left.1 (part_changes w filled (w.size - filled) x.1 (lent v x).left.1 (omega arith)
+                  (lent_changes v x.0 x.1)),
+              any (lent v x).answer,
+            )) until_full
+          where
+            on : (x : List Next × Host PageSet) → Kept x → (new : Host PageSet) → MarksChanges (w ∷ []) x.1 new
+                → MarksChanges ws host new
+            on x kept new more = both_changes ws host x.1 new kept (among_changes w ws x.1 new among more)
 
 -- ---- transfers in that are refused
 
@@ -414,25 +391,9 @@ some-windows_of (s ∷ ss) h =
 pub some-windows : (xs : List Reached) → All (λ (w : Window). 0 < w.size) (windows xs)
 some-windows xs = some-windows_of (stretches xs) (some-stretches xs)
 
-ended_by : {E : Type 0} (total : ℕ) (f e : E) (b : Bool) → (total == 0) ≡ b
-    → (if b then Err f else Ok total) ≡ Err e → (Some f ≡ Some e) × (total ≡ 0)
-ended_by total f e true none h = (cc, grind (arith, nat_tests))
-ended_by total f e false some h = absurd (cc)
-
--- an answer that is an error has no byte before it
-ended_refused : {E : Type 0} (total : ℕ) (fault : Option E) (e : E) → ended total fault ≡ Err e
-    → (fault ≡ Some e) × (total ≡ 0)
-ended_refused total None e h = absurd (cc)
-ended_refused total (Some f) e h = ended_by total f e (total == 0) refl h
-
 module _ (test : VolatileMemoryError → Bool) where
   abbrev Passes : Next → Type 0
   Passes n = fails_as test n ≡ true
-
-  -- each failure that was dealt passes the test, and so do those that are left
-  record FailsSo (d : Dealt VolatileMemoryError) : Type 0 where
-    left : All Passes d.left
-    failed : (e : VolatileMemoryError) → d.answer ≡ Err e → test e ≡ true
 
   passes-giving : (bs : List ℕ) (rest : List Next) → All Passes rest → All Passes (giving bs rest)
   passes-giving [] rest h = h
@@ -445,80 +406,38 @@ module _ (test : VolatileMemoryError → Bool) where
       passes-giving (drop (suc n) bs) rest (All-tail Passes (Gives bs) rest h)
   passes-tried (suc n) (Fails bs f ∷ rest) h = All-tail Passes (Fails bs f) rest h
 
-  failed-tried : (n : ℕ) (source : List Next) → All Passes source → (e : VolatileMemoryError)
-      → (tried n source).answer ≡ Err e → test e ≡ true
-  failed-tried zero source h e is = absurd (cc)
-  failed-tried (suc n) [] h e is = absurd (cc)
-  failed-tried (suc n) (Gives bs ∷ rest) h e is = absurd (cc)
-  failed-tried (suc n) (Fails bs f ∷ rest) h e is =
-      let same : f ≡ e = cc in
-      subst (λ (x : VolatileMemoryError). test x ≡ true) same (All-head Passes (Fails bs f) rest h)
-
-  lent_fails : (w : Window) (source : List Next) (host : Host PageSet) → All Passes source
-      → FailsSo (lent w source host)
-  lent_fails w source host h =
-      let n = length (bytes_at host.blocks (cells_of w)) in
-      record { left = passes-tried n source h; failed = failed-tried n source h }
-
-  again_fails : (more : ℕ) (w : Window) (source : List Next) (host : Host PageSet) → All Passes source
-      → FailsSo (lent_again more w source host)
-  unfolding lent_again
-  again_fails zero w source host h = lent_fails w source host h
-  again_fails (suc more) w source host h =
-      let d = lent w source host in
-      let first = lent_fails w source host h in
-      chosen FailsSo (is_interrupted d.answer) (lent_again more w d.left d.host) d
-      (λ is. again_fails more w d.left d.host first.left) (λ is. first)
-
-  rest_fails : (w : Window) (turns filled rest : ℕ) (source : List Next) (host : Host PageSet) → All Passes source
-      → FailsSo (lent_rest w turns filled rest source host)
-  unfolding lent_rest
-  rest_fails w turns filled zero source host h = record { left = h; failed = λ e is. absurd (cc) }
-  rest_fails w zero filled (suc rest) source host h = record { left = h; failed = λ e is. absurd (cc) }
-  rest_fails w (suc turns) filled (suc rest) source host h =
-      let v = part w filled (suc rest) in
-      let d = lent_again 64 v source host in
-      let first = again_fails 64 v source host h in
-      followed FailsSo d.answer
-      (λ count. if count == 0 then answering (Ok filled) d
-      else lent_rest w turns (filled + count) (suc rest - count) d.left d.host) (λ e. d)
-      (λ count is. let next = lent_rest w turns (filled + count) (suc rest - count) d.left d.host in
-      chosen FailsSo (count == 0) (answering (Ok filled) d) next
-      (λ none. record { left = first.left; failed = λ e was. absurd (cc) })
-      (λ some. rest_fails w turns (filled + count) (suc rest - count) d.left d.host first.left))
-      (λ e is. first)
-
-  dealt_fails : (until_full : Bool) (w : Window) (source : List Next) (host : Host PageSet) → All Passes source
-      → FailsSo (dealt until_full w source host)
-  dealt_fails true w source host h = rest_fails w w.size 0 w.size source host h
-  dealt_fails false w source host h = again_fails 64 w source host h
+  failed-tried : (n : ℕ) (source : List Next) → All Passes source → IfErr (tried n source).answer (λ e. test e ≡ true)
+  failed-tried zero source h = tt
+  failed-tried (suc n) [] h = tt
+  failed-tried (suc n) (Gives bs ∷ rest) h = tt
+  failed-tried (suc n) (Fails bs f ∷ rest) h = All-head Passes (Fails bs f) rest h
 
   module _ {E : Type 0} (failure : VolatileMemoryError → E) (fault : Option E) (until_full : Bool) where
-    -- why an error was answered
-    abbrev pub Why : ℕ → Host PageSet → E → Dealt E → Type 0
-    Why total host e d = d.answer ≡ Err e
-        → ((v : VolatileMemoryError) × (test v ≡ true) × (e ≡ failure v))
-        ⊎ ((fault ≡ Some e) × (total ≡ 0) × (d.host ≡ host))
-
     pub received_refused : (ws : List Window) (total : ℕ) (source : List Next) (host : Host PageSet) (e : E)
         → All (λ (w : Window). 0 < w.size) ws → All Passes source
-        → Why total host e (received failure fault until_full ws total source host)
-    unfolding received
-    received_refused [] total source host e some h = λ is.
-        let r = ended_refused total fault e is in inr (r.0, r.1, refl)
-    received_refused (w ∷ ws) total source host e some h =
-        let d = dealt until_full w source host in
-        let first = dealt_fails until_full w source host h in
-        let here : 0 < w.size = All-head (λ (w : Window). 0 < w.size) w ws some in
-        let others = All-tail (λ (w : Window). 0 < w.size) w ws some in
-        followed (Why total host e) d.answer
-        (λ count. if count == w.size then received failure fault until_full ws (total + count) d.left d.host
-        else answering (Ok (total + count)) d) (λ v. answering (Err (failure v)) d)
-        (λ count was. let next = received failure fault until_full ws (total + count) d.left d.host in
-        chosen (Why total host e) (count == w.size) next (answering (Ok (total + count)) d)
-        (λ whole is. elim (received_refused ws (total + count) d.left d.host e others first.left is) [
-          | inl f ↦ inl f
-          | inr r ↦ (let none : total + count ≡ 0 = r.1 in absurd (grind (arith, nat_tests)))
-        ])
-        (λ part is. absurd (cc)))
-        (λ v was is. inl (v, first.failed v was, cc))
+        → (received failure fault until_full ws total source host).answer ≡ Err e
+        → ((v : VolatileMemoryError) × (test v ≡ true) × (e ≡ failure v))
+        ⊎ ((fault ≡ Some e) × ((received failure fault until_full ws total source host).host ≡ host))
+    received_refused ws total source host e some h is =
+        elim (subst (λ (r : Result ℕ E). IfErr r (Why failure fault (dealt until_full) Kept Good ws total (source, host) new)) is
+        (order_keeps failure fault (dealt until_full) Kept Good ws each total (source, host) h).1) [
+          | inl failed ↦ inl failed
+          | inr met ↦ inr (met.0, ap (λ (x : List Next × Host PageSet). x.1) (met.1 some).1)
+        ]
+      where
+        Kept : List Next × Host PageSet → Type 0
+        Kept x = All Passes x.0
+
+        Good : VolatileMemoryError → Type 0
+        Good v = test v ≡ true
+
+        new : List Next × Host PageSet
+        new = (in_order failure fault (dealt until_full) ws total (source, host)).left
+
+        one : (w : Window) (x : List Next × Host PageSet) → Kept x → KeptBy Kept Good (lent w x)
+        one w x kept =
+            let n = length (bytes_at x.1.blocks (cells_of w)) in (passes-tried n x.0 kept, failed-tried n x.0 kept)
+
+        each : (w : Window) → Contains ws w → (x : List Next × Host PageSet) → Kept x
+            → KeptBy Kept Good (dealt until_full w x)
+        each w among = dealt_keeps Kept Good w (one w) (λ filled some. one (part w filled (w.size - filled))) until_full

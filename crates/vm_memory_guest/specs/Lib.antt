@@ -24,3 +24,4 @@ pub mod Walk
 pub mod Window
 pub mod Dealt
 pub mod Lent
+pub mod lemmas

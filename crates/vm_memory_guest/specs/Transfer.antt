@@ -1,6 +1,6 @@
 -- Transfers between windows of a host and sources or sinks of bytes.
-use Rattle.std.specs.Prelude.{◌≡◌, ◌⊎◌, ℕ, zero, suc, ◌+◌, ◌-◌, ◌≤◌, ◌==◌, Bool, true, false, if◌then◌else◌, min, List, [], ◌∷◌, length, Option, Some, None, Result, Ok, Err, OnOk, MatchBool, MatchResult}
-use Rattle.vm_memory_base.specs.Transfer.{Next, ReadsAs, FillsAs, Sink, OffersAs, SendsAs, Keeps, count_of, is_interrupted}
+use Rattle.std.specs.Prelude.{◌≡◌, ◌⊎◌, ℕ, ◌+◌, ◌-◌, ◌≤◌, ◌==◌, Bool, true, false, if◌then◌else◌, min, List, [], ◌∷◌, length, Option, Some, None, Result, Ok, Err, OnOk, MatchBool, MatchResult}
+use Rattle.vm_memory_base.specs.Transfer.{Answer, Next, ReadsAs, FillsAs, Sink, OffersAs, SendsAs, Keeps, count_of, Stop, counted_as, Again, WholeOf}
 use Rattle.vm_memory_base.specs.declared.io.ReadExactFault.{ReadExactFault}
 use Rattle.vm_memory_base.specs.declared.io.VolatileMemoryError.{VolatileMemoryError}
 use Rattle.vm_memory_guest.specs.Answer.{Reach}
@@ -10,7 +10,7 @@ use Rattle.vm_memory_guest.specs.Typed.{answered}
 use Rattle.vm_memory_guest.specs.Window.{Window, cells_of, part, offset_of, subslice_of, MarksWindow}
 
 -- how many bytes of so many that were lent to a source are marked: those that it told, or all after a failure
-abbrev pub marked_of : ℕ → Result ℕ VolatileMemoryError → ℕ
+abbrev pub marked_of : ℕ → Answer → ℕ
 marked_of size (Ok count) = count
 marked_of size (Err e) = size
 
@@ -20,7 +20,7 @@ touched_of size (Ok filled) = size
 touched_of size (Err fault) = fault.touched
 
 -- and how many it filled
-abbrev pub filled_of : ℕ → Result (Unit {0}) ReadExactFault → Result ℕ VolatileMemoryError
+abbrev pub filled_of : ℕ → Result (Unit {0}) ReadExactFault → Answer
 filled_of size (Ok filled) = Ok size
 filled_of size (Err fault) = Err fault.error
 
@@ -36,79 +36,56 @@ abbrev pub filling : Bool → Moving
 filling true = UntilWhole
 filling false = Once
 
-module _ {B : Type 0} (marks : B → ℕ → ℕ → B → Type 0) where
-  -- a window is lent to a source for one try: its bytes are then these, and what the try filled, or all of
-  -- the window after a failure, is marked at once
-  pub record Lends (w : Window) (source : Option (List Next)) (old : Host B) (answer : Result ℕ VolatileMemoryError)
-      (after : Option (List Next)) (new : Host B) : Type 0 where
-    pub bytes : List ℕ
-    pub size : length bytes ≡ w.size
-    pub tried : ReadsAs source (bytes_at old.blocks (cells_of w)) answer bytes after
-    pub marked : MarksWindow marks (front w (marked_of w.size answer))
-        (record old { blocks = written (cells_of w) bytes old.blocks }) new
-
-  -- and again after an interruption, at most so many times in a row
-  unfoldable pub LendsAgain : Window → ℕ → Option (List Next) → Host B → Result ℕ VolatileMemoryError
-      → Option (List Next) → Host B → Type 0
-  LendsAgain w zero source old answer after new = Lends w source old answer after new
-  LendsAgain w (suc more) source old answer after new =
-      (tried : Result ℕ VolatileMemoryError) × (next : Option (List Next)) × (mid : Host B)
-      × Lends w source old tried next mid
-      × MatchBool (is_interrupted tried) (LendsAgain w more next mid answer after new)
-      ((answer ≡ tried) × (after ≡ next) × (new ≡ mid))
-
-  -- the rest of a window behind the bytes that are filled is lent, again and again, until it is full or the
-  -- source gives none
-  unfoldable pub LendsRest : Window → (turns filled rest : ℕ) → Option (List Next) → Host B
-      → Result ℕ VolatileMemoryError → Option (List Next) → Host B → Type 0
-  LendsRest w turns filled zero source old answer after new =
-      (answer ≡ Ok filled) × (after ≡ source) × (new ≡ old)
-  LendsRest w zero filled (suc rest) source old answer after new =
-      (answer ≡ Ok filled) × (after ≡ source) × (new ≡ old)
-  LendsRest w (suc turns) filled (suc rest) source old answer after new =
-      (tried : Result ℕ VolatileMemoryError) × (next : Option (List Next)) × (mid : Host B)
-      × LendsAgain (part w filled (suc rest)) 64 source old tried next mid
-      × MatchResult tried
-      (λ count. MatchBool (count == 0) ((answer ≡ Ok filled) × (after ≡ next) × (new ≡ mid))
-      (LendsRest w turns (filled + count) (suc rest - count) next mid answer after new))
-      (λ e. (answer ≡ Err e) × (after ≡ next) × (new ≡ mid))
-
-  -- a window is lent to a source that fills it by itself: its bytes are then these, and all of the window, or
-  -- what the source touched where it failed, is marked at once
-  pub record LendsWhole (w : Window) (known : Option ℕ) (source : Option (List Next)) (old : Host B)
-      (answer : Result ℕ VolatileMemoryError) (after : Option (List Next)) (new : Host B) : Type 0 where
-    pub bytes : List ℕ
-    pub filled : Result (Unit {0}) ReadExactFault
-    pub size : length bytes ≡ w.size
-    pub tried : FillsAs known source (bytes_at old.blocks (cells_of w)) filled bytes after
-    pub told : answer ≡ filled_of w.size filled
-    pub marked : MarksWindow marks (front w (touched_of w.size filled))
-        (record old { blocks = written (cells_of w) bytes old.blocks }) new
-
 -- a source beside a host
 abbrev pub beside : {S B : Type 0} → S → Host B → S × Host B
 beside source host = (source, host)
 
 -- a source and a host, before and after a window was lent
+module _ {S B : Type 0} (source : S → Option (List Next)) (marks : B → ℕ → ℕ → B → Type 0) where
+  -- for one try: the window's bytes are then these, and what the try filled, or all of the window after a
+  -- failure, is marked at once
+  pub record Lends (w : Window) (old : S × Host B) (answer : Answer) (new : S × Host B) : Type 0 where
+    pub bytes : List ℕ
+    pub size : length bytes ≡ w.size
+    pub tried : ReadsAs (source old.0) (bytes_at old.1.blocks (cells_of w)) answer bytes (source new.0)
+    pub marked : MarksWindow marks (front w (marked_of w.size answer))
+        (record old.1 { blocks = written (cells_of w) bytes old.1.blocks }) new.1
+
+  -- by tries of what is left of it, until it is full or the source gives none
+  pub record LendsRest (w : Window) (old : S × Host B) (answer : Answer) (new : S × Host B) : Type 0 where
+    pub count : ℕ
+    pub stop : Stop
+    pub tried : WholeOf (λ filled. Again (Lends (part w filled (w.size - filled)))) w.size old count stop new
+    pub told : answer ≡ counted_as count stop
+
 module _ {S B : Type 0} (source : S → Option (List Next)) (known : S → Option ℕ) (marks : B → ℕ → ℕ → B → Type 0) where
-  abbrev pub Fills : Moving → Window → S × Host B → Result ℕ VolatileMemoryError → S × Host B → Type 0
-  Fills Once w old answer new = LendsAgain marks w 64 (source old.0) old.1 answer (source new.0) new.1
-  Fills UntilWhole w old answer new =
-      LendsRest marks w w.size 0 w.size (source old.0) old.1 answer (source new.0) new.1
-  Fills Alone w old answer new =
-      LendsWhole marks w (known old.0) (source old.0) old.1 answer (source new.0) new.1
+  -- to be filled by the source alone: its bytes are then these, and all of the window, or what the source
+  -- touched where it failed, is marked at once
+  pub record LendsWhole (w : Window) (old : S × Host B) (answer : Answer) (new : S × Host B) : Type 0 where
+    pub bytes : List ℕ
+    pub filled : Result (Unit {0}) ReadExactFault
+    pub size : length bytes ≡ w.size
+    pub tried : FillsAs (known old.0) (source old.0) (bytes_at old.1.blocks (cells_of w)) filled bytes (source new.0)
+    pub told : answer ≡ filled_of w.size filled
+    pub marked : MarksWindow marks (front w (touched_of w.size filled))
+        (record old.1 { blocks = written (cells_of w) bytes old.1.blocks }) new.1
+
+  abbrev pub Fills : Moving → Window → S × Host B → Answer → S × Host B → Type 0
+  Fills Once w old answer new = Again (Lends source marks w) old answer new
+  Fills UntilWhole w old answer new = LendsRest source marks w old answer new
+  Fills Alone w old answer new = LendsWhole w old answer new
 
 -- a sink, before and after the bytes of a window were offered
 module _ {S : Type 0} (sink : S → Option Sink) (taken : S → Option (List ℕ)) (wants : S → Type 0)
     (blocks : List (List ℕ)) where
   -- by one try
-  pub record Offers (w : Window) (old : S) (answer : Result ℕ VolatileMemoryError) (new : S) : Type 0 where
-    pub tried : OffersAs (wants old) 64 (sink old) w.size answer (sink new)
+  pub record Offers (w : Window) (old : S) (answer : Answer) (new : S) : Type 0 where
+    pub tried : OffersAs (wants old) (sink old) w.size answer (sink new)
     pub keeps : Keeps (taken old) (bytes_at blocks (cells_of w)) (count_of answer) (taken new)
     pub wanted : wants new → wants old
 
   -- until all are taken
-  pub record Sends (w : Window) (old : S) (answer : Result ℕ VolatileMemoryError) (new : S) : Type 0 where
+  pub record Sends (w : Window) (old : S) (answer : Answer) (new : S) : Type 0 where
     pub count : ℕ
     pub sent : Result (Unit {0}) VolatileMemoryError
     pub within : count ≤ w.size
@@ -118,7 +95,7 @@ module _ {S : Type 0} (sink : S → Option Sink) (taken : S → Option (List ℕ
     pub told : answer ≡ answered (λ all. w.size) sent
     pub wanted : wants new → wants old
 
-  abbrev pub Takes : Moving → Window → S → Result ℕ VolatileMemoryError → S → Type 0
+  abbrev pub Takes : Moving → Window → S → Answer → S → Type 0
   Takes Once = Offers
   Takes UntilWhole = Sends
   Takes Alone = Sends
@@ -131,11 +108,11 @@ ended total (Some e) = if total == 0 then Err e else Ok total
 -- windows are moved one after the other, up to the first that is not moved whole: how many bytes that were,
 -- or the error of the source or the sink
 module _ {X E : Type 0} (told : VolatileMemoryError → E) (fault : Option E)
-    (Moves : Window → X → Result ℕ VolatileMemoryError → X → Type 0) where
+    (Moves : Window → X → Answer → X → Type 0) where
   unfoldable pub InOrder : List Window → ℕ → X → Result ℕ E → X → Type 0
   InOrder [] total old answer new = (answer ≡ ended total fault) × (new ≡ old)
   InOrder (w ∷ ws) total old answer new =
-      (moved : Result ℕ VolatileMemoryError) × (mid : X) × Moves w old moved mid
+      (moved : Answer) × (mid : X) × Moves w old moved mid
       × MatchResult moved
       (λ count. MatchBool (count == w.size) (InOrder ws (total + count) mid answer new)
       ((answer ≡ Ok (total + count)) × (new ≡ mid)))
@@ -147,10 +124,13 @@ module _ {E : Type 0} where
   all_of partial n (Ok total) = if total == n then Ok tt else Err (partial n total)
   all_of partial n (Err e) = Err e
 
-  -- a transfer was made. Or it answered that there was no memory, where it may want some, and asked and
-  -- changed nothing
-  abbrev pub Transfers : {T X : Type 0} → E → Type 0 → X → Result T E → X → Type 0 → Type 0
-  Transfers memory may_want old answer new made = ((answer ≡ Err memory) × may_want × (new ≡ old)) ⊎ made
+  -- a transfer moved the windows that are to be moved, and how that ended is told so. Or it answered that there
+  -- was no memory, where it may want some, and asked and changed nothing
+  abbrev pub Transfers : {T X : Type 0} → E → Type 0 → (VolatileMemoryError → E) → Reach E
+      → (Window → X → Answer → X → Type 0) → (Result ℕ E → Result T E) → X → Result T E → X
+      → Type 0
+  Transfers memory may_want failure r Moves told old answer new = ((answer ≡ Err memory) × may_want × (new ≡ old))
+      ⊎ ((total : Result ℕ E) × (answer ≡ told total) × InOrder failure r.fault Moves r.windows 0 old total new)
 
   -- one window, or why there is none
   abbrev pub only : Result Window E → Reach E

@@ -1,5 +1,5 @@
 //! Transfers into and out of small memories that are written out, by computation.
-#![tactic(auto, unfolding(vm_memory_base::specs::Transfer::offers, vm_memory_base::specs::Transfer::sent, crate::specs::Access::path, crate::specs::Access::first_fault, crate::specs::Access::stretches, crate::specs::Dealt::received, crate::specs::Dealt::lent_again, crate::specs::Dealt::lent_rest, crate::specs::Dealt::given_out))]
+#![tactic(auto, unfolding(vm_memory_base::specs::Transfer::again_upto, vm_memory_base::specs::Transfer::rest_of, crate::specs::Access::path, crate::specs::Access::first_fault, crate::specs::Access::stretches, crate::specs::Dealt::in_order))]
 
 ghost use Rattle.std.specs.Prelude.{◌≡◌, ◌++◌, false, true, [], ◌∷◌, replicate, None, Ok, Err, option_map};
 ghost use Rattle.std.specs.declared.io.ErrorKind.TheVariants.{Interrupted, Other, WriteZero};

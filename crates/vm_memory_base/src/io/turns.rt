@@ -1,12 +1,12 @@
 //! Tries again after interruptions.
 ghost use Rattle.std.specs.Prelude.{◌≡◌, ◌≤◌, length, IfOk};
-ghost use Rattle.vm_memory_base.specs.Transfer.{is_interrupted, TriesAs, OffersAs, Keeps, count_of};
+ghost use Rattle.vm_memory_base.specs.Transfer.{is_interrupted, Reads, Again, OffersAs, Keeps, count_of};
 
 use super::{ReadVolatile, VolatileMemoryError, VolatileMemoryResult, WriteVolatile};
 use std::io::ErrorKind;
 
-// How many times in a row a try is made again after an interruption.
-const RETRIES: usize = 64;
+/// How many times in a row a try is made again after an interruption.
+pub const RETRIES: usize = 64;
 
 /// Whether a try was interrupted.
 pub fn is_interrupted<T>(answer: &VolatileMemoryResult<T>) -> bool
@@ -18,34 +18,48 @@ pub fn is_interrupted<T>(answer: &VolatileMemoryResult<T>) -> bool
     }
 }
 
-// Reads, and again after each interruption, at most 64 times. An interruption before the last read sets the
-// flag.
+// Reads once. An interruption sets the flag.
+fn read_once<S: ReadVolatile>(
+    source: &mut S,
+    buf: &mut [u8],
+    interrupted: &mut bool,
+) -> VolatileMemoryResult<usize>
+    ensures count { IfOk result (λ count. count ≤ length buf.old) }
+    ensures reads { Reads S.source (source.old, buf.old, interrupted.old) result
+        (source.new, buf.new, interrupted.new) }
+{
+    let answer = source.read_volatile(buf);
+    if is_interrupted(&answer) {
+        *interrupted = true;
+    }
+    answer
+}
+
+// Reads, and again after each interruption, at most 64 times.
 pub(super) fn read_again<S: ReadVolatile>(
     source: &mut S,
     buf: &mut [u8],
     interrupted: &mut bool,
 ) -> VolatileMemoryResult<usize>
     ensures count { IfOk result (λ count. count ≤ length buf.old) }
-    ensures tells { TriesAs 64 (S.source source.old) interrupted.old buf.old result interrupted.new buf.new
-        (S.source source.new) }
+    ensures reads { Again (Reads S.source) (source.old, buf.old, interrupted.old) result
+        (source.new, buf.new, interrupted.new) }
 {
     let mut left = RETRIES;
     while left > 0 {
-        let answer = source.read_volatile(buf);
+        let answer = read_once(source, buf, interrupted);
         if !is_interrupted(&answer) {
             return answer;
         }
-        *interrupted = true;
         left -= 1;
     }
-    source.read_volatile(buf)
+    read_once(source, buf, interrupted)
 }
 
 /// Writes, and again after each interruption, at most 64 times in a row.
 pub fn offer_again<S: WriteVolatile>(sink: &mut S, buf: &[u8]) -> VolatileMemoryResult<usize>
     ensures count { IfOk result (λ count. count ≤ length buf.now) }
-    ensures tells { OffersAs (S.may_want sink.old) 64 (S.sink sink.old) (length buf.now) result
-        (S.sink sink.new) }
+    ensures tells { OffersAs (S.may_want sink.old) (S.sink sink.old) (length buf.now) result (S.sink sink.new) }
     ensures keeps { Keeps (S.taken sink.old) buf.now (count_of result) (S.taken sink.new) }
     ensures wants { S.may_want sink.new → S.may_want sink.old }
 {

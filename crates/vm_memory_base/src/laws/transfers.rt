@@ -1,8 +1,8 @@
 //! Sources and sinks in small cases, by computation.
-#![tactic(auto, unfolding(crate::specs::Transfer::tries, crate::specs::Transfer::filled, crate::specs::Transfer::offers, crate::specs::Transfer::sent))]
+#![tactic(auto, unfolding(crate::specs::Transfer::again_upto, crate::specs::Transfer::rest_of))]
 
 ghost use Rattle.std.specs.Prelude.{◌≡◌, ◌++◌, false, [], ◌∷◌, replicate, Some, None};
-ghost use Rattle.vm_memory_base.specs.Transfer.{Gives, Fails, tried, tries, filled_whole, Takes, Refuses, offered, offers, sent};
+ghost use Rattle.vm_memory_base.specs.Transfer.{Gives, Fails, tried, again, lending, lent_once, filled_whole, Takes, Refuses, offered, Whole, Dry, sent, sent_as};
 ghost use Rattle.vm_memory_base.specs.declared.io.VolatileMemoryError.TheVariants.{IOError};
 ghost use Rattle.std.specs.declared.io.ErrorKind.TheVariants.{Interrupted, Other, UnexpectedEof, WriteZero};
 
@@ -20,11 +20,11 @@ pub fn what_sources_give()
     ensures nothing_asked { tried 0 (Fails (7 ∷ []) (IOError Other) ∷ [])
         ≡ record { bytes = []; answer = Ok 0; left = Fails (7 ∷ []) (IOError Other) ∷ [] } }
     ensures interruptions { let source = replicate 64 (Fails [] (IOError Interrupted)) ++ Gives (1 ∷ 2 ∷ []) ∷ [] in
-        (tries 64 false (0 ∷ 0 ∷ []) source).answer ≡ Ok 2 }
+        (again lent_once (lending (0 ∷ 0 ∷ []) source)).answer ≡ Ok 2 }
     ensures one_more { let source = replicate 65 (Fails [] (IOError Interrupted)) ++ Gives (1 ∷ 2 ∷ []) ∷ [] in
-        (tries 64 false (0 ∷ 0 ∷ []) source).answer ≡ Err (IOError Interrupted) }
-    ensures scribbled { (tries 64 false (0 ∷ 0 ∷ []) (Fails (9 ∷ []) (IOError Interrupted) ∷ [])).buffer
-        ≡ 9 ∷ 0 ∷ [] }
+        (again lent_once (lending (0 ∷ 0 ∷ []) source)).answer ≡ Err (IOError Interrupted) }
+    ensures scribbled { let source = Fails (9 ∷ []) (IOError Interrupted) ∷ [] in
+        (again lent_once (lending (0 ∷ 0 ∷ []) source)).left.buffer ≡ 9 ∷ 0 ∷ [] }
     ensures filled { filled_whole None (0 ∷ 0 ∷ 0 ∷ []) (Gives (1 ∷ []) ∷ Gives (2 ∷ 3 ∷ 4 ∷ []) ∷ [])
         ≡ record { buffer = 1 ∷ 2 ∷ 3 ∷ []; answer = Ok tt; left = Gives (4 ∷ []) ∷ [] } }
     ensures ends { (filled_whole None (0 ∷ 0 ∷ 0 ∷ []) (Gives (1 ∷ []) ∷ [])).answer
@@ -57,12 +57,12 @@ pub fn what_sinks_take()
         ≡ record { answer = Ok 5; left = record { next = []; room = None } } }
     ensures refuses { offered 5 (record { next = Refuses (IOError Other) ∷ []; room = Some 4 })
         ≡ record { answer = Err (IOError Other); left = record { next = []; room = Some 4 } } }
-    ensures sent { sent 8 0 8 (record { next = Takes 3 ∷ []; room = None })
-        ≡ record { count = 8; answer = Ok tt; left = record { next = []; room = None } } }
-    ensures stops { sent 8 0 8 (record { next = Takes 3 ∷ Takes 0 ∷ []; room = None })
-        ≡ record { count = 3; answer = Err (IOError WriteZero); left = record { next = []; room = None } } }
+    ensures sent { sent 8 (record { next = Takes 3 ∷ []; room = None })
+        ≡ record { count = 8; stop = Whole; left = record { next = []; room = None } } }
+    ensures stops { sent 8 (record { next = Takes 3 ∷ Takes 0 ∷ []; room = None })
+        ≡ record { count = 3; stop = Dry; left = record { next = []; room = None } } }
     ensures interruptions { let next = replicate 64 (Refuses (IOError Interrupted)) in
-        (offers 64 2 (record { next = next; room = None })).answer ≡ Ok 2 }
+        (again (offered 2) (record { next = next; room = None })).answer ≡ Ok 2 }
     ensures one_more { let next = replicate 65 (Refuses (IOError Interrupted)) in
-        (offers 64 2 (record { next = next; room = None })).answer ≡ Err (IOError Interrupted) }
+        (again (offered 2) (record { next = next; room = None })).answer ≡ Err (IOError Interrupted) }
 {}

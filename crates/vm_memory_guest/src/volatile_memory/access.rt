@@ -6,7 +6,7 @@ ghost use Rattle.vm_memory_base.specs.declared.iotlb.Permissions.TheVariants.{Re
 ghost use Rattle.vm_memory_guest.specs.Host.{shape_of, bytes_at, Holds};
 ghost use Rattle.vm_memory_guest.specs.Window.{Window, span, cells, cells_of, Writes};
 ghost use Rattle.vm_memory_guest.specs.Answer.{Reach, Outcome, counted, exactly, filled};
-ghost use Rattle.vm_memory_guest.specs.Transfer.{Moving, Once, UntilWhole, Fills, Takes, InOrder, Transfers, all_of, beside};
+ghost use Rattle.vm_memory_guest.specs.Transfer.{Moving, Once, UntilWhole, Fills, Takes, Transfers, all_of, beside};
 ghost use Rattle.vm_memory_guest.specs.Typed.{answered, given};
 ghost use Rattle.vm_memory_base.specs.declared.io.VolatileMemoryError.{VolatileMemoryError};
 
@@ -187,9 +187,8 @@ pub trait Bytes<A>: Named {
     ) -> Result<usize, Self::E>
         requires { Holds (shape_of host.old) (Self.names self.now) }
         ensures answer { let r = moved self.now host.old.tables addr count Write in
-            Transfers no_memory (may_want self.now) (beside src.old host.old) result (beside src.new host.new)
-            (InOrder failure r.fault (Fills F.source F.known_left B.marks Once) r.windows 0
-            (beside src.old host.old) result (beside src.new host.new)) }
+            Transfers no_memory (may_want self.now) failure r (Fills F.source F.known_left B.marks Once)
+            (λ total. total) (beside src.old host.old) result (beside src.new host.new) }
         ensures at_most { IfOk result (λ total. total ≤ count) }
         ensures shape { shape_of host.new ≡ shape_of host.old };
 
@@ -204,10 +203,8 @@ pub trait Bytes<A>: Named {
     ) -> Result<(), Self::E>
         requires { Holds (shape_of host.old) (Self.names self.now) }
         ensures answer { let r = moved_whole self.now host.old.tables addr count Write in
-            Transfers no_memory (may_want self.now) (beside src.old host.old) result (beside src.new host.new)
-            ((total : Result ℕ Self.E) × (result ≡ all_of partial count total)
-            × InOrder failure r.fault (Fills F.source F.known_left B.marks filling) r.windows 0
-            (beside src.old host.old) total (beside src.new host.new)) }
+            Transfers no_memory (may_want self.now) failure r (Fills F.source F.known_left B.marks filling)
+            (all_of partial count) (beside src.old host.old) result (beside src.new host.new) }
         ensures shape { shape_of host.new ≡ shape_of host.old };
 
     /// Offers a sink the bytes of the windows of at most `count` bytes, one window after the other, and answers
@@ -222,9 +219,8 @@ pub trait Bytes<A>: Named {
     ) -> Result<usize, Self::E>
         requires { Holds (shape_of host.now) (Self.names self.now) }
         ensures answer { let r = moved self.now host.now.tables addr count Read in
-            Transfers no_memory (may_want self.now) dst.old result dst.new
-            (InOrder failure r.fault (Takes F.sink F.taken F.may_want host.now.blocks sending) r.windows 0
-            dst.old result dst.new) }
+            Transfers no_memory (may_want self.now) failure r
+            (Takes F.sink F.taken F.may_want host.now.blocks sending) (λ total. total) dst.old result dst.new }
         ensures at_most { IfOk result (λ total. total ≤ count) };
 
     /// Offers a sink `count` bytes until it has taken them. Where not all bytes are there, the error says how
@@ -238,10 +234,9 @@ pub trait Bytes<A>: Named {
     ) -> Result<(), Self::E>
         requires { Holds (shape_of host.now) (Self.names self.now) }
         ensures answer { let r = moved_whole self.now host.now.tables addr count Read in
-            Transfers no_memory (may_want self.now) dst.old result dst.new
-            ((total : Result ℕ Self.E) × (result ≡ all_of partial count total)
-            × InOrder failure r.fault (Takes F.sink F.taken F.may_want host.now.blocks UntilWhole) r.windows 0
-            dst.old total dst.new) };
+            Transfers no_memory (may_want self.now) failure r
+            (Takes F.sink F.taken F.may_want host.now.blocks UntilWhole) (all_of partial count)
+            dst.old result dst.new };
 
     /// A load or a store of so many bytes takes as many.
     ghost place_has_all: { (m : Self) (tables : List Table) (addr : A) (n : ℕ) (access : Permissions)

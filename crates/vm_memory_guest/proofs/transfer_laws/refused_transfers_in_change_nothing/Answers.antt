@@ -1,4 +1,3 @@
-use Rattle.std.proofs.Common.{inl, inr}
 use Rattle.vm_memory_guest.specs.Access.{windows}
 use Rattle.vm_memory_guest.specs.Error.{of_window}
 use Rattle.vm_memory_guest.proofs.LentLaws.{received_refused, some-windows}
@@ -6,7 +5,4 @@ use Rattle.vm_memory_guest.proofs.transfer_laws.refused_transfers_in_change_noth
 
 pub returns : goal.returns
 returns c test fault until_full xs next host e passes is =
-    elim (received_refused test of_window fault until_full (windows xs) 0 next host e (some-windows xs) passes is) [
-      | inl failed ↦ inl failed
-      | inr kept ↦ inr (kept.0, kept.2)
-    ]
+    received_refused test of_window fault until_full (windows xs) 0 next host e (some-windows xs) passes is

@@ -1,8 +1,24 @@
+use Rattle.std.proofs.Common.{inl, inr, refl}
+use Rattle.vm_memory_guest.specs.Dealt.{dealt}
+use Rattle.vm_memory_guest.specs.Dirt.{with_pages}
 use Rattle.vm_memory_guest.specs.Error.{of_window}
-use Rattle.vm_memory_guest.proofs.DealtLaws.{order_is}
+use Rattle.vm_memory_guest.specs.Transfer.{Fills, filling}
+use Rattle.vm_memory_guest.proofs.DealtLaws.{IsDealt, fills_does}
+use Rattle.vm_memory_guest.specs.lemmas.Orders.{order_does}
 use Rattle.vm_memory_guest.proofs.transfer_laws.transfers_in_are_computed.Goals as goal
 
 pub returns : goal.returns
 returns g c until_full fault ws total next source after old new answer tells so =
-    let is = order_is g.B.Bitmap.marks g.B.ExactBitmap.pages g.met.B.ExactBitmap.marks_pages c.mark_is_by_bytes.ensures.empty g.S.ReadVolatile.source g.S.ReadVolatile.known_left of_window fault until_full ws total next (source, old) answer (after, new) tells so in
-    (is.answers, is.leaves, is.hosts)
+    let reads = g.S.ReadVolatile.source in
+    let known = g.S.ReadVolatile.known_left in
+    let marks = g.B.Bitmap.marks in
+    let pages = g.B.ExactBitmap.pages in
+    let exact = g.met.B.ExactBitmap.marks_pages in
+    let empty = c.mark_is_by_bytes.ensures.empty in
+    elim (order_does of_window fault (IsDealt reads marks pages exact empty) (λ x. ⊥)
+    (Fills reads known marks (filling until_full)) (dealt until_full)
+    (fills_does reads marks pages exact empty known until_full) (λ w x z moved m no. no) ws total (source, old) answer (after, new)
+    (next, with_pages pages old) (tells, refl) so) [
+      | inl wanted ↦ absurd wanted.1
+      | inr does ↦ (does.0, does.1.0, does.1.1)
+    ]

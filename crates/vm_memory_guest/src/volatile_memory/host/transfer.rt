@@ -1,17 +1,16 @@
 //! Windows that are lent to sources of bytes.
 ghost use Rattle.std.specs.Prelude.{◌≡◌, ℕ, ◌+◌, ◌<◌, ◌≤◌, List, length, IfOk, IfErr};
-ghost use Rattle.vm_memory_base.specs.Transfer.{ReadsAs, FillsAs};
+ghost use Rattle.vm_memory_base.specs.Transfer.{ReadsAs, FillsAs, Again};
 ghost use Rattle.vm_memory_guest.specs.Host.{shape_of, Holds, block_at, bytes_at, cells_from, written};
 ghost use Rattle.vm_memory_guest.specs.Inside.{blocks_of};
-ghost use Rattle.vm_memory_guest.specs.Transfer.{Lends, LendsAgain, LendsRest, LendsWhole, Fills, filling, marked_of, touched_of};
+ghost use Rattle.vm_memory_guest.specs.Transfer.{Lends, LendsRest, LendsWhole, Fills, filling, marked_of, touched_of};
 ghost use Rattle.vm_memory_guest.specs.Window.{window_names, cells_of};
 
 use super::HostMemory;
 use crate::volatile_memory::slice::VolatileSlice;
-use vm_memory_base::{Bitmap, ReadExactFault, ReadVolatile, VolatileMemoryResult, is_interrupted};
-
-// How many times in a row a try is made again after an interruption.
-const RETRIES: usize = 64;
+use vm_memory_base::{
+    Bitmap, RETRIES, ReadExactFault, ReadVolatile, VolatileMemoryResult, is_interrupted,
+};
 
 // Lends a source some bytes of a block, for one try.
 fn read_in<S: ReadVolatile>(
@@ -104,8 +103,8 @@ impl<B> HostMemory<B> {
         B: Bitmap,
         requires { Holds (shape_of self.old) (window_names window.now) }
         ensures count { IfOk result (λ count. count ≤ window.now.size) }
-        ensures lends { Lends B.marks window.now (S.source source.old) self.old result (S.source source.new)
-            self.new }
+        ensures lends { Lends S.source B.marks window.now (source.old, self.old) result
+            (source.new, self.new) }
         ensures shape { shape_of self.new ≡ shape_of self.old }
     {
         let answer = self.read_place(window, source);
@@ -125,8 +124,8 @@ impl<B> HostMemory<B> {
         B: Bitmap,
         requires { Holds (shape_of self.old) (window_names window.now) }
         ensures count { IfOk result (λ count. count ≤ window.now.size) }
-        ensures lends { LendsAgain B.marks window.now 64 (S.source source.old) self.old result
-            (S.source source.new) self.new }
+        ensures lends { Again (Lends S.source B.marks window.now) (source.old, self.old) result
+            (source.new, self.new) }
         ensures shape { shape_of self.new ≡ shape_of self.old }
     {
         let mut left = RETRIES;
@@ -151,8 +150,8 @@ impl<B> HostMemory<B> {
         B: Bitmap,
         requires { Holds (shape_of self.old) (window_names window.now) }
         ensures count { IfOk result (λ count. count ≤ window.now.size) }
-        ensures lends { LendsRest B.marks window.now window.now.size 0 window.now.size
-            (S.source source.old) self.old result (S.source source.new) self.new }
+        ensures lends { LendsRest S.source B.marks window.now (source.old, self.old) result
+            (source.new, self.new) }
         ensures shape { shape_of self.new ≡ shape_of self.old }
     {
         let size = window.len();
@@ -197,8 +196,8 @@ impl<B> HostMemory<B> {
         B: Bitmap,
         requires { Holds (shape_of self.old) (window_names window.now) }
         ensures count { IfOk result (λ count. count ≡ window.now.size) }
-        ensures lends { LendsWhole B.marks window.now (S.known_left source.old) (S.source source.old) self.old
-            result (S.source source.new) self.new }
+        ensures lends { LendsWhole S.source S.known_left B.marks window.now (source.old, self.old) result
+            (source.new, self.new) }
         ensures shape { shape_of self.new ≡ shape_of self.old }
     {
         let filled = self.fill_place(window, source);

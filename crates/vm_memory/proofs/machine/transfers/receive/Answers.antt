@@ -55,8 +55,8 @@ returns-clause-received g c =
           )
       | inr so ↦
           (let is = c.transfers_in_are_computed.ensures false fault (windows reached.path) 0 (map next_of c.args.steps.now)
-          c.new-source.result c.read_volatile_from.new.src host new c.read_volatile_from.result
-          (ap (λ (s : List Next). Some s) c.new-source.ensures) so in
+          c.new-source.result c.read_volatile_from.new.src host new so.0
+          (ap (λ (s : List Next). Some s) c.new-source.ensures) so.2 in
           inl
-          (ap₂ (λ (r : Reply) (h : Host PageSet). (r, h)) (c.counted.ensures ∙ ap (reply_of reply.Count) is.0) is.2))
+          (ap₂ (λ (r : Reply) (h : Host PageSet). (r, h)) (c.counted.ensures ∙ ap (reply_of reply.Count) (so.1 ∙ is.0)) is.2))
     ])

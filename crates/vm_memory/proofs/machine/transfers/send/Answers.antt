@@ -75,13 +75,11 @@ returns g c =
             inl wanted.1,
           )
       | inr so ↦
-          (let sent_so = sent_is c.windows_are_the_path.ensures.bytes m before a n each c.args.steps.now _
-          c.write_volatile_to.result sent.taken
-          (c.transfers_out_are_computed.ensures fault ws 0 state sink sent host.blocks c.write_volatile_to.result tells so)
-          (c.sinks_take_what_is_computed.ensures fault ws 0 state [] sink sent host.blocks c.write_volatile_to.result tells
-          keeps so) in
+          (let sent_so = sent_is c.windows_are_the_path.ensures.bytes m before a n each c.args.steps.now _ so.0 sent.taken
+          (c.transfers_out_are_computed.ensures fault ws 0 state sink sent host.blocks so.0 tells so.2)
+          (c.sinks_take_what_is_computed.ensures fault ws 0 state [] sink sent host.blocks so.0 tells keeps so.2) in
           inl
           (c.with_taken-2.ensures
           ∙ ap₂ beside_taken (c.into_taken-2.ensures ∙ sent_so.1)
-          (c.counted-reply.ensures ∙ ap (reply_of reply.Count) sent_so.0)))
+          (c.counted-reply.ensures ∙ ap (reply_of reply.Count) (so.1 ∙ sent_so.0))))
     ])

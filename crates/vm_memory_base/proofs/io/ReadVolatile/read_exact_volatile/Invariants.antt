@@ -1,12 +1,14 @@
-use Rattle.std.proofs.Common.{◌-◌, ◌≤◌, length}
-use Rattle.vm_memory_base.proofs.TransferLemmas.{FilledLeft}
+use Rattle.std.proofs.Common.{◌-◌, ◌≤◌, length, false}
+use Rattle.vm_memory_base.proofs.TransferLemmas.{ReadsBehind}
+use Rattle.vm_memory_base.specs.lemmas.Turns.{RestLeft}
 use Rattle.vm_memory_base.proofs.io.ReadVolatile.read_exact_volatile.Given as goal
 
 abbrev pub invariant-loop-done : goal.invariant-loop-done
 invariant-loop-done g l =
     record {
       within : l.done ≤ length l.buf;
-      tells : FilledLeft (g.Self.ReadVolatile.source l.initial.self) l.initial.buf l.done (g.Self.ReadVolatile.source l.self) l.interrupted l.buf;
+      rest : RestLeft (ReadsBehind g.Self.ReadVolatile.source) (length l.initial.buf) (l.initial.self, l.initial.buf, false)
+          l.done (l.self, l.buf, l.interrupted);
     }
 
 abbrev pub decreases-loop-done : goal.decreases-loop-done

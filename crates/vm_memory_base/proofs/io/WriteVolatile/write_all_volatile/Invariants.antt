@@ -1,15 +1,14 @@
 use Rattle.std.proofs.Common.{◌-◌, ◌≤◌, length}
-use Rattle.vm_memory_base.specs.Transfer.{Keeps}
-use Rattle.vm_memory_base.proofs.TransferLemmas.{SentLeft}
+use Rattle.vm_memory_base.proofs.TransferLemmas.{OffersBehind}
+use Rattle.vm_memory_base.specs.lemmas.Turns.{RestLeft}
 use Rattle.vm_memory_base.proofs.io.WriteVolatile.write_all_volatile.Given as goal
 
 abbrev pub invariant-loop-done : goal.invariant-loop-done
 invariant-loop-done g l =
     record {
       within : l.done ≤ length l.buf;
-      tells : SentLeft (g.Self.WriteVolatile.sink l.initial.self) (length l.buf) l.done (g.Self.WriteVolatile.sink l.self);
-      keeps : Keeps (g.Self.WriteVolatile.taken l.initial.self) l.buf l.done (g.Self.WriteVolatile.taken l.self);
-      wants : g.Self.WriteVolatile.may_want l.self → g.Self.WriteVolatile.may_want l.initial.self;
+      rest : RestLeft (OffersBehind g.Self.WriteVolatile.sink g.Self.WriteVolatile.taken g.Self.WriteVolatile.may_want l.buf)
+          (length l.buf) l.initial.self l.done l.self;
     }
 
 abbrev pub decreases-loop-done : goal.decreases-loop-done

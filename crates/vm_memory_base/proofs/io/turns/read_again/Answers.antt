@@ -1,26 +1,22 @@
-use Rattle.std.proofs.Common.{sym, ◌∙◌}
-use Rattle.vm_memory_base.proofs.TransferLemmas.{tries_first, tries_more, tries_done, tries_spent}
+use Rattle.std.proofs.Common.{◌∙◌, inl, inr, sym}
+use Rattle.vm_memory_base.specs.Transfer.{Reads}
+use Rattle.vm_memory_base.specs.lemmas.Turns.{again_more, again_done}
 use Rattle.vm_memory_base.proofs.io.turns.read_again.Goals as goal
 
 pub loop-left-init : goal.loop-left-init
-loop-left-init g c = tries_first _ _ _
+loop-left-init g c = λ answer new so. so
 
 pub loop-left-preserved : goal.loop-left-preserved
 loop-left-preserved g c =
-    let source = g.S.ReadVolatile.source in
-    tries_more (source c.args.source.now) c.args.interrupted.now c.args.buf.now c.loop-left.left (source c.loop-left.source) c.loop-left.interrupted c.loop-left.buf
-    c.read_volatile-answer.result c.read_volatile-answer.new.buf (source c.read_volatile-answer.new.self) c.loop-left.invariant c.loop-left-test.true
-    c.read_volatile-answer.ensures.tells (sym c.is_interrupted.ensures ∙ c.if-not-is_interrupted.false)
+    again_more (Reads g.S.ReadVolatile.source) c.loop-left.left c.loop-left.invariant c.loop-left-test.true
+    c.read_once-answer.ensures.reads (sym c.is_interrupted.ensures ∙ c.if-not-is_interrupted.false)
 
-pub returns-then-not-is_interrupted-clause-tells : goal.returns-then-not-is_interrupted-clause-tells
-returns-then-not-is_interrupted-clause-tells g c =
-    let source = g.S.ReadVolatile.source in
-    tries_done (source c.args.source.now) c.args.interrupted.now c.args.buf.now c.loop-left.left (source c.loop-left.source) c.loop-left.interrupted c.loop-left.buf
-    c.read_volatile-answer.result c.read_volatile-answer.new.buf (source c.read_volatile-answer.new.self) c.loop-left.invariant
-    c.read_volatile-answer.ensures.tells (sym c.is_interrupted.ensures ∙ c.if-not-is_interrupted.true)
+pub returns-then-not-is_interrupted-clause-reads : goal.returns-then-not-is_interrupted-clause-reads
+returns-then-not-is_interrupted-clause-reads g c =
+    again_done (Reads g.S.ReadVolatile.source) c.loop-left.left c.loop-left.invariant c.read_once-answer.ensures.reads
+    (inl (sym c.is_interrupted.ensures ∙ c.if-not-is_interrupted.true))
 
-pub returns-clause-tells : goal.returns-clause-tells
-returns-clause-tells g c =
-    let source = g.S.ReadVolatile.source in
-    tries_spent (source c.args.source.now) c.args.interrupted.now c.args.buf.now c.loop-left.left (source c.loop-left.source) c.loop-left.interrupted c.loop-left.buf
-    c.read_volatile.result c.read_volatile.new.buf (source c.read_volatile.new.self) c.loop-left.invariant c.read_volatile.ensures.tells c.loop-left-test.false
+pub returns-clause-reads : goal.returns-clause-reads
+returns-clause-reads g c =
+    again_done (Reads g.S.ReadVolatile.source) c.loop-left.left c.loop-left.invariant c.read_once.ensures.reads
+    (inr c.loop-left-test.false)

@@ -1,0 +1,2 @@
+-- Lemmas that impls, or proofs of the crates above, have to cite. No contract cites these files.
+pub mod Orders
