@@ -11,14 +11,15 @@ use Rattle.vm_memory_guest.specs.Region.{Region}
 use Rattle.vm_memory_guest.specs.Window.{bitmap_of, with_bitmap}
 use Rattle.vm_memory.specs.Machine.{Step}
 use Rattle.vm_memory.specs.Parts.{Parts, state_of}
-use Rattle.vm_memory.specs.Rounds.{pages_of, image_now, IsSynced}
+use Rattle.vm_memory.specs.Rounds.{pages_of_block, image_now, IsSynced}
 use Rattle.vm_memory.specs.declared.machine.command.Command.TheVariants as command
 use Rattle.vm_memory.specs.declared.machine.command.Reply.TheVariants as reply
 
 -- ---- named bitmaps
 
 module _ {B : Type 0} (pages : B → PageSet) (host : Host B) where
-  pub bitmap_of-with_pages : (id : BitmapId) → bitmap_of (with_pages pages host) id ≡ option_map pages (bitmap_of host id)
+  pub bitmap_of-with_pages : (id : BitmapId)
+      → bitmap_of (with_pages pages host) id ≡ option_map pages (bitmap_of host id)
   bitmap_of-with_pages (Block block) = slice_get-map pages host.bitmaps block
   bitmap_of-with_pages (Space space) = slice_get-map pages host.spaces space
 
@@ -30,9 +31,9 @@ module _ {B : Type 0} (pages : B → PageSet) (host : Host B) where
       ap (λ (bs : List PageSet). record (with_pages pages host) { spaces = bs }) (map-set pages host.spaces space b)
 
   -- the pages of a block's bitmap
-  pub pages_of-with_pages : (block : ℕ) (b : B) → bitmap_of host (Block block) ≡ Some b
-      → pages_of block (with_pages pages host) ≡ pages b
-  pages_of-with_pages block b there =
+  pub pages_of_block-with_pages : (block : ℕ) (b : B) → bitmap_of host (Block block) ≡ Some b
+      → pages_of_block block (with_pages pages host) ≡ pages b
+  pages_of_block-with_pages block b there =
       get_or_from_slice_get (map pages host.bitmaps) block (pages b) None
       (slice_get-map pages host.bitmaps block ∙ ap (option_map pages) there)
 
@@ -50,7 +51,8 @@ with_bitmap-same host (Space space) b there =
 
 -- ---- a harvest is a step
 
-module _ {R I B : Type 0} (region : R → Region) (number_of : I → ℕ) (pages : B → PageSet) (m : Parts R I B) (id : BitmapId) (b : B)
+module _ {R I B : Type 0} (region : R → Region) (number_of : I → ℕ) (pages : B → PageSet) (m : Parts R I B)
+    (id : BitmapId) (b : B)
     (there : bitmap_of m.host id ≡ Some b)
   where
     seen : bitmap_of (with_pages pages m.host) id ≡ Some (pages b)
@@ -69,12 +71,13 @@ module _ {R I B : Type 0} (region : R → Region) (number_of : I → ℕ) (pages
 
 -- ---- a sync
 
-module _ {R I B E : Type 0} (region : R → Region) (number_of : I → ℕ) (pages : B → PageSet) (m : Parts R I B) (block : ℕ)
+module _ {R I B E : Type 0} (region : R → Region) (number_of : I → ℕ) (pages : B → PageSet) (m : Parts R I B)
+    (block : ℕ)
     (image synced : List ℕ) (host : Host B)
   where
     pub sync_is_synced : (r : Result (Unit {0}) E)
         → OnOk r (synced ≡ image_now block (with_pages pages m.host) image)
-        → OnOk r ((after : B) × (pages after ≡ cleaned (pages_of block (with_pages pages m.host)))
+        → OnOk r ((after : B) × (pages after ≡ cleaned (pages_of_block block (with_pages pages m.host)))
         × (host ≡ with_bitmap m.host (Block block) after))
         → OnOk r (IsSynced block (state_of region number_of pages m) image
         (state_of region number_of pages (record m { host = host })) synced)

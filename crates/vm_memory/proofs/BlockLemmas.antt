@@ -24,7 +24,8 @@ window_is : (b : WholeBlock) (w : Window) → subslice_of (whole_window b) 0 b.s
 window_is b w given =
     let whole = part (whole_window b) 0 b.size in
     let bound = b.bound in
-    let inner = cond-true (nat_le (0 + b.size) b.size) (Ok whole) (Err (OutOfBounds (0 + b.size))) (le-leb (0 + b.size) b.size (omega arith)) in
+    let inner = cond-true (nat_le (0 + b.size) b.size) (Ok whole) (Err (OutOfBounds (0 + b.size)))
+    (le-leb (0 + b.size) b.size (omega arith)) in
     let outer = cond-true (nat_lt (0 + b.size) (2 ^ 64))
     (cond (nat_le (0 + b.size) b.size) (Ok whole) (Err (OutOfBounds (0 + b.size)))) (Err (Overflow 0 b.size))
     (lt-ltb (0 + b.size) (2 ^ 64) (omega arith)) in

@@ -63,7 +63,8 @@ pub record HistoryLaws : Type 0 where
   pub kept_says : (f : Says) (x : ℕ) → x < 2 ^ 64 → value_at (canonical_list f) x ≡ f x
   pub writes_keep : (xs : List Reached) (bytes : List ℕ) (host : Host PageSet)
       → (after_write xs bytes host).tables ≡ host.tables
-  pub lent_keep : (fault : Option GuestMemoryError) (until_full : Bool) (ws : List Window) (total : ℕ) (next : List Next)
+  pub lent_keep : (fault : Option GuestMemoryError) (until_full : Bool) (ws : List Window) (total : ℕ)
+      (next : List Next)
       (host : Host PageSet) → (received of_window fault until_full ws total next host).host.tables ≡ host.tables
 
 pub history_laws : ((f : Says) (x : ℕ) → x < 2 ^ 64 → value_at (canonical_list f) x ≡ f x)

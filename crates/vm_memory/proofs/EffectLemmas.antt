@@ -26,7 +26,7 @@ use Rattle.vm_memory.specs.Effect.{if_there, laid_out, without, leaves}
 use Rattle.vm_memory.specs.Commands.{table_call}
 use Rattle.vm_memory.specs.Lawful.{IsLaidOut, IsLawful}
 use Rattle.vm_memory.specs.Commands.{effect}
-use Rattle.vm_memory.specs.Reply.{answer_of, reached_by, reply_of, reply_of_layout_error, writes}
+use Rattle.vm_memory.specs.Reply.{access_result, reached_by, reply_of, reply_of_layout_error, writes}
 use Rattle.vm_memory.specs.Rounds.{IsDirect, image_after}
 use Rattle.vm_memory.specs.State.{State, named}
 use Rattle.vm_memory.specs.Tables.{changed_table}
@@ -181,7 +181,8 @@ module _ (old : State) (c : Command) where
       let source = cells_from from.block from.offset n in
       let cs = cells_from to.block to.offset n in
       subst (λ (host : Host PageSet). IsOf old c (Leaves reply.Done host)) (after_copy-is source cs old.host)
-      (written_to told reply.Done (map itself cs) (bytes_at old.host.blocks source) tt absurd (λ direct. itself_marks cs))
+      (written_to told reply.Done (map itself cs) (bytes_at old.host.blocks source) tt absurd
+      (λ direct. itself_marks cs))
 
   -- a change of a table
   changed_by : (number : ℕ) (call : table.TableCall)
@@ -232,7 +233,7 @@ module _ (old : State) (c : Command) (memory : ℕ) (m : Memory) (e : slice_get 
         let n = length bytes in
         let x = for_write n in
         written_to old c told (writes whole m old.host a bytes).0 x.path bytes (answers.wrote old.host m a whole bytes)
-        (λ still. let e = not_moved whole n (answer_of x n) _ still refl in
+        (λ still. let e = not_moved whole n (access_result x n) _ still refl in
         reached_none x.path (option_map error_of x.fault) n e.0 e.1) (own n)
 
     stored : (bytes : List ℕ) (fits : Bool)
@@ -267,7 +268,8 @@ module _ (old : State) (c : Command) (memory : ℕ) (m : Memory) (e : slice_get 
 -- the regions that are left of a layout
 left_laid_out : (rs : List Region) (base size : ℕ) → IsLaidOut rs → OfLeft IsLaidOut (removed (λ r. r) rs base size)
 left_laid_out rs base size out =
-    go (removed (λ r. r) rs base size) (All-removed IsRegion rs base size out.0) (IsLayout-removed rs base size out.0 out.1)
+    go (removed (λ r. r) rs base size) (All-removed IsRegion rs base size out.0)
+    (IsLayout-removed rs base size out.0 out.1)
   where
     go : (o : Option (List Region × Region)) → OfLeft (All IsRegion) o → OfLeft IsLayout o → OfLeft IsLaidOut o
     go None fit out = tt
@@ -325,7 +327,8 @@ module _ (old : State) where
       there old _ (slice_get old.memories memory) _
       (λ m e. got old _ memory m e tt (λ d. d) addr.0 true n source)
   command_has_effect (command.WriteTo memory addr n sink) =
-      there old _ (slice_get old.memories memory) _ (λ m e. (answers.gave old.host m addr.0 false n sink, silent _ tt _))
+      there old _ (slice_get old.memories memory) _
+      (λ m e. (answers.gave old.host m addr.0 false n sink, silent _ tt _))
   command_has_effect (command.WriteAllTo memory addr n sink) =
       there old _ (slice_get old.memories memory) _ (λ m e. (answers.gave old.host m addr.0 true n sink, silent _ tt _))
   command_has_effect (command.CheckRange memory addr n access) =

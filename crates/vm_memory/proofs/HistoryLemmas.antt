@@ -13,8 +13,8 @@ use Rattle.vm_memory_base.specs.Table.{says, grants, is_allowed}
 use Rattle.vm_memory_base.specs.declared.iotlb.Permissions.{Permissions}
 use Rattle.vm_memory_guest.specs.Access.{Reached, Meets, Reaches, Stops, meets_at, meets, onto, path, first_fault}
 use Rattle.vm_memory_guest.specs.Access.{Access, refusal, access_of}
-use Rattle.vm_memory_guest.specs.Memory.{Memory, Behind, behind_of, Route, Through, says_of, route_behind}
-use Rattle.vm_memory_guest.specs.Region.{Region, Lies, Byte, Bare, Hole, cell}
+use Rattle.vm_memory_guest.specs.Memory.{Memory, Translation, behind_of, Route, Through, says_of, route_behind}
+use Rattle.vm_memory_guest.specs.Region.{Region, Lies, Backed, Unbacked, Unmapped, cell}
 use Rattle.vm_memory.specs.History.{AnsweredIn, table_calls, IsLast, GoesThrough}
 use Rattle.vm_memory.specs.Machine.{Run}
 use Rattle.vm_memory.specs.Reply.{reached_by}
@@ -78,10 +78,10 @@ path_at m i (suc n) k x there = go (path_at m (i + 1) n) (m i) refl k there
 
 -- a byte that is reached behind a table: its mapping, and what lies at its physical address
 met : (f : Says) (space y : ℕ) (said : Option Mapping) (p : ℕ) (l : Lies) (x : Reached)
-    → meets_at (Through f space) y said p l ≡ Reaches x → (x.mapping ≡ said) × (l ≡ Byte x.home x.cell)
-met f space y said p (Byte r c) x e = (cc, cc)
-met f space y said p Bare x e = absurd (cc)
-met f space y said p Hole x e = absurd (cc)
+    → meets_at (Through f space) y said p l ≡ Reaches x → (x.mapping ≡ said) × (l ≡ Backed x.region x.cell)
+met f space y said p (Backed r c) x e = (cc, cc)
+met f space y said p Unbacked x e = absurd (cc)
+met f space y said p Unmapped x e = absurd (cc)
 
 granted : (access : Permissions) (said : Option Mapping) → grants access said ≡ true
     → (mapping : Mapping) × (said ≡ Some mapping) × (allow mapping.permissions access ≡ true)
@@ -150,7 +150,8 @@ pub record CallLaws : Type 0 where
 -- ---- what a run says
 
 -- what the table of a number says then, where it was there before
-pub run_says : HistoryLaws → (number : ℕ) (old : State) (cs : List Command) (rs : List Reply) (new : State) (x : ℕ) (t : Table)
+pub run_says : HistoryLaws
+    → (number : ℕ) (old : State) (cs : List Command) (rs : List Reply) (new : State) (x : ℕ) (t : Table)
     → Run old cs rs new → slice_get old.host.tables number ≡ Some t → x < 2 ^ 64
     → (u : Table) × (slice_get new.host.tables number ≡ Some u)
     × (says u x ≡ says_after_all (table_calls number cs rs) x (says t x))
@@ -188,7 +189,7 @@ module _ (laws : HistoryLaws) (calls : CallLaws) where
 
   module _ (grants_where_allowed : GrantsWhereAllowed) where
     -- byte i of an access after a run, behind the table that was there before it
-    pub run_goes_through : (old now : State) (cs : List Command) (rs : List Reply) (m : Memory) (b : Behind)
+    pub run_goes_through : (old now : State) (cs : List Command) (rs : List Reply) (m : Memory) (b : Translation)
         (a n i : ℕ) (access : Permissions) (x : Reached) → Run old cs rs now → behind_of m.iommu ≡ Some b
         → slice_get (reached_by m now.host.tables a n access).path i ≡ Some x
         → (a + i < 2 ^ 64)
@@ -196,8 +197,8 @@ module _ (laws : HistoryLaws) (calls : CallLaws) where
         (says_after_all (table_calls b.table cs rs) (a + i) (says_of (slice_get old.host.tables b.table) (a + i)))
         access x
     run_goes_through old now cs rs m b a n i access x run on reached =
-        let at : Option Behind → Access = λ o. access_of m.regions (route_behind o now.host.tables) a n access in
-        let behind = subst (λ (o : Option Behind). slice_get (at o).path i ≡ Some x) on reached in
+        let at : Option Translation → Access = λ o. access_of m.regions (route_behind o now.host.tables) a n access in
+        let behind = subst (λ (o : Option Translation). slice_get (at o).path i ≡ Some x) on reached in
         let now_says = says_of (slice_get now.host.tables b.table) in
         let h = goes_through grants_where_allowed m.regions now_says b.space a n i access x behind in (
           h.0,
@@ -205,7 +206,7 @@ module _ (laws : HistoryLaws) (calls : CallLaws) where
               ((run_leaves laws b.table old cs rs now run).said (a + i) h.0) h.1,
         )
 
-    pub run_goes_through_last : (old now : State) (cs : List Command) (rs : List Reply) (m : Memory) (b : Behind)
+    pub run_goes_through_last : (old now : State) (cs : List Command) (rs : List Reply) (m : Memory) (b : Translation)
         (a n i : ℕ) (access : Permissions) (x : Reached) (call : TableCall) → Run old cs rs now
         → behind_of m.iommu ≡ Some b → slice_get (reached_by m now.host.tables a n access).path i ≡ Some x
         → IsLast (a + i) (table_calls b.table cs rs) call
@@ -224,7 +225,7 @@ pub through_a_set_range : ((iova to x : ℕ) (perm : Permissions) → iova < 2 ^
     → (regions : List Region) (address iova to len : ℕ) (perm access : Permissions) (x : Reached) → address < 2 ^ 64
     → covers (table.Set iova to len perm) address ≡ true
     → GoesThrough regions address (says_after (table.Set iova to len perm) address None) access x
-    → (allow perm access ≡ true) × (cell regions (step to (address - iova)) ≡ Byte x.home x.cell)
+    → (allow perm access ≡ true) × (cell regions (step to (address - iova)) ≡ Backed x.region x.cell)
 through_a_set_range targets regions address iova to len perm access x fits covered through =
     let made : Mapping = record { difference = difference iova to; permissions = perm } in
     let low = leb-true iova address (and_parts _ _ covered).0 in

@@ -5,7 +5,7 @@ use Rattle.vm_memory_base.specs.Table.{Table, Says, says, is_allowed, pieces}
 use Rattle.vm_memory_base.specs.declared.iotlb.IommuError.{IommuError}
 use Rattle.vm_memory_base.specs.declared.iotlb.Permissions.{Permissions}
 use Rattle.vm_memory_base.specs.declared.iotlb.lookup.MappedRange.{MappedRange}
-use Rattle.vm_memory_guest.specs.Access.{Fault, access_of, allowed, refusal}
+use Rattle.vm_memory_guest.specs.Access.{AccessFault, access_of, allowed, refusal}
 use Rattle.vm_memory_guest.specs.Answer.{Reach}
 use Rattle.vm_memory_guest.specs.Error.{error_of}
 use Rattle.vm_memory_guest.specs.Host.{Shape, Name, Space, Holds}
@@ -29,20 +29,26 @@ module _ (joined : Joined) (shape : Shape) (backend iommu : List Name) (space : 
   backend-held h = ((joined shape backend (iommu ++ Space space ∷ [])).0 h).0
 
   pub iommu-held : AreHeld → Holds shape iommu
-  iommu-held h = ((joined shape iommu (Space space ∷ [])).0 ((joined shape backend (iommu ++ Space space ∷ [])).0 h).1).0
+  iommu-held h = ((joined shape iommu (Space space ∷ [])).0
+      ((joined shape backend (iommu ++ Space space ∷ [])).0 h).1).0
 
 -- what is taken from the laws of paths
 abbrev PiecesAreTheAccess : Type 0
-PiecesAreTheAccess = (regions : List Region) (f : Says) (space a n : ℕ) (access : Permissions) → is_allowed f a n access ≡ true
-    → marking space a (walk_of_pieces regions (mapped_ranges (pieces f a n))) ≡ reach_of (access_of regions (Through f space) a n access)
+PiecesAreTheAccess = (regions : List Region) (f : Says) (space a n : ℕ) (access : Permissions)
+    → is_allowed f a n access ≡ true
+    → marking space a (walk_of_pieces regions (mapped_ranges (pieces f a n)))
+    ≡ reach_of (access_of regions (Through f space) a n access)
 
-module _ {R : Type 0} (region : R → Region) (rs : List R) (table space : ℕ) (on : Bool) (is_on : on ≡ true) (tables : List Table) (t : Table) (there : slice_get tables table ≡ Some t) (a n : ℕ) (access : Permissions) where
+module _ {R : Type 0} (region : R → Region) (rs : List R) (table space : ℕ) (on : Bool) (is_on : on ≡ true)
+    (tables : List Table) (t : Table) (there : slice_get tables table ≡ Some t) (a n : ℕ) (access : Permissions) where
   route-on : route (behind (map region rs) table space on) tables ≡ Through (says t) space
   route-on =
       ap (λ (b : Bool). route_behind (behind_if b (record { table = table; space = space })) tables) is_on
       ∙ ap (λ (o : Option Table). Through (says_of o) space) there
 
-  pub gives-on : PiecesAreTheAccess → (found : List MappedRange) → Translates (says t) a n access found → (walk : Reach Fault) → walk ≡ marking space a (walk_of_pieces (map region rs) found) → GivesAccess (behind (map region rs) table space on) tables a n access walk
+  pub gives-on : PiecesAreTheAccess → (found : List MappedRange) → Translates (says t) a n access found
+      → (walk : Reach AccessFault) → walk ≡ marking space a (walk_of_pieces (map region rs) found)
+      → GivesAccess (behind (map region rs) table space on) tables a n access walk
   gives-on law found gives walk is = (
     ap (λ (w : Route). allowed w a n access) route-on ∙ gives.0,
     is ∙ (ap (λ (ps : List MappedRange). marking space a (walk_of_pieces (map region rs) ps)) gives.1
@@ -50,17 +56,24 @@ module _ {R : Type 0} (region : R → Region) (rs : List R) (table space : ℕ) 
         ∙ sym (ap (λ (w : Route). reach_of (access_of (map region rs) w a n access)) route-on))),
   )
 
-  refuses-on : (e : IommuError) → RefusesTranslation (says t) a n access e → RefusesAccess (behind (map region rs) table space on) tables a n access (of_translation e)
+  refuses-on : (e : IommuError) → RefusesTranslation (says t) a n access e
+      → RefusesAccess (behind (map region rs) table space on) tables a n access (of_translation e)
   refuses-on e refused = (
     ap (λ (w : Route). allowed w a n access) route-on ∙ refused.0,
     ap of_translation refused.1 ∙ sym (ap (λ (w : Route). error_of (refusal w a n)) route-on),
   )
 
-  wants-on : (e : IommuError) → e ≡ iommu.Memory → WantsMemory (behind (map region rs) table space on) (of_translation e)
-  wants-on e is = (ap of_translation is, subst (λ (b : Bool). IsSome (behind_if b (record { table = table; space = space }))) (sym is_on) refl)
+  wants-on : (e : IommuError) → e ≡ iommu.Memory
+      → WantsMemory (behind (map region rs) table space on) (of_translation e)
+  wants-on e is = (
+    ap of_translation is,
+    subst (λ (b : Bool). IsSome (behind_if b (record { table = table; space = space }))) (sym is_on) refl,
+  )
 
-  pub fails-on : (e : IommuError) → ((e ≡ iommu.Memory) ⊎ RefusesTranslation (says t) a n access e) → (d : GuestMemoryError) → d ≡ of_translation e
-      → WantsMemory (behind (map region rs) table space on) d ⊎ RefusesAccess (behind (map region rs) table space on) tables a n access d
+  pub fails-on : (e : IommuError) → ((e ≡ iommu.Memory) ⊎ RefusesTranslation (says t) a n access e)
+      → (d : GuestMemoryError) → d ≡ of_translation e
+      → WantsMemory (behind (map region rs) table space on) d
+      ⊎ RefusesAccess (behind (map region rs) table space on) tables a n access d
   fails-on e why d is = rw is (elim why [
     | inl wanted ↦ inl (wants-on e wanted)
     | inr refused ↦ inr (refuses-on e refused)

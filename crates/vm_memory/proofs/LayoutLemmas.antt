@@ -99,7 +99,8 @@ pub All-removed_values : {R : Type 0} (region : R → Region) (P : Region → Ty
     (base size : ℕ) → removed region rs base size ≡ Some (others, r) → All P (map region rs)
     → All P (map region others)
 All-removed_values region P rs others r base size e all =
-    subst (OfLeft (All P)) (removed-map region rs base size ∙ ap (means region) e) (All-removed P (map region rs) base size all)
+    subst (OfLeft (All P)) (removed-map region rs base size ∙ ap (means region) e)
+    (All-removed P (map region rs) base size all)
 
 -- ---- steps
 
@@ -111,9 +112,11 @@ module _ {R I B : Type 0} (region : R → Region) (number_of : I → ℕ) (pages
   with_layout c = record m { layouts = m.layouts ++ c ∷ [] }
 
   after-is : (c : List R) (xs : List Region) → map region c ≡ xs
-      → (reply.LayoutMade (length m.layouts), state_of region number_of pages (with_layout c)) ≡ apply before (AddsLayout xs)
+      → (reply.LayoutMade (length m.layouts), state_of region number_of pages (with_layout c))
+      ≡ apply before (AddsLayout xs)
   after-is c xs same =
-      ap (λ (n : ℕ). (reply.LayoutMade n, state_of region number_of pages (with_layout c))) (sym (length-map m.layouts (map region)))
+      ap (λ (n : ℕ). (reply.LayoutMade n, state_of region number_of pages (with_layout c)))
+      (sym (length-map m.layouts (map region)))
       ∙ ap (λ (ls : List (List Region)). (reply.LayoutMade (length before.layouts), record before { layouts = ls }))
       (map-append (map region) m.layouts (c ∷ []) ∙ ap (λ (ys : List Region). before.layouts ++ ys ∷ []) same)
 
@@ -156,7 +159,8 @@ module _ {R I B : Type 0} (region : R → Region) (number_of : I → ℕ) (pages
         let same = inserted-map region rs r in
         let good : layout_error more ≡ None = subst (λ (xs : List Region). layout_error xs ≡ None) same none in
         step-added (command.Insert place number) c more answer new
-        (insert-outcome ∙ ap (λ (o : Option GuestRegionCollectionError). apply before (laid_out more o)) good) insert-wants
+        (insert-outcome ∙ ap (λ (o : Option GuestRegionCollectionError). apply before
+        (laid_out more o)) good) insert-wants
         (ap (map region) is ∙ same) added
 
     pub insert-refused : (e : GuestRegionCollectionError) → IsFault (layout_error (map region (inserted region rs r))) e
@@ -166,10 +170,12 @@ module _ {R I B : Type 0} (region : R → Region) (number_of : I → ℕ) (pages
       | inr told ↦
           let bad : layout_error more ≡ Some e =
           subst (λ (xs : List Region). layout_error xs ≡ Some e) (inserted-map region rs r) told in
-          inl (sym (insert-outcome ∙ ap (λ (o : Option GuestRegionCollectionError). apply before (laid_out more o)) bad))
+          inl (sym (insert-outcome
+          ∙ ap (λ (o : Option GuestRegionCollectionError). apply before (laid_out more o)) bad))
     ]
 
-  module _ (place : ℕ) (base : GuestAddress) (size : ℕ) (rs : List R) (there : slice_get m.layouts place ≡ Some rs) where
+  module _ (place : ℕ) (base : GuestAddress) (size : ℕ) (rs : List R)
+      (there : slice_get m.layouts place ≡ Some rs) where
     abbrev cmd : Command
     cmd = command.Remove place base size
 
@@ -197,7 +203,8 @@ module _ {R I B : Type 0} (region : R → Region) (number_of : I → ℕ) (pages
         step-added cmd others (map region others) answer new (remove-outcome (Some (others, r)) e)
         (remove-wants (others, r) e) refl added
 
-    remove-none : removed region rs base.0 size ≡ None → Step before cmd (reply_of_layout_error layout.NoMemoryRegion) before
+    remove-none : removed region rs base.0 size ≡ None
+        → Step before cmd (reply_of_layout_error layout.NoMemoryRegion) before
     remove-none e = inl (sym (remove-outcome None e))
 
     remove-memory : (o : Option (List R × R)) → removed region rs base.0 size ≡ o → (o ≡ None → ⊥)

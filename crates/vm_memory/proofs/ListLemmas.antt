@@ -20,7 +20,8 @@ pub value_of : {X : Type 0} (rs : List (Arc X Global)) (i : ℕ) (r : Arc X Glob
 value_of {X} rs i r at = rw (slice_get-map (λ (q : Arc X Global). q.value) rs i, at) refl
 
 -- what holds of each element holds of one by its number
-pub All-slice_get : {X : Type 0} (P : X → Type 0) (xs : List X) (i : ℕ) (x : X) → slice_get xs i ≡ Some x → All P xs → P x
+pub All-slice_get : {X : Type 0} (P : X → Type 0) (xs : List X) (i : ℕ) (x : X) → slice_get xs i ≡ Some x → All P xs
+    → P x
 All-slice_get P xs i x e all =
     subst P (get_or_from_slice_get xs i x x e) (All-get_or P xs i x (slice_get_within xs i x e) all)
 

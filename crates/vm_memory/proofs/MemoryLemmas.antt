@@ -39,7 +39,8 @@ module _ {R I B : Type 0} (region : R → Region) (number_of : I → ℕ) (pages
 
   -- a memory was added, or there was no memory for it
   abbrev pub Added : MachineMemory R I → Reply → Parts R I B → Type 0
-  Added x r new = ((r ≡ reply.MemoryMade (length m.memories)) × (new ≡ with_memory x)) ⊎ ((r ≡ reply.Memory) × (new ≡ m))
+  Added x r new = ((r ≡ reply.MemoryMade (length m.memories)) × (new ≡ with_memory x))
+      ⊎ ((r ≡ reply.Memory) × (new ≡ m))
 
   step-added : (cmd : Command) (x : MachineMemory R I) (r : Reply) (new : Parts R I B)
       → outcome before cmd ≡ apply before (AddsMemory (memory_meant region number_of x)) → MayWant before cmd
@@ -87,7 +88,8 @@ module _ {R I B : Type 0} (region : R → Region) (number_of : I → ℕ) (pages
           step-added made (Translated (record { backend = rs; iommu = i; on = on; space = space })) r new
           (rw (layout-there, table-there, pages-there.1) refl) made-wants added
 
-    module _ (number : ℕ) (x : Behind (List R) I) (memory-there : slice_get m.memories number ≡ Some (Translated x)) where
+    module _ (number : ℕ) (x : Behind (List R) I)
+        (memory-there : slice_get m.memories number ≡ Some (Translated x)) where
       abbrev replaced : Command
       replaced = command.ReplaceBackend number place
 
@@ -121,5 +123,6 @@ module _ {R I B : Type 0} (region : R → Region) (number_of : I → ℕ) (pages
       let turned : map (memory_meant region number_of) (slice_set m.memories memory y)
       ≡ slice_set before.memories memory (behind (map region b.backend) (number_of b.iommu) b.space on) =
       map-set (memory_meant region number_of) m.memories memory y
-      ∙ ap (λ (p : Reply × MachineMemory R I). slice_set before.memories memory (memory_meant region number_of p.1)) is in
+      ∙ ap (λ (p : Reply × MachineMemory R I). slice_set before.memories memory
+      (memory_meant region number_of p.1)) is in
       inl (rw (here, turned, ap (λ (p : Reply × MachineMemory R I). p.0) is) refl)

@@ -32,7 +32,8 @@ module _ (size page : ℕ) (some : 0 < size) (block image : List ℕ) (same : le
       get_or-patched size (page ∷ []) block image k within
       ∙ cond-false _ _ _ (or_none (k / size == page) ∙ ne_eqb (k / size) page other)
 
-  module _ (start end : ℕ) (first : start ≡ min (page * size) (length block)) (last : end ≡ min (start + size) (length block)) where
+  module _ (start end : ℕ) (first : start ≡ min (page * size) (length block))
+      (last : end ≡ min (start + size) (length block)) where
     -- the page of the block in place of that of the image
     spliced : List ℕ
     spliced = take start image ++ (take (end - start) (drop start block) ++ drop end image)
@@ -58,13 +59,15 @@ module _ (size page : ℕ) (some : 0 < size) (block image : List ℕ) (same : le
         → get_or spliced k 0 ≡ get_or (take (end - start) (drop start block) ++ drop end image) (k - start) 0
     unfolding spliced
     behind k high =
-        get_or-append_right (take start image) (take (end - start) (drop start block) ++ drop end image) start k 0 length-front high
+        get_or-append_right (take start image)
+        (take (end - start) (drop start block) ++ drop end image) start k 0 length-front high
 
     middle : (k : ℕ) → start ≤ k → k < end → get_or spliced k 0 ≡ get_or block k 0
     middle k high low =
         let at : start + (k - start) ≡ k = omega arith in
         behind k high
-        ∙ get_or_append_left (take (end - start) (drop start block)) (drop end image) 0 (k - start) (omega (arith, length-middle))
+        ∙ get_or_append_left (take (end - start) (drop start block)) (drop end image) 0 (k - start)
+        (omega (arith, length-middle))
         ∙ get_or-take (end - start) (drop start block) (k - start) 0 (omega arith)
         ∙ get_or-drop start block (k - start) 0
         ∙ ap (λ (i : ℕ). get_or block i 0) at
@@ -73,7 +76,8 @@ module _ (size page : ℕ) (some : 0 < size) (block image : List ℕ) (same : le
     back k ordered high =
         let at : end + (k - start - (end - start)) ≡ k = omega arith in
         behind k (omega arith)
-        ∙ get_or-append_right (take (end - start) (drop start block)) (drop end image) (end - start) (k - start) 0 length-middle (omega arith)
+        ∙ get_or-append_right (take (end - start) (drop start block)) (drop end image) (end - start)
+        (k - start) 0 length-middle (omega arith)
         ∙ get_or-drop end image (k - start - (end - start)) 0
         ∙ ap (λ (i : ℕ). get_or image i 0) at
 
@@ -143,7 +147,8 @@ patched-more size page pages now image =
         get_or-patched size (pages ++ page ∷ []) now image k within
         ∙ ap (λ (b : Bool). cond b (get_or now k 0) (get_or image k 0)) (list_any-append test pages (page ∷ []))
         ∙ chosen (list_any test pages) (list_any test (page ∷ [])) (get_or now k 0) (get_or image k 0)
-        ∙ ap (λ (b : ℕ). cond (list_any test (page ∷ [])) (get_or now k 0) b) (sym (get_or-patched size pages now image k within))
+        ∙ ap (λ (b : ℕ). cond (list_any test (page ∷ [])) (get_or now k 0) b)
+        (sym (get_or-patched size pages now image k within))
         ∙ sym (get_or-patched size (page ∷ []) now mid k (omega (arith, length-patched size pages now image)))
 
 -- by the pages of a bitmap whose pages have this size

@@ -26,15 +26,15 @@ use Rattle.vm_memory_guest.specs.Dealt.{received}
 use Rattle.vm_memory_guest.specs.Error.{of_window}
 use Rattle.vm_memory_guest.specs.Host.{Host, Cell, block_at, byte_at, bytes_at, written}
 use Rattle.vm_memory_guest.specs.Lent.{IsMarked, MarksChanges}
-use Rattle.vm_memory_guest.specs.Memory.{Memory, Behind, Direct, physical, route_behind}
-use Rattle.vm_memory_guest.specs.Region.{Region, Lies, Byte, Bare, Hole, cell}
+use Rattle.vm_memory_guest.specs.Memory.{Memory, Translation, Direct, physical, route_behind}
+use Rattle.vm_memory_guest.specs.Region.{Region, Lies, Backed, Unbacked, Unmapped, cell}
 use Rattle.vm_memory_guest.specs.Typed.{path_given, whole_path}
 use Rattle.vm_memory_guest.specs.Window.{Window, with_bitmap}
 use Rattle.vm_memory_guest.specs.declared.region.GuestMemoryError.{GuestMemoryError}
 use Rattle.vm_memory_guest.specs.declared.region.GuestMemoryError.TheVariants as errors
 use Rattle.vm_memory.specs.Machine.{Step}
-use Rattle.vm_memory.specs.Reply.{reached_by, answer_of, reply_of}
-use Rattle.vm_memory.specs.Rounds.{patched, patched_by, patched_with, bytes_of, pages_of, image_now, image_after, MirrorsBlock, Cover, IsTracked}
+use Rattle.vm_memory.specs.Reply.{reached_by, access_result, reply_of}
+use Rattle.vm_memory.specs.Rounds.{patched, patched_by, patched_with, bytes_of_block, pages_of_block, image_now, image_after, MirrorsBlock, Cover, IsTracked}
 use Rattle.vm_memory.specs.State.{State}
 use Rattle.vm_memory.specs.declared.machine.command.Command.TheVariants as command
 use Rattle.vm_memory.specs.declared.machine.command.Reply.{Reply}
@@ -59,7 +59,8 @@ pub get_or-patched : (size : ℕ) (pages now image : List ℕ) (k : ℕ) → k <
     → get_or (patched size pages now image) k 0
     ≡ cond (list_any (λ (page : ℕ). k / size == page) pages) (get_or now k 0) (get_or image k 0)
 get_or-patched size pages now image k l =
-    let byte : ℕ → ℕ = λ x. cond (list_any (λ (page : ℕ). x / size == page) pages) (get_or now x 0) (get_or image x 0) in
+    let byte : ℕ → ℕ = λ x. cond (list_any (λ (page : ℕ). x / size == page) pages) (get_or now x 0)
+    (get_or image x 0) in
     let count : length (numbers 0 (length image)) ≡ length image = length-numbers 0 (length image) in
     get_or-map byte (numbers 0 (length image)) k 0 0 (omega arith)
     ∙ ap byte (get_or-numbers 0 (length image) k 0 l ∙ zero-add k)
@@ -76,7 +77,8 @@ pub record IsClean (set : PageSet) (now image : List ℕ) : Type 0 where
 
 module _ (are_listed : AreListed) where
   -- the test of a page among the dirty ones
-  any-dirty : (p : Pages) (page : ℕ) → list_any (λ (q : ℕ). page == q) (dirty_pages (Some p)) ≡ get_or p.flags page false
+  any-dirty : (p : Pages) (page : ℕ)
+      → list_any (λ (q : ℕ). page == q) (dirty_pages (Some p)) ≡ get_or p.flags page false
   any-dirty p page =
       let dirty = dirty_pages (Some p) in
       both_ways (list_any (λ (q : ℕ). page == q) dirty) (get_or p.flags page false)
@@ -94,7 +96,8 @@ module _ (are_listed : AreListed) where
       (λ k l. get_or-patched p.page_size dirty now image k (omega (arith, len)) ∙ at k (omega (arith, len, clean.len)))
     where
       at : (k : ℕ) → k < length now
-          → cond (list_any (λ (page : ℕ). k / p.page_size == page) (dirty_pages (Some p))) (get_or now k 0) (get_or image k 0)
+          → cond (list_any (λ (page : ℕ). k / p.page_size == page) (dirty_pages (Some p))) (get_or now k 0)
+          (get_or image k 0)
           ≡ get_or now k 0
       at k l = elim (cases_Bool (is_dirty_at (Some p) k)) [
         | inl e ↦ cond-true _ _ _ (any-dirty p (k / p.page_size) ∙ e)
@@ -109,7 +112,8 @@ module _ (are_listed : AreListed) where
   }
   clean_from_mirrors (Some p) now image e =
       let dirty = dirty_pages (Some p) in
-      let len : length image ≡ length now = sym (length-patched p.page_size dirty now image) ∙ ap (λ (xs : List ℕ). length xs) e in
+      let len : length image ≡ length now =
+      sym (length-patched p.page_size dirty now image) ∙ ap (λ (xs : List ℕ). length xs) e in
       record {
         len = len;
         bytes = λ k l h.
@@ -126,18 +130,20 @@ MarksItsCell x = (x.bitmap ≡ Block x.cell.block) × (x.mark ≡ x.cell.offset)
 
 marks_first : (x p : ℕ) (l : Lies) (rest : List Reached) → All MarksItsCell rest
     → All MarksItsCell (onto (meets_at Direct x None p l) rest)
-marks_first x p (Byte r c) rest own = All-cons MarksItsCell _ rest (refl, refl) own
-marks_first x p Bare rest own = All-nil MarksItsCell
-marks_first x p Hole rest own = All-nil MarksItsCell
+marks_first x p (Backed r c) rest own = All-cons MarksItsCell _ rest (refl, refl) own
+marks_first x p Unbacked rest own = All-nil MarksItsCell
+marks_first x p Unmapped rest own = All-nil MarksItsCell
 
 marks_own : (regions : List Region) (a i n : ℕ) → All MarksItsCell (path (meets regions Direct a) i n)
 unfolding path
 marks_own regions a i zero = All-nil MarksItsCell
 marks_own regions a i (suc n) =
-    marks_first (a + i) (physical Direct a i) (cell regions (physical Direct a i)) (path (meets regions Direct a) (i + 1) n)
+    marks_first (a + i) (physical Direct a i) (cell regions (physical Direct a i))
+    (path (meets regions Direct a) (i + 1) n)
     (marks_own regions a (i + 1) n)
 
-pub direct_marks : (o : Option Behind) → (IsSome o → ⊥) → (regions : List Region) (tables : List Table) (a n : ℕ) (access : Permissions)
+pub direct_marks : (o : Option Translation) → (IsSome o → ⊥)
+    → (regions : List Region) (tables : List Table) (a n : ℕ) (access : Permissions)
     → All MarksItsCell (access_of regions (route_behind o tables) a n access).path
 direct_marks None off regions tables a n access = marks_own regions a 0 n
 direct_marks (Some b) off regions tables a n access = absurd (off refl)
@@ -177,7 +183,8 @@ marks_stretches : (xs : List Reached) → All MarksItsCell xs → All (λ s. Mar
 unfolding stretches
 marks_stretches [] own = All-nil (λ (s : Stretch). MarksItsCell s.first)
 marks_stretches (x ∷ xs) own =
-    marks_stretch x (stretches xs) (All-head MarksItsCell x xs own) (marks_stretches xs (All-tail MarksItsCell x xs own))
+    marks_stretch x (stretches xs) (All-head MarksItsCell x xs own)
+    (marks_stretches xs (All-tail MarksItsCell x xs own))
 
 abbrev pub MarksItself : Window → Type 0
 MarksItself w = (w.bitmap.id ≡ Block w.block.0) × (w.bitmap.base ≡ w.offset)
@@ -189,7 +196,7 @@ windows_mark xs own = All-map MarksItself window_of (stretches xs) (marks_stretc
 abbrev pub itself : Cell → Reached
 itself c = record {
   cell = c;
-  home = record { start = 0; len = 0; place = None };
+  region = record { start = 0; len = 0; place = None };
   mapping = None;
   bitmap = Block c.block;
   mark = c.offset;
@@ -210,7 +217,8 @@ dirtied-itself (c ∷ cs) host = dirtied-itself cs (marks_pages (Block c.block) 
 pub after_copy-is : (from to : List Cell) (host : Host PageSet)
     → after_write (map itself to) (bytes_at host.blocks from) host ≡ after_copy from to host
 after_copy-is from to host =
-    let start : List Cell → Host PageSet = λ cs. record host { blocks = written cs (bytes_at host.blocks from) host.blocks } in
+    let start : List Cell → Host PageSet =
+    λ cs. record host { blocks = written cs (bytes_at host.blocks from) host.blocks } in
     ap (λ (cs : List Cell). dirtied (map itself to) (start cs)) (cells-itself to) ∙ dirtied-itself to (start to)
 
 -- ---- what a write keeps
@@ -238,7 +246,7 @@ pub record IsKept (set : PageSet) (now image : List ℕ) : Type 0 where
 
 -- the same of a block in a host
 abbrev pub KeepsBlock : ℕ → List ℕ → Host PageSet → Type 0
-KeepsBlock block image host = IsKept (pages_of block host) (bytes_of block host) image
+KeepsBlock block image host = IsKept (pages_of_block block host) (bytes_of_block block host) image
 
 -- what is taken from the laws of writes
 pub record WriteLaws : Type 0 where
@@ -252,17 +260,20 @@ pub record WriteLaws : Type 0 where
   pub blocks_are : (xs : List Reached) (bytes : List ℕ) (host : Host PageSet)
       → (after_write xs bytes host).blocks ≡ written (path_cells xs) bytes host.blocks
   pub dirty_stay : (xs : List Reached) (bytes : List ℕ) (id : BitmapId) (offset : ℕ) (host : Host PageSet)
-      → is_dirty_at (pages_at id host) offset ≡ true → is_dirty_at (pages_at id (after_write xs bytes host)) offset ≡ true
+      → is_dirty_at (pages_at id host) offset ≡ true
+      → is_dirty_at (pages_at id (after_write xs bytes host)) offset ≡ true
   pub shapes_stay : (xs : List Reached) (bytes : List ℕ) (host : Host PageSet)
       → map shape (after_write xs bytes host).bitmaps ≡ map shape host.bitmaps
-  pub lent_mark : (fault : Option GuestMemoryError) (until_full : Bool) (ws : List Window) (total : ℕ) (next : List Next)
+  pub lent_mark : (fault : Option GuestMemoryError) (until_full : Bool) (ws : List Window) (total : ℕ)
+      (next : List Next)
       (host : Host PageSet) → MarksChanges ws host (received of_window fault until_full ws total next host).host
 
 module _ (laws : WriteLaws) (xs : List Reached) (own : All MarksItsCell xs) (bytes : List ℕ) (host : Host PageSet) where
   -- a byte of a path makes its page dirty, where the block's bitmap covers the byte
-  reached_is_dirty : (block k : ℕ) (p : Pages) → k < 2 ^ 64 → pages_of block host ≡ Some p → k < length p.flags * p.page_size
+  reached_is_dirty : (block k : ℕ) (p : Pages) → k < 2 ^ 64 → pages_of_block block host ≡ Some p
+      → k < length p.flags * p.page_size
       → Contains (path_cells xs) (record { block = block; offset = k })
-      → is_dirty_at (pages_of block (after_write xs bytes host)) k ≡ true
+      → is_dirty_at (pages_of_block block (after_write xs bytes host)) k ≡ true
   reached_is_dirty block k p short is within found = elim (slice_get_cases xs found.0).1 [
     | inl at ↦
         (let x = at.0 in
@@ -281,9 +292,11 @@ module _ (laws : WriteLaws) (xs : List Reached) (own : All MarksItsCell xs) (byt
     | inr past ↦ absurd (omega (arith, past.0, length-map xs (λ (y : Reached). y.cell)))
   ]
 
-  pub write_keeps : (block : ℕ) (image : List ℕ) → KeepsBlock block image host → KeepsBlock block image (after_write xs bytes host)
+  pub write_keeps : (block : ℕ) (image : List ℕ) → KeepsBlock block image host
+      → KeepsBlock block image (after_write xs bytes host)
   write_keeps block image kept = record {
-    cover = subst (λ (s : Option (ℕ × ℕ)). Cover s (length (bytes_of block after))) (sym shapes) (rw len kept.cover);
+    cover = subst (λ (s : Option (ℕ × ℕ)). Cover s (length (bytes_of_block block after))) (sym shapes)
+        (rw len kept.cover);
     short = rw len kept.short;
     clean = record { len = kept.clean.len ∙ sym len; bytes = λ k l e. same k (rw (← len) l) e };
   }
@@ -291,32 +304,33 @@ module _ (laws : WriteLaws) (xs : List Reached) (own : All MarksItsCell xs) (byt
       after : Host PageSet
       after = after_write xs bytes host
 
-      len : length (bytes_of block (after_write xs bytes host)) ≡ length (bytes_of block host)
+      len : length (bytes_of_block block (after_write xs bytes host)) ≡ length (bytes_of_block block host)
       len =
           rw (laws.blocks_are xs bytes host)
           (same_at (λ (b : List ℕ). length b) [] (written (path_cells xs) bytes host.blocks) host.blocks block
           (laws.lengths_stay (path_cells xs) bytes host.blocks))
 
-      shapes : shape (pages_of block (after_write xs bytes host)) ≡ shape (pages_of block host)
-      shapes = same_at shape None (after_write xs bytes host).bitmaps host.bitmaps block (laws.shapes_stay xs bytes host)
+      shapes : shape (pages_of_block block (after_write xs bytes host)) ≡ shape (pages_of_block block host)
+      shapes = same_at shape None (after_write xs bytes host).bitmaps host.bitmaps block
+          (laws.shapes_stay xs bytes host)
 
-      untouched : (k : ℕ) → k < length (bytes_of block host)
-          → is_dirty_at (pages_of block (after_write xs bytes host)) k ≡ false
-          → (set : PageSet) → pages_of block host ≡ set → Cover (shape set) (length (bytes_of block host))
+      untouched : (k : ℕ) → k < length (bytes_of_block block host)
+          → is_dirty_at (pages_of_block block (after_write xs bytes host)) k ≡ false
+          → (set : PageSet) → pages_of_block block host ≡ set → Cover (shape set) (length (bytes_of_block block host))
           → Contains (path_cells xs) (record { block = block; offset = k }) → ⊥
       untouched k l e None is cover found = omega (arith, cover)
       untouched k l e (Some p) is cover found =
           true≢false (sym (reached_is_dirty block k p (omega (arith, kept.short)) is (omega (arith, cover)) found) ∙ e)
 
-      same : (k : ℕ) → k < length (bytes_of block host)
-          → is_dirty_at (pages_of block (after_write xs bytes host)) k ≡ false
-          → get_or image k 0 ≡ get_or (bytes_of block (after_write xs bytes host)) k 0
-      same k l e = elim (cases_Bool (is_dirty_at (pages_of block host) k)) [
+      same : (k : ℕ) → k < length (bytes_of_block block host)
+          → is_dirty_at (pages_of_block block (after_write xs bytes host)) k ≡ false
+          → get_or image k 0 ≡ get_or (bytes_of_block block (after_write xs bytes host)) k 0
+      same k l e = elim (cases_Bool (is_dirty_at (pages_of_block block host) k)) [
         | inl dirty ↦ absurd (true≢false (sym (laws.dirty_stay xs bytes (Block block) k host dirty) ∙ e))
         | inr before ↦
             kept.clean.bytes k l before
             ∙ sym (laws.bytes_stay (path_cells xs) bytes host.blocks (record { block = block; offset = k })
-            (untouched k l e (pages_of block host) refl kept.cover))
+            (untouched k l e (pages_of_block block host) refl kept.cover))
             ∙ ap (λ (bs : List (List ℕ)). get_or (get_or bs block []) k 0) (sym (laws.blocks_are xs bytes host))
       ]
 
@@ -324,8 +338,9 @@ module _ (laws : WriteLaws) (xs : List Reached) (own : All MarksItsCell xs) (byt
 module _ (block : ℕ) (image : List ℕ) (host after : Host PageSet) (ws : List Window) (own : All MarksItself ws)
     (changes : MarksChanges ws host after) (kept : KeepsBlock block image host) where
   -- a byte of the block that changes lies in a dirty page
-  marked_is_dirty : (k : ℕ) (set : PageSet) → pages_of block after ≡ set → Cover (shape set) (length (bytes_of block host))
-      → k < length (bytes_of block host) → IsMarked ws (record { block = block; offset = k }) after
+  marked_is_dirty : (k : ℕ) (set : PageSet) → pages_of_block block after ≡ set
+      → Cover (shape set) (length (bytes_of_block block host))
+      → k < length (bytes_of_block block host) → IsMarked ws (record { block = block; offset = k }) after
       → is_dirty_at set k ≡ true
   marked_is_dirty k None is cover l m = absurd (omega (arith, cover, l))
   marked_is_dirty k (Some p) is cover l m =
@@ -344,25 +359,26 @@ module _ (block : ℕ) (image : List ℕ) (host after : Host PageSet) (ws : List
     clean = record { len = kept.clean.len ∙ sym len; bytes = λ k l e. same k (rw (← len) l) e };
   }
     where
-      len : length (bytes_of block after) ≡ length (bytes_of block host)
+      len : length (bytes_of_block block after) ≡ length (bytes_of_block block host)
       len = same_at (λ (b : List ℕ). length b) [] after.blocks host.blocks block changes.lengths
 
-      shapes : shape (pages_of block after) ≡ shape (pages_of block host)
+      shapes : shape (pages_of_block block after) ≡ shape (pages_of_block block host)
       shapes = same_at shape None after.bitmaps host.bitmaps block changes.bitmaps
 
-      covers : Cover (shape (pages_of block after)) (length (bytes_of block host))
-      covers = subst (λ (s : Option (ℕ × ℕ)). Cover s (length (bytes_of block host))) (sym shapes) kept.cover
+      covers : Cover (shape (pages_of_block block after)) (length (bytes_of_block block host))
+      covers = subst (λ (s : Option (ℕ × ℕ)). Cover s (length (bytes_of_block block host))) (sym shapes) kept.cover
 
-      stays : (k : ℕ) → k < length (bytes_of block host) → is_dirty_at (pages_of block after) k ≡ false
-          → get_or (bytes_of block after) k 0 ≡ get_or (bytes_of block host) k 0
+      stays : (k : ℕ) → k < length (bytes_of_block block host) → is_dirty_at (pages_of_block block after) k ≡ false
+          → get_or (bytes_of_block block after) k 0 ≡ get_or (bytes_of_block block host) k 0
       stays k l e = elim (changes.bytes (record { block = block; offset = k })) [
         | inl byte ↦ byte
-        | inr marked ↦ absurd (true≢false (sym (marked_is_dirty k (pages_of block after) refl covers l marked) ∙ e))
+        | inr marked ↦
+            absurd (true≢false (sym (marked_is_dirty k (pages_of_block block after) refl covers l marked) ∙ e))
       ]
 
-      same : (k : ℕ) → k < length (bytes_of block host) → is_dirty_at (pages_of block after) k ≡ false
-          → get_or image k 0 ≡ get_or (bytes_of block after) k 0
-      same k l e = elim (cases_Bool (is_dirty_at (pages_of block host) k)) [
+      same : (k : ℕ) → k < length (bytes_of_block block host) → is_dirty_at (pages_of_block block after) k ≡ false
+          → get_or image k 0 ≡ get_or (bytes_of_block block after) k 0
+      same k l e = elim (cases_Bool (is_dirty_at (pages_of_block block host) k)) [
         | inl dirty ↦ absurd (true≢false (sym (changes.dirty (Block block) k dirty) ∙ e))
         | inr before ↦ kept.clean.bytes k l before ∙ sym (stays k l e)
       ]
@@ -373,18 +389,19 @@ module _ (block : ℕ) (image : List ℕ) (host after : Host PageSet) (ws : List
 abbrev pub CleanedStay : Type 0
 CleanedStay = (set : PageSet) → shape (cleaned set) ≡ shape set
 
-module _ (are_listed : AreListed) (cleaned_stay : CleanedStay) (block : ℕ) (image : List ℕ) (host : Host PageSet) (kept : KeepsBlock block image host)
+module _ (are_listed : AreListed) (cleaned_stay : CleanedStay) (block : ℕ) (image : List ℕ) (host : Host PageSet)
+    (kept : KeepsBlock block image host)
   where
     -- patched with its dirty pages, the image is the block
     harvest_keeps_own : (b : ℕ) (set : PageSet) → slice_get host.bitmaps b ≡ Some set → b ≡ block
         → KeepsBlock block (patched_with block host (dirty_pages set) image) (with_bitmap host (Block b) (cleaned set))
     harvest_keeps_own b set there same =
-        let now = bytes_of block host in
-        let is : pages_of block host ≡ set = rw (← same) (get_or_from_slice_get host.bitmaps b set None there) in
+        let now = bytes_of_block block host in
+        let is : pages_of_block block host ≡ set = rw (← same) (get_or_from_slice_get host.bitmaps b set None there) in
         let mirrors : patched_with block host (dirty_pages set) image ≡ now =
-        rw (← is) (mirrors_from_clean are_listed (pages_of block host) now image kept.clean) in
+        rw (← is) (mirrors_from_clean are_listed (pages_of_block block host) now image kept.clean) in
         let within = slice_get_within host.bitmaps b set there in
-        let after : pages_of block (with_bitmap host (Block b) (cleaned set)) ≡ cleaned set =
+        let after : pages_of_block block (with_bitmap host (Block b) (cleaned set)) ≡ cleaned set =
         rw (← same) (get_or-set_same host.bitmaps b (cleaned set) None within) in
         record {
           cover = rw (after, cleaned_stay set, ← is) kept.cover;
@@ -405,7 +422,7 @@ module _ (are_listed : AreListed) (cleaned_stay : CleanedStay) (block : ℕ) (im
           (harvest_keeps_own b set there (eqb-true b block t))
       | inr f ↦
           (let other : block ≢ b = λ e. eqb-false b block f (sym e) in
-          let after : pages_of block (with_bitmap host (Block b) (cleaned set)) ≡ pages_of block host =
+          let after : pages_of_block block (with_bitmap host (Block b) (cleaned set)) ≡ pages_of_block block host =
           get_or-set_other host.bitmaps b block (cleaned set) None other in
           rw (cond-false (b == block) (patched_with block host (dirty_pages set) image) image f, after) kept)
     ]
@@ -414,18 +431,18 @@ module _ (are_listed : AreListed) (cleaned_stay : CleanedStay) (block : ℕ) (im
 
 module _ (are_listed : AreListed) where
   -- a copy of a block mirrors it
-  pub copy_mirrors : (block : ℕ) (host : Host PageSet) → MirrorsBlock block host (bytes_of block host)
+  pub copy_mirrors : (block : ℕ) (host : Host PageSet) → MirrorsBlock block host (bytes_of_block block host)
   copy_mirrors block host =
-      mirrors_from_clean are_listed (pages_of block host) (bytes_of block host) (bytes_of block host)
+      mirrors_from_clean are_listed (pages_of_block block host) (bytes_of_block block host) (bytes_of_block block host)
       (record { len = refl; bytes = λ k l e. refl })
 
   -- an image that mirrors a covered block
   pub kept_from_mirrors : (block : ℕ) (image : List ℕ) (host : Host PageSet) → IsTracked block host
-      → length (bytes_of block host) < 2 ^ 64 → MirrorsBlock block host image → KeepsBlock block image host
+      → length (bytes_of_block block host) < 2 ^ 64 → MirrorsBlock block host image → KeepsBlock block image host
   kept_from_mirrors block image host tracked short mirrors = record {
     cover = tracked;
     short = short;
-    clean = clean_from_mirrors are_listed (pages_of block host) (bytes_of block host) image mirrors;
+    clean = clean_from_mirrors are_listed (pages_of_block block host) (bytes_of_block block host) image mirrors;
   }
 
 -- the bytes that a read replies
@@ -452,7 +469,8 @@ read_of_image block image old new memory addr n bytes m k x mirrors step there r
   | inl e ↦
       (let xs = (reached_by m old.host.tables addr.0 n permissions.Read).path in
       let told = rw there at (ap (λ (p : Reply × State). p.0) e) in
-      let is = read_bytes xs old.host bytes (answer_of (reached_by m old.host.tables addr.0 n permissions.Read) n) told in
+      let is = read_bytes xs old.host bytes
+      (access_result (reached_by m old.host.tables addr.0 n permissions.Read) n) told in
       let cells : slice_get (path_cells xs) k ≡ Some x.cell =
       slice_get-map (λ (y : Reached). y.cell) xs k ∙ ap (option_map (λ (y : Reached). y.cell)) reached in
       let read : slice_get (bytes_read xs old.host) k ≡ Some (byte_at old.host.blocks x.cell) =

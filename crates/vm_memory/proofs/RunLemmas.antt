@@ -11,7 +11,7 @@ use Rattle.vm_memory.specs.History.{table_calls}
 use Rattle.vm_memory.specs.Lawful.{IsLawful}
 use Rattle.vm_memory.specs.Commands.{MayWant, effect}
 use Rattle.vm_memory.specs.Machine.{Step, Run}
-use Rattle.vm_memory.specs.Rounds.{patched_with, bytes_of, pages_of, image_after, IsDirect, RunsDirectly, KeepsImage}
+use Rattle.vm_memory.specs.Rounds.{patched_with, bytes_of_block, pages_of_block, image_after, IsDirect, RunsDirectly, KeepsImage}
 use Rattle.vm_memory.specs.State.{State}
 use Rattle.vm_memory.specs.declared.machine.command.Command.{Command}
 use Rattle.vm_memory.specs.declared.machine.command.Command.TheVariants as command
@@ -37,7 +37,8 @@ Run-step old (d ∷ cs) (q ∷ rs) mid c r new ran step = (ran.0, ran.1, Run-ste
 
 -- a step that tells of no change makes none
 pub still-step : RefusedLaw → (old new : State) (c : Command) (r : Reply) → IsStill r → Step old c r new → new ≡ old
-still-step law old new c r still step = elim step [ inl e ↦ go (effect old c) (command_has_effect old c) e | inr want ↦ want.2 ]
+still-step law old new c r still step =
+    elim step [ inl e ↦ go (effect old c) (command_has_effect old c) e | inr want ↦ want.2 ]
   where
     told : (a : Reply × State) → (r, new) ≡ a → IsStill a.0
     told a e = subst (λ (p : Reply × State). IsStill p.0) e still
@@ -67,7 +68,8 @@ answered law old c (Leaves r host) is = is.answer law
 pub want-may-be : RefusedLaw → (old new : State) (c : Command) → Step old c reply.Memory new → MayWant old c
 want-may-be law old new c step = elim step [
   | inl e ↦
-      absurd (subst (λ (p : Reply × State). IsAnswer p.0) (sym e) (answered law old c (effect old c) (command_has_effect old c)))
+      absurd (subst (λ (p : Reply × State). IsAnswer p.0) (sym e)
+      (answered law old c (effect old c) (command_has_effect old c)))
   | inr want ↦ want.1
 ]
 
@@ -120,14 +122,16 @@ step_leaves : HistoryLaws → (number : ℕ) (old : State) (c : Command) (r : Re
     → LeavesTable number old c (r, new)
 step_leaves laws number old c r new step = elim step [
   | inl e ↦
-      subst (LeavesTable number old c) (sym e) (effect_leaves laws number old c (effect old c) (command_has_effect old c))
+      subst (LeavesTable number old c) (sym e)
+      (effect_leaves laws number old c (effect old c) (command_has_effect old c))
   | inr want ↦
       rw want.0
       (quiet_leaves number old c (reply.Memory, new) (quiet_is_silent c reply.Memory tt)
       (ap (λ (s : State). s.host.tables) want.2))
 ]
 
-pub run_leaves : HistoryLaws → (number : ℕ) (old : State) (cs : List Command) (rs : List Reply) (new : State) → Run old cs rs new
+pub run_leaves : HistoryLaws → (number : ℕ) (old : State) (cs : List Command) (rs : List Reply) (new : State)
+    → Run old cs rs new
     → AreLeftBy number (table_calls number cs rs) old.host.tables new.host.tables
 run_leaves laws number old [] [] new run = same number _ _ (ap (λ (s : State). s.host.tables) run)
 run_leaves laws number old [] (r ∷ rs) new run = absurd run
@@ -172,16 +176,19 @@ module _ (laws : ImageLaws) (block : ℕ) where
   ]
 
   -- at every state of a run
-  pub run_keeps : (image : List ℕ) (old : State) (cs : List Command) (rs : List Reply) (new : State) (run : Run old cs rs new)
+  pub run_keeps : (image : List ℕ) (old : State) (cs : List Command) (rs : List Reply) (new : State)
+      (run : Run old cs rs new)
       → KeepsBlock block image old.host → RunsDirectly old cs rs new run → KeepsImage block image old cs rs new run
   run_keeps image old [] [] new run kept direct =
       let last = subst (λ (s : State). KeepsBlock block image s.host) (sym run) kept in
-      mirrors_from_clean laws.are_listed (pages_of block new.host) (bytes_of block new.host) image last.clean
+      mirrors_from_clean laws.are_listed (pages_of_block block new.host)
+      (bytes_of_block block new.host) image last.clean
   run_keeps image old [] (r ∷ rs) new run kept direct = absurd run
   run_keeps image old (c ∷ cs) [] new run kept direct = absurd run
   run_keeps image old (c ∷ cs) (r ∷ rs) new run kept direct =
       let next = step_keeps image old run.0 kept c r direct.0 run.1 in (
-        mirrors_from_clean laws.are_listed (pages_of block old.host) (bytes_of block old.host) image kept.clean,
+        mirrors_from_clean laws.are_listed (pages_of_block block old.host)
+            (bytes_of_block block old.host) image kept.clean,
         run_keeps (image_after block old.host c r image) run.0 cs rs new run.2 next direct.1,
       )
 
@@ -194,7 +201,8 @@ module _ (laws : ImageLaws) (block : ℕ) where
   unpatched image host c r other = refl
 
   -- and the image still mirrors the block at the end
-  pub unharvested_run_keeps : (image : List ℕ) (old : State) (cs : List Command) (rs : List Reply) (new : State) (run : Run old cs rs new)
+  pub unharvested_run_keeps : (image : List ℕ) (old : State) (cs : List Command) (rs : List Reply) (new : State)
+      (run : Run old cs rs new)
       → KeepsBlock block image old.host → RunsDirectly old cs rs new run
       → All (λ (c : Command). c ≢ command.Harvest (Block block)) cs → KeepsBlock block image new.host
   unharvested_run_keeps image old [] [] new run kept direct none =

@@ -39,7 +39,8 @@ not_moved false n (Err e) r still is = (e, refl, is)
 not_moved true n (Err e) r still is = (e, refl, is)
 not_moved true n (Ok total) r still is = go (total == n) is
   where
-    go : (b : Bool) → r ≡ reply_of (λ (done : Unit {0}). reply.Done) (cond b (Ok tt) (Err (errors.PartialBuffer n total)))
+    go : (b : Bool) → r ≡ reply_of (λ (done : Unit {0}). reply.Done)
+        (cond b (Ok tt) (Err (errors.PartialBuffer n total)))
         → (e : GuestMemoryError) × (Ok total ≡ Err e) × (r ≡ reply_of_error e)
     go true is = absurd (subst IsStill is still)
     go false is = absurd (subst IsStill is still)
@@ -67,7 +68,8 @@ module _ (refused : RefusedLaw) (fault : Option GuestMemoryError) (xs : List Rea
     (host : Host PageSet) (r : Reply) (still : IsStill r) where
   not_received_by : (until_full : Bool) (x : GuestMemoryError)
       → (received of_window fault until_full (windows xs) 0 (map next_of source) host).answer ≡ Err x
-      → r ≡ reply_of_error x → (received of_window fault until_full (windows xs) 0 (map next_of source) host).host ≡ host
+      → r ≡ reply_of_error x → (received of_window fault until_full (windows xs) 0 (map next_of source) host).host
+      ≡ host
   not_received_by until_full x same e =
       elim (refused is_io fault until_full xs (map next_of source) host x (scripts_fail_so source) same) [
         | inl failed ↦

@@ -38,13 +38,15 @@ scripts_fail_so [] = All-nil (λ (n : Next). fails_as is_io n ≡ true)
 scripts_fail_so (Give bytes ∷ ss) =
     All-cons (λ (n : Next). fails_as is_io n ≡ true) (next_of (Give bytes)) (map next_of ss) refl (scripts_fail_so ss)
 scripts_fail_so (Interrupted bytes ∷ ss) =
-    All-cons (λ (n : Next). fails_as is_io n ≡ true) (next_of (Interrupted bytes)) (map next_of ss) refl (scripts_fail_so ss)
+    All-cons (λ (n : Next). fails_as is_io n ≡ true) (next_of (Interrupted bytes)) (map next_of ss) refl
+    (scripts_fail_so ss)
 scripts_fail_so (Fail bytes ∷ ss) =
     All-cons (λ (n : Next). fails_as is_io n ≡ true) (next_of (Fail bytes)) (map next_of ss) refl (scripts_fail_so ss)
 
 -- what is taken from the laws of transfers
 abbrev pub RefusedLaw : Type 0
-RefusedLaw = (test : VolatileMemoryError → Bool) (fault : Option GuestMemoryError) (until_full : Bool) (xs : List Reached)
+RefusedLaw = (test : VolatileMemoryError → Bool) (fault : Option GuestMemoryError) (until_full : Bool)
+    (xs : List Reached)
     (next : List Next) (host : Host PageSet) (e : GuestMemoryError)
     → All (λ (n : Next). fails_as test n ≡ true) next
     → (received of_window fault until_full (windows xs) 0 next host).answer ≡ Err e

@@ -31,7 +31,7 @@ use Rattle.vm_memory_guest.specs.declared.region.GuestMemoryError.{GuestMemoryEr
 use Rattle.vm_memory_guest.specs.declared.region.GuestMemoryError.TheVariants as errors
 use Rattle.vm_memory_guest.specs.declared.region.GuestRegionCollectionError.{GuestRegionCollectionError}
 use Rattle.vm_memory_guest.specs.declared.region.GuestRegionCollectionError.TheVariants as layouts
-use Rattle.vm_memory.specs.Reply.{answer_of, whole_of, moved_as, reached_by, reads, reads_whole, reply_of, reply_of_error, reply_of_layout_error, writes}
+use Rattle.vm_memory.specs.Reply.{access_result, whole_of, moved_as, reached_by, reads, reads_whole, reply_of, reply_of_error, reply_of_layout_error, writes}
 use Rattle.vm_memory.specs.Tables.{looks_up}
 use Rattle.vm_memory.specs.Transfers.{beside_taken, dealt_to, given_by, receives, sends}
 use Rattle.vm_memory.specs.Typed.{loads, stores_bytes}
@@ -76,7 +76,7 @@ abbrev partial : ℕ → ℕ → GuestMemoryError
 partial expected completed = errors.PartialBuffer expected completed
 
 -- what kept an access from reaching more
-kept_fault : (o : Option access.Fault) → IfSome (option_map error_of o) IsFault
+kept_fault : (o : Option access.AccessFault) → IfSome (option_map error_of o) IsFault
 kept_fault None = tt
 kept_fault (Some (access.NoRegion a)) = tt
 kept_fault (Some access.NoHostBytes) = tt
@@ -163,11 +163,13 @@ sent_io size Whole good = tt
 sent_io size Dry good = refl
 sent_io size (Failed e) good = good
 
-given_so : (w : Window) (x : Sink × ℕ) → FailsSo x.0.next → KeptBy (λ (y : Sink × ℕ). FailsSo y.0.next) IsIo (sent_whole w x)
+given_so : (w : Window) (x : Sink × ℕ) → FailsSo x.0.next
+    → KeptBy (λ (y : Sink × ℕ). FailsSo y.0.next) IsIo (sent_whole w x)
 given_so w x h =
     let Kept = λ (s : Sink). FailsSo s.next in
     let k = rest_keeps Kept IsIo (λ done. again (offered (w.size - done))) w.size
-    (λ done s some. again_keeps Kept IsIo (offered (w.size - done)) (λ s. offered_so (w.size - done) s.next s.room) retries s)
+    (λ done s some. again_keeps Kept IsIo (offered (w.size - done))
+    (λ s. offered_so (w.size - done) s.next s.room) retries s)
     w.size 0 x.0 h in
     (k.0, sent_io w.size (sent w.size x.0).stop k.1)
 
@@ -175,10 +177,12 @@ given_fault : (o : Option GuestMemoryError) → IfSome o IsFault → (ws : List 
     → FailsSo state.next → IfErr (given_out of_window o ws total state).answer IsFault
 given_fault o met ws total state h =
     go _ (given_out of_window o ws total state).answer
-    (order_keeps of_window o sent_whole (λ (x : Sink × ℕ). FailsSo x.0.next) IsIo ws (λ w among. given_so w) total (state, total) h).1
+    (order_keeps of_window o sent_whole (λ (x : Sink × ℕ). FailsSo x.0.next) IsIo ws (λ w among. given_so w) total
+    (state, total) h).1
   where
     go : (P : GuestMemoryError → Type 0) (r : Result ℕ GuestMemoryError)
-        → IfErr r (λ e. ((v : VolatileMemoryError) × IsIo v × (e ≡ of_window v)) ⊎ ((o ≡ Some e) × P e)) → IfErr r IsFault
+        → IfErr r (λ e. ((v : VolatileMemoryError) × IsIo v × (e ≡ of_window v)) ⊎ ((o ≡ Some e) × P e))
+        → IfErr r IsFault
     go P (Ok total) why = tt
     go P (Err e) (inl failed) = subst IsFault (sym failed.2) (io_fault failed.0 failed.1)
     go P (Err e) (inr fault) = subst (λ (p : Option GuestMemoryError). IfSome p IsFault) fault.0 met
@@ -221,13 +225,14 @@ layout_fault (r ∷ rs) = neighbours_fault (r ∷ rs)
 
 -- ---- what commands reply
 
-moved : (whole : Bool) (n : ℕ) (answer : Result ℕ GuestMemoryError) → IfErr answer IsFault → IsAnswer (moved_as whole n answer)
+moved : (whole : Bool) (n : ℕ) (answer : Result ℕ GuestMemoryError) → IfErr answer IsFault
+    → IsAnswer (moved_as whole n answer)
 moved false n answer fault = told_of reply.Count answer (λ count. tt) fault
 moved true n answer fault =
     told_of (λ (done : Unit {0}). reply.Done) (all_of partial n answer) (λ done. tt) (all_fault n answer fault)
 
 module _ (host : Host PageSet) (m : Memory) (a : ℕ) where
-  reached_fault : (n : ℕ) (access : Permissions) → IfErr (answer_of (reached_by m host.tables a n access) n) IsFault
+  reached_fault : (n : ℕ) (access : Permissions) → IfErr (access_result (reached_by m host.tables a n access) n) IsFault
   reached_fault n access =
       let reached = reached_by m host.tables a n access in
       counted_fault (length reached.path) n (kept reached) (access_fault reached)
@@ -235,14 +240,14 @@ module _ (host : Host PageSet) (m : Memory) (a : ℕ) where
   pub read : (n : ℕ) → IsAnswer (reads m host a n)
   read n =
       let reached = reached_by m host.tables a n permissions.Read in
-      told_of (λ (count : ℕ). reply.Bytes (bytes_read reached.path host)) (answer_of reached n) (λ count. tt)
+      told_of (λ (count : ℕ). reply.Bytes (bytes_read reached.path host)) (access_result reached n) (λ count. tt)
       (reached_fault n permissions.Read)
 
   pub read_whole : (n : ℕ) → IsAnswer (reads_whole m host a n)
   read_whole n =
       let reached = reached_by m host.tables a n permissions.Read in
-      told_of (λ (done : Unit {0}). reply.Bytes (bytes_read reached.path host)) (whole_of n (answer_of reached n))
-      (λ done. tt) (all_fault n (answer_of reached n) (reached_fault n permissions.Read))
+      told_of (λ (done : Unit {0}). reply.Bytes (bytes_read reached.path host)) (whole_of n (access_result reached n))
+      (λ done. tt) (all_fault n (access_result reached n) (reached_fault n permissions.Read))
 
   pub loaded : (w : int.Width) → IsAnswer (loads m host a w)
   loaded w =
@@ -254,7 +259,8 @@ module _ (host : Host PageSet) (m : Memory) (a : ℕ) where
   pub wrote : (whole : Bool) (bytes : List ℕ) → IsAnswer (writes whole m host a bytes).0
   wrote whole bytes =
       let n = length bytes in
-      moved whole n (answer_of (reached_by m host.tables a n permissions.Write) n) (reached_fault n permissions.Write)
+      moved whole n (access_result (reached_by m host.tables a n permissions.Write) n)
+      (reached_fault n permissions.Write)
 
   pub stored : (bytes : List ℕ) → IsAnswer (stores_bytes m host a bytes).0
   stored bytes =
@@ -262,7 +268,8 @@ module _ (host : Host PageSet) (m : Memory) (a : ℕ) where
       told_of (λ (xs : List Reached). reply.Done) (whole_path (length bytes) reached.path (kept reached))
       (λ xs. tt) (typed_fault (length bytes) reached.path (kept reached) (access_fault reached))
 
-  pub got : RefusedLaw → (whole : Bool) (n : ℕ) (source : List SourceStep) → IsAnswer (receives whole m host a n source).0
+  pub got : RefusedLaw → (whole : Bool) (n : ℕ) (source : List SourceStep)
+      → IsAnswer (receives whole m host a n source).0
   got refused whole n source =
       let reached = reached_by m host.tables a n permissions.Write in
       let d = dealt_to whole m host a n source in

@@ -4,7 +4,7 @@ use Rattle.vm_memory_base.specs.Permissions.{allow}
 use Rattle.vm_memory_base.specs.Table.{TableCall, covers, Mapping, target}
 use Rattle.vm_memory_base.specs.declared.iotlb.Permissions.{Permissions}
 use Rattle.vm_memory_guest.specs.Access.{Reached}
-use Rattle.vm_memory_guest.specs.Region.{Region, Byte, cell}
+use Rattle.vm_memory_guest.specs.Region.{Region, Backed, cell}
 use Rattle.vm_memory.specs.Commands.{table_call}
 use Rattle.vm_memory.specs.Machine.{Step, Run}
 use Rattle.vm_memory.specs.State.{State}
@@ -46,4 +46,4 @@ pub record GoesThrough (regions : List Region) (address : ℕ) (said : Option Ma
   pub is_said : said ≡ Some mapping
   pub is_taken : x.mapping ≡ Some mapping
   pub permits : allow mapping.permissions access ≡ true
-  pub lies_there : cell regions (target address mapping) ≡ Byte x.home x.cell
+  pub lies_there : cell regions (target address mapping) ≡ Backed x.region x.cell

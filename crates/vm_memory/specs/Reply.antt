@@ -58,8 +58,8 @@ abbrev pub reached_by : Memory → List Table → ℕ → ℕ → Permissions �
 reached_by m tables a n access = access_of m.regions (route m tables) a n access
 
 -- how many of n bytes an access reached, or the error where it reached none
-abbrev pub answer_of : Access → ℕ → Result ℕ GuestMemoryError
-answer_of reached n = counted (length reached.path) (option_map error_of reached.fault) n
+abbrev pub access_result : Access → ℕ → Result ℕ GuestMemoryError
+access_result reached n = counted (length reached.path) (option_map error_of reached.fault) n
 
 -- where all of n bytes are wanted, fewer are an error
 abbrev pub whole_of : ℕ → Result ℕ GuestMemoryError → Result (Unit {0}) GuestMemoryError
@@ -74,13 +74,13 @@ moved_as true n answer = reply_of (λ done. Done) (whole_of n answer)
 abbrev pub reads : Memory → Host PageSet → ℕ → ℕ → Reply
 reads m host a n =
     let reached = reached_by m host.tables a n permissions.Read in
-    reply_of (λ count. Bytes (bytes_read reached.path host)) (answer_of reached n)
+    reply_of (λ count. Bytes (bytes_read reached.path host)) (access_result reached n)
 
 -- a read of all bytes replies those of its path, where it reached all
 abbrev pub reads_whole : Memory → Host PageSet → ℕ → ℕ → Reply
 reads_whole m host a n =
     let reached = reached_by m host.tables a n permissions.Read in
-    reply_of (λ done. Bytes (bytes_read reached.path host)) (whole_of n (answer_of reached n))
+    reply_of (λ done. Bytes (bytes_read reached.path host)) (whole_of n (access_result reached n))
 
 -- a check replies whether an access would reach all of its n bytes
 abbrev pub checks : Memory → Host PageSet → ℕ → ℕ → Permissions → Reply
@@ -92,4 +92,4 @@ abbrev pub writes : Bool → Memory → Host PageSet → ℕ → List ℕ → Re
 writes whole m host a bytes =
     let n = length bytes in
     let reached = reached_by m host.tables a n permissions.Write in
-    (moved_as whole n (answer_of reached n), after_write reached.path bytes host)
+    (moved_as whole n (access_result reached n), after_write reached.path bytes host)

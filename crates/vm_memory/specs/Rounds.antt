@@ -30,23 +30,23 @@ patched_by None pages now image = image
 patched_by (Some p) pages now image = patched p.page_size pages now image
 
 -- the bytes of a block, and the pages of its bitmap
-abbrev pub bytes_of : ℕ → Host PageSet → List ℕ
-bytes_of block host = block_at host.blocks block
+abbrev pub bytes_of_block : ℕ → Host PageSet → List ℕ
+bytes_of_block block host = block_at host.blocks block
 
-abbrev pub pages_of : ℕ → Host PageSet → PageSet
-pages_of block host = pages_at (bitmap.Block block) host
+abbrev pub pages_of_block : ℕ → Host PageSet → PageSet
+pages_of_block block host = pages_at (bitmap.Block block) host
 
 -- an image patched with these pages of a block, as its bytes are in this host
 abbrev pub patched_with : ℕ → Host PageSet → List ℕ → List ℕ → List ℕ
-patched_with block host pages image = patched_by (pages_of block host) pages (bytes_of block host) image
+patched_with block host pages image = patched_by (pages_of_block block host) pages (bytes_of_block block host) image
 
 -- an image, patched with the pages that are dirty now
 abbrev pub image_now : ℕ → Host PageSet → List ℕ → List ℕ
-image_now block host image = patched_with block host (dirty_pages (pages_of block host)) image
+image_now block host image = patched_with block host (dirty_pages (pages_of_block block host)) image
 
 -- so patched, it is the block
 abbrev pub MirrorsBlock : ℕ → Host PageSet → List ℕ → Type 0
-MirrorsBlock block host image = image_now block host image ≡ bytes_of block host
+MirrorsBlock block host image = image_now block host image ≡ bytes_of_block block host
 
 -- the image after a command and its reply: a harvest of the block's bitmap patches it with the pages that are
 -- replied
@@ -62,7 +62,7 @@ Cover (Some s) len = len ≤ s.1 * s.0
 
 -- the pages of a block's bitmap cover the block
 abbrev pub IsTracked : ℕ → Host PageSet → Type 0
-IsTracked block host = Cover (shape (pages_of block host)) (length (bytes_of block host))
+IsTracked block host = Cover (shape (pages_of_block block host)) (length (bytes_of_block block host))
 
 -- a command does not write to a memory whose IOMMU is on
 abbrev pub IsDirect : State → Command → Type 0
@@ -85,4 +85,4 @@ KeepsImage block image old cs rs new run = MirrorsBlock block new.host image
 -- else stays
 abbrev pub IsSynced : ℕ → State → List ℕ → State → List ℕ → Type 0
 IsSynced block old image new synced = (synced ≡ image_now block old.host image)
-    × (new ≡ record old { host = with_bitmap old.host (bitmap.Block block) (cleaned (pages_of block old.host)) })
+    × (new ≡ record old { host = with_bitmap old.host (bitmap.Block block) (cleaned (pages_of_block block old.host)) })

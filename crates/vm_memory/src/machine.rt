@@ -4,7 +4,7 @@ ghost use Rattle.std.specs.Prelude.{◌≡◌, ℕ, List, ◌++◌, [], OnOk, On
 ghost use Rattle.vm_memory_guest.specs.Collection.{regions_of};
 ghost use Rattle.vm_memory.specs.Machine.{Step, Run};
 ghost use Rattle.vm_memory.specs.Parts.{HoldsRegions, HoldsTables, state_of};
-ghost use Rattle.vm_memory.specs.Rounds.{IsTracked, RunsDirectly, KeepsImage, bytes_of};
+ghost use Rattle.vm_memory.specs.Rounds.{IsTracked, RunsDirectly, KeepsImage, bytes_of_block};
 
 mod accesses;
 pub mod command;
@@ -156,7 +156,7 @@ pub fn run<R: GuestMemoryRegion, I: Iommu, B: ExactBitmap>(
         OnOk result ((new : List Reply) × (replies.new.items ≡ replies.old.items ++ new)
         × (run : Run before commands.now new after)
         × ((block : ℕ) → IsTracked block before.host → RunsDirectly before commands.now new after run
-        → KeepsImage block (bytes_of block before.host) before commands.now new after run)) }
+        → KeepsImage block (bytes_of_block block before.host) before commands.now new after run)) }
     ensures refused { OnErr result ((machine.new ≡ machine.old) × (replies.new.items ≡ replies.old.items)) }
 {
     blocks_are_short(&machine.host);

@@ -16,8 +16,8 @@ ghost use Rattle.vm_memory_base.specs.declared.iotlb.Reason.TheVariants.{Missing
 ghost use Rattle.vm_memory_guest.specs.Region.{Region};
 ghost use Rattle.vm_memory_guest.specs.declared.region.GuestMemoryError.TheVariants as errors;
 ghost use Rattle.vm_memory_guest.specs.declared.region.GuestRegionCollectionError.TheVariants as layouts;
-ghost use Rattle.vm_memory.specs.examples.Fixtures.{at, low, high, bare, block_pages, space_pages, host, machine, translated};
-ghost use Rattle.vm_memory.specs.examples.Fixtures.{marked_host, marked, range, failed, two_bytes, four_bytes};
+ghost use Rattle.vm_memory.specs.examples.Fixtures.{at, low, high, unbacked, block_pages, space_pages, host, machine, translated_memory};
+ghost use Rattle.vm_memory.specs.examples.Fixtures.{marked_host, marked_machine, range, failed, two_bytes, four_bytes};
 ghost use Rattle.vm_memory.specs.examples.Fixtures.{with_bytes, with_translated_bytes, no_region_at, not_translated, in_block};
 ghost use Rattle.vm_memory.specs.History.{table_calls};
 ghost use Rattle.vm_memory.specs.Commands.{MayWant};
@@ -47,7 +47,7 @@ ghost use Rattle.vm_memory.specs.declared.machine.command.Fault.TheVariants as f
 /// the IOMMU of the memory that it is made of, and only the IOMMU of the memory that is named is turned on or off.
 pub fn layouts_and_memories_are_made()
     ensures made { outcome machine (FromRegions (1 ∷ 2 ∷ []))
-        ≡ (LayoutMade 1, record machine { layouts = (low ∷ high ∷ []) ∷ (high ∷ bare ∷ []) ∷ [] }) }
+        ≡ (LayoutMade 1, record machine { layouts = (low ∷ high ∷ []) ∷ (high ∷ unbacked ∷ []) ∷ [] }) }
     ensures removed { outcome machine (Remove 0 (at 0) 4)
         ≡ (LayoutMade 1, record machine { layouts = (low ∷ high ∷ []) ∷ (high ∷ []) ∷ [] }) }
     ensures other_length { outcome machine (Remove 0 (at 0) 2) ≡ (Fault fault.NoMemoryRegion, machine) }
@@ -58,16 +58,16 @@ pub fn layouts_and_memories_are_made()
     ensures plain { outcome machine (Plain 0)
         ≡ (MemoryMade 3, record machine { memories = machine.memories ++ plain (low ∷ high ∷ []) ∷ [] }) }
     ensures behind_an_iommu { outcome machine (NewMemory 0 0 0 true)
-        ≡ (MemoryMade 3, record machine { memories = machine.memories ++ translated true ∷ [] }) }
-    ensures replaced { let more = record machine { layouts = machine.layouts ++ (bare ∷ []) ∷ [] } in
+        ≡ (MemoryMade 3, record machine { memories = machine.memories ++ translated_memory true ∷ [] }) }
+    ensures replaced { let more = record machine { layouts = machine.layouts ++ (unbacked ∷ []) ∷ [] } in
         outcome more (ReplaceBackend 1 1)
-        ≡ (MemoryMade 3, record more { memories = machine.memories ++ behind (bare ∷ []) 0 0 true ∷ [] }) }
+        ≡ (MemoryMade 3, record more { memories = machine.memories ++ behind (unbacked ∷ []) 0 0 true ∷ [] }) }
     ensures replace_of_plain { outcome machine (ReplaceBackend 0 0) ≡ (NoSuch, machine) }
     ensures turned_off { outcome machine (Enable 1 false)
         ≡ (
           Done,
           record machine {
-            memories = plain (low ∷ high ∷ bare ∷ []) ∷ translated false ∷ translated false ∷ [];
+            memories = plain (low ∷ high ∷ unbacked ∷ []) ∷ translated_memory false ∷ translated_memory false ∷ [];
           },
         ) }
     ensures turn_of_plain { outcome machine (Enable 0 true) ≡ (NoSuch, machine) }
@@ -162,18 +162,18 @@ pub fn checks_and_tables_are_answered()
 /// all other bitmaps are as before. A patch takes the bytes of the listed pages, and no others: the last page may be
 /// cut, and pages past it have no bytes.
 pub fn pages_are_harvested()
-    ensures dirty { outcome marked (Dirty (Block 1)) ≡ (Pages (0 ∷ 1 ∷ []), marked) }
-    ensures harvest { outcome marked (Harvest (Block 0))
+    ensures dirty { outcome marked_machine (Dirty (Block 1)) ≡ (Pages (0 ∷ 1 ∷ []), marked_machine) }
+    ensures harvest { outcome marked_machine (Harvest (Block 0))
         ≡ (
           Pages (1 ∷ []),
-          record marked {
+          record marked_machine {
             host = record marked_host { bitmaps = block_pages false false ∷ block_pages true true ∷ [] };
           },
         ) }
-    ensures harvest_of_a_space { outcome marked (Harvest (Space 0))
+    ensures harvest_of_a_space { outcome marked_machine (Harvest (Space 0))
         ≡ (
           Pages (0 ∷ []),
-          record marked { host = record marked_host { spaces = space_pages false false ∷ [] } },
+          record marked_machine { host = record marked_host { spaces = space_pages false false ∷ [] } },
         ) }
     ensures patch { patched 2 (1 ∷ []) (6 ∷ 7 ∷ 8 ∷ 9 ∷ []) (1 ∷ 2 ∷ 3 ∷ 4 ∷ []) ≡ 1 ∷ 2 ∷ 8 ∷ 9 ∷ [] }
     ensures cut { patched 2 (1 ∷ 7 ∷ []) (6 ∷ 7 ∷ 8 ∷ []) (1 ∷ 2 ∷ 3 ∷ []) ≡ 1 ∷ 2 ∷ 8 ∷ [] }
@@ -263,10 +263,10 @@ pub fn steps_and_runs()
 pub fn what_a_machine_stands_for()
     ensures state { state_of {R = Region} {I = ℕ} {B = PageSet} (λ r. r) (λ i. i) (λ b. b) (record {
       host = host;
-      regions = low ∷ bare ∷ [];
+      regions = low ∷ unbacked ∷ [];
       translators = 0 ∷ [];
       layouts = (low ∷ []) ∷ [];
-      memories = memory.Plain (bare ∷ []) ∷ memory.Translated (record {
+      memories = memory.Plain (unbacked ∷ []) ∷ memory.Translated (record {
         backend = low ∷ [];
         iommu = 0;
         on = true;
@@ -274,22 +274,22 @@ pub fn what_a_machine_stands_for()
       }) ∷ [];
     })
         ≡ record {
-          regions = low ∷ bare ∷ [];
+          regions = low ∷ unbacked ∷ [];
           translators = 0 ∷ [];
           layouts = (low ∷ []) ∷ [];
-          memories = plain (bare ∷ []) ∷ behind (low ∷ []) 0 0 true ∷ [];
+          memories = plain (unbacked ∷ []) ∷ behind (low ∷ []) 0 0 true ∷ [];
           host = host;
         } }
     ensures held { AreHeld {R = Region} {I = ℕ} {B = PageSet} (λ r. r) (λ i. i) (record {
       host = host;
-      regions = low ∷ bare ∷ [];
+      regions = low ∷ unbacked ∷ [];
       translators = 0 ∷ [];
       layouts = [];
       memories = [];
     }) }
     ensures not_held { AreHeld {R = Region} {I = ℕ} {B = PageSet} (λ r. r) (λ i. i) (record {
       host = record host { blocks = [] };
-      regions = low ∷ bare ∷ [];
+      regions = low ∷ unbacked ∷ [];
       translators = [];
       layouts = [];
       memories = [];

@@ -16,8 +16,8 @@ ghost use Rattle.vm_memory_base.specs.declared.iotlb.lookup.MappedRange.{MappedR
 ghost use Rattle.vm_memory_guest.specs.Access.{Reached};
 ghost use Rattle.vm_memory_guest.specs.Host.{Host};
 ghost use Rattle.vm_memory_guest.specs.Memory as guest;
-ghost use Rattle.vm_memory_guest.specs.Memory.{Behind, behind_of};
-ghost use Rattle.vm_memory_guest.specs.Region.{Byte, Region, cell, has_address};
+ghost use Rattle.vm_memory_guest.specs.Memory.{Translation, behind_of};
+ghost use Rattle.vm_memory_guest.specs.Region.{Backed, Region, cell, has_address};
 ghost use Rattle.vm_memory.specs.History.{AnsweredIn, table_calls, IsLast, GoesThrough};
 ghost use Rattle.vm_memory.specs.Lawful.{IsLawful};
 ghost use Rattle.vm_memory.specs.Commands.{MayWant};
@@ -25,7 +25,7 @@ ghost use Rattle.vm_memory.specs.Machine.{Step, Run};
 ghost use Rattle.vm_memory.specs.Parts.{state_of};
 ghost use Rattle.vm_memory.specs.Reply.{reached_by, is_partial};
 ghost use Rattle.vm_memory.specs.Rounds.{MirrorsBlock, IsTracked, RunsDirectly, KeepsImage};
-ghost use Rattle.vm_memory.specs.Rounds.{image_now, bytes_of, IsSynced};
+ghost use Rattle.vm_memory.specs.Rounds.{image_now, bytes_of_block, IsSynced};
 ghost use Rattle.vm_memory.specs.State.{State};
 ghost use Rattle.vm_memory.specs.declared.machine.command.Command.{Command};
 ghost use Rattle.vm_memory.specs.declared.machine.command.Command.TheVariants as command;
@@ -79,15 +79,15 @@ pub fn refusals_change_nothing()
 /// An image that mirrors a block which its bitmap covers is kept by every run: at each state of it, patched
 /// by the harvests before, it mirrors the block. A copy of the block is such an image.
 pub fn runs_keep_images()
-    ensures copy { (block : ℕ) (host : Host PageSet) → MirrorsBlock block host (bytes_of block host) }
+    ensures copy { (block : ℕ) (host : Host PageSet) → MirrorsBlock block host (bytes_of_block block host) }
     ensures kept { (block : ℕ) (image : List ℕ) (old : State) (cs : List Command) (rs : List Reply)
         (new : State) (run : Run old cs rs new) → IsTracked block old.host
-        → length (bytes_of block old.host) < 2 ^ 64 → RunsDirectly old cs rs new run
+        → length (bytes_of_block block old.host) < 2 ^ 64 → RunsDirectly old cs rs new run
         → MirrorsBlock block old.host image
         → KeepsImage block image old cs rs new run }
     ensures unharvested { (block : ℕ) (image : List ℕ) (old : State) (cs : List Command) (rs : List Reply)
         (new : State) (run : Run old cs rs new) → IsTracked block old.host
-        → length (bytes_of block old.host) < 2 ^ 64 → RunsDirectly old cs rs new run
+        → length (bytes_of_block block old.host) < 2 ^ 64 → RunsDirectly old cs rs new run
         → All (λ (c : Command). c ≢ Harvest (Block block)) cs
         → MirrorsBlock block old.host image → MirrorsBlock block new.host image }
 {
@@ -105,10 +105,10 @@ pub fn runs_keep_images()
 pub fn synced_images_are_the_block()
     ensures { (block : ℕ) (image synced : List ℕ) (old mid new : State) (cs : List Command) (rs : List Reply)
         (run : Run old cs rs mid) → IsTracked block old.host
-        → length (bytes_of block old.host) < 2 ^ 64 → RunsDirectly old cs rs mid run
+        → length (bytes_of_block block old.host) < 2 ^ 64 → RunsDirectly old cs rs mid run
         → All (λ (c : Command). c ≢ Harvest (Block block)) cs
         → MirrorsBlock block old.host image → IsSynced block mid image new synced
-        → synced ≡ bytes_of block new.host }
+        → synced ≡ bytes_of_block block new.host }
 {
     runs_keep_images();
 }
@@ -157,22 +157,22 @@ pub fn tables_say_what_was_set_last()
 /// that was set last for its address and not invalidated since. What the table said before the run counts as
 /// set before it.
 pub fn accesses_go_through_what_was_set_last()
-    ensures all { (old now : State) (cs : List Command) (rs : List Reply) (m : guest.Memory) (b : Behind)
+    ensures all { (old now : State) (cs : List Command) (rs : List Reply) (m : guest.Memory) (b : Translation)
         (t : Table) (a n i : ℕ) (access : Permissions) (x : Reached) → Run old cs rs now
         → behind_of m.iommu ≡ Some b → slice_get old.host.tables b.table ≡ Some t
         → slice_get (reached_by m now.host.tables a n access).path i ≡ Some x
         → GoesThrough m.regions (a + i) (says_after_all (table_calls b.table cs rs) (a + i) (says t (a + i)))
         access x }
-    ensures set { (old now : State) (cs : List Command) (rs : List Reply) (m : guest.Memory) (b : Behind)
+    ensures set { (old now : State) (cs : List Command) (rs : List Reply) (m : guest.Memory) (b : Translation)
         (a n i iova to len : ℕ) (access perm : Permissions) (x : Reached) → Run old cs rs now
         → behind_of m.iommu ≡ Some b → slice_get (reached_by m now.host.tables a n access).path i ≡ Some x
         → IsLast (a + i) (table_calls b.table cs rs) (table.Set iova to len perm)
-        → (allow perm access ≡ true) × (cell m.regions (step to (a + i - iova)) ≡ Byte x.home x.cell) }
-    ensures invalidated { (old now : State) (cs : List Command) (rs : List Reply) (m : guest.Memory) (b : Behind)
+        → (allow perm access ≡ true) × (cell m.regions (step to (a + i - iova)) ≡ Backed x.region x.cell) }
+    ensures invalidated { (old now : State) (cs : List Command) (rs : List Reply) (m : guest.Memory) (b : Translation)
         (a n i : ℕ) (access : Permissions) (x : Reached) (call : TableCall) → Run old cs rs now
         → behind_of m.iommu ≡ Some b → slice_get (reached_by m now.host.tables a n access).path i ≡ Some x
         → IsLast (a + i) (table_calls b.table cs rs) call → says_after call (a + i) None ≡ None → ⊥ }
-    ensures opening { (old now : State) (cs : List Command) (rs : List Reply) (m : guest.Memory) (b : Behind)
+    ensures opening { (old now : State) (cs : List Command) (rs : List Reply) (m : guest.Memory) (b : Translation)
         (t : Table) (a n i : ℕ) (access : Permissions) (x : Reached) → Run old cs rs now
         → behind_of m.iommu ≡ Some b → slice_get old.host.tables b.table ≡ Some t
         → slice_get (reached_by m now.host.tables a n access).path i ≡ Some x

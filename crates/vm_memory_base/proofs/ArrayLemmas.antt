@@ -26,7 +26,8 @@ module _ {V : Type 0} (width : ℕ) (bytes : V → List ℕ) (sized : (x : V) �
       ∙ byte_in xs k j d (omega arith) small
 
   -- byte j of value k replaced
-  pub put_in : (xs : List V) (k j b : ℕ) (d y : V) → k < length xs → j < width → bytes y ≡ slice_set (bytes (get_or xs k d)) j b
+  pub put_in : (xs : List V) (k j b : ℕ) (d y : V) → k < length xs → j < width
+      → bytes y ≡ slice_set (bytes (get_or xs k d)) j b
       → flat_map bytes (slice_set xs k y) ≡ slice_set (flat_map bytes xs) (k * width + j) b
   put_in [] k j b d y inside small e = absurd (omega arith)
   put_in (x ∷ xs) zero j b d y inside small e =
@@ -51,7 +52,8 @@ module _ {V : Type 0} (width : ℕ) (bytes : V → List ℕ) (sized : (x : V) �
 
   -- the same for a byte replaced
   pub put_found : (xs : List V) (n i w b : ℕ) (d y : V) → length xs ≡ n → w ≡ width → 0 < w → i < n * width
-      → bytes y ≡ slice_set (bytes (get_or xs (i / w) d)) (i % w) b → flat_map bytes (slice_set xs (i / w) y) ≡ slice_set (flat_map bytes xs) i b
+      → bytes y ≡ slice_set (bytes (get_or xs (i / w) d)) (i % w) b
+      → flat_map bytes (slice_set xs (i / w) y) ≡ slice_set (flat_map bytes xs) i b
   put_found xs n i w b d y count e positive inside written =
       let whole : i < n * w = rw e inside in
       let place : i / w * width + i % w ≡ i = ap (λ m. i / w * m + i % w) (sym e) ∙ div-add-mod' i w in
@@ -71,12 +73,14 @@ module _ {V : Type 0} (width : ℕ) (bytes : V → List ℕ) (sized : (x : V) �
 
     -- a list that has at each index the value of that piece
     pub values_at : (n : ℕ) (xs : List V) (s : List ℕ) → length xs ≡ n
-        → ((k : ℕ) (d : V) → k < n → get_or xs k d ≡ value_of (take width (drop (k * width) s))) → xs ≡ values_of value_of width n s
+        → ((k : ℕ) (d : V) → k < n → get_or xs k d ≡ value_of (take width (drop (k * width) s)))
+        → xs ≡ values_of value_of width n s
     values_at zero [] s h e = refl
     values_at zero (x ∷ xs) s h e = absurd (omega arith)
     values_at (suc n) [] s h e = absurd (omega arith)
     values_at (suc n) (x ∷ xs) s h e =
         let first : x ≡ value_of (take width s) =
         e 0 x (omega arith) ∙ ap (λ m. value_of (take width (drop m s))) (zero-mul width) in
-        let others = values_at n xs (drop width s) (omega arith) (λ k d i. e (suc k) d (omega arith) ∙ ap (λ t. value_of (take width t)) (further k s)) in
+        let others = values_at n xs (drop width s) (omega arith)
+        (λ k d i. e (suc k) d (omega arith) ∙ ap (λ t. value_of (take width t)) (further k s)) in
         ap (λ z. z ∷ xs) first ∙ ap (λ zs. value_of (take width s) ∷ zs) others

@@ -17,12 +17,20 @@ use Rattle.vm_memory_base.proofs.PagesLaws.{length-flags_after, get_or-flags_aft
 -- ---- the flags from one page up to another
 
 -- these flags with the ones from page a up to b all alike
-abbrev pub filled : ℕ → ℕ → Bool → List Bool → List Bool
-filled a b d flags = take a flags ++ (replicate (b - a) d ++ drop b flags)
+abbrev pub made_alike : ℕ → ℕ → Bool → List Bool → List Bool
+made_alike a b d flags = take a flags ++ (replicate (b - a) d ++ drop b flags)
 
-pub length-filled : (a b : ℕ) (d : Bool) (flags : List Bool) → a ≤ b → b ≤ length flags → length (filled a b d flags) ≡ length flags
-length-filled a b d flags h k =
-    omega (arith, length-append (take a flags) (replicate (b - a) d ++ drop b flags), length-append (replicate (b - a) d) (drop b flags), length-take-le a flags (omega arith), length-drop b flags, length-replicate {A = Bool} (b - a) d)
+pub length-made_alike : (a b : ℕ) (d : Bool) (flags : List Bool) → a ≤ b → b ≤ length flags
+    → length (made_alike a b d flags) ≡ length flags
+length-made_alike a b d flags h k =
+    omega (
+      arith,
+      length-append (take a flags) (replicate (b - a) d ++ drop b flags),
+      length-append (replicate (b - a) d) (drop b flags),
+      length-take-le a flags (omega arith),
+      length-drop b flags,
+      length-replicate {A = Bool} (b - a) d,
+    )
 
 inside : (a b i : ℕ) → a ≤ i → i < b → (leb a i && ltb i b) ≡ true
 inside a b i h k = rw (le-leb a i h, lt-ltb i b k) refl
@@ -33,16 +41,19 @@ below a b i h = rw (lt-leb a i h) refl
 above : (a b i : ℕ) → a ≤ i → b ≤ i → (leb a i && ltb i b) ≡ false
 above a b i h k = rw (le-leb a i h, le-ltb i b k) refl
 
-pub get_or-filled : (a b : ℕ) (d : Bool) (flags : List Bool) (i : ℕ) → a ≤ b → b ≤ length flags → get_or (filled a b d flags) i false ≡ cond (leb a i && ltb i b) d (get_or flags i false)
-get_or-filled a b d flags i h k =
+pub get_or-made_alike : (a b : ℕ) (d : Bool) (flags : List Bool) (i : ℕ) → a ≤ b → b ≤ length flags
+    → get_or (made_alike a b d flags) i false ≡ cond (leb a i && ltb i b) d (get_or flags i false)
+get_or-made_alike a b d flags i h k =
     let front : length (take a flags) ≡ a = length-take-le a flags (omega arith) in
     let mid : length (replicate (b - a) d) ≡ b - a = length-replicate {A = Bool} (b - a) d in
     elim (cases_lt i a) [
       | inl l ↦
-          let e : get_or (filled a b d flags) i false ≡ get_or (take a flags) i false = get_or_append_left (take a flags) (replicate (b - a) d ++ drop b flags) false i (omega arith) in
+          let e : get_or (made_alike a b d flags) i false ≡ get_or (take a flags) i false =
+          get_or_append_left (take a flags) (replicate (b - a) d ++ drop b flags) false i (omega arith) in
           e ∙ get_or-take a flags i false l ∙ rw (below a b i l) refl
       | inr l ↦
-          let e : get_or (filled a b d flags) i false ≡ get_or (replicate (b - a) d ++ drop b flags) (i - a) false = get_or-append_right (take a flags) (replicate (b - a) d ++ drop b flags) a i false front l in
+          let e : get_or (made_alike a b d flags) i false ≡ get_or (replicate (b - a) d ++ drop b flags) (i - a) false =
+          get_or-append_right (take a flags) (replicate (b - a) d ++ drop b flags) a i false front l in
           elim (cases_lt i b) [
             | inl m ↦
                 e ∙ get_or_append_left (replicate (b - a) d) (drop b flags) false (i - a) (omega arith)
@@ -56,14 +67,16 @@ get_or-filled a b d flags i h k =
           ]
     ]
 
-pub get_or-flags_without : (test : ℕ → Bool) (k : ℕ) (flags : List Bool) (i : ℕ) → get_or (flags_without test k flags) i false ≡ (get_or flags i false && not (test (k + i)))
+pub get_or-flags_without : (test : ℕ → Bool) (k : ℕ) (flags : List Bool) (i : ℕ)
+    → get_or (flags_without test k flags) i false ≡ (get_or flags i false && not (test (k + i)))
 get_or-flags_without test k [] i = refl
 get_or-flags_without test k (dirty ∷ flags) zero = rw add-zero refl
 get_or-flags_without test k (dirty ∷ flags) (suc i) =
     let e : k + 1 + i ≡ k + suc i = omega arith in
     rw (← e) (get_or-flags_without test (k + 1) flags i)
 
-pub length-flags_without : (test : ℕ → Bool) (k : ℕ) (flags : List Bool) → length (flags_without test k flags) ≡ length flags
+pub length-flags_without : (test : ℕ → Bool) (k : ℕ) (flags : List Bool)
+    → length (flags_without test k flags) ≡ length flags
 length-flags_without test k [] = refl
 length-flags_without test k (dirty ∷ flags) = ap suc (length-flags_without test (k + 1) flags)
 
@@ -84,20 +97,20 @@ module _ (flags : Vec Bool Global) (a b : ℕ) (ordered : a ≤ b) (inside : b �
     (taken : (page : ℕ) → page < length flags.items → test page ≡ (leb a page && ltb page b)) where
   alike : (d : Bool) (after : List Bool) → length after ≡ length flags.items
       → ((i : ℕ) → i < length flags.items → get_or after i false ≡ cond (test i) d (get_or flags.items i false))
-      → (lent new : List Bool) → lent ≡ flags.items → new ≡ filled a b d lent
+      → (lent new : List Bool) → lent ≡ flags.items → new ≡ made_alike a b d lent
       → (length new ≡ flags.len) × (new ≡ after)
   alike d after long each lent new is set =
-      let same = length-filled a b d flags.items ordered inside in
-      let all = set ∙ ap (filled a b d) is
-      ∙ ext_get_or false (filled a b d flags.items) after (same ∙ sym long)
+      let same = length-made_alike a b d flags.items ordered inside in
+      let all = set ∙ ap (made_alike a b d) is
+      ∙ ext_get_or false (made_alike a b d flags.items) after (same ∙ sym long)
       (λ i l.
       let within : i < length flags.items = omega (arith, same) in
-      get_or-filled a b d flags.items i ordered inside
+      get_or-made_alike a b d flags.items i ordered inside
       ∙ sym (each i within ∙ ap (λ (t : Bool). cond t d (get_or flags.items i false)) (taken i within))) in
       (ap length all ∙ long ∙ sym flags.ok.0, all)
 
   -- the pages that a test takes become dirty
-  pub set_is : (lent new : List Bool) → lent ≡ flags.items → new ≡ filled a b true lent
+  pub set_is : (lent new : List Bool) → lent ≡ flags.items → new ≡ made_alike a b true lent
       → (length new ≡ flags.len) × (new ≡ flags_after test 0 flags.items)
   set_is =
       alike true (flags_after test 0 flags.items) (length-flags_after test 0 flags.items)
@@ -107,7 +120,7 @@ module _ (flags : Vec Bool Global) (a b : ℕ) (ordered : a ≤ b) (inside : b �
       ∙ rw (e, lt-ltb i (length flags.items) l) (sym (set_if (test i) (get_or flags.items i false))))
 
   -- or clean
-  pub cleared_is : (lent new : List Bool) → lent ≡ flags.items → new ≡ filled a b false lent
+  pub cleared_is : (lent new : List Bool) → lent ≡ flags.items → new ≡ made_alike a b false lent
       → (length new ≡ flags.len) × (new ≡ flags_without test 0 flags.items)
   cleared_is =
       alike false (flags_without test 0 flags.items) (length-flags_without test 0 flags.items)
@@ -134,7 +147,8 @@ dirty_from-last page (false ∷ flags) d =
 
 -- the dirty ones of one page more
 pub dirty_from-more : (flags : List Bool) (page : ℕ) → page < length flags
-    → dirty_from 0 (take (page + 1) flags) ≡ dirty_from 0 (take page flags) ++ cond (get_or flags page false) (page ∷ []) []
+    → dirty_from 0 (take (page + 1) flags) ≡ dirty_from 0 (take page flags)
+    ++ cond (get_or flags page false) (page ∷ []) []
 dirty_from-more flags page inside =
     let front : length (take page flags) ≡ page = length-take-le page flags (omega arith) in
     ap (dirty_from 0) (take_more flags page false inside)
@@ -188,21 +202,27 @@ word_of-dirty [] = refl
 word_of-dirty (true ∷ flags) = omega (arith, word_of-dirty flags, pow-suc 2 (length flags))
 word_of-dirty (false ∷ flags) = omega (arith, word_of-dirty flags, pow-suc 2 (length flags))
 
-pub words_of-more : (k : ℕ) (flags : List Bool) → words_of (k + 1) flags ≡ words_of k flags ++ word_of (take 64 (drop (64 * k) flags)) ∷ []
+pub words_of-more : (k : ℕ) (flags : List Bool)
+    → words_of (k + 1) flags ≡ words_of k flags ++ word_of (take 64 (drop (64 * k) flags)) ∷ []
 words_of-more zero flags = refl
 words_of-more (suc k) flags =
     let e : 64 * suc k ≡ 64 + 64 * k = omega arith in
     let f : suc k + 1 ≡ suc (k + 1) = omega arith in
-    rw (f, e) (ap (λ (ws : List ℕ). word_of (take 64 flags) ∷ ws) (words_of-more k (drop 64 flags) ∙ ap (λ (fs : List Bool). words_of k (drop 64 flags) ++ word_of (take 64 fs) ∷ []) (drop-drop (64 * k) 64 flags)))
+    rw (f, e) (ap (λ (ws : List ℕ). word_of (take 64 flags) ∷ ws)
+    (words_of-more k (drop 64 flags)
+    ∙ ap (λ (fs : List Bool). words_of k (drop 64 flags) ++ word_of (take 64 fs) ∷ [])
+    (drop-drop (64 * k) 64 flags)))
 
 -- the flags of a word, of which the last may have fewer
-pub word_range : (k n : ℕ) (flags : List Bool) → n ≡ min (length flags) (64 * (k + 1)) → take (n - 64 * k) (drop (64 * k) flags) ≡ take 64 (drop (64 * k) flags)
+pub word_range : (k n : ℕ) (flags : List Bool) → n ≡ min (length flags) (64 * (k + 1))
+    → take (n - 64 * k) (drop (64 * k) flags) ≡ take 64 (drop (64 * k) flags)
 word_range k n flags e =
     elim (cases_lt (length flags) (64 * (k + 1))) [
       | inl l ↦
           let m : n ≡ length flags = omega arith in
           let rest : length (drop (64 * k) flags) ≡ length flags - 64 * k = length-drop (64 * k) flags in
-          take_all (n - 64 * k) (drop (64 * k) flags) (omega arith) ∙ sym (take_all 64 (drop (64 * k) flags) (omega arith))
+          take_all (n - 64 * k) (drop (64 * k) flags) (omega arith)
+          ∙ sym (take_all 64 (drop (64 * k) flags) (omega arith))
       | inr l ↦
           let m : n - 64 * k ≡ 64 = omega arith in
           ap (λ (j : ℕ). take j (drop (64 * k) flags)) m
@@ -229,22 +249,27 @@ bit_of-word_of (false ∷ flags) (suc b) =
     ∙ bit_of-word_of flags b
 
 -- each word has 64 flags, and past the last there is none
-word_at : (n : ℕ) (flags : List Bool) (w : ℕ) → (n ≤ w → length flags ≤ 64 * w) → get_or (words_of n flags) w 0 ≡ word_of (take 64 (drop (64 * w) flags))
+word_at : (n : ℕ) (flags : List Bool) (w : ℕ) → (n ≤ w → length flags ≤ 64 * w)
+    → get_or (words_of n flags) w 0 ≡ word_of (take 64 (drop (64 * w) flags))
 word_at zero flags w h = ap (λ (fs : List Bool). word_of (take 64 fs)) (sym (drop_all (64 * w) flags (h (omega arith))))
 word_at (suc n) flags zero h = refl
 word_at (suc n) flags (suc w) h =
     let e : 64 * suc w ≡ 64 + 64 * w = omega arith in
-    let rest : n ≤ w → length (drop 64 flags) ≤ 64 * w = λ (l : n ≤ w). let all = h (omega arith) in omega (arith, length-drop 64 flags) in
-    rw e (word_at n (drop 64 flags) w rest ∙ ap (λ (fs : List Bool). word_of (take 64 fs)) (drop-drop (64 * w) 64 flags))
+    let rest : n ≤ w → length (drop 64 flags) ≤ 64 * w = λ (l : n ≤ w). let all = h (omega arith) in
+    omega (arith, length-drop 64 flags) in
+    rw e (word_at n (drop 64 flags) w rest
+    ∙ ap (λ (fs : List Bool). word_of (take 64 fs)) (drop-drop (64 * w) 64 flags))
 
 past_the_last : (len w : ℕ) → div_ceil len 64 ≤ w → len ≤ 64 * w
 past_the_last len w h = let c = div_ceil_times len 64 (omega arith) in omega (arith, c.0, h)
 
-pub bit_of-dirty_words : (p : Pages) (w b : ℕ) → b < 64 → get_or (dirty_words (Some p)) w 0 / 2 ^ b % 2 ≡ cond (get_or p.flags (64 * w + b) false) 1 0
+pub bit_of-dirty_words : (p : Pages) (w b : ℕ) → b < 64
+    → get_or (dirty_words (Some p)) w 0 / 2 ^ b % 2 ≡ cond (get_or p.flags (64 * w + b) false) 1 0
 bit_of-dirty_words p w b small =
     ap (λ (n : ℕ). n / 2 ^ b % 2) (word_at (div_ceil (length p.flags) 64) p.flags w (past_the_last (length p.flags) w))
     ∙ bit_of-word_of (take 64 (drop (64 * w) p.flags)) b
-    ∙ ap (λ (d : Bool). cond d 1 0) (get_or-take 64 (drop (64 * w) p.flags) b false small ∙ get_or-drop (64 * w) p.flags b false)
+    ∙ ap (λ (d : Bool). cond d 1 0)
+    (get_or-take 64 (drop (64 * w) p.flags) b false small ∙ get_or-drop (64 * w) p.flags b false)
 
 length-words_of : (n : ℕ) (flags : List Bool) → length (words_of n flags) ≡ n
 length-words_of zero flags = refl
@@ -263,19 +288,23 @@ dirty_words-lt p w =
 
 -- ---- pages made clean
 
-pub is_dirty_at-unmarked : (start len offset : ℕ) (p : Pages) → is_dirty_at (unmarked start len (Some p)) offset ≡ (is_dirty_at (Some p) offset && not (takes p.page_size start len (offset / p.page_size)))
+pub is_dirty_at-unmarked : (start len offset : ℕ) (p : Pages)
+    → is_dirty_at (unmarked start len (Some p)) offset
+    ≡ (is_dirty_at (Some p) offset && not (takes p.page_size start len (offset / p.page_size)))
 is_dirty_at-unmarked start len offset p =
     get_or-flags_without (takes p.page_size start len) 0 p.flags (offset / p.page_size) ∙ rw zero-add refl
 
 pub shape-unmarked : (start len : ℕ) (set : PageSet) → shape (unmarked start len set) ≡ shape set
 shape-unmarked start len None = refl
-shape-unmarked start len (Some p) = ap (λ (n : ℕ). Some (p.page_size, n)) (length-flags_without (takes p.page_size start len) 0 p.flags)
+shape-unmarked start len (Some p) =
+    ap (λ (n : ℕ). Some (p.page_size, n)) (length-flags_without (takes p.page_size start len) 0 p.flags)
 
 pub IsPageSet-unmarked : (start len : ℕ) (set : PageSet) → IsPageSet set → IsPageSet (unmarked start len set)
 IsPageSet-unmarked start len None h = tt
 IsPageSet-unmarked start len (Some p) h = (h.0, rw length-flags_without h.1)
 
-without_after : (test : ℕ → Bool) (k : ℕ) (flags : List Bool) → flags_without test k (flags_after test k flags) ≡ flags_without test k flags
+without_after : (test : ℕ → Bool) (k : ℕ) (flags : List Bool)
+    → flags_without test k (flags_after test k flags) ≡ flags_without test k flags
 without_after test k [] = refl
 without_after test k (dirty ∷ flags) = let e = one dirty (test k) in let f = without_after test (k + 1) flags in cc
   where
@@ -286,7 +315,8 @@ without_after test k (dirty ∷ flags) = let e = one dirty (test k) in let f = w
     one false false = refl
 
 -- a mark is undone with what was dirty of its pages
-pub unmarked-marked : (start len : ℕ) (set : PageSet) → unmarked start len (marked start len set) ≡ unmarked start len set
+pub unmarked-marked : (start len : ℕ) (set : PageSet)
+    → unmarked start len (marked start len set) ≡ unmarked start len set
 unmarked-marked start len None = refl
 unmarked-marked start len (Some p) = ap (pages_with p.page_size) (without_after (takes p.page_size start len) 0 p.flags)
 
@@ -311,23 +341,27 @@ clean_is_not_dirty len offset (Some p) h = at (get_or p.flags (offset / p.page_s
     at : (d : Bool) → get_or p.flags (offset / p.page_size) false ≡ d → d ≡ false
     at false e = refl
     at true e =
-        let listed : Contains (dirty_pages (Some p)) (offset / p.page_size) = (Contains-dirty_pages p (offset / p.page_size)).1 e in
+        let listed : Contains (dirty_pages (Some p)) (offset / p.page_size) =
+        (Contains-dirty_pages p (offset / p.page_size)).1 e in
         let none : Contains [] (offset / p.page_size) = rw h.0 at listed in
         absurd (omega (arith, none.1))
 
 -- each of the bytes lies in a page
-pub covered : (len offset : ℕ) (p : Pages) → IsCleanFor len (Some p) → offset < len → offset / p.page_size < length p.flags
+pub covered : (len offset : ℕ) (p : Pages) → IsCleanFor len (Some p) → offset < len
+    → offset / p.page_size < length p.flags
 covered len offset p h inside = at p.page_size refl
   where
     at : (size : ℕ) → p.page_size ≡ size → offset / p.page_size < length p.flags
     at zero e = absurd (omega (arith, ap (λ (n : ℕ). length p.flags * n) e, mul-zero (length p.flags), h.1))
-    at (suc size) e = rw e (div_below offset (suc size) (length p.flags) (omega arith) (omega (arith, ap (λ (n : ℕ). length p.flags * n) e, h.1)))
+    at (suc size) e = rw e (div_below offset (suc size) (length p.flags) (omega arith)
+        (omega (arith, ap (λ (n : ℕ). length p.flags * n) e, h.1)))
 
 -- ---- what the dirty pages decide
 
 not_listed : (page : ℕ) (flags : List Bool) (rest : List ℕ) → page ∷ rest ≡ dirty_from (page + 1) flags → ⊥
 not_listed page flags rest e =
-    let all : All (λ (other : ℕ). page + 1 ≤ other) (page ∷ rest) = subst (All (λ (other : ℕ). page + 1 ≤ other)) (sym e) (from_page (page + 1) flags) in
+    let all : All (λ (other : ℕ). page + 1 ≤ other) (page ∷ rest) =
+    subst (All (λ (other : ℕ). page + 1 ≤ other)) (sym e) (from_page (page + 1) flags) in
     omega (arith, All-head (λ (other : ℕ). page + 1 ≤ other) page rest all)
 
 same_flags : (page : ℕ) (xs ys : List Bool) → length xs ≡ length ys → dirty_from page xs ≡ dirty_from page ys → xs ≡ ys
@@ -337,7 +371,8 @@ same_flags page (a ∷ xs) [] l e = absurd (omega arith)
 same_flags page (true ∷ xs) (true ∷ ys) l e =
     let rest : dirty_from (page + 1) xs ≡ dirty_from (page + 1) ys = cc in
     ap (λ (fs : List Bool). true ∷ fs) (same_flags (page + 1) xs ys (omega arith) rest)
-same_flags page (false ∷ xs) (false ∷ ys) l e = ap (λ (fs : List Bool). false ∷ fs) (same_flags (page + 1) xs ys (omega arith) e)
+same_flags page (false ∷ xs) (false ∷ ys) l e =
+    ap (λ (fs : List Bool). false ∷ fs) (same_flags (page + 1) xs ys (omega arith) e)
 same_flags page (true ∷ xs) (false ∷ ys) l e = absurd (not_listed page ys (dirty_from (page + 1) xs) e)
 same_flags page (false ∷ xs) (true ∷ ys) l e = absurd (not_listed page xs (dirty_from (page + 1) ys) (sym e))
 
@@ -350,9 +385,11 @@ second_of None = 0
 second_of (Some s) = s.1
 
 -- page sets of one shape with the same dirty pages are one
-pub dirty_pages_decide : (p q : Pages) → shape (Some p) ≡ shape (Some q) → dirty_pages (Some p) ≡ dirty_pages (Some q) → p ≡ q
+pub dirty_pages_decide : (p q : Pages) → shape (Some p) ≡ shape (Some q) → dirty_pages (Some p) ≡ dirty_pages (Some q)
+    → p ≡ q
 dirty_pages_decide p q s e =
     let size : p.page_size ≡ q.page_size = ap first_of s in
     let count : length p.flags ≡ length q.flags = ap second_of s in
     let flags = same_flags 0 p.flags q.flags count e in
-    ap (λ (n : ℕ). record { page_size = n; flags = p.flags }) size ∙ ap (λ (fs : List Bool). record { page_size = q.page_size; flags = fs }) flags
+    ap (λ (n : ℕ). record { page_size = n; flags = p.flags }) size
+    ∙ ap (λ (fs : List Bool). record { page_size = q.page_size; flags = fs }) flags

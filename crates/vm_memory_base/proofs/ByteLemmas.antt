@@ -6,7 +6,7 @@ use Rattle.std.proofs.Math.Seq.{take-set-lt}
 use Rattle.std.proofs.lemmas.List.{length-take-le, length-replicate}
 use Rattle.std.proofs.Math.ListN.{length-set}
 use Rattle.vm_memory_base.specs.Bytes.{AreBytes}
-use Rattle.vm_memory_base.specs.ByteCodes.{little, length-low, low-little, little-lt, from_le_bytes-is}
+use Rattle.vm_memory_base.specs.lemmas.ByteCodes.{little, length-low, low-little, little-lt, from_le_bytes-is}
 
 -- zeros above change nothing
 little-zeros : (s : List ℕ) (k : ℕ) → little (s ++ replicate k 0) ≡ little s
@@ -31,8 +31,15 @@ low-zero (suc i) (suc k) =
 pub number_of_padded : (s all : List ℕ) → length s ≤ 16 → AreBytes s → all ≡ s ++ replicate (16 - length s) 0
     → (bytes_low_first 0 (length s) (from_le_bytes w128 all) ≡ s) × (from_le_bytes w128 all < 256 ^ length s)
 number_of_padded s all short bytes e =
-    let whole : length all ≡ 16 = omega (arith, ap length e, length-append s (replicate (16 - length s) 0), length-replicate {A = ℕ} (16 - length s) 0) in
-    let number : from_le_bytes w128 all ≡ little s = from_le_bytes-is w128 all whole ∙ ap little e ∙ little-zeros s (16 - length s) in
+    let whole : length all ≡ 16 =
+    omega (
+      arith,
+      ap length e,
+      length-append s (replicate (16 - length s) 0),
+      length-replicate {A = ℕ} (16 - length s) 0,
+    ) in
+    let number : from_le_bytes w128 all ≡ little s =
+    from_le_bytes-is w128 all whole ∙ ap little e ∙ little-zeros s (16 - length s) in
     rw number (low-little s bytes, little-lt s bytes)
 
 -- the first of the bytes that `to_le_bytes` gives

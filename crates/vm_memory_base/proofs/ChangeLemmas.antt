@@ -4,7 +4,7 @@ use Rattle.std.proofs.lemmas.Bool.{lt-ltb, le-ltb, eqb-true, and_parts, and_case
 use Rattle.std.proofs.lemmas.List.{append-nil, append_assoc, take-append-drop, drop_more, length-append, length-take-le, length-drop}
 use Rattle.vm_memory_base.specs.Address.{is_within}
 use Rattle.vm_memory_base.specs.Change.{EndBelow, StartFrom, IsKept, if_any, prepended, prepended_if_any, with_run, without_range}
-use Rattle.vm_memory_base.specs.Runs.{Run, IsCanonical, value_at, cut_to}
+use Rattle.vm_memory_base.specs.Runs.{AddressRun, IsCanonical, value_at, cut_to}
 use Rattle.vm_memory_base.specs.Table.{Mapping, same_mapping, Says, Table, says, TableCall, Set, Invalidate, says_after, changed, canonical_list}
 use Rattle.vm_memory_base.specs.declared.iotlb.Permissions.{Permissions}
 use Rattle.vm_memory_base.proofs.RunsLaws.{run, either, CanFollow, canonical_cons, canonical_pos, canonical_follow, canonical_tail, within_or_not, is_within-in, is_within-below, is_within-above, is_within-join, value_at_in, value_at_past, value_at-cut_to, canonical_cut_to}
@@ -12,102 +12,137 @@ use Rattle.vm_memory_base.proofs.TableLaws.{same_mapping_tests_equality, canonic
 
 -- ---- where runs begin and end
 
-pub EndBelow-weaker : {K : Type 0} (low high : ℕ) (rs : List (Run K)) → low ≤ high → EndBelow low rs → EndBelow high rs
+pub EndBelow-weaker : {K : Type 0} (low high : ℕ) (rs : List (AddressRun K)) → low ≤ high → EndBelow low rs
+    → EndBelow high rs
 EndBelow-weaker low high [] l h = tt
 EndBelow-weaker low high (r ∷ rs) l h = (omega arith, EndBelow-weaker low high rs l h.1)
 
-pub StartFrom-weaker : {K : Type 0} (low high : ℕ) (rs : List (Run K)) → low ≤ high → StartFrom high rs → StartFrom low rs
+pub StartFrom-weaker : {K : Type 0} (low high : ℕ) (rs : List (AddressRun K)) → low ≤ high → StartFrom high rs
+    → StartFrom low rs
 StartFrom-weaker low high [] l h = tt
 StartFrom-weaker low high (r ∷ rs) l h = (omega arith, StartFrom-weaker low high rs l h.1)
 
-pub StartFrom-zero : {K : Type 0} (rs : List (Run K)) → StartFrom 0 rs
+pub StartFrom-zero : {K : Type 0} (rs : List (AddressRun K)) → StartFrom 0 rs
 StartFrom-zero [] = tt
 StartFrom-zero (r ∷ rs) = (omega arith, StartFrom-zero rs)
 
 -- runs that can follow begin at the end or after it
-pub later_starts : {K : Type 0} (same : K → K → Bool) (low end : ℕ) (k : K) (rs : List (Run K)) → low ≤ end → CanFollow same end k rs → IsCanonical same rs → StartFrom low rs
+pub later_starts : {K : Type 0} (same : K → K → Bool) (low end : ℕ) (k : K) (rs : List (AddressRun K)) → low ≤ end
+    → CanFollow same end k rs → IsCanonical same rs → StartFrom low rs
 later_starts same low end k [] l f h = tt
-later_starts same low end k (s ∷ rs) l f h =
-    (omega arith, later_starts same low (s.start + s.len) s.value rs (omega arith) (canonical_follow same s rs h) (canonical_tail same s rs h))
+later_starts same low end k (s ∷ rs) l f h = (
+  omega arith,
+  later_starts same low (s.start + s.len) s.value rs (omega arith) (canonical_follow same s rs h)
+      (canonical_tail same s rs h),
+)
 
-pub tail_starts : {K : Type 0} (same : K → K → Bool) (r : Run K) (rs : List (Run K)) → IsCanonical same (r ∷ rs) → StartFrom (r.start + r.len) rs
-tail_starts same r rs h = later_starts same (r.start + r.len) (r.start + r.len) r.value rs (omega arith) (canonical_follow same r rs h) (canonical_tail same r rs h)
+pub tail_starts : {K : Type 0} (same : K → K → Bool) (r : AddressRun K) (rs : List (AddressRun K))
+    → IsCanonical same (r ∷ rs) → StartFrom (r.start + r.len) rs
+tail_starts same r rs h =
+    later_starts same (r.start + r.len) (r.start + r.len) r.value rs (omega arith) (canonical_follow same r rs h)
+    (canonical_tail same r rs h)
 
-pub StartFrom-get_or : {K : Type 0} (low : ℕ) (rs : List (Run K)) (m : ℕ) (d : Run K) → StartFrom low rs → m < length rs → low ≤ (get_or rs m d).start
+pub StartFrom-get_or : {K : Type 0} (low : ℕ) (rs : List (AddressRun K)) (m : ℕ) (d : AddressRun K) → StartFrom low rs
+    → m < length rs → low ≤ (get_or rs m d).start
 StartFrom-get_or low [] m d h l = absurd (omega arith)
 StartFrom-get_or low (r ∷ rs) zero d h l = h.0
 StartFrom-get_or low (r ∷ rs) (suc m) d h l = StartFrom-get_or low rs m d h.1 (omega arith)
 
 -- the runs before one end before it begins
-pub ends_before : {K : Type 0} (same : K → K → Bool) (rs : List (Run K)) (m : ℕ) (d : Run K) → IsCanonical same rs → m < length rs → EndBelow ((get_or rs m d).start + 1) (take m rs)
+pub ends_before : {K : Type 0} (same : K → K → Bool) (rs : List (AddressRun K)) (m : ℕ) (d : AddressRun K)
+    → IsCanonical same rs → m < length rs → EndBelow ((get_or rs m d).start + 1) (take m rs)
 ends_before same [] m d h l = absurd (omega arith)
 ends_before same (r ∷ rs) zero d h l = tt
 ends_before same (r ∷ rs) (suc m) d h l =
-    let next : r.start + r.len ≤ (get_or rs m d).start = StartFrom-get_or (r.start + r.len) rs m d (tail_starts same r rs h) (omega arith) in
+    let next : r.start + r.len ≤ (get_or rs m d).start =
+    StartFrom-get_or (r.start + r.len) rs m d (tail_starts same r rs h) (omega arith) in
     (omega arith, ends_before same rs m d (canonical_tail same r rs h) (omega arith))
 
 -- starts rise, and so do ends
-pub rise : {K : Type 0} (same : K → K → Bool) (rs : List (Run K)) → IsCanonical same rs → (i j : ℕ) (d : Run K) → i ≤ j → j < length rs
-    → ((get_or rs i d).start ≤ (get_or rs j d).start) × ((get_or rs i d).start + (get_or rs i d).len ≤ (get_or rs j d).start + (get_or rs j d).len)
+pub rise : {K : Type 0} (same : K → K → Bool) (rs : List (AddressRun K)) → IsCanonical same rs
+    → (i j : ℕ) (d : AddressRun K) → i ≤ j → j < length rs
+    → ((get_or rs i d).start ≤ (get_or rs j d).start)
+    × ((get_or rs i d).start + (get_or rs i d).len ≤ (get_or rs j d).start + (get_or rs j d).len)
 rise same [] h i j d l k = absurd (omega arith)
 rise same (r ∷ rs) h zero zero d l k = (omega arith, omega arith)
 rise same (r ∷ rs) h zero (suc j) d l k =
-    let next : r.start + r.len ≤ (get_or rs j d).start = StartFrom-get_or (r.start + r.len) rs j d (tail_starts same r rs h) (omega arith) in
+    let next : r.start + r.len ≤ (get_or rs j d).start =
+    StartFrom-get_or (r.start + r.len) rs j d (tail_starts same r rs h) (omega arith) in
     (omega arith, omega arith)
 rise same (r ∷ rs) h (suc i) zero d l k = absurd (omega arith)
 rise same (r ∷ rs) h (suc i) (suc j) d l k = rise same rs (canonical_tail same r rs h) i j d (omega arith) (omega arith)
 
-pub EndBelow-each : {K : Type 0} (limit : ℕ) (rs : List (Run K)) (m : ℕ) → ((k : ℕ) (d : Run K) → k < m → (get_or rs k d).start + (get_or rs k d).len < limit) → EndBelow limit (take m rs)
+pub EndBelow-each : {K : Type 0} (limit : ℕ) (rs : List (AddressRun K)) (m : ℕ)
+    → ((k : ℕ) (d : AddressRun K) → k < m → (get_or rs k d).start + (get_or rs k d).len < limit)
+    → EndBelow limit (take m rs)
 EndBelow-each limit rs zero h = tt
 EndBelow-each limit [] (suc m) h = tt
-EndBelow-each limit (r ∷ rs) (suc m) h = (h zero r (omega arith), EndBelow-each limit rs m (λ k d l. h (suc k) d (omega arith)))
+EndBelow-each limit (r ∷ rs) (suc m) h =
+    (h zero r (omega arith), EndBelow-each limit rs m (λ k d l. h (suc k) d (omega arith)))
 
-pub StartFrom-each : {K : Type 0} (low : ℕ) (rs : List (Run K)) (m : ℕ) → ((k : ℕ) (d : Run K) → m ≤ k → k < length rs → low ≤ (get_or rs k d).start) → StartFrom low (drop m rs)
+pub StartFrom-each : {K : Type 0} (low : ℕ) (rs : List (AddressRun K)) (m : ℕ)
+    → ((k : ℕ) (d : AddressRun K) → m ≤ k → k < length rs → low ≤ (get_or rs k d).start) → StartFrom low (drop m rs)
 StartFrom-each low [] zero h = tt
 StartFrom-each low [] (suc m) h = tt
-StartFrom-each low (r ∷ rs) zero h = (h zero r (omega arith) (omega arith), StartFrom-each low rs zero (λ k d l e. h (suc k) d (omega arith) (omega arith)))
+StartFrom-each low (r ∷ rs) zero h = (
+  h zero r (omega arith) (omega arith),
+  StartFrom-each low rs zero (λ k d l e. h (suc k) d (omega arith) (omega arith)),
+)
 StartFrom-each low (r ∷ rs) (suc m) h = StartFrom-each low rs m (λ k d l e. h (suc k) d (omega arith) (omega arith))
 
 -- where a run starts from an address on, so do those after it
-pub starts_after : {K : Type 0} (same : K → K → Bool) (low : ℕ) (rs : List (Run K)) (m : ℕ) (d : Run K) → IsCanonical same rs → m < length rs → low ≤ (get_or rs m d).start → StartFrom low (drop m rs)
+pub starts_after : {K : Type 0} (same : K → K → Bool) (low : ℕ) (rs : List (AddressRun K)) (m : ℕ) (d : AddressRun K)
+    → IsCanonical same rs → m < length rs → low ≤ (get_or rs m d).start → StartFrom low (drop m rs)
 starts_after same low [] m d h l e = absurd (omega arith)
-starts_after same low (r ∷ rs) zero d h l e = (e, StartFrom-weaker low (r.start + r.len) rs (omega arith) (tail_starts same r rs h))
-starts_after same low (r ∷ rs) (suc m) d h l e = starts_after same low rs m d (canonical_tail same r rs h) (omega arith) e
+starts_after same low (r ∷ rs) zero d h l e =
+    (e, StartFrom-weaker low (r.start + r.len) rs (omega arith) (tail_starts same r rs h))
+starts_after same low (r ∷ rs) (suc m) d h l e =
+    starts_after same low rs m d (canonical_tail same r rs h) (omega arith) e
 
-follow_take : {K : Type 0} (same : K → K → Bool) (end : ℕ) (k : K) (n : ℕ) (rs : List (Run K)) → CanFollow same end k rs → CanFollow same end k (take n rs)
+follow_take : {K : Type 0} (same : K → K → Bool) (end : ℕ) (k : K) (n : ℕ) (rs : List (AddressRun K))
+    → CanFollow same end k rs → CanFollow same end k (take n rs)
 follow_take same end k zero rs f = tt
 follow_take same end k (suc n) [] f = tt
 follow_take same end k (suc n) (r ∷ rs) f = f
 
-pub canonical_take : {K : Type 0} (same : K → K → Bool) (n : ℕ) (rs : List (Run K)) → IsCanonical same rs → IsCanonical same (take n rs)
+pub canonical_take : {K : Type 0} (same : K → K → Bool) (n : ℕ) (rs : List (AddressRun K)) → IsCanonical same rs
+    → IsCanonical same (take n rs)
 canonical_take same zero rs h = tt
 canonical_take same (suc n) [] h = tt
 canonical_take same (suc n) (r ∷ rs) h =
-    canonical_cons same r (take n rs) (canonical_pos same r rs h) (follow_take same (r.start + r.len) r.value n rs (canonical_follow same r rs h)) (canonical_take same n rs (canonical_tail same r rs h))
+    canonical_cons same r (take n rs) (canonical_pos same r rs h)
+    (follow_take same (r.start + r.len) r.value n rs (canonical_follow same r rs h))
+    (canonical_take same n rs (canonical_tail same r rs h))
 
-pub canonical_drop : {K : Type 0} (same : K → K → Bool) (n : ℕ) (rs : List (Run K)) → IsCanonical same rs → IsCanonical same (drop n rs)
+pub canonical_drop : {K : Type 0} (same : K → K → Bool) (n : ℕ) (rs : List (AddressRun K)) → IsCanonical same rs
+    → IsCanonical same (drop n rs)
 canonical_drop same zero rs h = h
 canonical_drop same (suc n) [] h = tt
 canonical_drop same (suc n) (r ∷ rs) h = canonical_drop same n rs (canonical_tail same r rs h)
 
-pub EndBelow-drop : {K : Type 0} (limit n : ℕ) (rs : List (Run K)) → EndBelow limit rs → EndBelow limit (drop n rs)
+pub EndBelow-drop : {K : Type 0} (limit n : ℕ) (rs : List (AddressRun K)) → EndBelow limit rs
+    → EndBelow limit (drop n rs)
 EndBelow-drop limit zero rs h = h
 EndBelow-drop limit (suc n) [] h = tt
 EndBelow-drop limit (suc n) (r ∷ rs) h = EndBelow-drop limit n rs h.1
 
 -- ---- cuts
 
-pub cut_to-append : {K : Type 0} (a n : ℕ) (xs ys : List (Run K)) → cut_to a n (xs ++ ys) ≡ cut_to a n xs ++ cut_to a n ys
+pub cut_to-append : {K : Type 0} (a n : ℕ) (xs ys : List (AddressRun K))
+    → cut_to a n (xs ++ ys) ≡ cut_to a n xs ++ cut_to a n ys
 cut_to-append a n [] ys = refl
 cut_to-append a n (r ∷ xs) ys =
     let rest = cut_to-append a n xs ys in
     elim (cases_Bool (ltb (max a r.start) (min (a + n) (r.start + r.len)))) [
-      | inl t ↦ rw t (ap (λ (zs : List (Run _)). run (max a r.start) (min (a + n) (r.start + r.len) - max a r.start) r.value ∷ zs) rest)
+      | inl t ↦
+          rw t (ap (λ (zs : List (AddressRun _)). run (max a r.start)
+          (min (a + n) (r.start + r.len) - max a r.start) r.value ∷ zs) rest)
       | inr t ↦ rw t rest
     ]
 
 -- runs inside the range stay
-pub cut_to-inside : {K : Type 0} (same : K → K → Bool) (b m : ℕ) (rs : List (Run K)) → IsCanonical same rs → StartFrom b rs → EndBelow (b + m + 1) rs → cut_to b m rs ≡ rs
+pub cut_to-inside : {K : Type 0} (same : K → K → Bool) (b m : ℕ) (rs : List (AddressRun K)) → IsCanonical same rs
+    → StartFrom b rs → EndBelow (b + m + 1) rs → cut_to b m rs ≡ rs
 cut_to-inside same b m [] h s e = refl
 cut_to-inside {K} same b m (r ∷ rs) h s e =
     let pos = canonical_pos same r rs h in
@@ -119,19 +154,21 @@ cut_to-inside {K} same b m (r ∷ rs) h s e =
     rw (from, to, below, len, rest)
 
 -- runs before it and behind it go
-pub cut_to-before : {K : Type 0} (b m : ℕ) (rs : List (Run K)) → EndBelow (b + 1) rs → cut_to b m rs ≡ []
+pub cut_to-before : {K : Type 0} (b m : ℕ) (rs : List (AddressRun K)) → EndBelow (b + 1) rs → cut_to b m rs ≡ []
 cut_to-before b m [] e = refl
 cut_to-before b m (r ∷ rs) e =
-    let none : ltb (max b r.start) (min (b + m) (r.start + r.len)) ≡ false = le-ltb (max b r.start) (min (b + m) (r.start + r.len)) (omega arith) in
+    let none : ltb (max b r.start) (min (b + m) (r.start + r.len)) ≡ false =
+    le-ltb (max b r.start) (min (b + m) (r.start + r.len)) (omega arith) in
     rw none (cut_to-before b m rs e.1)
 
-pub cut_to-behind : {K : Type 0} (b m : ℕ) (rs : List (Run K)) → StartFrom (b + m) rs → cut_to b m rs ≡ []
+pub cut_to-behind : {K : Type 0} (b m : ℕ) (rs : List (AddressRun K)) → StartFrom (b + m) rs → cut_to b m rs ≡ []
 cut_to-behind b m [] s = refl
 cut_to-behind b m (r ∷ rs) s =
-    let none : ltb (max b r.start) (min (b + m) (r.start + r.len)) ≡ false = le-ltb (max b r.start) (min (b + m) (r.start + r.len)) (omega arith) in
+    let none : ltb (max b r.start) (min (b + m) (r.start + r.len)) ≡ false =
+    le-ltb (max b r.start) (min (b + m) (r.start + r.len)) (omega arith) in
     rw none (cut_to-behind b m rs s.1)
 
-pub ends-cut_to : {K : Type 0} (a n : ℕ) (rs : List (Run K)) → EndBelow (a + n + 1) (cut_to a n rs)
+pub ends-cut_to : {K : Type 0} (a n : ℕ) (rs : List (AddressRun K)) → EndBelow (a + n + 1) (cut_to a n rs)
 ends-cut_to a n [] = tt
 ends-cut_to a n (r ∷ rs) =
     let rest = ends-cut_to a n rs in
@@ -140,7 +177,7 @@ ends-cut_to a n (r ∷ rs) =
       | inr l ↦ rw (le-ltb (max a r.start) (min (a + n) (r.start + r.len)) l) rest
     ]
 
-pub starts-cut_to : {K : Type 0} (a n : ℕ) (rs : List (Run K)) → StartFrom a (cut_to a n rs)
+pub starts-cut_to : {K : Type 0} (a n : ℕ) (rs : List (AddressRun K)) → StartFrom a (cut_to a n rs)
 starts-cut_to a n [] = tt
 starts-cut_to a n (r ∷ rs) =
     let rest = starts-cut_to a n rs in
@@ -151,14 +188,19 @@ starts-cut_to a n (r ∷ rs) =
 
 -- ---- the runs before an address, and those behind one
 
-parts : {K : Type 0} (a n m : ℕ) (rs : List (Run K)) → cut_to a n rs ≡ cut_to a n (take m rs) ++ cut_to a n (drop m rs)
+parts : {K : Type 0} (a n m : ℕ) (rs : List (AddressRun K))
+    → cut_to a n rs ≡ cut_to a n (take m rs) ++ cut_to a n (drop m rs)
 parts a n m rs = ap (cut_to a n) (sym (take-append-drop m rs)) ∙ cut_to-append a n (take m rs) (drop m rs)
 
-kept_before : {K : Type 0} (same : K → K → Bool) (a m : ℕ) (rs : List (Run K)) → IsCanonical same rs → EndBelow a (take m rs) → cut_to 0 a (take m rs) ≡ take m rs
-kept_before same a m rs h e = cut_to-inside same 0 a (take m rs) (canonical_take same m rs h) (StartFrom-zero (take m rs)) (EndBelow-weaker a (0 + a + 1) (take m rs) (omega arith) e)
+kept_before : {K : Type 0} (same : K → K → Bool) (a m : ℕ) (rs : List (AddressRun K)) → IsCanonical same rs
+    → EndBelow a (take m rs) → cut_to 0 a (take m rs) ≡ take m rs
+kept_before same a m rs h e =
+    cut_to-inside same 0 a (take m rs) (canonical_take same m rs h) (StartFrom-zero (take m rs))
+    (EndBelow-weaker a (0 + a + 1) (take m rs) (omega arith) e)
 
 -- where the next run, if there is one, begins at the address or after it
-pub front_none : {K : Type 0} (same : K → K → Bool) (a m : ℕ) (rs : List (Run K)) → IsCanonical same rs → EndBelow a (take m rs) → StartFrom a (drop m rs) → take m rs ++ [] ≡ cut_to 0 a rs
+pub front_none : {K : Type 0} (same : K → K → Bool) (a m : ℕ) (rs : List (AddressRun K)) → IsCanonical same rs
+    → EndBelow a (take m rs) → StartFrom a (drop m rs) → take m rs ++ [] ≡ cut_to 0 a rs
 front_none same a m rs h e s =
     let p = parts 0 a m rs in
     let q = kept_before same a m rs h e in
@@ -166,53 +208,71 @@ front_none same a m rs h e s =
     sym (rw (p, q, t))
 
 -- where it begins before the address, and ends at it or after it
-pub front_some : {K : Type 0} (same : K → K → Bool) (a m : ℕ) (rs : List (Run K)) (r : Run K) → IsCanonical same rs → EndBelow a (take m rs) → m < length rs → get_or rs m r ≡ r → r.start < a → a ≤ r.start + r.len → take m rs ++ run r.start (a - r.start) r.value ∷ [] ≡ cut_to 0 a rs
+pub front_some : {K : Type 0} (same : K → K → Bool) (a m : ℕ) (rs : List (AddressRun K)) (r : AddressRun K)
+    → IsCanonical same rs → EndBelow a (take m rs) → m < length rs → get_or rs m r ≡ r → r.start < a
+    → a ≤ r.start + r.len → take m rs ++ run r.start (a - r.start) r.value ∷ [] ≡ cut_to 0 a rs
 front_some same a m rs r h e l g s u =
     let p = parts 0 a m rs in
     let q = kept_before same a m rs h e in
-    let d = drop_more rs m r l ∙ ap (λ (x : Run _). x ∷ drop (m + 1) rs) g in
+    let d = drop_more rs m r l ∙ ap (λ (x : AddressRun _). x ∷ drop (m + 1) rs) g in
     let c : IsCanonical same (r ∷ drop (m + 1) rs) = subst (IsCanonical same) d (canonical_drop same m rs h) in
-    let t = cut_to-behind 0 a (drop (m + 1) rs) (StartFrom-weaker (0 + a) (r.start + r.len) (drop (m + 1) rs) (omega arith) (tail_starts same r (drop (m + 1) rs) c)) in
+    let t = cut_to-behind 0 a (drop (m + 1) rs)
+    (StartFrom-weaker (0 + a) (r.start + r.len) (drop (m + 1) rs) (omega arith)
+    (tail_starts same r (drop (m + 1) rs) c)) in
     let from : max 0 r.start ≡ r.start = omega arith in
     let to : min (0 + a) (r.start + r.len) ≡ a = omega arith in
     let below : ltb r.start a ≡ true = lt-ltb r.start a s in
     let last : cut_to 0 a (drop m rs) ≡ run r.start (a - r.start) r.value ∷ [] = rw (d, from, to, below, t) in
     sym (rw (p, q, last))
 
-kept_behind : {K : Type 0} (same : K → K → Bool) (e n m : ℕ) (rs : List (Run K)) → IsCanonical same rs → EndBelow (e + n + 1) rs → StartFrom (e + 1) (drop m rs) → cut_to e n (drop m rs) ≡ drop m rs
-kept_behind same e n m rs h b s = cut_to-inside same e n (drop m rs) (canonical_drop same m rs h) (StartFrom-weaker e (e + 1) (drop m rs) (omega arith) s) (EndBelow-drop (e + n + 1) m rs b)
+kept_behind : {K : Type 0} (same : K → K → Bool) (e n m : ℕ) (rs : List (AddressRun K)) → IsCanonical same rs
+    → EndBelow (e + n + 1) rs → StartFrom (e + 1) (drop m rs) → cut_to e n (drop m rs) ≡ drop m rs
+kept_behind same e n m rs h b s =
+    cut_to-inside same e n (drop m rs) (canonical_drop same m rs h)
+    (StartFrom-weaker e (e + 1) (drop m rs) (omega arith) s) (EndBelow-drop (e + n + 1) m rs b)
 
 -- where no run begins at the address or before it
-pub back_zero : {K : Type 0} (same : K → K → Bool) (e n : ℕ) (rs : List (Run K)) → IsCanonical same rs → EndBelow (e + n + 1) rs → StartFrom (e + 1) rs → rs ≡ cut_to e n rs
+pub back_zero : {K : Type 0} (same : K → K → Bool) (e n : ℕ) (rs : List (AddressRun K)) → IsCanonical same rs
+    → EndBelow (e + n + 1) rs → StartFrom (e + 1) rs → rs ≡ cut_to e n rs
 back_zero same e n rs h b s = sym (kept_behind same e n 0 rs h b s)
 
 -- the runs before the last one that does end by the address
-before_last : {K : Type 0} (same : K → K → Bool) (e n m : ℕ) (rs : List (Run K)) (r : Run K) → IsCanonical same rs → m < length rs → get_or rs m r ≡ r → r.start ≤ e → cut_to e n (take m rs) ≡ []
+before_last : {K : Type 0} (same : K → K → Bool) (e n m : ℕ) (rs : List (AddressRun K)) (r : AddressRun K)
+    → IsCanonical same rs → m < length rs → get_or rs m r ≡ r → r.start ≤ e → cut_to e n (take m rs) ≡ []
 before_last same e n m rs r h l g s =
-    let b : EndBelow (r.start + 1) (take m rs) = subst (λ (x : Run _). EndBelow (x.start + 1) (take m rs)) g (ends_before same rs m r h l) in
+    let b : EndBelow (r.start + 1) (take m rs) =
+    subst (λ (x : AddressRun _). EndBelow (x.start + 1) (take m rs)) g (ends_before same rs m r h l) in
     cut_to-before e n (take m rs) (EndBelow-weaker (r.start + 1) (e + 1) (take m rs) (omega arith) b)
 
-pub back_none : {K : Type 0} (same : K → K → Bool) (e n m : ℕ) (rs : List (Run K)) (r : Run K) → IsCanonical same rs → EndBelow (e + n + 1) rs → m < length rs → get_or rs m r ≡ r → r.start ≤ e → r.start + r.len ≤ e → StartFrom (e + 1) (drop (m + 1) rs) → drop (m + 1) rs ≡ cut_to e n rs
+pub back_none : {K : Type 0} (same : K → K → Bool) (e n m : ℕ) (rs : List (AddressRun K)) (r : AddressRun K)
+    → IsCanonical same rs → EndBelow (e + n + 1) rs → m < length rs → get_or rs m r ≡ r → r.start ≤ e
+    → r.start + r.len ≤ e → StartFrom (e + 1) (drop (m + 1) rs) → drop (m + 1) rs ≡ cut_to e n rs
 back_none same e n m rs r h b l g s u f =
     let p = parts e n m rs in
     let q = before_last same e n m rs r h l g s in
-    let d = drop_more rs m r l ∙ ap (λ (x : Run _). x ∷ drop (m + 1) rs) g in
+    let d = drop_more rs m r l ∙ ap (λ (x : AddressRun _). x ∷ drop (m + 1) rs) g in
     let t = kept_behind same e n (m + 1) rs h b f in
-    let none : ltb (max e r.start) (min (e + n) (r.start + r.len)) ≡ false = le-ltb (max e r.start) (min (e + n) (r.start + r.len)) (omega arith) in
+    let none : ltb (max e r.start) (min (e + n) (r.start + r.len)) ≡ false =
+    le-ltb (max e r.start) (min (e + n) (r.start + r.len)) (omega arith) in
     let rest : cut_to e n (drop m rs) ≡ drop (m + 1) rs = rw (d, none) t in
     sym (rw (p, q) rest)
 
-pub back_some : {K : Type 0} (same : K → K → Bool) (e n m : ℕ) (rs : List (Run K)) (r : Run K) → IsCanonical same rs → EndBelow (e + n + 1) rs → m < length rs → get_or rs m r ≡ r → r.start ≤ e → e < r.start + r.len → StartFrom (e + 1) (drop (m + 1) rs) → run e (r.start + r.len - e) r.value ∷ drop (m + 1) rs ≡ cut_to e n rs
+pub back_some : {K : Type 0} (same : K → K → Bool) (e n m : ℕ) (rs : List (AddressRun K)) (r : AddressRun K)
+    → IsCanonical same rs → EndBelow (e + n + 1) rs → m < length rs → get_or rs m r ≡ r → r.start ≤ e
+    → e < r.start + r.len → StartFrom (e + 1) (drop (m + 1) rs)
+    → run e (r.start + r.len - e) r.value ∷ drop (m + 1) rs ≡ cut_to e n rs
 back_some same e n m rs r h b l g s u f =
     let p = parts e n m rs in
     let q = before_last same e n m rs r h l g s in
-    let d = drop_more rs m r l ∙ ap (λ (x : Run _). x ∷ drop (m + 1) rs) g in
+    let d = drop_more rs m r l ∙ ap (λ (x : AddressRun _). x ∷ drop (m + 1) rs) g in
     let t = kept_behind same e n (m + 1) rs h b f in
-    let all : EndBelow (e + n + 1) (r ∷ drop (m + 1) rs) = subst (EndBelow (e + n + 1)) d (EndBelow-drop (e + n + 1) m rs b) in
+    let all : EndBelow (e + n + 1) (r ∷ drop (m + 1) rs) =
+    subst (EndBelow (e + n + 1)) d (EndBelow-drop (e + n + 1) m rs b) in
     let from : max e r.start ≡ e = omega arith in
     let to : min (e + n) (r.start + r.len) ≡ r.start + r.len = omega arith in
     let below : ltb e (r.start + r.len) ≡ true = lt-ltb e (r.start + r.len) u in
-    let rest : cut_to e n (drop m rs) ≡ run e (r.start + r.len - e) r.value ∷ drop (m + 1) rs = rw (d, from, to, below, t) in
+    let rest : cut_to e n (drop m rs) ≡ run e (r.start + r.len - e) r.value ∷ drop (m + 1) rs =
+    rw (d, from, to, below, t) in
     sym (rw (p, q) rest)
 
 -- ---- lists one after the other
@@ -221,7 +281,8 @@ abbrev or_else : {X : Type 0} → Option X → Option X → Option X
 or_else None o = o
 or_else (Some x) o = Some x
 
-or_cond : {X : Type 0} (b : Bool) (x : X) (o p : Option X) → or_else (cond b (Some x) o) p ≡ cond b (Some x) (or_else o p)
+or_cond : {X : Type 0} (b : Bool) (x : X) (o p : Option X)
+    → or_else (cond b (Some x) o) p ≡ cond b (Some x) (or_else o p)
 or_cond true x o p = refl
 or_cond false x o p = refl
 
@@ -229,19 +290,24 @@ or_none : {X : Type 0} (o : Option X) → or_else o None ≡ o
 or_none None = refl
 or_none (Some x) = refl
 
-value_at-append : {K : Type 0} (xs ys : List (Run K)) (x : ℕ) → value_at (xs ++ ys) x ≡ or_else (value_at xs x) (value_at ys x)
+value_at-append : {K : Type 0} (xs ys : List (AddressRun K)) (x : ℕ)
+    → value_at (xs ++ ys) x ≡ or_else (value_at xs x) (value_at ys x)
 value_at-append [] ys x = refl
-value_at-append (r ∷ xs) ys x = rw (value_at-append xs ys x) (sym (or_cond (is_within r.start r.len x) r.value (value_at xs x) (value_at ys x)))
+value_at-append (r ∷ xs) ys x =
+    rw (value_at-append xs ys x) (sym (or_cond (is_within r.start r.len x) r.value (value_at xs x) (value_at ys x)))
 
 -- runs that begin behind those before them
-pub canonical_gap : {K : Type 0} (same : K → K → Bool) (end : ℕ) (xs ys : List (Run K)) → IsCanonical same xs → EndBelow end xs → IsCanonical same ys → StartFrom end ys → IsCanonical same (xs ++ ys)
+pub canonical_gap : {K : Type 0} (same : K → K → Bool) (end : ℕ) (xs ys : List (AddressRun K)) → IsCanonical same xs
+    → EndBelow end xs → IsCanonical same ys → StartFrom end ys → IsCanonical same (xs ++ ys)
 canonical_gap same end [] ys h e g s = g
 canonical_gap same end (r ∷ []) [] h e g s = h
 canonical_gap same end (r ∷ []) (t ∷ ys) h e g s = (h, omega arith, λ touch. absurd (omega arith), g)
 canonical_gap same end (r ∷ q ∷ xs) ys h e g s = (h.0, h.1, h.2, canonical_gap same end (q ∷ xs) ys h.3 e.1 g s)
 
 -- the last run may be another that begins where it does and is mapped alike
-canonical_last : {K : Type 0} (same : K → K → Bool) (xs : List (Run K)) (l h : Run K) (ys : List (Run K)) → IsCanonical same (xs ++ l ∷ []) → h.start ≡ l.start → h.value ≡ l.value → IsCanonical same (h ∷ ys) → IsCanonical same (xs ++ h ∷ ys)
+canonical_last : {K : Type 0} (same : K → K → Bool) (xs : List (AddressRun K)) (l h : AddressRun K)
+    (ys : List (AddressRun K)) → IsCanonical same (xs ++ l ∷ []) → h.start ≡ l.start → h.value ≡ l.value
+    → IsCanonical same (h ∷ ys) → IsCanonical same (xs ++ h ∷ ys)
 canonical_last same [] l h ys c s v g = g
 canonical_last {K} same (r ∷ []) l h ys c s v g =
     (c.0, omega arith, λ touch. let f = c.2 (omega arith) in subst (λ (k : K). same r.value k ≡ false) (sym v) f, g)
@@ -249,12 +315,14 @@ canonical_last same (r ∷ q ∷ xs) l h ys c s v g = (c.0, c.1, c.2, canonical_
 
 -- ---- a run before others
 
-joined_parts : (r s : Run Mapping) → (eqb s.start (r.start + r.len) && same_mapping r.value s.value) ≡ true → (s.start ≡ r.start + r.len) × (r.value ≡ s.value)
+joined_parts : (r s : AddressRun Mapping) → (eqb s.start (r.start + r.len) && same_mapping r.value s.value) ≡ true
+    → (s.start ≡ r.start + r.len) × (r.value ≡ s.value)
 joined_parts r s t =
     let p = and_parts (eqb s.start (r.start + r.len)) (same_mapping r.value s.value) t in
     (eqb-true s.start (r.start + r.len) p.0, same_mapping_tests_equality.0 r.value s.value p.1)
 
-starts-prepended : (low : ℕ) (r : Run Mapping) (rs : List (Run Mapping)) → low ≤ r.start → StartFrom low rs → StartFrom low (prepended r rs)
+starts-prepended : (low : ℕ) (r : AddressRun Mapping) (rs : List (AddressRun Mapping)) → low ≤ r.start
+    → StartFrom low rs → StartFrom low (prepended r rs)
 starts-prepended low r [] l s = (l, tt)
 starts-prepended low r (t ∷ rs) l s =
     elim (cases_Bool (eqb t.start (r.start + r.len) && same_mapping r.value t.value)) [
@@ -262,7 +330,8 @@ starts-prepended low r (t ∷ rs) l s =
       | inr j ↦ rw j (l, s)
     ]
 
-canonical-prepended : (r : Run Mapping) (rs : List (Run Mapping)) → 0 < r.len → IsCanonical same_mapping rs → StartFrom (r.start + r.len) rs → IsCanonical same_mapping (prepended r rs)
+canonical-prepended : (r : AddressRun Mapping) (rs : List (AddressRun Mapping)) → 0 < r.len
+    → IsCanonical same_mapping rs → StartFrom (r.start + r.len) rs → IsCanonical same_mapping (prepended r rs)
 canonical-prepended r [] pos h s = pos
 canonical-prepended r (t ∷ rs) pos h s =
     elim (cases_Bool (eqb t.start (r.start + r.len) && same_mapping r.value t.value)) [
@@ -270,24 +339,41 @@ canonical-prepended r (t ∷ rs) pos h s =
           let p = joined_parts r t j in
           let long = canonical_pos same_mapping t rs h in
           let end : r.start + (r.len + t.len) ≡ t.start + t.len = omega arith in
-          let f : CanFollow same_mapping (r.start + (r.len + t.len)) r.value rs = rw (end, p.1) (canonical_follow same_mapping t rs h) in
-          rw j (canonical_cons same_mapping (run r.start (r.len + t.len) r.value) rs (omega arith) f (canonical_tail same_mapping t rs h))
+          let f : CanFollow same_mapping (r.start + (r.len + t.len)) r.value rs =
+          rw (end, p.1) (canonical_follow same_mapping t rs h) in
+          rw j (canonical_cons same_mapping (run r.start (r.len + t.len) r.value) rs (omega arith) f
+          (canonical_tail same_mapping t rs h))
       | inr j ↦
-          rw j (pos, s.0, λ touch. elim (and_cases (eqb t.start (r.start + r.len)) (same_mapping r.value t.value) j) [ inl apart ↦ let touches = eq-eqb t.start (r.start + r.len) (sym touch) in cc | inr differs ↦ differs ], h)
+          rw j (
+            pos,
+            s.0,
+            λ touch. elim
+                (and_cases (eqb t.start (r.start + r.len))
+                (same_mapping r.value t.value) j) [
+                  | inl apart ↦
+                      let touches = eq-eqb t.start (r.start + r.len) (sym touch) in cc
+                  | inr differs ↦ differs
+                ],
+            h,
+          )
     ]
 
-value_at-prepended : (r : Run Mapping) (rs : List (Run Mapping)) (x : ℕ) → value_at (prepended r rs) x ≡ cond (is_within r.start r.len x) (Some r.value) (value_at rs x)
+value_at-prepended : (r : AddressRun Mapping) (rs : List (AddressRun Mapping)) (x : ℕ)
+    → value_at (prepended r rs) x ≡ cond (is_within r.start r.len x) (Some r.value) (value_at rs x)
 value_at-prepended r [] x = refl
 value_at-prepended r (t ∷ rs) x =
     elim (cases_Bool (eqb t.start (r.start + r.len) && same_mapping r.value t.value)) [
       | inl j ↦
           let p = joined_parts r t j in
-          rw (j, is_within-join, p.0, p.1) (either (is_within r.start r.len x) (is_within (r.start + r.len) t.len x) (Some t.value) (value_at rs x))
+          rw (j, is_within-join, p.0, p.1)
+          (either (is_within r.start r.len x) (is_within (r.start + r.len) t.len x) (Some t.value) (value_at rs x))
       | inr j ↦ rw j
     ]
 
 -- behind the last run of a list that is joined to those after it
-canonical_joined : (xs : List (Run Mapping)) (l : Run Mapping) (rs : List (Run Mapping)) → IsCanonical same_mapping (xs ++ l ∷ []) → IsCanonical same_mapping (prepended l rs) → IsCanonical same_mapping (xs ++ prepended l rs)
+canonical_joined : (xs : List (AddressRun Mapping)) (l : AddressRun Mapping) (rs : List (AddressRun Mapping))
+    → IsCanonical same_mapping (xs ++ l ∷ []) → IsCanonical same_mapping (prepended l rs)
+    → IsCanonical same_mapping (xs ++ prepended l rs)
 canonical_joined xs l [] c h = c
 canonical_joined xs l (t ∷ rs) c h =
     elim (cases_Bool (eqb t.start (l.start + l.len) && same_mapping l.value t.value)) [
@@ -295,14 +381,16 @@ canonical_joined xs l (t ∷ rs) c h =
       | inr j ↦ rw j (canonical_last same_mapping xs l l (t ∷ rs) c refl refl (rw j at h))
     ]
 
-pub prepended-append : (r s : Run Mapping) (xs ys : List (Run Mapping)) → prepended r (s ∷ xs) ++ ys ≡ prepended r (s ∷ xs ++ ys)
+pub prepended-append : (r s : AddressRun Mapping) (xs ys : List (AddressRun Mapping))
+    → prepended r (s ∷ xs) ++ ys ≡ prepended r (s ∷ xs ++ ys)
 prepended-append r s xs ys =
     elim (cases_Bool (eqb s.start (r.start + r.len) && same_mapping r.value s.value)) [
       | inl j ↦ rw j
       | inr j ↦ rw j
     ]
 
-prepended-apart : (r : Run Mapping) (ys : List (Run Mapping)) → StartFrom (r.start + r.len + 1) ys → prepended r ys ≡ r ∷ ys
+prepended-apart : (r : AddressRun Mapping) (ys : List (AddressRun Mapping)) → StartFrom (r.start + r.len + 1) ys
+    → prepended r ys ≡ r ∷ ys
 prepended-apart r [] s = refl
 prepended-apart r (t ∷ ys) s =
     elim (cases_Bool (eqb t.start (r.start + r.len) && same_mapping r.value t.value)) [
@@ -310,7 +398,8 @@ prepended-apart r (t ∷ ys) s =
       | inr j ↦ rw j
     ]
 
-prepended_before : (r : Run Mapping) (next : Option (Run Mapping)) (ys : List (Run Mapping)) → StartFrom (r.start + r.len + 1) ys → prepended r (if_any next) ++ ys ≡ prepended r (if_any next ++ ys)
+prepended_before : (r : AddressRun Mapping) (next : Option (AddressRun Mapping)) (ys : List (AddressRun Mapping))
+    → StartFrom (r.start + r.len + 1) ys → prepended r (if_any next) ++ ys ≡ prepended r (if_any next ++ ys)
 prepended_before r None ys s = sym (prepended-apart r ys s)
 prepended_before r (Some n) ys s = prepended-append r n [] ys
 
@@ -321,7 +410,9 @@ within_before a x l = is_within-in 0 a x (omega arith) (omega arith)
 
 -- what lies before a range, what the range is then, and what lies behind it
 says_parts : {X : Type 0} (a n x : ℕ) (old new : Option X) → a + n < 2 ^ 64 → (2 ^ 64 ≤ x → old ≡ None)
-    → or_else (cond (is_within 0 a x) old None) (cond (is_within a n x) new (cond (is_within (a + n) (2 ^ 64 - (a + n)) x) old None)) ≡ cond (is_within a n x) new old
+    → or_else (cond (is_within 0 a x) old None)
+    (cond (is_within a n x) new (cond (is_within (a + n) (2 ^ 64 - (a + n)) x) old None))
+    ≡ cond (is_within a n x) new old
 says_parts a n x old new fits none =
     elim (within_or_not a n x) [
       | inl w ↦
@@ -331,50 +422,61 @@ says_parts a n x old new fits none =
           elim w.1 [
             | inl l ↦
                 let inside = within_before a x l in
-                let out : is_within (a + n) (2 ^ 64 - (a + n)) x ≡ false = is_within-below (a + n) (2 ^ 64 - (a + n)) x (omega arith) in
+                let out : is_within (a + n) (2 ^ 64 - (a + n)) x ≡ false =
+                is_within-below (a + n) (2 ^ 64 - (a + n)) x (omega arith) in
                 rw (w.0, inside, out) (or_none old)
             | inr l ↦
                 let out : is_within 0 a x ≡ false = is_within-above 0 a x (omega arith) in
                 elim (cases_lt x (2 ^ 64)) [
                   | inl m ↦
-                      let inside : is_within (a + n) (2 ^ 64 - (a + n)) x ≡ true = is_within-in (a + n) (2 ^ 64 - (a + n)) x l (omega arith) in
+                      let inside : is_within (a + n) (2 ^ 64 - (a + n)) x ≡ true =
+                      is_within-in (a + n) (2 ^ 64 - (a + n)) x l (omega arith) in
                       rw (w.0, out, inside)
                   | inr m ↦
                       let e = none m in
-                      let past : is_within (a + n) (2 ^ 64 - (a + n)) x ≡ false = is_within-above (a + n) (2 ^ 64 - (a + n)) x (omega arith) in
+                      let past : is_within (a + n) (2 ^ 64 - (a + n)) x ≡ false =
+                      is_within-above (a + n) (2 ^ 64 - (a + n)) x (omega arith) in
                       rw (w.0, out, past) (sym e)
                 ]
           ]
     ]
 
 -- canonical, and it says this of each address
-pub record SaysThen (f : Says) (rs : List (Run Mapping)) : Type 0 where
+pub record SaysThen (f : Says) (rs : List (AddressRun Mapping)) : Type 0 where
   pub canonical : IsCanonical same_mapping rs
   pub values : (x : ℕ) → value_at rs x ≡ f x
 
 -- runs say nothing of what lies behind them
-none_by : (rs : List (Run Mapping)) (limit x : ℕ) → EndBelow limit rs → limit ≤ x + 1 → value_at rs x ≡ None
+none_by : (rs : List (AddressRun Mapping)) (limit x : ℕ) → EndBelow limit rs → limit ≤ x + 1 → value_at rs x ≡ None
 none_by [] limit x e l = refl
 none_by (r ∷ rs) limit x e l = rw (is_within-above r.start r.len x (omega arith)) (none_by rs limit x e.1 l)
 
-none_far : (rs : List (Run Mapping)) → IsKept rs → (x : ℕ) → 2 ^ 64 ≤ x → value_at rs x ≡ None
+none_far : (rs : List (AddressRun Mapping)) → IsKept rs → (x : ℕ) → 2 ^ 64 ≤ x → value_at rs x ≡ None
 none_far rs k x l = none_by rs (2 ^ 64) x k.ends (omega arith)
 
 -- what is left of a table where a range of it goes
-pub range_taken : (rs front back : List (Run Mapping)) (a n : ℕ) → IsKept rs → 0 < n → a + n < 2 ^ 64 → front ≡ cut_to 0 a rs → back ≡ cut_to (a + n) (2 ^ 64 - (a + n)) rs → SaysThen (λ x. cond (is_within a n x) None (value_at rs x)) (front ++ back)
+pub range_taken : (rs front back : List (AddressRun Mapping)) (a n : ℕ) → IsKept rs → 0 < n → a + n < 2 ^ 64
+    → front ≡ cut_to 0 a rs → back ≡ cut_to (a + n) (2 ^ 64 - (a + n)) rs
+    → SaysThen (λ x. cond (is_within a n x) None (value_at rs x)) (front ++ back)
 range_taken rs front back a n k some fits f b =
     let far = 2 ^ 64 - (a + n) in
     record {
-      canonical = rw (f, b) (canonical_gap same_mapping (a + n) (cut_to 0 a rs) (cut_to (a + n) far rs) (canonical_cut_to same_mapping 0 a rs k.canonical) (EndBelow-weaker (0 + a + 1) (a + n) (cut_to 0 a rs) (omega arith) (ends-cut_to 0 a rs)) (canonical_cut_to same_mapping (a + n) far rs k.canonical) (starts-cut_to (a + n) far rs));
-      values = λ x. rw (f, b, value_at-append, value_at-cut_to 0 a rs x, value_at-cut_to (a + n) far rs x) (empty_range a n x (value_at rs x) fits (none_far rs k x));
+      canonical = rw (f, b) (canonical_gap same_mapping (a + n) (cut_to 0 a rs) (cut_to (a + n) far rs)
+          (canonical_cut_to same_mapping 0 a rs k.canonical)
+          (EndBelow-weaker (0 + a + 1) (a + n) (cut_to 0 a rs) (omega arith) (ends-cut_to 0 a rs))
+          (canonical_cut_to same_mapping (a + n) far rs k.canonical) (starts-cut_to (a + n) far rs));
+      values = λ x. rw (f, b, value_at-append, value_at-cut_to 0 a rs x, value_at-cut_to (a + n) far rs x)
+          (empty_range a n x (value_at rs x) fits (none_far rs k x));
     }
   where
     empty_range : {X : Type 0} (a n x : ℕ) (old : Option X) → a + n < 2 ^ 64 → (2 ^ 64 ≤ x → old ≡ None)
-        → or_else (cond (is_within 0 a x) old None) (cond (is_within (a + n) (2 ^ 64 - (a + n)) x) old None) ≡ cond (is_within a n x) None old
+        → or_else (cond (is_within 0 a x) old None) (cond (is_within (a + n) (2 ^ 64 - (a + n)) x) old None)
+        ≡ cond (is_within a n x) None old
     empty_range a n x old fits none =
         elim (within_or_not a n x) [
           | inl w ↦
-              let out : is_within (a + n) (2 ^ 64 - (a + n)) x ≡ false = is_within-below (a + n) (2 ^ 64 - (a + n)) x (omega arith) in
+              let out : is_within (a + n) (2 ^ 64 - (a + n)) x ≡ false =
+              is_within-below (a + n) (2 ^ 64 - (a + n)) x (omega arith) in
               let p = says_parts a n x old None fits none in
               let q = rw w.0 at p in
               rw (w.0, out) q
@@ -382,42 +484,70 @@ range_taken rs front back a n k some fits f b =
         ]
 
 -- a run in its place, where no run before it touches it
-pub range_set : (rs front back : List (Run Mapping)) (r : Run Mapping) → IsKept rs → 0 < r.len → r.start + r.len < 2 ^ 64 → front ≡ cut_to 0 r.start rs → EndBelow r.start front → back ≡ cut_to (r.start + r.len) (2 ^ 64 - (r.start + r.len)) rs → SaysThen (λ x. cond (is_within r.start r.len x) (Some r.value) (value_at rs x)) (front ++ prepended r back)
+pub range_set : (rs front back : List (AddressRun Mapping)) (r : AddressRun Mapping) → IsKept rs → 0 < r.len
+    → r.start + r.len < 2 ^ 64 → front ≡ cut_to 0 r.start rs → EndBelow r.start front
+    → back ≡ cut_to (r.start + r.len) (2 ^ 64 - (r.start + r.len)) rs
+    → SaysThen (λ x. cond (is_within r.start r.len x) (Some r.value) (value_at rs x)) (front ++ prepended r back)
 range_set rs front back r k some fits f apart b =
     let far = 2 ^ 64 - (r.start + r.len) in
     let c : IsCanonical same_mapping back = rw b (canonical_cut_to same_mapping (r.start + r.len) far rs k.canonical) in
     let s : StartFrom (r.start + r.len) back = rw b (starts-cut_to (r.start + r.len) far rs) in
     let d : IsCanonical same_mapping front = rw f (canonical_cut_to same_mapping 0 r.start rs k.canonical) in
     record {
-      canonical = canonical_gap same_mapping r.start front (prepended r back) d apart (canonical-prepended r back some c s) (starts-prepended r.start r back (omega arith) (StartFrom-weaker r.start (r.start + r.len) back (omega arith) s));
-      values = λ x. rw (value_at-append front (prepended r back) x, value_at-prepended r back x, f, b, value_at-cut_to 0 r.start rs x, value_at-cut_to (r.start + r.len) far rs x) (says_parts r.start r.len x (value_at rs x) (Some r.value) fits (none_far rs k x));
+      canonical = canonical_gap same_mapping r.start front (prepended r back) d apart
+          (canonical-prepended r back some c s)
+          (starts-prepended r.start r back (omega arith)
+          (StartFrom-weaker r.start (r.start + r.len) back (omega arith) s));
+      values = λ x. rw (
+        value_at-append front (prepended r back) x,
+        value_at-prepended r back x,
+        f,
+        b,
+        value_at-cut_to 0 r.start rs x,
+        value_at-cut_to (r.start + r.len) far rs x,
+      )
+          (says_parts r.start r.len x (value_at rs x) (Some r.value) fits (none_far rs k x));
     }
 
 -- a run in its place, which joins the last one before it where they are mapped alike
-pub range_joined : (rs front back : List (Run Mapping)) (l r : Run Mapping) → IsKept rs → 0 < l.len → 0 < r.len → r.start + r.len < 2 ^ 64 → front ++ l ∷ [] ≡ cut_to 0 r.start rs → l.start + l.len ≡ r.start → back ≡ cut_to (r.start + r.len) (2 ^ 64 - (r.start + r.len)) rs → SaysThen (λ x. cond (is_within r.start r.len x) (Some r.value) (value_at rs x)) (front ++ prepended l (prepended r back))
+pub range_joined : (rs front back : List (AddressRun Mapping)) (l r : AddressRun Mapping) → IsKept rs → 0 < l.len
+    → 0 < r.len → r.start + r.len < 2 ^ 64 → front ++ l ∷ [] ≡ cut_to 0 r.start rs → l.start + l.len ≡ r.start
+    → back ≡ cut_to (r.start + r.len) (2 ^ 64 - (r.start + r.len)) rs
+    → SaysThen (λ x. cond (is_within r.start r.len x) (Some r.value) (value_at rs x))
+    (front ++ prepended l (prepended r back))
 range_joined rs front back l r k some_l some fits f touch b =
     let far = 2 ^ 64 - (r.start + r.len) in
     let c : IsCanonical same_mapping back = rw b (canonical_cut_to same_mapping (r.start + r.len) far rs k.canonical) in
     let s : StartFrom (r.start + r.len) back = rw b (starts-cut_to (r.start + r.len) far rs) in
-    let d : IsCanonical same_mapping (front ++ l ∷ []) = rw f (canonical_cut_to same_mapping 0 r.start rs k.canonical) in
-    let e : StartFrom (l.start + l.len) (prepended r back) = starts-prepended (l.start + l.len) r back (omega arith) (StartFrom-weaker (l.start + l.len) (r.start + r.len) back (omega arith) s) in
+    let d : IsCanonical same_mapping (front ++ l ∷ []) =
+    rw f (canonical_cut_to same_mapping 0 r.start rs k.canonical) in
+    let e : StartFrom (l.start + l.len) (prepended r back) =
+    starts-prepended (l.start + l.len) r back (omega arith)
+    (StartFrom-weaker (l.start + l.len) (r.start + r.len) back (omega arith) s) in
     let later = canonical-prepended l (prepended r back) some_l (canonical-prepended r back some c s) e in
     record {
       canonical = canonical_joined front l (prepended r back) d later;
       values = λ x.
-          let before : or_else (value_at front x) (cond (is_within l.start l.len x) (Some l.value) None) ≡ cond (is_within 0 r.start x) (value_at rs x) None =
-          sym (value_at-append front (l ∷ []) x) ∙ ap (λ (ys : List (Run Mapping)). value_at ys x) f ∙ value_at-cut_to 0 r.start rs x in
-          rw (value_at-append front (prepended l (prepended r back)) x, value_at-prepended l (prepended r back) x) (regrouped (value_at front x) (is_within l.start l.len x) l.value (value_at (prepended r back) x) ∙ rw (before, value_at-prepended, b, value_at-cut_to) (says_parts r.start r.len x (value_at rs x) (Some r.value) fits (none_far rs k x)));
+          let before : or_else (value_at front x) (cond (is_within l.start l.len x) (Some l.value) None)
+          ≡ cond (is_within 0 r.start x) (value_at rs x) None =
+          sym (value_at-append front (l ∷ []) x) ∙ ap (λ (ys : List (AddressRun Mapping)). value_at ys x) f
+          ∙ value_at-cut_to 0 r.start rs x in
+          rw (value_at-append front (prepended l (prepended r back)) x, value_at-prepended l (prepended r back) x)
+          (regrouped (value_at front x) (is_within l.start l.len x) l.value (value_at (prepended r back) x)
+          ∙ rw (before, value_at-prepended, b, value_at-cut_to)
+          (says_parts r.start r.len x (value_at rs x) (Some r.value) fits (none_far rs k x)));
     }
   where
-    regrouped : {X : Type 0} (o : Option X) (b : Bool) (v : X) (p : Option X) → or_else o (cond b (Some v) p) ≡ or_else (or_else o (cond b (Some v) None)) p
+    regrouped : {X : Type 0} (o : Option X) (b : Bool) (v : X) (p : Option X)
+        → or_else o (cond b (Some v) p) ≡ or_else (or_else o (cond b (Some v) None)) p
     regrouped None true v p = refl
     regrouped None false v p = refl
     regrouped (Some x) b v p = refl
 
 -- ---- what is kept
 
-ends_from_values : (limit : ℕ) (rs : List (Run Mapping)) → IsCanonical same_mapping rs → ((x : ℕ) → limit ≤ x → value_at rs x ≡ None) → EndBelow (limit + 1) rs
+ends_from_values : (limit : ℕ) (rs : List (AddressRun Mapping)) → IsCanonical same_mapping rs
+    → ((x : ℕ) → limit ≤ x → value_at rs x ≡ None) → EndBelow (limit + 1) rs
 ends_from_values limit [] h none = tt
 ends_from_values limit (r ∷ rs) h none =
     let pos = canonical_pos same_mapping r rs h in
@@ -426,30 +556,39 @@ ends_from_values limit (r ∷ rs) h none =
           let a = value_at_in r rs (r.start + r.len - 1) (omega arith) (omega arith) in
           let b = none (r.start + r.len - 1) (omega arith) in
           absurd (none_some (sym b ∙ a))
-      | inr l ↦ (omega arith, ends_from_values limit rs (canonical_tail same_mapping r rs h) (λ x m. sym (value_at_past r rs x (omega arith)) ∙ none x m))
+      | inr l ↦ (
+        omega arith,
+        ends_from_values limit rs (canonical_tail same_mapping r rs h)
+            (λ x m. sym (value_at_past r rs x (omega arith)) ∙ none x m),
+      )
     ]
   where
     none_some : {k : Mapping} → None ≡ Some k → ⊥
     none_some e = cc
 
 -- a list that says of each address what is said after a change is kept, and is the canonical list of that
-pub kept_after : (f : Says) (old new : List (Run Mapping)) → IsKept old → SaysThen f new → ((x : ℕ) → 2 ^ 64 ≤ x + 1 → value_at old x ≡ None → f x ≡ None) → IsKept new × (new ≡ canonical_list f)
+pub kept_after : (f : Says) (old new : List (AddressRun Mapping)) → IsKept old → SaysThen f new
+    → ((x : ℕ) → 2 ^ 64 ≤ x + 1 → value_at old x ≡ None → f x ≡ None) → IsKept new × (new ≡ canonical_list f)
 kept_after f old new k s none =
-    let far : (x : ℕ) → 2 ^ 64 - 1 ≤ x → value_at new x ≡ None = λ x l. s.values x ∙ none x (omega arith) (none_by old (2 ^ 64) x k.ends (omega arith)) in (
+    let far : (x : ℕ) → 2 ^ 64 - 1 ≤ x → value_at new x ≡ None =
+    λ x l. s.values x ∙ none x (omega arith) (none_by old (2 ^ 64) x k.ends (omega arith)) in (
       record { canonical = s.canonical; ends = ends_from_values (2 ^ 64 - 1) new s.canonical far },
-      sym (canonical_list-of_values new s.canonical (λ x l. far x (omega arith))) ∙ canonical_list-agree (value_at new) f (λ x l. s.values x),
+      sym (canonical_list-of_values new s.canonical (λ x l. far x (omega arith)))
+          ∙ canonical_list-agree (value_at new) f (λ x l. s.values x),
     )
 
 -- ---- where the runs before a range and those behind it meet
 
-pub first_upto_after : (a e m n : ℕ) (rs : List (Run Mapping)) → IsCanonical same_mapping rs → EndBelow a (take m rs) → StartFrom (e + 1) (drop n rs) → a ≤ e → m ≤ length rs → m ≤ n
+pub first_upto_after : (a e m n : ℕ) (rs : List (AddressRun Mapping)) → IsCanonical same_mapping rs
+    → EndBelow a (take m rs) → StartFrom (e + 1) (drop n rs) → a ≤ e → m ≤ length rs → m ≤ n
 first_upto_after a e zero n rs h b s l w = omega arith
 first_upto_after a e (suc m) n [] h b s l w = omega arith
 first_upto_after a e (suc m) zero (r ∷ rs) h b s l w = absurd (omega arith)
 first_upto_after a e (suc m) (suc n) (r ∷ rs) h b s l w =
     let rest = first_upto_after a e m n rs (canonical_tail same_mapping r rs h) b.1 s l (omega arith) in omega arith
 
-pub first_before_after : (a e m n : ℕ) (rs : List (Run Mapping)) (d : Run Mapping) → StartFrom (e + 1) (drop n rs) → m < length rs → (get_or rs m d).start < a → a ≤ e → m < n
+pub first_before_after : (a e m n : ℕ) (rs : List (AddressRun Mapping)) (d : AddressRun Mapping)
+    → StartFrom (e + 1) (drop n rs) → m < length rs → (get_or rs m d).start < a → a ≤ e → m < n
 first_before_after a e m n [] d s w g l = absurd (omega arith)
 first_before_after a e zero zero (r ∷ rs) d s w g l = absurd (omega arith)
 first_before_after a e zero (suc n) (r ∷ rs) d s w g l = omega arith
@@ -460,42 +599,63 @@ first_before_after a e (suc m) (suc n) (r ∷ rs) d s w g l =
 
 -- ---- what `set` and `invalidate` make of a list
 
-past_none : (old : List (Run Mapping)) (a n x : ℕ) (v w : Option Mapping) → a + n < 2 ^ 64 → 2 ^ 64 ≤ x + 1 → w ≡ None → cond (is_within a n x) v w ≡ None
+past_none : (old : List (AddressRun Mapping)) (a n x : ℕ) (v w : Option Mapping) → a + n < 2 ^ 64 → 2 ^ 64 ≤ x + 1
+    → w ≡ None → cond (is_within a n x) v w ≡ None
 past_none old a n x v w fits l e = rw (is_within-above a n x (omega arith)) e
 
 -- the list that is put together of what lies before a run, of what joins it and of what lies behind it
-module _ (rs : List (Run Mapping)) (k : IsKept rs) (r : Run Mapping) (some : 0 < r.len) (fits : r.start + r.len < 2 ^ 64)
-    (first after : ℕ) (right : Option (Run Mapping))
+module _ (rs : List (AddressRun Mapping)) (k : IsKept rs) (r : AddressRun Mapping) (some : 0 < r.len)
+    (fits : r.start + r.len < 2 ^ 64)
+    (first after : ℕ) (right : Option (AddressRun Mapping))
     (apart : EndBelow r.start (take first rs))
-    (back : if_any right ++ drop after rs ≡ cut_to (r.start + r.len) (2 ^ 64 - (r.start + r.len)) rs) (far : StartFrom (r.start + r.len + 1) (drop after rs))
-    (joined : Run Mapping) (behind : Option (Run Mapping)) (is : joined ∷ if_any behind ≡ prepended r (if_any right)) where
+    (back : if_any right ++ drop after rs ≡ cut_to (r.start + r.len) (2 ^ 64 - (r.start + r.len)) rs)
+    (far : StartFrom (r.start + r.len + 1) (drop after rs))
+    (joined : AddressRun Mapping) (behind : Option (AddressRun Mapping))
+    (is : joined ∷ if_any behind ≡ prepended r (if_any right)) where
   put_behind : joined ∷ if_any behind ++ drop after rs ≡ prepended r (if_any right ++ drop after rs)
-  put_behind = ap (λ (ys : List (Run Mapping)). ys ++ drop after rs) is ∙ prepended_before r right (drop after rs) far
+  put_behind = ap (λ (ys : List (AddressRun Mapping)). ys ++ drop after rs) is
+      ∙ prepended_before r right (drop after rs) far
 
-  put_together : (left : Option (Run Mapping)) (begun : Run Mapping) (next : Option (Run Mapping)) → begun ∷ if_any next ≡ prepended_if_any left (joined ∷ [])
-      → if_any (Some begun) ++ if_any next ++ if_any behind ++ drop after rs ≡ prepended_if_any left (prepended r (if_any right ++ drop after rs))
-  put_together None begun next e = ap (λ (ys : List (Run Mapping)). ys ++ if_any behind ++ drop after rs) e ∙ put_behind
+  put_together : (left : Option (AddressRun Mapping)) (begun : AddressRun Mapping) (next : Option (AddressRun Mapping))
+      → begun ∷ if_any next ≡ prepended_if_any left (joined ∷ [])
+      → if_any (Some begun) ++ if_any next ++ if_any behind ++ drop after rs
+      ≡ prepended_if_any left (prepended r (if_any right ++ drop after rs))
+  put_together None begun next e = ap (λ (ys : List (AddressRun Mapping)). ys ++ if_any behind ++ drop after rs) e
+      ∙ put_behind
   put_together (Some l) begun next e =
-      ap (λ (ys : List (Run Mapping)). ys ++ if_any behind ++ drop after rs) e ∙ append_assoc (prepended l (joined ∷ [])) (if_any behind) (drop after rs)
+      ap (λ (ys : List (AddressRun Mapping)). ys ++ if_any behind ++ drop after rs) e
+      ∙ append_assoc (prepended l (joined ∷ [])) (if_any behind) (drop after rs)
       ∙ prepended-append l joined [] (if_any behind ++ drop after rs) ∙ ap (prepended l) put_behind
 
-  pub run_is_set : (left : Option (Run Mapping)) → take first rs ++ if_any left ≡ cut_to 0 r.start rs → ((l : Run Mapping) → left ≡ Some l → (0 < l.len) × (l.start + l.len ≡ r.start))
-      → (begun : Run Mapping) (next : Option (Run Mapping)) → begun ∷ if_any next ≡ prepended_if_any left (joined ∷ [])
-      → (new : List (Run Mapping)) → new ≡ take first rs ++ (if_any (Some begun) ++ if_any next ++ if_any behind ++ drop after rs)
+  pub run_is_set : (left : Option (AddressRun Mapping)) → take first rs ++ if_any left ≡ cut_to 0 r.start rs
+      → ((l : AddressRun Mapping) → left ≡ Some l → (0 < l.len) × (l.start + l.len ≡ r.start))
+      → (begun : AddressRun Mapping) (next : Option (AddressRun Mapping))
+      → begun ∷ if_any next ≡ prepended_if_any left (joined ∷ [])
+      → (new : List (AddressRun Mapping))
+      → new ≡ take first rs ++ (if_any (Some begun) ++ if_any next ++ if_any behind ++ drop after rs)
       → IsKept new × (new ≡ canonical_list (with_run r rs))
   run_is_set left front reaches begun next e new is_new =
-      kept_after (with_run r rs) rs new k (subst (SaysThen (with_run r rs)) (sym (is_new ∙ ap (λ (ys : List (Run Mapping)). take first rs ++ ys) (put_together left begun next e))) (says left front reaches))
+      kept_after (with_run r rs) rs new k
+      (subst (SaysThen (with_run r rs))
+      (sym (is_new ∙ ap (λ (ys : List (AddressRun Mapping)). take first rs ++ ys) (put_together left begun next e)))
+      (says left front reaches))
       (λ x l w. past_none rs r.start r.len x (Some r.value) (value_at rs x) fits l w)
     where
-      says : (left : Option (Run Mapping)) → take first rs ++ if_any left ≡ cut_to 0 r.start rs → ((l : Run Mapping) → left ≡ Some l → (0 < l.len) × (l.start + l.len ≡ r.start))
-          → SaysThen (with_run r rs) (take first rs ++ prepended_if_any left (prepended r (if_any right ++ drop after rs)))
-      says None front reaches = range_set rs (take first rs) (if_any right ++ drop after rs) r k some fits (sym (append-nil (take first rs)) ∙ front) apart back
+      says : (left : Option (AddressRun Mapping)) → take first rs ++ if_any left ≡ cut_to 0 r.start rs
+          → ((l : AddressRun Mapping) → left ≡ Some l → (0 < l.len) × (l.start + l.len ≡ r.start))
+          → SaysThen (with_run r rs)
+          (take first rs ++ prepended_if_any left (prepended r (if_any right ++ drop after rs)))
+      says None front reaches =
+          range_set rs (take first rs) (if_any right ++ drop after rs) r k some fits
+          (sym (append-nil (take first rs)) ∙ front) apart back
       says (Some l) front reaches =
           let told = reaches l refl in
           range_joined rs (take first rs) (if_any right ++ drop after rs) l r k told.0 some fits front told.1 back
 
   -- a run more before it only where there was one that reached it
-  pub one_more_next : (left : Option (Run Mapping)) (begun : Run Mapping) (next : Option (Run Mapping)) → begun ∷ if_any next ≡ prepended_if_any left (joined ∷ []) → length (if_any next) ≤ length (if_any left)
+  pub one_more_next : (left : Option (AddressRun Mapping)) (begun : AddressRun Mapping)
+      (next : Option (AddressRun Mapping)) → begun ∷ if_any next ≡ prepended_if_any left (joined ∷ [])
+      → length (if_any next) ≤ length (if_any left)
   one_more_next None begun next e = let l : length (begun ∷ if_any next) ≡ 1 = ap length e in omega arith
   one_more_next (Some l) begun None e = omega arith
   one_more_next (Some l) begun (Some n) e = omega arith
@@ -504,7 +664,9 @@ pub if_any_one : {X : Type 0} (o : Option X) → length (if_any o) ≤ 1
 if_any_one None = omega arith
 if_any_one (Some x) = omega arith
 
-pub length_put : (rs new : List (Run Mapping)) (first after : ℕ) (a b c : Option (Run Mapping)) → first ≤ after → after ≤ length rs → new ≡ take first rs ++ (if_any a ++ if_any b ++ if_any c ++ drop after rs) → length new + (after - first) ≡ length rs + (length (if_any a) + length (if_any b) + length (if_any c))
+pub length_put : (rs new : List (AddressRun Mapping)) (first after : ℕ) (a b c : Option (AddressRun Mapping))
+    → first ≤ after → after ≤ length rs → new ≡ take first rs ++ (if_any a ++ if_any b ++ if_any c ++ drop after rs)
+    → length new + (after - first) ≡ length rs + (length (if_any a) + length (if_any b) + length (if_any c))
 length_put rs new first after a b c l w e =
     let all = ap length e in
     let p = length-append (take first rs) (if_any a ++ if_any b ++ if_any c ++ drop after rs) in
@@ -515,14 +677,20 @@ length_put rs new first after a b c l w e =
     let u = length-drop after rs in
     omega arith
 
-pub range_is_clear : (rs : List (Run Mapping)) (a n first after : ℕ) (left right : Option (Run Mapping)) → IsKept rs → 0 < n → a + n < 2 ^ 64
-    → take first rs ++ if_any left ≡ cut_to 0 a rs → if_any right ++ drop after rs ≡ cut_to (a + n) (2 ^ 64 - (a + n)) rs
-    → (new : List (Run Mapping)) → new ≡ take first rs ++ (if_any left ++ if_any None ++ if_any right ++ drop after rs)
+pub range_is_clear : (rs : List (AddressRun Mapping)) (a n first after : ℕ) (left right : Option (AddressRun Mapping))
+    → IsKept rs → 0 < n → a + n < 2 ^ 64
+    → take first rs ++ if_any left ≡ cut_to 0 a rs
+    → if_any right ++ drop after rs ≡ cut_to (a + n) (2 ^ 64 - (a + n)) rs
+    → (new : List (AddressRun Mapping))
+    → new ≡ take first rs ++ (if_any left ++ if_any None ++ if_any right ++ drop after rs)
     → IsKept new × (new ≡ canonical_list (without_range a n rs))
 range_is_clear rs a n first after left right k some fits front back new is_new =
     let e : new ≡ (take first rs ++ if_any left) ++ (if_any right ++ drop after rs) =
-    is_new ∙ rw (append-nil (if_any left), append_assoc (if_any left) (if_any right) (drop after rs)) (sym (append_assoc (take first rs) (if_any left) (if_any right ++ drop after rs))) in
-    kept_after (without_range a n rs) rs new k (subst (SaysThen (without_range a n rs)) (sym e) (range_taken rs (take first rs ++ if_any left) (if_any right ++ drop after rs) a n k some fits front back))
+    is_new ∙ rw (append-nil (if_any left), append_assoc (if_any left) (if_any right) (drop after rs))
+    (sym (append_assoc (take first rs) (if_any left) (if_any right ++ drop after rs))) in
+    kept_after (without_range a n rs) rs new k
+    (subst (SaysThen (without_range a n rs)) (sym e)
+    (range_taken rs (take first rs ++ if_any left) (if_any right ++ drop after rs) a n k some fits front back))
     (λ x l w. past_none rs a n x None (value_at rs x) fits l w)
 
 -- ---- answers of calls that may be refused
@@ -543,14 +711,16 @@ if_some_at P None h x e = absurd (none_some e)
 if_some_at P (Some y) h x e = let q : y ≡ x = cc in subst P q h
 
 -- what is put in the place of runs
-abbrev pub put_for : List (Run Mapping) → ℕ → ℕ → Option (Run Mapping) → Option (Run Mapping) → Option (Run Mapping)
-    → List (Run Mapping)
+abbrev pub put_for : List (AddressRun Mapping) → ℕ → ℕ → Option (AddressRun Mapping) → Option (AddressRun Mapping)
+    → Option (AddressRun Mapping)
+    → List (AddressRun Mapping)
 put_for rs first after a b c = take first rs ++ (if_any a ++ if_any b ++ if_any c ++ drop after rs)
 
 -- where a run reaches a range, it is one of those that go
-pub left_room : (rs : List (Run Mapping)) (a e first after : ℕ) (left : Option (Run Mapping)) → first ≤ after → a ≤ e
+pub left_room : (rs : List (AddressRun Mapping)) (a e first after : ℕ) (left : Option (AddressRun Mapping))
+    → first ≤ after → a ≤ e
     → StartFrom (e + 1) (drop after rs)
-    → (IsSome left → (d : Run Mapping) → (first < length rs) × ((get_or rs first d).start < a))
+    → (IsSome left → (d : AddressRun Mapping) → (first < length rs) × ((get_or rs first d).start < a))
     → length (if_any left) ≤ after - first
 left_room rs a e first after None ordered some far there = omega arith
 left_room rs a e first after (Some l) ordered some far there =
@@ -560,32 +730,37 @@ left_room rs a e first after (Some l) ordered some far there =
 
 -- ---- a kept list, and what it says
 
-pub kept_is_canonical : (rs : List (Run Mapping)) → IsKept rs → canonical_list (value_at rs) ≡ rs
+pub kept_is_canonical : (rs : List (AddressRun Mapping)) → IsKept rs → canonical_list (value_at rs) ≡ rs
 kept_is_canonical rs k = canonical_list-of_values rs k.canonical (λ x l. none_by rs (2 ^ 64) x k.ends (omega arith))
 
 -- where what is said stays, so does the list
-pub kept_stays : (rs : List (Run Mapping)) (f : Says) → IsKept rs → ((x : ℕ) → f x ≡ value_at rs x) → rs ≡ canonical_list f
+pub kept_stays : (rs : List (AddressRun Mapping)) (f : Says) → IsKept rs → ((x : ℕ) → f x ≡ value_at rs x)
+    → rs ≡ canonical_list f
 kept_stays rs f k same = sym (kept_is_canonical rs k) ∙ canonical_list-agree (value_at rs) f (λ x l. sym (same x))
 
 pub nothing_said : canonical_list (λ x. None) ≡ []
 nothing_said = canonical_list-of_values [] tt (λ x l. refl)
 
 -- what is said after a call that changed a table
-pub says_then : {E : Type 0} (call : TableCall) (old new : Table) (r : Result (Unit {0}) E) → OnOk r (new ≡ changed call old)
+pub says_then : {E : Type 0} (call : TableCall) (old new : Table) (r : Result (Unit {0}) E)
+    → OnOk r (new ≡ changed call old)
     → OnOk r ((x : ℕ) → x < 2 ^ 64 → says new x ≡ says_after call x (says old x))
 says_then call old new r =
     on_ok r
     (λ e x l. ap (λ (t : Table). says t x) e ∙ value_at-canonical_list (λ y. says_after call y (says old y)) x l)
 
 -- a table that a call changes at no address is as it was
-pub table_stays : (call : TableCall) (table : Table) → IsKept table.ranges → ((x : ℕ) (old : Option Mapping) → says_after call x old ≡ old) → table ≡ changed call table
+pub table_stays : (call : TableCall) (table : Table) → IsKept table.ranges
+    → ((x : ℕ) (old : Option Mapping) → says_after call x old ≡ old) → table ≡ changed call table
 table_stays call table k same =
-    let with_ranges : List (Run Mapping) → Table = λ rs. record table { ranges = rs } in
+    let with_ranges : List (AddressRun Mapping) → Table = λ rs. record table { ranges = rs } in
     ap with_ranges (kept_stays table.ranges (λ x. says_after call x (says table x)) k (λ x. same x (says table x)))
 
 -- nor where its length is 0
-pub empty_set : (iova to len : ℕ) (permissions : Permissions) → len ≡ 0 → (x : ℕ) (old : Option Mapping) → says_after (Set iova to len permissions) x old ≡ old
+pub empty_set : (iova to len : ℕ) (permissions : Permissions) → len ≡ 0 → (x : ℕ) (old : Option Mapping)
+    → says_after (Set iova to len permissions) x old ≡ old
 empty_set iova to len permissions e x old = rw e (set_nothing iova to x permissions old)
 
-pub empty_invalidate : (iova len : ℕ) → len ≡ 0 → (x : ℕ) (old : Option Mapping) → says_after (Invalidate iova len) x old ≡ old
+pub empty_invalidate : (iova len : ℕ) → len ≡ 0 → (x : ℕ) (old : Option Mapping)
+    → says_after (Invalidate iova len) x old ≡ old
 empty_invalidate iova len e x old = rw e (invalidate_nothing iova x old)

@@ -7,7 +7,7 @@ use Rattle.std.specs.List.{filter}
 use Rattle.vm_memory_base.specs.Address.{is_within}
 use Rattle.vm_memory_base.specs.Change.{EndBelow, StartFrom, IsKept, granted, gaps}
 use Rattle.vm_memory_base.specs.Permissions.{allow}
-use Rattle.vm_memory_base.specs.Runs.{Run, IsCanonical, runs, value_at, cut_onto, cut_to}
+use Rattle.vm_memory_base.specs.Runs.{AddressRun, IsCanonical, runs, value_at, cut_onto, cut_to}
 use Rattle.vm_memory_base.specs.Table.{Mapping, same_mapping, Says, pieces, piece_of, grants, overruns, is_allowed, if_missing, forbids, range_of, misses, failures}
 use Rattle.vm_memory_base.specs.Walk.{HeadEndsAfter, IsWalk, pieces_left}
 use Rattle.vm_memory_base.specs.declared.iotlb.Permissions.{Permissions}
@@ -18,24 +18,34 @@ use Rattle.vm_memory_base.proofs.TableLaws.{same_mapping_tests_equality, is_allo
 
 -- ---- whether a look-up succeeds
 
-pub head_after : (r : Run Mapping) (rs : List (Run Mapping)) → IsCanonical same_mapping (r ∷ rs) → HeadEndsAfter (r.start + r.len) rs
+pub head_after : (r : AddressRun Mapping) (rs : List (AddressRun Mapping)) → IsCanonical same_mapping (r ∷ rs)
+    → HeadEndsAfter (r.start + r.len) rs
 head_after r [] h = tt
 head_after r (s ∷ rs) h =
     let from = tail_starts same_mapping r (s ∷ rs) h in
     let pos = canonical_pos same_mapping s rs (canonical_tail same_mapping r (s ∷ rs) h) in
     omega arith
 
-granted_parts : (at end : ℕ) (access : Permissions) (r : Run Mapping) (rs : List (Run Mapping)) → granted at end access (r ∷ rs) ≡ true
-    → (r.start ≤ at) × (allow r.value.permissions access ≡ true) × ((end ≤ r.start + r.len) ⊎ (granted (r.start + r.len) end access rs ≡ true))
+granted_parts : (at end : ℕ) (access : Permissions) (r : AddressRun Mapping) (rs : List (AddressRun Mapping))
+    → granted at end access (r ∷ rs) ≡ true
+    → (r.start ≤ at) × (allow r.value.permissions access ≡ true)
+    × ((end ≤ r.start + r.len) ⊎ (granted (r.start + r.len) end access rs ≡ true))
 granted_parts at end access r rs h =
-    let p = and_parts (leb r.start at) (allow r.value.permissions access && (leb end (r.start + r.len) || granted (r.start + r.len) end access rs)) h in
-    let q = and_parts (allow r.value.permissions access) (leb end (r.start + r.len) || granted (r.start + r.len) end access rs) p.1 in (
+    let p = and_parts (leb r.start at)
+    (allow r.value.permissions access && (leb end (r.start + r.len) || granted (r.start + r.len) end access rs)) h in
+    let q = and_parts (allow r.value.permissions access)
+    (leb end (r.start + r.len) || granted (r.start + r.len) end access rs) p.1 in (
       leb-true r.start at p.0,
       q.0,
-      elim (or_cases (leb end (r.start + r.len)) (granted (r.start + r.len) end access rs) q.1) [ inl l ↦ inl (leb-true end (r.start + r.len) l) | inr g ↦ inr g ],
+      elim (or_cases (leb end (r.start + r.len)) (granted (r.start + r.len) end access rs) q.1) [
+        | inl l ↦ inl
+            (leb-true end (r.start + r.len) l)
+        | inr g ↦ inr g
+      ],
     )
 
-pub granted_each : (at end : ℕ) (access : Permissions) (rs : List (Run Mapping)) → granted at end access rs ≡ true → (x : ℕ) → at ≤ x → x < end → grants access (value_at rs x) ≡ true
+pub granted_each : (at end : ℕ) (access : Permissions) (rs : List (AddressRun Mapping))
+    → granted at end access rs ≡ true → (x : ℕ) → at ≤ x → x < end → grants access (value_at rs x) ≡ true
 granted_each at end access [] h x l m = let e = leb-true end at h in absurd (omega arith)
 granted_each at end access (r ∷ rs) h x l m =
     let p = granted_parts at end access r rs h in
@@ -49,7 +59,9 @@ granted_each at end access (r ∷ rs) h x l m =
     ]
 
 -- where runs are not granted, some address is not
-pub not_granted : (at end : ℕ) (access : Permissions) (rs : List (Run Mapping)) → IsCanonical same_mapping rs → HeadEndsAfter at rs → at < end → granted at end access rs ≡ false → ((x : ℕ) → at ≤ x → x < end → grants access (value_at rs x) ≡ true) → ⊥
+pub not_granted : (at end : ℕ) (access : Permissions) (rs : List (AddressRun Mapping)) → IsCanonical same_mapping rs
+    → HeadEndsAfter at rs → at < end → granted at end access rs ≡ false
+    → ((x : ℕ) → at ≤ x → x < end → grants access (value_at rs x) ≡ true) → ⊥
 not_granted at end access [] h a l g each = let e = each at (omega arith) l in cc
 not_granted at end access (r ∷ rs) h a l g each =
     let e = each at (omega arith) l in
@@ -62,7 +74,8 @@ not_granted at end access (r ∷ rs) h a l g each =
             | inl m ↦
                 let high : leb end (r.start + r.len) ≡ false = grind (arith) in
                 let rest : granted (r.start + r.len) end access rs ≡ false = rw (low, p, high) at g in
-                not_granted (r.start + r.len) end access rs (canonical_tail same_mapping r rs h) (head_after r rs h) m rest (λ x u v. rw (← value_at_past r rs x u) (each x (omega arith) v))
+                not_granted (r.start + r.len) end access rs (canonical_tail same_mapping r rs h)
+                (head_after r rs h) m rest (λ x u v. rw (← value_at_past r rs x u) (each x (omega arith) v))
             | inr m ↦
                 let high : leb end (r.start + r.len) ≡ true = grind (arith) in
                 let full : true ≡ false = rw (low, p, high) at g in
@@ -71,23 +84,31 @@ not_granted at end access (r ∷ rs) h a l g each =
     ]
 
 -- runs that end by an address say nothing from there on
-pub value_at-drop : (m at x : ℕ) (rs : List (Run Mapping)) → EndBelow (at + 1) (take m rs) → at ≤ x → value_at rs x ≡ value_at (drop m rs) x
+pub value_at-drop : (m at x : ℕ) (rs : List (AddressRun Mapping)) → EndBelow (at + 1) (take m rs) → at ≤ x
+    → value_at rs x ≡ value_at (drop m rs) x
 value_at-drop zero at x rs e l = refl
 value_at-drop (suc m) at x [] e l = refl
 value_at-drop (suc m) at x (r ∷ rs) e l = value_at_past r rs x (omega arith) ∙ value_at-drop m at x rs e.1 l
 
 -- a look-up is allowed where the runs behind those that end by its first address are granted
-pub allowed_is_granted : (rs : List (Run Mapping)) (a n m : ℕ) (access : Permissions) → IsCanonical same_mapping (drop m rs) → EndBelow (a + 1) (take m rs) → HeadEndsAfter a (drop m rs) → 0 < n → a + n < 2 ^ 64
+pub allowed_is_granted : (rs : List (AddressRun Mapping)) (a n m : ℕ) (access : Permissions)
+    → IsCanonical same_mapping (drop m rs) → EndBelow (a + 1) (take m rs) → HeadEndsAfter a (drop m rs) → 0 < n
+    → a + n < 2 ^ 64
     → is_allowed (value_at rs) a n access ≡ granted a (a + n) access (drop m rs)
 allowed_is_granted rs a n m access h e head some fits =
     elim (cases_Bool (granted a (a + n) access (drop m rs))) [
-      | inl g ↦ (is_allowed-each (value_at rs) a n access).1 (inr (fits, λ x l u. rw (value_at-drop m a x rs e l) (granted_each a (a + n) access (drop m rs) g x l u))) ∙ sym g
+      | inl g ↦
+          (is_allowed-each (value_at rs) a n access).1
+          (inr (fits, λ x l u. rw (value_at-drop m a x rs e l) (granted_each a (a + n) access (drop m rs) g x l u)))
+          ∙ sym g
       | inr g ↦
           elim (cases_Bool (is_allowed (value_at rs) a n access)) [
             | inl t ↦
                 elim ((is_allowed-each (value_at rs) a n access).0 t) [
                   | inl z ↦ absurd (omega arith)
-                  | inr each ↦ absurd (not_granted a (a + n) access (drop m rs) h head (omega arith) g (λ x l u. rw (← value_at-drop m a x rs e l) (each.1 x l u)))
+                  | inr each ↦
+                      absurd (not_granted a (a + n) access (drop m rs) h head (omega arith) g
+                      (λ x l u. rw (← value_at-drop m a x rs e l) (each.1 x l u)))
                 ]
             | inr t ↦ t ∙ sym g
           ]
@@ -95,7 +116,8 @@ allowed_is_granted rs a n m access h e head some fits =
 
 -- ---- the pieces
 
-cut_later : (at next end : ℕ) (rs : List (Run Mapping)) → at ≤ next → next ≤ end → StartFrom next rs → cut_to at (end - at) rs ≡ cut_to next (end - next) rs
+cut_later : (at next end : ℕ) (rs : List (AddressRun Mapping)) → at ≤ next → next ≤ end → StartFrom next rs
+    → cut_to at (end - at) rs ≡ cut_to next (end - next) rs
 cut_later at next end [] l m s = refl
 cut_later at next end (r ∷ rs) l m s =
     let rest = cut_later at next end rs l m s.1 in
@@ -105,33 +127,38 @@ cut_later at next end (r ∷ rs) l m s =
     let to' : next + (end - next) ≡ end = omega arith in
     rw (from, from', to, to') (ap (cut_onto r.start (min end (r.start + r.len)) r.value) rest)
 
-pub cut_none : (at : ℕ) (rs : List (Run Mapping)) → cut_to at 0 rs ≡ []
+pub cut_none : (at : ℕ) (rs : List (AddressRun Mapping)) → cut_to at 0 rs ≡ []
 cut_none at [] = refl
 cut_none at (r ∷ rs) =
-    let none : ltb (max at r.start) (min (at + 0) (r.start + r.len)) ≡ false = le-ltb (max at r.start) (min (at + 0) (r.start + r.len)) (omega arith) in
+    let none : ltb (max at r.start) (min (at + 0) (r.start + r.len)) ≡ false =
+    le-ltb (max at r.start) (min (at + 0) (r.start + r.len)) (omega arith) in
     rw none (cut_none at rs)
 
 -- the first piece, and those that follow it
-pub cut_first : (at end next : ℕ) (r : Run Mapping) (rs : List (Run Mapping)) → IsCanonical same_mapping (r ∷ rs) → r.start ≤ at → at < r.start + r.len → at < end → next ≡ min (r.start + r.len) end
+pub cut_first : (at end next : ℕ) (r : AddressRun Mapping) (rs : List (AddressRun Mapping))
+    → IsCanonical same_mapping (r ∷ rs) → r.start ≤ at → at < r.start + r.len → at < end
+    → next ≡ min (r.start + r.len) end
     → cut_to at (end - at) (r ∷ rs) ≡ run at (next - at) r.value ∷ cut_to next (end - next) rs
 cut_first at end next r rs h s e l is =
     let starts = tail_starts same_mapping r rs h in
-    let rest = cut_later at next end rs (omega arith) (omega arith) (StartFrom-weaker next (r.start + r.len) rs (omega arith) starts) in
+    let rest = cut_later at next end rs (omega arith) (omega arith)
+    (StartFrom-weaker next (r.start + r.len) rs (omega arith) starts) in
     let from : max at r.start ≡ at = omega arith in
     let to : min (at + (end - at)) (r.start + r.len) ≡ next = omega arith in
     let below : ltb at next ≡ true = lt-ltb at next (omega arith) in
-    rw (from, to, below) (ap (λ (ys : List (Run Mapping)). run at (next - at) r.value ∷ ys) rest)
+    rw (from, to, below) (ap (λ (ys : List (AddressRun Mapping)). run at (next - at) r.value ∷ ys) rest)
 
 -- ---- the gaps
 
-gaps_begin : (at end : ℕ) (rs : List (Run Mapping)) → StartFrom at (gaps at end rs)
+gaps_begin : (at end : ℕ) (rs : List (AddressRun Mapping)) → StartFrom at (gaps at end rs)
 gaps_begin at end [] =
     elim (cases_Bool (ltb at end)) [
       | inl t ↦ rw t (omega arith, tt)
       | inr t ↦ rw t tt
     ]
 gaps_begin at end (r ∷ rs) =
-    let rest = StartFrom-weaker at (max at (r.start + r.len)) (gaps (max at (r.start + r.len)) end rs) (omega arith) (gaps_begin (max at (r.start + r.len)) end rs) in
+    let rest = StartFrom-weaker at (max at (r.start + r.len)) (gaps (max at (r.start + r.len)) end rs) (omega arith)
+    (gaps_begin (max at (r.start + r.len)) end rs) in
     elim (cases_Bool (ltb at (min r.start end))) [
       | inl t ↦ rw t (omega arith, rest)
       | inr t ↦ rw t rest
@@ -140,7 +167,8 @@ gaps_begin at end (r ∷ rs) =
 abbrev alike : Unit {0} → Unit {0} → Bool
 alike j k = true
 
-gaps_canonical : (at end : ℕ) (rs : List (Run Mapping)) → IsCanonical same_mapping rs → IsCanonical alike (gaps at end rs)
+gaps_canonical : (at end : ℕ) (rs : List (AddressRun Mapping)) → IsCanonical same_mapping rs
+    → IsCanonical alike (gaps at end rs)
 gaps_canonical at end [] h =
     elim (cases_lt at end) [
       | inl l ↦ rw (lt-ltb at end l) (omega arith)
@@ -152,14 +180,16 @@ gaps_canonical at end (r ∷ rs) h =
     let rest = gaps_canonical next end rs (canonical_tail same_mapping r rs h) in
     elim (cases_lt at (min r.start end)) [
       | inl l ↦
-          let gap : Run (Unit {0}) = run at (min r.start end - at) tt in
+          let gap : AddressRun (Unit {0}) = run at (min r.start end - at) tt in
           let short : 0 < min r.start end - at = omega arith in
           let below : at + (min r.start end - at) < next = omega arith in
-          rw (lt-ltb at (min r.start end) l) (canonical_gap alike next (gap ∷ []) (gaps next end rs) short (below, tt) rest (gaps_begin next end rs))
+          rw (lt-ltb at (min r.start end) l)
+          (canonical_gap alike next (gap ∷ []) (gaps next end rs) short (below, tt) rest (gaps_begin next end rs))
       | inr l ↦ rw (le-ltb at (min r.start end) l) rest
     ]
 
-gap_values : (at end x : ℕ) (rs : List (Run Mapping)) → IsCanonical same_mapping rs → value_at (gaps at end rs) x ≡ cond (is_within at (end - at) x) (if_missing (value_at rs x)) None
+gap_values : (at end x : ℕ) (rs : List (AddressRun Mapping)) → IsCanonical same_mapping rs
+    → value_at (gaps at end rs) x ≡ cond (is_within at (end - at) x) (if_missing (value_at rs x)) None
 gap_values at end x [] h =
     elim (cases_lt at end) [
       | inl l ↦ rw (lt-ltb at end l)
@@ -180,18 +210,21 @@ gap_values at end x (r ∷ rs) h =
           elim (cases_lt x r.start) [
             | inl b ↦
                 let none = none_below same_mapping r rs x h b in
-                let gap : is_within at (min r.start end - at) x ≡ true = is_within-in at (min r.start end - at) x w.1 (omega arith) in
+                let gap : is_within at (min r.start end - at) x ≡ true =
+                is_within-in at (min r.start end - at) x w.1 (omega arith) in
                 rw (lt-ltb at (min r.start end) (omega arith), gap, w.0, none)
             | inr b ↦
                 elim (cases_lt x (r.start + r.len)) [
                   | inl i ↦
                       let there = value_at_in r rs x b i in
-                      let out : is_within next (end - next) x ≡ false = is_within-below next (end - next) x (omega arith) in
+                      let out : is_within next (end - next) x ≡ false =
+                      is_within-below next (end - next) x (omega arith) in
                       let e : value_at (gaps next end rs) x ≡ None = rw out at rest in
                       rw (w.0, there) (behind_gap at (min r.start end) x (gaps next end rs) (omega arith) ∙ e)
                   | inr i ↦
                       let past = value_at_past r rs x i in
-                      let inside : is_within next (end - next) x ≡ true = is_within-in next (end - next) x (omega arith) (omega arith) in
+                      let inside : is_within next (end - next) x ≡ true =
+                      is_within-in next (end - next) x (omega arith) (omega arith) in
                       let e : value_at (gaps next end rs) x ≡ if_missing (value_at rs x) = rw inside at rest in
                       rw (w.0, past) (behind_gap at (min r.start end) x (gaps next end rs) (omega arith) ∙ e)
                 ]
@@ -203,17 +236,22 @@ gap_values at end x (r ∷ rs) h =
             | inr v ↦ v.0
           ] in
           let e : value_at (gaps next end rs) x ≡ None = rw out at rest in
-          rw w.0 (elim w.1 [ inl a ↦ before_gap at (min r.start end) x (gaps next end rs) a ∙ e | inr a ↦ behind_gap at (min r.start end) x (gaps next end rs) (omega arith) ∙ e ])
+          rw w.0 (elim w.1 [
+            | inl a ↦ before_gap at (min r.start end) x (gaps next end rs) a ∙ e
+            | inr a ↦ behind_gap at (min r.start end) x (gaps next end rs) (omega arith) ∙ e
+          ])
     ]
   where
-    behind_gap : (from to x : ℕ) (gs : List (Run (Unit {0}))) → to ≤ x → value_at (cut_onto from to tt gs) x ≡ value_at gs x
+    behind_gap : (from to x : ℕ) (gs : List (AddressRun (Unit {0}))) → to ≤ x
+        → value_at (cut_onto from to tt gs) x ≡ value_at gs x
     behind_gap from to x gs l =
         elim (cases_lt from to) [
           | inl m ↦ rw (lt-ltb from to m, is_within-above from (to - from) x (omega arith))
           | inr m ↦ rw (le-ltb from to m)
         ]
 
-    before_gap : (from to x : ℕ) (gs : List (Run (Unit {0}))) → x < from → value_at (cut_onto from to tt gs) x ≡ value_at gs x
+    before_gap : (from to x : ℕ) (gs : List (AddressRun (Unit {0}))) → x < from
+        → value_at (cut_onto from to tt gs) x ≡ value_at gs x
     before_gap from to x gs l =
         elim (cases_lt from to) [
           | inl m ↦ rw (lt-ltb from to m, is_within-below from (to - from) x l)
@@ -224,37 +262,47 @@ alike_decides : (j k : Unit {0}) → alike j k ≡ true → j ≡ k
 alike_decides j k e = refl
 
 -- what is missed are the gaps
-pub misses_are_gaps : (rs : List (Run Mapping)) (a n : ℕ) → IsCanonical same_mapping rs → overruns a n ≡ false → misses (value_at rs) a n ≡ map range_of (gaps a (a + n) rs)
+pub misses_are_gaps : (rs : List (AddressRun Mapping)) (a n : ℕ) → IsCanonical same_mapping rs → overruns a n ≡ false
+    → misses (value_at rs) a n ≡ map range_of (gaps a (a + n) rs)
 misses_are_gaps rs a n h o =
     let len : a + n - a ≡ n = omega arith in
-    let same = same_from_values alike (λ k. refl) (runs alike (λ x. if_missing (value_at rs x)) a n) (gaps a (a + n) rs) (canonical_runs alike alike_decides (λ x. if_missing (value_at rs x)) a n) (gaps_canonical a (a + n) rs h)
-    (λ x. value_at-runs alike alike_decides (λ y. if_missing (value_at rs y)) a n x ∙ sym (rw len at (gap_values a (a + n) x rs h))) in
+    let same = same_from_values alike (λ k. refl) (runs alike (λ x. if_missing (value_at rs x)) a n) (gaps a (a + n) rs)
+    (canonical_runs alike alike_decides (λ x. if_missing (value_at rs x)) a n) (gaps_canonical a (a + n) rs h)
+    (λ x. value_at-runs alike alike_decides (λ y. if_missing (value_at rs y)) a n x
+    ∙ sym (rw len at (gap_values a (a + n) x rs h))) in
     rw o (ap (map range_of) same)
 
 -- what fails are the runs that forbid the access, cut to what is asked for
-pub failures_are_cut : (rs : List (Run Mapping)) (a n : ℕ) (access : Permissions) → IsCanonical same_mapping rs → overruns a n ≡ false → failures (value_at rs) a n access ≡ map range_of (filter (λ r. forbids access r.value) (cut_to a n rs))
+pub failures_are_cut : (rs : List (AddressRun Mapping)) (a n : ℕ) (access : Permissions) → IsCanonical same_mapping rs
+    → overruns a n ≡ false → failures (value_at rs) a n access
+    ≡ map range_of (filter (λ r. forbids access r.value) (cut_to a n rs))
 failures_are_cut rs a n access h o =
     failures-runs (value_at rs) a n access o
-    ∙ ap (λ (ys : List (Run Mapping)). map range_of (filter (λ r. forbids access r.value) ys)) (runs-of_list same_mapping same_mapping_tests_equality.0 same_mapping_tests_equality.1 rs a n h)
+    ∙ ap (λ (ys : List (AddressRun Mapping)). map range_of (filter (λ r. forbids access r.value) ys))
+    (runs-of_list same_mapping same_mapping_tests_equality.0 same_mapping_tests_equality.1 rs a n h)
 
 -- ---- the runs that are asked for
 
-gaps_over : (at end : ℕ) (rs : List (Run Mapping)) → end ≤ at → gaps at end rs ≡ []
+gaps_over : (at end : ℕ) (rs : List (AddressRun Mapping)) → end ≤ at → gaps at end rs ≡ []
 gaps_over at end [] l = rw (le-ltb at end l)
-gaps_over at end (r ∷ rs) l = rw (le-ltb at (min r.start end) (omega arith)) (gaps_over (max at (r.start + r.len)) end rs (omega arith))
+gaps_over at end (r ∷ rs) l =
+    rw (le-ltb at (min r.start end) (omega arith)) (gaps_over (max at (r.start + r.len)) end rs (omega arith))
 
-gaps_behind : (at end : ℕ) (rs : List (Run Mapping)) → StartFrom end rs → gaps at end rs ≡ gaps at end []
+gaps_behind : (at end : ℕ) (rs : List (AddressRun Mapping)) → StartFrom end rs → gaps at end rs ≡ gaps at end []
 gaps_behind at end [] s = refl
 gaps_behind at end (r ∷ rs) s =
     let to : min r.start end ≡ end = omega arith in
     rw (to, gaps_over (max at (r.start + r.len)) end rs (omega arith))
 
-pub gaps_cut : (at end m : ℕ) (rs : List (Run Mapping)) → StartFrom end (drop m rs) → gaps at end (take m rs) ≡ gaps at end rs
+pub gaps_cut : (at end m : ℕ) (rs : List (AddressRun Mapping)) → StartFrom end (drop m rs)
+    → gaps at end (take m rs) ≡ gaps at end rs
 gaps_cut at end zero rs s = sym (gaps_behind at end rs s)
 gaps_cut at end (suc m) [] s = refl
-gaps_cut at end (suc m) (r ∷ rs) s = ap (cut_onto at (min r.start end) tt) (gaps_cut (max at (r.start + r.len)) end m rs s)
+gaps_cut at end (suc m) (r ∷ rs) s =
+    ap (cut_onto at (min r.start end) tt) (gaps_cut (max at (r.start + r.len)) end m rs s)
 
-gaps_dropped : (at end m : ℕ) (rs : List (Run Mapping)) → EndBelow (at + 1) (take m rs) → gaps at end (drop m rs) ≡ gaps at end rs
+gaps_dropped : (at end m : ℕ) (rs : List (AddressRun Mapping)) → EndBelow (at + 1) (take m rs)
+    → gaps at end (drop m rs) ≡ gaps at end rs
 gaps_dropped at end zero rs e = refl
 gaps_dropped at end (suc m) [] e = refl
 gaps_dropped at end (suc m) (r ∷ rs) e =
@@ -263,7 +311,8 @@ gaps_dropped at end (suc m) (r ∷ rs) e =
     rw (none, next) (gaps_dropped at end m rs e.1)
 
 -- the cuts of all runs are those of the runs that are asked for
-pub cuts_asked : (a n k : ℕ) (rs : List (Run Mapping)) → StartFrom (a + n) (drop k rs) → cut_to a n (take k rs) ≡ cut_to a n rs
+pub cuts_asked : (a n k : ℕ) (rs : List (AddressRun Mapping)) → StartFrom (a + n) (drop k rs)
+    → cut_to a n (take k rs) ≡ cut_to a n rs
 cuts_asked a n k rs s =
     let q = ap (cut_to a n) (sym (take-append-drop k rs)) ∙ cut_to-append a n (take k rs) (drop k rs) in
     let behind = cut_to-behind a n (drop k rs) s in
@@ -271,13 +320,17 @@ cuts_asked a n k rs s =
 
 -- ---- a step of a walk
 
-walk_rest : (end : ℕ) (r : Run Mapping) (rs : List (Run Mapping)) → IsCanonical same_mapping (r ∷ rs) → r.start + r.len < end → ((end ≤ r.start + r.len) ⊎ (granted (r.start + r.len) end No rs ≡ true)) → granted (r.start + r.len) end No rs ≡ true
+walk_rest : (end : ℕ) (r : AddressRun Mapping) (rs : List (AddressRun Mapping)) → IsCanonical same_mapping (r ∷ rs)
+    → r.start + r.len < end → ((end ≤ r.start + r.len) ⊎ (granted (r.start + r.len) end No rs ≡ true))
+    → granted (r.start + r.len) end No rs ≡ true
 walk_rest end r rs h l (inl m) = absurd (omega arith)
 walk_rest end r rs h l (inr g) = g
 
 -- the walk is at its first run, and then at what follows
-pub walk_on : (at end next : ℕ) (r : Run Mapping) (rs : List (Run Mapping)) → IsWalk at end (r ∷ rs) → at < end → next ≡ min (r.start + r.len) end
-    → (cut_to at (end - at) (r ∷ rs) ≡ run at (next - at) r.value ∷ cut_to next (end - next) rs) × (at < next) × IsWalk next end rs
+pub walk_on : (at end next : ℕ) (r : AddressRun Mapping) (rs : List (AddressRun Mapping)) → IsWalk at end (r ∷ rs)
+    → at < end → next ≡ min (r.start + r.len) end
+    → (cut_to at (end - at) (r ∷ rs) ≡ run at (next - at) r.value ∷ cut_to next (end - next) rs) × (at < next)
+    × IsWalk next end rs
 walk_on at end next r rs w l is =
     let p = granted_parts at end No r rs (w.mapped l) in
     let head : at < r.start + r.len = w.head l in
@@ -292,7 +345,7 @@ walk_on at end next r rs w l is =
       },
     )
 
-pub walk_ends : (at end : ℕ) (rs : List (Run Mapping)) → end ≤ at → cut_to at (end - at) rs ≡ []
+pub walk_ends : (at end : ℕ) (rs : List (AddressRun Mapping)) → end ≤ at → cut_to at (end - at) rs ≡ []
 walk_ends at end rs l = let none : end - at ≡ 0 = omega arith in rw none (cut_none at rs)
 
 or_true : (b : Bool) → (b || true) ≡ true
@@ -300,35 +353,45 @@ or_true true = refl
 or_true false = refl
 
 -- a walk of granted runs
-pub walk_of_granted : (at end : ℕ) (access : Permissions) (rs : List (Run Mapping)) → IsCanonical same_mapping rs → at ≤ end → granted at end access rs ≡ true → HeadEndsAfter at rs → IsWalk at end rs
-walk_of_granted at end access rs h l g head = record { canonical = h; ordered = l; mapped = λ m. any_access at end access rs g; head = λ m. head }
+pub walk_of_granted : (at end : ℕ) (access : Permissions) (rs : List (AddressRun Mapping)) → IsCanonical same_mapping rs
+    → at ≤ end → granted at end access rs ≡ true → HeadEndsAfter at rs → IsWalk at end rs
+walk_of_granted at end access rs h l g head =
+    record { canonical = h; ordered = l; mapped = λ m. any_access at end access rs g; head = λ m. head }
   where
-    any_access : (at end : ℕ) (access : Permissions) (rs : List (Run Mapping)) → granted at end access rs ≡ true → granted at end No rs ≡ true
+    any_access : (at end : ℕ) (access : Permissions) (rs : List (AddressRun Mapping)) → granted at end access rs ≡ true
+        → granted at end No rs ≡ true
     any_access at end access [] g = g
     any_access at end access (r ∷ rs) g =
         let p = granted_parts at end access r rs g in
         let low : leb r.start at ≡ true = grind (arith) in
         elim p.2 [
           | inl m ↦ let high : leb end (r.start + r.len) ≡ true = grind (arith) in rw (low, high)
-          | inr t ↦ let rest = any_access (r.start + r.len) end access rs t in rw (low, rest) (or_true (leb end (r.start + r.len)))
+          | inr t ↦
+              let rest = any_access (r.start + r.len) end access rs t in
+              rw (low, rest) (or_true (leb end (r.start + r.len)))
         ]
 
 -- an iterator that gave the first item of its list has fewer left
-pub first_goes : {S A : Type 0} (rest : S → List A) (s t : S) (x : A) → rest s ≡ x ∷ rest t → MakesProgress (λ _. Unit {0}) (item_count rest) s (Some x) t
+pub first_goes : {S A : Type 0} (rest : S → List A) (s t : S) (x : A) → rest s ≡ x ∷ rest t
+    → MakesProgress (λ _. Unit {0}) (item_count rest) s (Some x) t
 first_goes rest s t x gives =
     let fewer : length (rest t) < length (rest s) = rw gives (omega arith) in
     record { on = λ _. (tt, tt, fewer); keeps = tt; rests = λ _. tt }
 
 -- ---- a look-up in a kept list
 
-head_of_drop : (a m : ℕ) (rs : List (Run Mapping)) → ((d : Run Mapping) → m < length rs → a < (get_or rs m d).start + (get_or rs m d).len) → HeadEndsAfter a (drop m rs)
+head_of_drop : (a m : ℕ) (rs : List (AddressRun Mapping))
+    → ((d : AddressRun Mapping) → m < length rs → a < (get_or rs m d).start + (get_or rs m d).len)
+    → HeadEndsAfter a (drop m rs)
 head_of_drop a zero [] f = tt
 head_of_drop a zero (r ∷ rs) f = f r (omega arith)
 head_of_drop a (suc m) [] f = tt
 head_of_drop a (suc m) (r ∷ rs) f = head_of_drop a m rs (λ d l. f d (omega arith))
 
-module _ (rs s : List (Run Mapping)) (is : s ≡ rs) (k : IsKept rs) (a n end m : ℕ) (sum : end ≡ a + n) (some : 0 < n) (fits : a + n < 2 ^ 64) (access : Permissions)
-    (below : EndBelow (a + 1) (take m s)) (from : (d : Run Mapping) → m < length s → a + 1 ≤ (get_or s m d).start + (get_or s m d).len) where
+module _ (rs s : List (AddressRun Mapping)) (is : s ≡ rs) (k : IsKept rs) (a n end m : ℕ) (sum : end ≡ a + n)
+    (some : 0 < n) (fits : a + n < 2 ^ 64) (access : Permissions)
+    (below : EndBelow (a + 1) (take m s))
+    (from : (d : AddressRun Mapping) → m < length s → a + 1 ≤ (get_or s m d).start + (get_or s m d).len) where
   asked : take (length s - m) (drop m s) ≡ drop m rs
   asked = take_rest s m ∙ ap (drop m) is
 
@@ -336,7 +399,9 @@ module _ (rs s : List (Run Mapping)) (is : s ≡ rs) (k : IsKept rs) (a n end m 
   before = rw is at below
 
   head : HeadEndsAfter a (drop m rs)
-  head = head_of_drop a m rs (λ d l. subst (λ (ys : List (Run Mapping)). a < (get_or ys m d).start + (get_or ys m d).len) is (let f = from d (rw is l) in omega arith))
+  head = head_of_drop a m rs
+      (λ d l. subst (λ (ys : List (AddressRun Mapping)). a < (get_or ys m d).start + (get_or ys m d).len) is
+      (let f = from d (rw is l) in omega arith))
 
   canonical : IsCanonical same_mapping (drop m rs)
   canonical = canonical_drop same_mapping m rs k.canonical
@@ -348,28 +413,36 @@ module _ (rs s : List (Run Mapping)) (is : s ≡ rs) (k : IsKept rs) (a n end m 
   no_overrun = le-ltb (2 ^ 64 - 1) (a + n) (omega arith)
 
   cut : (b : ℕ) → b ≡ n → cut_to a b (drop m rs) ≡ cut_to a n rs
-  cut b e = rw e (sym (ap (cut_to a n) (sym (take-append-drop m rs)) ∙ cut_to-append a n (take m rs) (drop m rs) ∙ ap (λ (ys : List (Run Mapping)). ys ++ cut_to a n (drop m rs)) (cut_to-before a n (take m rs) before)))
+  cut b e = rw e (sym (ap (cut_to a n) (sym (take-append-drop m rs)) ∙ cut_to-append a n (take m rs) (drop m rs)
+      ∙ ap (λ (ys : List (AddressRun Mapping)). ys ++ cut_to a n (drop m rs)) (cut_to-before a n (take m rs) before)))
 
   decided : is_allowed (value_at rs) a n access ≡ granted a end access (take (length s - m) (drop m s))
   decided = rw (asked, sum) (allowed_is_granted rs a n m access canonical before head some fits)
 
-  pub looked_up : granted a end access (take (length s - m) (drop m s)) ≡ true → (is_allowed (value_at rs) a n access ≡ true) × IsWalk a end (take (length s - m) (drop m s)) × (pieces_left a end (take (length s - m) (drop m s)) ≡ pieces (value_at rs) a n)
+  pub looked_up : granted a end access (take (length s - m) (drop m s)) ≡ true
+      → (is_allowed (value_at rs) a n access ≡ true) × IsWalk a end (take (length s - m) (drop m s))
+      × (pieces_left a end (take (length s - m) (drop m s)) ≡ pieces (value_at rs) a n)
   looked_up g = (
     decided ∙ g,
     rw asked (walk_of_granted a end access (drop m rs) canonical (omega arith) (rw asked at g) head),
     rw asked (ap (map piece_of) (cut (end - a) (omega arith)) ∙ sym (pieces-kept rs a n k.canonical)),
   )
 
-  pub looked_up_in_vain : granted a end access (take (length s - m) (drop m s)) ≡ false → (is_allowed (value_at rs) a n access ≡ false)
+  pub looked_up_in_vain : granted a end access (take (length s - m) (drop m s)) ≡ false
+      → (is_allowed (value_at rs) a n access ≡ false)
       × (map range_of (gaps a end (take (length s - m) (drop m s))) ≡ misses (value_at rs) a n)
-      × (map range_of (filter (λ r. forbids access r.value) (cut_to a (end - a) (take (length s - m) (drop m s)))) ≡ failures (value_at rs) a n access)
+      × (map range_of (filter (λ r. forbids access r.value) (cut_to a (end - a) (take (length s - m) (drop m s))))
+      ≡ failures (value_at rs) a n access)
   looked_up_in_vain g = (
     decided ∙ g,
-    rw (asked, sum) (ap (map range_of) (gaps_dropped a (a + n) m rs before) ∙ sym (misses_are_gaps rs a n k.canonical no_overrun)),
-    rw asked (ap (λ (ys : List (Run Mapping)). map range_of (filter (λ r. forbids access r.value) ys)) (cut (end - a) (omega arith)) ∙ sym (failures_are_cut rs a n access k.canonical no_overrun)),
+    rw (asked, sum) (ap (map range_of) (gaps_dropped a (a + n) m rs before)
+        ∙ sym (misses_are_gaps rs a n k.canonical no_overrun)),
+    rw asked (ap (λ (ys : List (AddressRun Mapping)). map range_of (filter (λ r. forbids access r.value) ys))
+        (cut (end - a) (omega arith)) ∙ sym (failures_are_cut rs a n access k.canonical no_overrun)),
   )
 
 -- a look-up of no address
-pub no_pieces : (f : Says) (a : ℕ) (access : Permissions) (n : ℕ) → n ≡ 0 → (is_allowed f a n access ≡ true) × (pieces f a n ≡ [])
+pub no_pieces : (f : Says) (a : ℕ) (access : Permissions) (n : ℕ) → n ≡ 0 → (is_allowed f a n access ≡ true)
+    × (pieces f a n ≡ [])
 unfolding runs
 no_pieces f a access n z = (rw z refl, rw z refl)

@@ -31,22 +31,28 @@ or_self false = refl
 ltb-suc : (a b : ℕ) → ltb (suc a) (suc b) ≡ ltb a b
 ltb-suc a b = grind (arith, nat_tests)
 
-pub length-flags_after : (test : ℕ → Bool) (k : ℕ) (flags : List Bool) → length (flags_after test k flags) ≡ length flags
+pub length-flags_after : (test : ℕ → Bool) (k : ℕ) (flags : List Bool)
+    → length (flags_after test k flags) ≡ length flags
 length-flags_after test k [] = refl
 length-flags_after test k (dirty ∷ flags) = ap suc (length-flags_after test (k + 1) flags)
 
 -- only what a test says of the pages matters
-pub flags_after_agree : (p q : ℕ → Bool) → ((j : ℕ) → p j ≡ q j) → (k : ℕ) (flags : List Bool) → flags_after p k flags ≡ flags_after q k flags
+pub flags_after_agree : (p q : ℕ → Bool) → ((j : ℕ) → p j ≡ q j) → (k : ℕ) (flags : List Bool)
+    → flags_after p k flags ≡ flags_after q k flags
 flags_after_agree p q h k [] = refl
 flags_after_agree p q h k (dirty ∷ flags) = let e = h k in let f = flags_after_agree p q h (k + 1) flags in cc
 
-pub flags_after-none : (test : ℕ → Bool) → ((j : ℕ) → test j ≡ false) → (k : ℕ) (flags : List Bool) → flags_after test k flags ≡ flags
+pub flags_after-none : (test : ℕ → Bool) → ((j : ℕ) → test j ≡ false) → (k : ℕ) (flags : List Bool)
+    → flags_after test k flags ≡ flags
 flags_after-none test h k [] = refl
-flags_after-none test h k (dirty ∷ flags) = let e = or-false dirty in let g = h k in let f = flags_after-none test h (k + 1) flags in cc
+flags_after-none test h k (dirty ∷ flags) =
+    let e = or-false dirty in let g = h k in let f = flags_after-none test h (k + 1) flags in cc
 
-pub flags_after_twice : (p q : ℕ → Bool) (k : ℕ) (flags : List Bool) → flags_after p k (flags_after q k flags) ≡ flags_after (λ j. q j || p j) k flags
+pub flags_after_twice : (p q : ℕ → Bool) (k : ℕ) (flags : List Bool)
+    → flags_after p k (flags_after q k flags) ≡ flags_after (λ j. q j || p j) k flags
 flags_after_twice p q k [] = refl
-flags_after_twice p q k (dirty ∷ flags) = let e = or_assoc dirty (q k) (p k) in let f = flags_after_twice p q (k + 1) flags in cc
+flags_after_twice p q k (dirty ∷ flags) =
+    let e = or_assoc dirty (q k) (p k) in let f = flags_after_twice p q (k + 1) flags in cc
 
 -- a mark of no bytes takes no page
 pub takes_nothing : (size start page : ℕ) → takes size start 0 page ≡ false
@@ -59,40 +65,60 @@ with_flags p flags = Some (record { page_size = p.page_size; flags = flags })
 -- a mark of no bytes changes nothing
 pub marked-empty : (start : ℕ) (set : PageSet) → marked start 0 set ≡ set
 marked-empty start None = refl
-marked-empty start (Some p) = ap (with_flags p) (flags_after-none (takes p.page_size start 0) (takes_nothing p.page_size start) 0 p.flags)
+marked-empty start (Some p) =
+    ap (with_flags p) (flags_after-none (takes p.page_size start 0) (takes_nothing p.page_size start) 0 p.flags)
 
 -- a mark keeps the page size and the number of pages
 pub shape-marked : (start len : ℕ) (set : PageSet) → shape (marked start len set) ≡ shape set
 shape-marked start len None = refl
-shape-marked start len (Some p) = ap (λ (n : ℕ). Some (p.page_size, n)) (length-flags_after (takes p.page_size start len) 0 p.flags)
+shape-marked start len (Some p) =
+    ap (λ (n : ℕ). Some (p.page_size, n)) (length-flags_after (takes p.page_size start len) 0 p.flags)
 
 -- after a mark there are as many pages of the same size
-pub pages-marked : (start len : ℕ) (p : Pages) → (q : Pages) × (marked start len (Some p) ≡ Some q) × (q.page_size ≡ p.page_size) × (length q.flags ≡ length p.flags)
-pages-marked start len p = (record { page_size = p.page_size; flags = flags_after (takes p.page_size start len) 0 p.flags }, refl, refl, length-flags_after (takes p.page_size start len) 0 p.flags)
+pub pages-marked : (start len : ℕ) (p : Pages) → (q : Pages) × (marked start len (Some p) ≡ Some q)
+    × (q.page_size ≡ p.page_size) × (length q.flags ≡ length p.flags)
+pages-marked start len p = (
+  record { page_size = p.page_size; flags = flags_after (takes p.page_size start len) 0 p.flags },
+  refl,
+  refl,
+  length-flags_after (takes p.page_size start len) 0 p.flags,
+)
 
 pub IsPageSet-marked : (start len : ℕ) (set : PageSet) → IsPageSet set → IsPageSet (marked start len set)
 IsPageSet-marked start len None h = tt
 IsPageSet-marked start len (Some p) h = (h.0, rw length-flags_after h.1)
 
 -- dirty after a mark: what was dirty, and the pages that the test takes
-pub get_or-flags_after : (test : ℕ → Bool) (k : ℕ) (flags : List Bool) (i : ℕ) → get_or (flags_after test k flags) i false ≡ (get_or flags i false || (ltb i (length flags) && test (k + i)))
+pub get_or-flags_after : (test : ℕ → Bool) (k : ℕ) (flags : List Bool) (i : ℕ)
+    → get_or (flags_after test k flags) i false ≡ (get_or flags i false || (ltb i (length flags) && test (k + i)))
 get_or-flags_after test k [] i = sym (and_left (ltb i 0) (test (k + i)) (le-ltb i 0 (omega arith)))
 get_or-flags_after test k (dirty ∷ flags) zero = rw (add-zero, lt-ltb 0 (suc (length flags)) (omega arith))
-get_or-flags_after test k (dirty ∷ flags) (suc i) = let e : k + 1 + i ≡ k + suc i = omega arith in rw (← e, ltb-suc i (length flags)) (get_or-flags_after test (k + 1) flags i)
+get_or-flags_after test k (dirty ∷ flags) (suc i) =
+    let e : k + 1 + i ≡ k + suc i = omega arith in
+    rw (← e, ltb-suc i (length flags)) (get_or-flags_after test (k + 1) flags i)
 
-pub is_dirty_at-marked : (start len offset : ℕ) (p : Pages) → is_dirty_at (marked start len (Some p)) offset ≡ (is_dirty_at (Some p) offset || (ltb (offset / p.page_size) (length p.flags) && takes p.page_size start len (offset / p.page_size)))
-is_dirty_at-marked start len offset p = get_or-flags_after (takes p.page_size start len) 0 p.flags (offset / p.page_size) ∙ rw zero-add
+pub is_dirty_at-marked : (start len offset : ℕ) (p : Pages)
+    → is_dirty_at (marked start len (Some p)) offset
+    ≡ (is_dirty_at (Some p) offset
+    || (ltb (offset / p.page_size) (length p.flags) && takes p.page_size start len (offset / p.page_size)))
+is_dirty_at-marked start len offset p =
+    get_or-flags_after (takes p.page_size start len) 0 p.flags (offset / p.page_size) ∙ rw zero-add
 
 -- of two marks
-pub marked-marked : (a m b n : ℕ) (p : Pages) → marked a m (marked b n (Some p)) ≡ with_flags p (flags_after (λ k. takes p.page_size b n k || takes p.page_size a m k) 0 p.flags)
-marked-marked a m b n p = ap (with_flags p) (flags_after_twice (takes p.page_size a m) (takes p.page_size b n) 0 p.flags)
+pub marked-marked : (a m b n : ℕ) (p : Pages)
+    → marked a m (marked b n (Some p))
+    ≡ with_flags p (flags_after (λ k. takes p.page_size b n k || takes p.page_size a m k) 0 p.flags)
+marked-marked a m b n p =
+    ap (with_flags p) (flags_after_twice (takes p.page_size a m) (takes p.page_size b n) 0 p.flags)
 
 -- marks may be made in any order
 pub marked_comm : (a m b n : ℕ) (set : PageSet) → marked a m (marked b n set) ≡ marked b n (marked a m set)
 marked_comm a m b n None = refl
 marked_comm a m b n (Some p) =
     marked-marked a m b n p
-    ∙ ap (with_flags p) (flags_after_agree (λ k. takes p.page_size b n k || takes p.page_size a m k) (λ k. takes p.page_size a m k || takes p.page_size b n k) (λ k. or_comm (takes p.page_size b n k) (takes p.page_size a m k)) 0 p.flags)
+    ∙ ap (with_flags p) (flags_after_agree (λ k. takes p.page_size b n k || takes p.page_size a m k)
+    (λ k. takes p.page_size a m k || takes p.page_size b n k)
+    (λ k. or_comm (takes p.page_size b n k) (takes p.page_size a m k)) 0 p.flags)
     ∙ sym (marked-marked b n a m p)
 
 -- a mark made twice is one
@@ -100,7 +126,8 @@ pub marked_twice : (start len : ℕ) (set : PageSet) → marked start len (marke
 marked_twice start len None = refl
 marked_twice start len (Some p) =
     marked-marked start len start len p
-    ∙ ap (with_flags p) (flags_after_agree (λ k. takes p.page_size start len k || takes p.page_size start len k) (takes p.page_size start len) (λ k. or_self (takes p.page_size start len k)) 0 p.flags)
+    ∙ ap (with_flags p) (flags_after_agree (λ k. takes p.page_size start len k || takes p.page_size start len k)
+    (takes p.page_size start len) (λ k. or_self (takes p.page_size start len k)) 0 p.flags)
 
 -- ---- byte by byte
 
@@ -118,11 +145,13 @@ div_next (suc s) a =
     omega arith
 
 -- the pages from p to r, in two parts
-split_range : (p q r k : ℕ) → p ≤ q → q ≤ p + 1 → q ≤ r → ((leb p k && leb k p) || (leb q k && leb k r)) ≡ (leb p k && leb k r)
+split_range : (p q r k : ℕ) → p ≤ q → q ≤ p + 1 → q ≤ r
+    → ((leb p k && leb k p) || (leb q k && leb k r)) ≡ (leb p k && leb k r)
 split_range p q r k a b c = grind (arith, nat_tests)
 
 -- a mark of n + 1 bytes takes the page of the first, and those that the others take
-takes_more : (size start n k : ℕ) → start + (n + 1) ≤ 2 ^ 64 → (takes size start 1 k || takes size (start + 1) n k) ≡ takes size start (n + 1) k
+takes_more : (size start n k : ℕ) → start + (n + 1) ≤ 2 ^ 64
+    → (takes size start 1 k || takes size (start + 1) n k) ≡ takes size start (n + 1) k
 takes_more size start zero k fits = rw or-false
 takes_more size start (suc n) k fits =
     let e : last_byte start 1 ≡ start = omega arith in
@@ -132,23 +161,28 @@ takes_more size start (suc n) k fits =
     let b : (start + 1) / size ≤ (start + suc n) / size = div_mono size (start + 1) (start + suc n) (omega arith) in
     let i : ltb 0 (suc n + 1) ≡ true = lt-ltb 0 (suc n + 1) (omega arith) in
     let j : ltb 0 (suc n) ≡ true = lt-ltb 0 (suc n) (omega arith) in
-    rw (e, f, g, i, j) (split_range (start / size) ((start + 1) / size) ((start + suc n) / size) k a (div_next size start) b)
+    rw (e, f, g, i, j) (split_range (start / size) ((start + 1) / size) ((start + suc n) / size) k a
+    (div_next size start) b)
 
-marked_more : (start n : ℕ) (set : PageSet) → start + (n + 1) ≤ 2 ^ 64 → marked (start + 1) n (marked start 1 set) ≡ marked start (n + 1) set
+marked_more : (start n : ℕ) (set : PageSet) → start + (n + 1) ≤ 2 ^ 64
+    → marked (start + 1) n (marked start 1 set) ≡ marked start (n + 1) set
 marked_more start n None fits = refl
 marked_more start n (Some p) fits =
     marked-marked (start + 1) n start 1 p
-    ∙ ap (with_flags p) (flags_after_agree (λ k. takes p.page_size start 1 k || takes p.page_size (start + 1) n k) (takes p.page_size start (n + 1)) (λ k. takes_more p.page_size start n k fits) 0 p.flags)
+    ∙ ap (with_flags p) (flags_after_agree (λ k. takes p.page_size start 1 k || takes p.page_size (start + 1) n k)
+    (takes p.page_size start (n + 1)) (λ k. takes_more p.page_size start n k fits) 0 p.flags)
 
 -- a mark is a mark of each of its bytes, whatever the page size
-pub marked_each-numbers : (start n : ℕ) (set : PageSet) → start + n ≤ 2 ^ 64 → marked_each (numbers start n) set ≡ marked start n set
+pub marked_each-numbers : (start n : ℕ) (set : PageSet) → start + n ≤ 2 ^ 64
+    → marked_each (numbers start n) set ≡ marked start n set
 marked_each-numbers start zero set fits = sym (marked-empty start set)
 marked_each-numbers start (suc n) set fits =
     marked_each-numbers (start + 1) n (marked start 1 set) (omega arith)
     ∙ marked_more start n set (omega arith)
     ∙ ap (λ (k : ℕ). marked start k set) (add-one n)
 
-pub marked_each-append : (xs ys : List ℕ) (set : PageSet) → marked_each (xs ++ ys) set ≡ marked_each ys (marked_each xs set)
+pub marked_each-append : (xs ys : List ℕ) (set : PageSet)
+    → marked_each (xs ++ ys) set ≡ marked_each ys (marked_each xs set)
 marked_each-append [] ys set = refl
 marked_each-append (x ∷ xs) ys set = marked_each-append xs ys (marked x 1 set)
 
@@ -160,7 +194,8 @@ numbers-append start (suc m) n =
     rw (e, f) (ap (λ (xs : List ℕ). start ∷ xs) (numbers-append (start + 1) m n))
 
 -- marks of neighbouring ranges are one
-pub marked_on : (start m n : ℕ) (set : PageSet) → start + (m + n) ≤ 2 ^ 64 → marked (start + m) n (marked start m set) ≡ marked start (m + n) set
+pub marked_on : (start m n : ℕ) (set : PageSet) → start + (m + n) ≤ 2 ^ 64
+    → marked (start + m) n (marked start m set) ≡ marked start (m + n) set
 marked_on start m n set fits =
     let by_bytes = marked_each-numbers start m set (omega arith) in
     let rest = marked_each-numbers (start + m) n (marked start m set) (omega arith) in
@@ -169,17 +204,22 @@ marked_on start m n set fits =
     let parts = numbers-append start m n in
     cc
 
-marked-marked_each : (start len : ℕ) (xs : List ℕ) (set : PageSet) → marked_each xs (marked start len set) ≡ marked start len (marked_each xs set)
+marked-marked_each : (start len : ℕ) (xs : List ℕ) (set : PageSet)
+    → marked_each xs (marked start len set) ≡ marked start len (marked_each xs set)
 marked-marked_each start len [] set = refl
-marked-marked_each start len (x ∷ xs) set = ap (marked_each xs) (marked_comm x 1 start len set) ∙ marked-marked_each start len xs (marked x 1 set)
+marked-marked_each start len (x ∷ xs) set = ap (marked_each xs) (marked_comm x 1 start len set)
+    ∙ marked-marked_each start len xs (marked x 1 set)
 
-marked_each_turned : (xs ys : List ℕ) (set : PageSet) → marked_each ys (marked_each xs set) ≡ marked_each xs (marked_each ys set)
+marked_each_turned : (xs ys : List ℕ) (set : PageSet)
+    → marked_each ys (marked_each xs set) ≡ marked_each xs (marked_each ys set)
 marked_each_turned [] ys set = refl
-marked_each_turned (x ∷ xs) ys set = marked_each_turned xs ys (marked x 1 set) ∙ ap (marked_each xs) (marked-marked_each x 1 ys set)
+marked_each_turned (x ∷ xs) ys set = marked_each_turned xs ys (marked x 1 set)
+    ∙ ap (marked_each xs) (marked-marked_each x 1 ys set)
 
 -- the marks of bytes may be made in any order
 pub marked_each_comm : (xs ys : List ℕ) (set : PageSet) → marked_each (xs ++ ys) set ≡ marked_each (ys ++ xs) set
-marked_each_comm xs ys set = marked_each-append xs ys set ∙ marked_each_turned xs ys set ∙ sym (marked_each-append ys xs set)
+marked_each_comm xs ys set = marked_each-append xs ys set ∙ marked_each_turned xs ys set
+    ∙ sym (marked_each-append ys xs set)
 
 pub shape-marked_each : (offsets : List ℕ) (set : PageSet) → shape (marked_each offsets set) ≡ shape set
 shape-marked_each [] set = refl
@@ -187,21 +227,25 @@ shape-marked_each (offset ∷ offsets) set = shape-marked_each offsets (marked o
 
 pub IsPageSet-marked_each : (offsets : List ℕ) (set : PageSet) → IsPageSet set → IsPageSet (marked_each offsets set)
 IsPageSet-marked_each [] set h = h
-IsPageSet-marked_each (offset ∷ offsets) set h = IsPageSet-marked_each offsets (marked offset 1 set) (IsPageSet-marked offset 1 set h)
+IsPageSet-marked_each (offset ∷ offsets) set h =
+    IsPageSet-marked_each offsets (marked offset 1 set) (IsPageSet-marked offset 1 set h)
 
 -- ---- where a mark ends
 
 -- a mark goes no further than the greatest offset
-pub marked_to_the_end : (start len : ℕ) (set : PageSet) → start < 2 ^ 64 → 2 ^ 64 ≤ start + len → marked start len set ≡ marked start (2 ^ 64 - start) set
+pub marked_to_the_end : (start len : ℕ) (set : PageSet) → start < 2 ^ 64 → 2 ^ 64 ≤ start + len
+    → marked start len set ≡ marked start (2 ^ 64 - start) set
 marked_to_the_end start len None l h = refl
 marked_to_the_end start len (Some p) l h =
     let a : last_byte start len ≡ 2 ^ 64 - 1 = omega arith in
     let b : last_byte start (2 ^ 64 - start) ≡ 2 ^ 64 - 1 = omega arith in
     let c : ltb 0 len ≡ true = lt-ltb 0 len (omega arith) in
     let d : ltb 0 (2 ^ 64 - start) ≡ true = lt-ltb 0 (2 ^ 64 - start) (omega arith) in
-    ap (with_flags p) (flags_after_agree (takes p.page_size start len) (takes p.page_size start (2 ^ 64 - start)) (λ k. rw (a, b, c, d)) 0 p.flags)
+    ap (with_flags p) (flags_after_agree (takes p.page_size start len) (takes p.page_size start (2 ^ 64 - start))
+    (λ k. rw (a, b, c, d)) 0 p.flags)
 
-none_taken : (test : ℕ → Bool) (page : ℕ) (flags : List Bool) → ((j : ℕ) → j < page + length flags → test j ≡ false) → flags_after test page flags ≡ flags
+none_taken : (test : ℕ → Bool) (page : ℕ) (flags : List Bool) → ((j : ℕ) → j < page + length flags → test j ≡ false)
+    → flags_after test page flags ≡ flags
 none_taken test page [] h = refl
 none_taken test page (dirty ∷ flags) h =
     let e = or-false dirty in
@@ -210,14 +254,18 @@ none_taken test page (dirty ∷ flags) h =
     cc
 
 -- a mark past the last page changes nothing
-pub marked_past : (start len : ℕ) (p : Pages) → length p.flags ≤ start / p.page_size → marked start len (Some p) ≡ Some p
+pub marked_past : (start len : ℕ) (p : Pages) → length p.flags ≤ start / p.page_size
+    → marked start len (Some p) ≡ Some p
 marked_past start len p h =
     ap (with_flags p) (none_taken (takes p.page_size start len) 0 p.flags (λ j l.
-    and_right (ltb 0 len) (leb (start / p.page_size) j && leb j (last_byte start len / p.page_size)) (and_left (leb (start / p.page_size) j) (leb j (last_byte start len / p.page_size)) (lt-leb (start / p.page_size) j (omega arith)))))
+    and_right (ltb 0 len) (leb (start / p.page_size) j && leb j (last_byte start len / p.page_size))
+    (and_left (leb (start / p.page_size) j) (leb j (last_byte start len / p.page_size))
+    (lt-leb (start / p.page_size) j (omega arith)))))
 
 -- ---- which pages a mark takes
 
-taken_byte : (size start len page : ℕ) → 0 < size → start < 2 ^ 64 → takes size start len page ≡ true → (offset : ℕ) × (is_within start len offset ≡ true) × (offset < 2 ^ 64) × (offset / size ≡ page)
+taken_byte : (size start len page : ℕ) → 0 < size → start < 2 ^ 64 → takes size start len page ≡ true → (offset : ℕ)
+    × (is_within start len offset ≡ true) × (offset < 2 ^ 64) × (offset / size ≡ page)
 taken_byte size start len page pos l h =
     let p = and_parts (ltb 0 len) (leb (start / size) page && leb page (last_byte start len / size)) h in
     let q = and_parts (leb (start / size) page) (leb page (last_byte start len / size)) p.1 in
@@ -227,34 +275,51 @@ taken_byte size start len page pos l h =
     elim (cases_lt (start / size) page) [
       | inl m ↦
           let low : start < page * size = (div-lt_iff_lt-mul pos).0 m in
-          let high : page * size ≤ last_byte start len = (le-div_iff_mul-le pos).0 to in
-          (page * size, is_within-in start len (page * size) (omega arith) (omega arith), omega arith, mul-div_cancel page pos)
+          let high : page * size ≤ last_byte start len = (le-div_iff_mul-le pos).0 to in (
+            page * size,
+            is_within-in start len (page * size) (omega arith) (omega arith),
+            omega arith,
+            mul-div_cancel page pos,
+          )
       | inr m ↦ (start, is_within-in start len start (omega arith) (omega arith), l, omega arith)
     ]
 
-byte_taken : (size start len page offset : ℕ) → 0 < size → is_within start len offset ≡ true → offset < 2 ^ 64 → offset / size ≡ page → takes size start len page ≡ true
+byte_taken : (size start len page offset : ℕ) → 0 < size → is_within start len offset ≡ true → offset < 2 ^ 64
+    → offset / size ≡ page → takes size start len page ≡ true
 byte_taken size start len page offset pos w l e =
     let p = within_from start len offset w in
     let low = div_mono size start offset p.0 in
     let high = div_mono size offset (last_byte start len) (omega arith) in
-    and_from (ltb 0 len) (leb (start / size) page && leb page (last_byte start len / size)) (lt-ltb 0 len (omega arith)) (and_from (leb (start / size) page) (leb page (last_byte start len / size)) (le-leb (start / size) page (omega arith)) (le-leb page (last_byte start len / size) (omega arith)))
+    and_from (ltb 0 len) (leb (start / size) page && leb page (last_byte start len / size)) (lt-ltb 0 len (omega arith))
+    (and_from (leb (start / size) page) (leb page (last_byte start len / size))
+    (le-leb (start / size) page (omega arith)) (le-leb page (last_byte start len / size) (omega arith)))
 
 -- a page is taken where one of the bytes that are marked lies in it
-pub takes-true : (size start len page : ℕ) → 0 < size → start < 2 ^ 64 → (takes size start len page ≡ true) ↔ ((offset : ℕ) × (is_within start len offset ≡ true) × (offset < 2 ^ 64) × (offset / size ≡ page))
-takes-true size start len page pos l = (taken_byte size start len page pos l, λ (offset, w, m, e). byte_taken size start len page offset pos w m e)
+pub takes-true : (size start len page : ℕ) → 0 < size → start < 2 ^ 64 → (takes size start len page ≡ true)
+    ↔ ((offset : ℕ) × (is_within start len offset ≡ true) × (offset < 2 ^ 64) × (offset / size ≡ page))
+takes-true size start len page pos l =
+    (taken_byte size start len page pos l, λ (offset, w, m, e). byte_taken size start len page offset pos w m e)
 
 -- a byte that is marked is dirty, where its page is one
-pub marked_is_dirty : (start len offset : ℕ) (p : Pages) → 0 < p.page_size → is_within start len offset ≡ true → offset < 2 ^ 64 → offset / p.page_size < length p.flags → is_dirty_at (marked start len (Some p)) offset ≡ true
+pub marked_is_dirty : (start len offset : ℕ) (p : Pages) → 0 < p.page_size → is_within start len offset ≡ true
+    → offset < 2 ^ 64 → offset / p.page_size < length p.flags → is_dirty_at (marked start len (Some p)) offset ≡ true
 marked_is_dirty start len offset p pos w l h =
     let t = byte_taken p.page_size start len (offset / p.page_size) offset pos w l refl in
     let i = lt-ltb (offset / p.page_size) (length p.flags) h in
-    is_dirty_at-marked start len offset p ∙ or_right (is_dirty_at (Some p) offset) (ltb (offset / p.page_size) (length p.flags) && takes p.page_size start len (offset / p.page_size)) (and_from (ltb (offset / p.page_size) (length p.flags)) (takes p.page_size start len (offset / p.page_size)) i t)
+    is_dirty_at-marked start len offset p
+    ∙ or_right (is_dirty_at (Some p) offset)
+    (ltb (offset / p.page_size) (length p.flags) && takes p.page_size start len (offset / p.page_size))
+    (and_from (ltb (offset / p.page_size) (length p.flags))
+    (takes p.page_size start len (offset / p.page_size)) i t)
 
 -- no mark cleans a byte
-pub stays_dirty : (start len offset : ℕ) (set : PageSet) → is_dirty_at set offset ≡ true → is_dirty_at (marked start len set) offset ≡ true
+pub stays_dirty : (start len offset : ℕ) (set : PageSet) → is_dirty_at set offset ≡ true
+    → is_dirty_at (marked start len set) offset ≡ true
 stays_dirty start len offset None h = h
 stays_dirty start len offset (Some p) h =
-    is_dirty_at-marked start len offset p ∙ or_left (is_dirty_at (Some p) offset) (ltb (offset / p.page_size) (length p.flags) && takes p.page_size start len (offset / p.page_size)) h
+    is_dirty_at-marked start len offset p
+    ∙ or_left (is_dirty_at (Some p) offset)
+    (ltb (offset / p.page_size) (length p.flags) && takes p.page_size start len (offset / p.page_size)) h
 
 -- ---- marks of one byte
 
@@ -269,23 +334,28 @@ neither false false = refl
 
 -- a mark of one byte takes no page but its own
 takes_one_other : (size x y : ℕ) → (x / size ≡ y / size → ⊥) → takes size x 1 (y / size) ≡ false
-takes_one_other size x y h = none (x / size) (y / size) (last_byte x 1 / size) (div_mono size (last_byte x 1) x (last_byte-le x)) h
+takes_one_other size x y h =
+    none (x / size) (y / size) (last_byte x 1 / size) (div_mono size (last_byte x 1) x (last_byte-le x)) h
   where
     none : (a b c : ℕ) → c ≤ a → (a ≡ b → ⊥) → (leb a b && leb b c) ≡ false
     none a b c l e = grind (arith, nat_tests)
 
 -- a byte of another page than the marked one's stays as it is
-pub is_dirty_at-marked_other : (x offset : ℕ) (p : Pages) → (x / p.page_size ≡ offset / p.page_size → ⊥) → is_dirty_at (marked x 1 (Some p)) offset ≡ is_dirty_at (Some p) offset
+pub is_dirty_at-marked_other : (x offset : ℕ) (p : Pages) → (x / p.page_size ≡ offset / p.page_size → ⊥)
+    → is_dirty_at (marked x 1 (Some p)) offset ≡ is_dirty_at (Some p) offset
 is_dirty_at-marked_other x offset p h =
     is_dirty_at-marked x 1 offset p
-    ∙ rw (takes_one_other p.page_size x offset h) (neither (is_dirty_at (Some p) offset) (ltb (offset / p.page_size) (length p.flags)))
+    ∙ rw (takes_one_other p.page_size x offset h)
+    (neither (is_dirty_at (Some p) offset) (ltb (offset / p.page_size) (length p.flags)))
 
 -- a byte of the page of the marked one is dirty, where the page is one
-pub is_dirty_at-marked_own : (x offset : ℕ) (p : Pages) → x < 2 ^ 64 → x / p.page_size ≡ offset / p.page_size → offset / p.page_size < length p.flags → is_dirty_at (marked x 1 (Some p)) offset ≡ true
+pub is_dirty_at-marked_own : (x offset : ℕ) (p : Pages) → x < 2 ^ 64 → x / p.page_size ≡ offset / p.page_size
+    → offset / p.page_size < length p.flags → is_dirty_at (marked x 1 (Some p)) offset ≡ true
 is_dirty_at-marked_own x offset p l h k =
     let e : last_byte x 1 ≡ x = omega arith in
     let t : takes p.page_size x 1 (offset / p.page_size) ≡ true = rw (e, h) (own (offset / p.page_size)) in
-    is_dirty_at-marked x 1 offset p ∙ rw (t, lt-ltb (offset / p.page_size) (length p.flags) k) (either (is_dirty_at (Some p) offset))
+    is_dirty_at-marked x 1 offset p
+    ∙ rw (t, lt-ltb (offset / p.page_size) (length p.flags) k) (either (is_dirty_at (Some p) offset))
   where
     own : (a : ℕ) → (leb a a && leb a a) ≡ true
     own a = grind (arith, nat_tests)
@@ -340,7 +410,8 @@ contains_cases x y xs (suc k, l, e) = inr (k, omega arith, e)
 not_in_nil : (y : ℕ) → Contains [] y → ⊥
 not_in_nil y (k, l, e) = omega arith
 
-listed : (page : ℕ) (flags : List Bool) (i : ℕ) → get_or flags i false ≡ true → Contains (dirty_from page flags) (page + i)
+listed : (page : ℕ) (flags : List Bool) (i : ℕ) → get_or flags i false ≡ true
+    → Contains (dirty_from page flags) (page + i)
 listed page [] i e = cc
 listed page (true ∷ flags) zero e = rw add-zero (contains_head page (dirty_from (page + 1) flags))
 listed page (false ∷ flags) zero e = cc
@@ -351,29 +422,39 @@ listed page (false ∷ flags) (suc i) e =
     let f : page + 1 + i ≡ page + suc i = omega arith in
     rw (← f) (listed (page + 1) flags i e)
 
-listed_later : (page other : ℕ) (dirty : Bool) (flags : List Bool) → (i : ℕ) × (other ≡ page + 1 + i) × (get_or flags i false ≡ true) → (i : ℕ) × (other ≡ page + i) × (get_or (dirty ∷ flags) i false ≡ true)
+listed_later : (page other : ℕ) (dirty : Bool) (flags : List Bool) → (i : ℕ) × (other ≡ page + 1 + i)
+    × (get_or flags i false ≡ true) → (i : ℕ) × (other ≡ page + i) × (get_or (dirty ∷ flags) i false ≡ true)
 listed_later page other dirty flags (i, e, g) = (suc i, omega arith, g)
 
-listed_is_dirty : (page : ℕ) (flags : List Bool) (other : ℕ) → Contains (dirty_from page flags) other → (i : ℕ) × (other ≡ page + i) × (get_or flags i false ≡ true)
+listed_is_dirty : (page : ℕ) (flags : List Bool) (other : ℕ) → Contains (dirty_from page flags) other → (i : ℕ)
+    × (other ≡ page + i) × (get_or flags i false ≡ true)
 listed_is_dirty page [] other h = absurd (not_in_nil other h)
 listed_is_dirty page (true ∷ flags) other h =
     elim (contains_cases page other (dirty_from (page + 1) flags) h) [
       | inl e ↦ (0, omega arith, refl)
       | inr k ↦ listed_later page other true flags (listed_is_dirty (page + 1) flags other k)
     ]
-listed_is_dirty page (false ∷ flags) other h = listed_later page other false flags (listed_is_dirty (page + 1) flags other h)
+listed_is_dirty page (false ∷ flags) other h =
+    listed_later page other false flags (listed_is_dirty (page + 1) flags other h)
 
 -- the dirty pages are listed, and no others
-pub Contains-dirty_pages : (p : Pages) (page : ℕ) → Contains (dirty_pages (Some p)) page ↔ (get_or p.flags page false ≡ true)
+pub Contains-dirty_pages : (p : Pages) (page : ℕ) → Contains (dirty_pages (Some p)) page
+    ↔ (get_or p.flags page false ≡ true)
 Contains-dirty_pages p page = (
-  (λ h. let w : (i : ℕ) × (page ≡ 0 + i) × (get_or p.flags i false ≡ true) = listed_is_dirty 0 p.flags page h in let e : page ≡ w.0 = omega arith in rw e w.2),
+  (λ h. let w : (i : ℕ) × (page ≡ 0 + i)
+      × (get_or p.flags i false ≡ true) = listed_is_dirty 0 p.flags page h in let e : page ≡ w.0 = omega arith in rw e w.2),
   (λ e. let f : 0 + page ≡ page = zero-add page in rw f at (listed 0 p.flags page e)),
 )
 
 pub from_page : (page : ℕ) (flags : List Bool) → All (λ other. page ≤ other) (dirty_from page flags)
 from_page page [] = All-nil (λ other. page ≤ other)
-from_page page (true ∷ flags) = All-cons (λ other. page ≤ other) page (dirty_from (page + 1) flags) (omega arith) (All-weaker (λ other. page + 1 ≤ other) (λ other. page ≤ other) (λ other h. omega arith) (dirty_from (page + 1) flags) (from_page (page + 1) flags))
-from_page page (false ∷ flags) = All-weaker (λ other. page + 1 ≤ other) (λ other. page ≤ other) (λ other h. omega arith) (dirty_from (page + 1) flags) (from_page (page + 1) flags)
+from_page page (true ∷ flags) =
+    All-cons (λ other. page ≤ other) page (dirty_from (page + 1) flags) (omega arith)
+    (All-weaker (λ other. page + 1 ≤ other) (λ other. page ≤ other) (λ other h. omega arith)
+    (dirty_from (page + 1) flags) (from_page (page + 1) flags))
+from_page page (false ∷ flags) =
+    All-weaker (λ other. page + 1 ≤ other) (λ other. page ≤ other) (λ other h. omega arith)
+    (dirty_from (page + 1) flags) (from_page (page + 1) flags)
 
 pairs_cons : (x : ℕ) (xs : List ℕ) → All (λ y. x < y) xs → AllPairs (λ y z. y < z) xs → AllPairs (λ y z. y < z) (x ∷ xs)
 pairs_cons x xs h g zero zero d l m = absurd (omega arith)
@@ -383,7 +464,10 @@ pairs_cons x xs h g (suc i) (suc j) d l m = g i j d (omega arith) (omega arith)
 
 ascending_from : (page : ℕ) (flags : List Bool) → AllPairs (λ y z. y < z) (dirty_from page flags)
 ascending_from page [] = λ i j d l m. absurd (omega arith)
-ascending_from page (true ∷ flags) = pairs_cons page (dirty_from (page + 1) flags) (All-weaker (λ other. page + 1 ≤ other) (λ other. page < other) (λ other h. omega arith) (dirty_from (page + 1) flags) (from_page (page + 1) flags)) (ascending_from (page + 1) flags)
+ascending_from page (true ∷ flags) =
+    pairs_cons page (dirty_from (page + 1) flags)
+    (All-weaker (λ other. page + 1 ≤ other) (λ other. page < other) (λ other h. omega arith)
+    (dirty_from (page + 1) flags) (from_page (page + 1) flags)) (ascending_from (page + 1) flags)
 ascending_from page (false ∷ flags) = ascending_from (page + 1) flags
 
 -- the dirty pages are listed in ascending order

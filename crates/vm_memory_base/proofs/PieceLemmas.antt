@@ -3,7 +3,8 @@ use Rattle.std.proofs.Common.{◌≡◌, ℕ, ◌+◌, List, ◌++◌, ◌<◌, 
 use Rattle.std.proofs.lemmas.List.{take-append-drop, drop-drop, append_assoc, drop-set-lt, drop-set-add, take_more, take_more_set, length-drop}
 
 -- a list whose front and back are those of another, with a piece in between
-pub piece_put : (xs ys piece : List ℕ) (from : ℕ) → take from ys ≡ take from xs → take (length piece) (drop from ys) ≡ piece
+pub piece_put : (xs ys piece : List ℕ) (from : ℕ) → take from ys ≡ take from xs
+    → take (length piece) (drop from ys) ≡ piece
     → drop (from + length piece) ys ≡ drop (from + length piece) xs
     → ys ≡ take from xs ++ piece ++ drop (from + length piece) xs
 piece_put xs ys piece from front middle back =
@@ -13,7 +14,8 @@ piece_put xs ys piece from front middle back =
     sym (take-append-drop from ys) ∙ rw (front, rest) (sym (append_assoc (take from xs) piece (drop (from + n) xs)))
 
 -- one byte more is replaced: what lies behind it stays
-pub drop-more_set : (xs ys zs : List ℕ) (from i x : ℕ) → drop (from + i) xs ≡ drop (from + i) zs → ys ≡ set xs (from + i) x
+pub drop-more_set : (xs ys zs : List ℕ) (from i x : ℕ) → drop (from + i) xs ≡ drop (from + i) zs
+    → ys ≡ set xs (from + i) x
     → drop (from + (i + 1)) ys ≡ drop (from + (i + 1)) zs
 drop-more_set xs ys zs from i x same e =
     let below : from + i < from + (i + 1) = omega arith in
@@ -22,7 +24,8 @@ drop-more_set xs ys zs from i x same e =
     ∙ rw next (sym (drop-drop 1 (from + i) xs) ∙ ap (drop 1) same ∙ drop-drop 1 (from + i) zs)
 
 -- and itself is there, behind those that were replaced before
-pub take-more_set : (xs ys piece : List ℕ) (from i : ℕ) → from + i < length xs → i < length piece → take i (drop from xs) ≡ take i piece
+pub take-more_set : (xs ys piece : List ℕ) (from i : ℕ) → from + i < length xs → i < length piece
+    → take i (drop from xs) ≡ take i piece
     → ys ≡ set xs (from + i) (get_or piece i 0) → take (i + 1) (drop from ys) ≡ take (i + 1) piece
 take-more_set xs ys piece from i inside within same e =
     let there : i < length (drop from xs) = omega (arith, length-drop from xs) in

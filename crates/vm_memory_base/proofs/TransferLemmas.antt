@@ -13,13 +13,17 @@ use Rattle.vm_memory_base.specs.lemmas.Turns.{Does, again_does, rest_does}
 -- a buffer whose rest is replaced
 placed : (done : ℕ) (buf new : List ℕ) → put_mid done (length buf - done) buf new ≡ take done buf ++ new
 placed done buf new =
-    let none : drop (length buf - done) (drop done buf) ≡ [] = drop_all (length buf - done) (drop done buf) (let rest = length-drop done buf in omega arith) in
+    let none : drop (length buf - done) (drop done buf) ≡ [] =
+    drop_all (length buf - done) (drop done buf) (let rest = length-drop done buf in omega arith) in
     ap (λ (xs : List ℕ). take done buf ++ (new ++ xs)) none ∙ ap (λ (xs : List ℕ). take done buf ++ xs) (append-nil new)
 
-pub length-placed : (done : ℕ) (buf new : List ℕ) → done ≤ length buf → length new ≡ length (take (length buf - done) (drop done buf))
-    → (length (put_mid done (length buf - done) buf new) ≡ length buf) × (length (take (length buf - done) (drop done buf)) ≡ length buf - done)
+pub length-placed : (done : ℕ) (buf new : List ℕ) → done ≤ length buf
+    → length new ≡ length (take (length buf - done) (drop done buf))
+    → (length (put_mid done (length buf - done) buf new) ≡ length buf)
+    × (length (take (length buf - done) (drop done buf)) ≡ length buf - done)
 length-placed done buf new within same =
-    let rest : length (take (length buf - done) (drop done buf)) ≡ length buf - done = ap length (take_rest buf done) ∙ length-drop done buf in
+    let rest : length (take (length buf - done) (drop done buf)) ≡ length buf - done =
+    ap length (take_rest buf done) ∙ length-drop done buf in
     let a = length-append (take done buf) new in let b = length-take-le done buf within in
     (ap length (placed done buf new) ∙ omega arith, rest)
 
@@ -144,7 +148,8 @@ module _ {S : Type 0} (sink : S → Option Sink) (taken : S → Option (List ℕ
       let k = tries_keep bytes rest in
       (keeps_more (taken x) bytes (taken y) (count_of answer) (taken z) none k.0, λ want. t.2 (k.1 want))
 
-  pub offers_of : (bytes : List ℕ) (s t : S) (answer : Answer) → Again (TakesOf bytes) s answer t → OffersOf bytes s answer t
+  pub offers_of : (bytes : List ℕ) (s t : S) (answer : Answer) → Again (TakesOf bytes) s answer t
+      → OffersOf bytes s answer t
   offers_of bytes s t answer tries = let k = tries_keep bytes tries in (go (sink s) refl, k.0, k.1)
     where
       go : (o : Option Sink) → sink s ≡ o → OffersAs (wants s) o (length bytes) answer (sink t)

@@ -2,22 +2,22 @@
 use Rattle.std.specs.Prelude.{ℕ, ◌+◌, ◌^◌, ◌<◌, ◌≤◌, Bool, ◌&&◌, ◌||◌, if◌then◌else◌, ◌==◌, nat_le, List, [], ◌∷◌, Option, Some, None, min, max}
 use Rattle.vm_memory_base.specs.Address.{is_within}
 use Rattle.vm_memory_base.specs.Permissions.{allow}
-use Rattle.vm_memory_base.specs.Runs.{Run, IsCanonical, value_at, cut_onto}
+use Rattle.vm_memory_base.specs.Runs.{AddressRun, IsCanonical, value_at, cut_onto}
 use Rattle.vm_memory_base.specs.Table.{Mapping, same_mapping, Says}
 use Rattle.vm_memory_base.specs.declared.iotlb.Permissions.{Permissions}
 
 -- each run ends below a limit
-abbrev pub EndBelow : {K : Type 0} → ℕ → List (Run K) → Type 0
+abbrev pub EndBelow : {K : Type 0} → ℕ → List (AddressRun K) → Type 0
 EndBelow limit [] = Unit {0}
 EndBelow limit (r ∷ rs) = (r.start + r.len < limit) × EndBelow limit rs
 
 -- each run starts at an address or after it
-abbrev pub StartFrom : {K : Type 0} → ℕ → List (Run K) → Type 0
+abbrev pub StartFrom : {K : Type 0} → ℕ → List (AddressRun K) → Type 0
 StartFrom low [] = Unit {0}
 StartFrom low (r ∷ rs) = (low ≤ r.start) × StartFrom low rs
 
 -- a list that a table keeps: canonical, and its ends are addresses
-pub record IsKept (rs : List (Run Mapping)) : Type 0 where
+pub record IsKept (rs : List (AddressRun Mapping)) : Type 0 where
   pub canonical : IsCanonical same_mapping rs
   pub ends : EndBelow (2 ^ 64) rs
 
@@ -27,32 +27,32 @@ if_any None = []
 if_any (Some x) = x ∷ []
 
 -- a run before others, which joins the first where that begins right behind it and is mapped alike
-abbrev pub prepended : Run Mapping → List (Run Mapping) → List (Run Mapping)
+abbrev pub prepended : AddressRun Mapping → List (AddressRun Mapping) → List (AddressRun Mapping)
 prepended r [] = r ∷ []
 prepended r (s ∷ rs) =
     if s.start == r.start + r.len && same_mapping r.value s.value
     then (record { start = r.start; len = r.len + s.len; value = r.value } ∷ rs) else (r ∷ s ∷ rs)
 
-abbrev pub prepended_if_any : Option (Run Mapping) → List (Run Mapping) → List (Run Mapping)
+abbrev pub prepended_if_any : Option (AddressRun Mapping) → List (AddressRun Mapping) → List (AddressRun Mapping)
 prepended_if_any None rs = rs
 prepended_if_any (Some r) rs = prepended r rs
 
 -- what runs say once one more is put over them
-abbrev pub with_run : Run Mapping → List (Run Mapping) → Says
+abbrev pub with_run : AddressRun Mapping → List (AddressRun Mapping) → Says
 with_run r rs x = if is_within r.start r.len x then Some r.value else value_at rs x
 
 -- what runs say once nothing is said of a range
-abbrev pub without_range : ℕ → ℕ → List (Run Mapping) → Says
+abbrev pub without_range : ℕ → ℕ → List (AddressRun Mapping) → Says
 without_range a n rs x = if is_within a n x then None else value_at rs x
 
 -- whether runs leave no gap from one address up to another, and each grants the access
-abbrev pub granted : ℕ → ℕ → Permissions → List (Run Mapping) → Bool
+abbrev pub granted : ℕ → ℕ → Permissions → List (AddressRun Mapping) → Bool
 granted at end access [] = nat_le end at
 granted at end access (r ∷ rs) =
     nat_le r.start at && (allow r.value.permissions access
     && (nat_le end (r.start + r.len) || granted (r.start + r.len) end access rs))
 
 -- the gaps that runs leave from one address up to another
-abbrev pub gaps : ℕ → ℕ → List (Run Mapping) → List (Run (Unit {0}))
+abbrev pub gaps : ℕ → ℕ → List (AddressRun Mapping) → List (AddressRun (Unit {0}))
 gaps at end [] = cut_onto at end tt []
 gaps at end (r ∷ rs) = cut_onto at (min r.start end) tt (gaps (max at (r.start + r.len)) end rs)

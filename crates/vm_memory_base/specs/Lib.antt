@@ -2,7 +2,6 @@ pub mod Address
 pub mod Pages
 pub mod Exclusive
 pub mod OptionalBitmap
-pub mod NewPages
 pub mod Permissions
 pub mod Runs
 pub mod Table
@@ -13,6 +12,4 @@ pub mod PowerOfTwo
 pub mod Bytes
 pub mod Transfer
 pub mod Script
-pub mod ByteCodes
-pub mod ArrayCodes
 pub mod lemmas

@@ -3,7 +3,7 @@ use Rattle.std.specs.Prelude.{◌≡◌, ℕ, zero, suc, ◌+◌, ◌-◌, ◌<�
 use Rattle.vm_memory_base.specs.Address.{is_within}
 
 -- neighbouring addresses, and the value that they all have
-pub record Run (K : Type 0) : Type 0 where
+pub record AddressRun (K : Type 0) : Type 0 where
   pub start : ℕ
   pub len : ℕ
   pub value : K
@@ -15,23 +15,23 @@ TestsEquality {K} same = ((j k : K) → same j k ≡ true → j ≡ k) × ((k : 
 module _ {K : Type 0} (same : K → K → Bool) where
   -- the runs with one more address before them, which joins the first where that begins right behind it and
   -- has the same value
-  abbrev pub with_front : ℕ → K → List (Run K) → List (Run K)
-  with_front a k [] = record { start = a; len = 1; value = k } ∷ []
-  with_front a k (r ∷ rs) =
+  abbrev pub with_address : ℕ → K → List (AddressRun K) → List (AddressRun K)
+  with_address a k [] = record { start = a; len = 1; value = k } ∷ []
+  with_address a k (r ∷ rs) =
       if r.start == a + 1 && same k r.value then (record { start = a; len = r.len + 1; value = k } ∷ rs)
       else (record { start = a; len = 1; value = k } ∷ r ∷ rs)
 
-  abbrev pub with_value : ℕ → Option K → List (Run K) → List (Run K)
+  abbrev pub with_value : ℕ → Option K → List (AddressRun K) → List (AddressRun K)
   with_value a None rs = rs
-  with_value a (Some k) rs = with_front a k rs
+  with_value a (Some k) rs = with_address a k rs
 
   -- the maximal runs of equal values among the n addresses from a on, ascending
-  unfoldable pub runs : (ℕ → Option K) → ℕ → ℕ → List (Run K)
+  unfoldable pub runs : (ℕ → Option K) → ℕ → ℕ → List (AddressRun K)
   runs f a zero = []
   runs f a (suc n) = with_value a (f a) (runs f (a + 1) n)
 
   -- ascending runs, none of them empty, which differ where they touch
-  abbrev pub IsCanonical : List (Run K) → Type 0
+  abbrev pub IsCanonical : List (AddressRun K) → Type 0
   IsCanonical [] = Unit {0}
   IsCanonical (r ∷ []) = 0 < r.len
   IsCanonical (r ∷ s ∷ rs) =
@@ -39,16 +39,16 @@ module _ {K : Type 0} (same : K → K → Bool) where
       × IsCanonical (s ∷ rs)
 
 -- the value of the run that an address lies in, if it lies in one
-abbrev pub value_at : {K : Type 0} → List (Run K) → ℕ → Option K
+abbrev pub value_at : {K : Type 0} → List (AddressRun K) → ℕ → Option K
 value_at [] x = None
 value_at (r ∷ rs) x = if is_within r.start r.len x then Some r.value else value_at rs x
 
 -- the run from one address up to another, where there is any between them, before other runs
-abbrev pub cut_onto : {K : Type 0} → (from to : ℕ) → K → List (Run K) → List (Run K)
+abbrev pub cut_onto : {K : Type 0} → (from to : ℕ) → K → List (AddressRun K) → List (AddressRun K)
 cut_onto from to k rs =
     if nat_lt from to then (record { start = from; len = to - from; value = k } ∷ rs) else rs
 
 -- what lies of each run in the n addresses from a on
-abbrev pub cut_to : {K : Type 0} → ℕ → ℕ → List (Run K) → List (Run K)
+abbrev pub cut_to : {K : Type 0} → ℕ → ℕ → List (AddressRun K) → List (AddressRun K)
 cut_to a n [] = []
 cut_to a n (r ∷ rs) = cut_onto (max a r.start) (min (a + n) (r.start + r.len)) r.value (cut_to a n rs)

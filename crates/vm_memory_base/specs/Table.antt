@@ -3,7 +3,7 @@
 use Rattle.std.specs.Prelude.{ℕ, zero, suc, ◌+◌, ◌-◌, ◌%◌, ◌^◌, Bool, true, false, not, ◌&&◌, ◌||◌, if◌then◌else◌, ◌==◌, nat_lt, List, [], ◌∷◌, length, map, Option, Some, None, is_some}
 use Rattle.vm_memory_base.specs.Address.{step, numbers, difference, is_within}
 use Rattle.vm_memory_base.specs.Permissions.{allow, same}
-use Rattle.vm_memory_base.specs.Runs.{Run, runs, value_at}
+use Rattle.vm_memory_base.specs.Runs.{AddressRun, runs, value_at}
 use Rattle.vm_memory_base.specs.declared.iotlb.Permissions.{Permissions}
 use Rattle.vm_memory_base.specs.declared.iotlb.Reason.{Reason}
 use Rattle.vm_memory_base.specs.declared.iotlb.Reason.TheVariants.{MissingMapping, AccessNotAllowed}
@@ -61,14 +61,14 @@ new_table_after calls x = says_after_all calls x (says_nothing x)
 -- a table as it is kept: at most so many runs, if there is a limit, and its runs
 pub record Table : Type 0 where
   pub limit : Option ℕ
-  pub ranges : List (Run Mapping)
+  pub ranges : List (AddressRun Mapping)
 
 -- what a kept table says
 abbrev pub says : Table → Says
 says table x = value_at table.ranges x
 
 -- the canonical list: the maximal runs of neighbouring addresses with one mapping, ascending
-abbrev pub canonical_list : Says → List (Run Mapping)
+abbrev pub canonical_list : Says → List (AddressRun Mapping)
 canonical_list f = runs same_mapping f 0 (2 ^ 64)
 
 -- a kept table after a call: the canonical list of what is then said
@@ -110,7 +110,7 @@ pub record Range : Type 0 where
   pub len : ℕ
 
 -- where a run leads: as many addresses, from the target of its first on
-abbrev pub piece_of : Run Mapping → Range
+abbrev pub piece_of : AddressRun Mapping → Range
 piece_of r = record { base = target r.start r.value; len = r.len }
 
 -- the pieces of a look-up: the runs of the asked addresses, each at the target of its first
@@ -126,7 +126,7 @@ abbrev pub target_if_any : ℕ → Option Mapping → List ℕ
 target_if_any x None = []
 target_if_any x (Some m) = target x m ∷ []
 
-abbrev pub range_of : {K : Type 0} → Run K → Range
+abbrev pub range_of : {K : Type 0} → AddressRun K → Range
 range_of r = record { base = r.start; len = r.len }
 
 abbrev pub if_missing : Option Mapping → Option (Unit {0})

@@ -43,8 +43,8 @@ tried (suc n) [] = record { bytes = []; answer = Ok 0; left = [] }
 tried (suc n) (next ∷ rest) = tried_next (suc n) next rest
 
 -- a buffer with these bytes at its beginning
-abbrev pub with_front : List ℕ → List ℕ → List ℕ
-with_front bytes buffer = bytes ++ drop (length bytes) buffer
+abbrev pub over_front : List ℕ → List ℕ → List ℕ
+over_front bytes buffer = bytes ++ drop (length bytes) buffer
 
 abbrev pub is_interruption : ErrorKind → Bool
 is_interruption Interrupted = true
@@ -154,7 +154,7 @@ abbrev pub ReadsAs : Option (List Next) → List ℕ → Answer → List ℕ
     → Option (List Next) → Type 0
 ReadsAs source old answer new after = IfSome source (λ next.
     let t = tried (length old) next in
-    (answer ≡ t.answer) × (new ≡ with_front t.bytes old) × (after ≡ Some t.left))
+    (answer ≡ t.answer) × (new ≡ over_front t.bytes old) × (after ≡ Some t.left))
 
 -- one try of a source that is lent a buffer, and whether it was interrupted so far
 abbrev pub Reads : {S : Type 0} → (S → Option (List Next)) → S × List ℕ × Bool → Answer
@@ -178,7 +178,7 @@ lent_once l =
     record {
       answer = t.answer;
       left = record {
-        buffer = with_front t.bytes l.buffer;
+        buffer = over_front t.bytes l.buffer;
         next = t.left;
         interrupted = l.interrupted || is_interrupted t.answer;
       };

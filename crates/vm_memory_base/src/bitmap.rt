@@ -159,7 +159,7 @@ impl<B: Bitmap> Bitmap for Option<B> {
 
 impl<B: ExactBitmap> ExactBitmap for Option<B> {
     ghost use Rattle.std.specs.Prelude.{Some, None, option_and_then};
-    ghost use Rattle.vm_memory_base.specs.OptionalBitmap.{pages_after_marks, told_of_pages};
+    ghost use Rattle.vm_memory_base.specs.lemmas.OptionalPages.{pages_after_marks, told_of_pages};
 
     ghost pages = { option_and_then B.pages };
 

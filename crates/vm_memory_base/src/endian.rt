@@ -9,7 +9,7 @@
 
 ghost use Rattle.std.specs.Prelude.{◌≡◌, ◌↔◌, IsTrue, reverse};
 ghost use Rattle.std.proofs.Common.{refl};
-ghost use Rattle.vm_memory_base.specs.ByteCodes.{wrapped_code, reversed_code, length-reversed, wrapped_equal};
+ghost use Rattle.vm_memory_base.specs.lemmas.ByteCodes.{wrapped_code, reversed_code, length-reversed, wrapped_equal};
 
 use crate::bytes::{ByteSized, FixedInteger, reversed};
 

@@ -112,7 +112,7 @@ pub struct ReadExactFault {
     /// The length of the beginning that may have changed, in bytes, where the source tells what it does: what was
     /// filled where it ended, all after an error or an interrupted try, and none where it refused at once.
     pub touched: usize,
-    /// Why.
+    /// The error that tells why not all was filled.
     pub error: VolatileMemoryError,
 }
 

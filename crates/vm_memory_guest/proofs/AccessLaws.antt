@@ -8,8 +8,8 @@ use Rattle.vm_memory_base.specs.declared.iotlb.Permissions.{Permissions}
 use Rattle.vm_memory_guest.specs.Host.{bytes_at}
 use Rattle.vm_memory_guest.specs.Region.{Region, IsRegion}
 use Rattle.vm_memory_guest.specs.Memory.{Route, Direct, Through}
-use Rattle.vm_memory_guest.specs.Access.{Reached, Access, Fault, Meets, Stops, meets, path, first_fault, windows, stretches, allowed, refusal, access_of}
-use Rattle.vm_memory_guest.specs.Answer.{filled}
+use Rattle.vm_memory_guest.specs.Access.{Reached, Access, AccessFault, Meets, Stops, meets, path, first_fault, windows, stretches, allowed, refusal, access_of}
+use Rattle.vm_memory_guest.specs.Answer.{filled_buffer}
 use Rattle.vm_memory_guest.specs.Dirt.{path_cells}
 use Rattle.vm_memory_guest.proofs.DirtLaws.{MarksFollow}
 use Rattle.vm_memory_guest.specs.Window.{cells}
@@ -53,7 +53,8 @@ module _ (regions : List Region) (each : All IsRegion regions) (a n : ℕ) where
     follows-path Direct access ok = follows_within Direct (windows-bases_direct regions a n each)
     follows-path (Through f space) access ok = elim ((granted f a n access).0 ok) [
       | inl none ↦
-          let empty = ap (path (meets regions (Through f space) a) 0) none ∙ path-none (meets regions (Through f space) a) 0 in
+          let empty = ap (path (meets regions (Through f space) a) 0) none
+          ∙ path-none (meets regions (Through f space) a) 0 in
           subst MarksFollow (sym empty) follows-none
       | inr some ↦
           let below : a + n < 2 ^ 64 = some.0 in
@@ -76,23 +77,28 @@ module _ (regions : List Region) (each : All IsRegion regions) (a n : ℕ) where
 -- what comes to a buffer from the windows of a path are the bytes in its cells
 pub take-filled_path : (xs : List Reached) (blocks : List (List ℕ)) (buffer : List ℕ)
     → cells (windows xs) ≡ path_cells xs
-    → take (length xs) (filled blocks (cells (windows xs)) buffer) ≡ bytes_at blocks (path_cells xs)
+    → take (length xs) (filled_buffer blocks (cells (windows xs)) buffer) ≡ bytes_at blocks (path_cells xs)
 take-filled_path xs blocks buffer same =
     let count : length xs ≡ length (cells (windows xs)) = sym (length-cells (windows xs) ∙ span-windows xs) in
-    ap (λ (k : ℕ). take k (filled blocks (cells (windows xs)) buffer)) count
+    ap (λ (k : ℕ). take k (filled_buffer blocks (cells (windows xs)) buffer)) count
     ∙ (take-filled blocks (cells (windows xs)) buffer ∙ ap (bytes_at blocks) same)
 
 -- what stops a path is what its next byte meets
-stopped : (m : ℕ → Meets) (n : ℕ) (fault : Fault) → first_fault m 0 n ≡ Some fault → m (length (path m 0 n)) ≡ Stops fault
+stopped : (m : ℕ → Meets) (n : ℕ) (fault : AccessFault) → first_fault m 0 n ≡ Some fault
+    → m (length (path m 0 n)) ≡ Stops fault
 stopped m n fault e =
-    let ends = MatchOption-at_some (length (path m 0 n) ≡ n) (λ f. (length (path m 0 n) < n) × (m (0 + length (path m 0 n)) ≡ Stops f)) fault e (path-ends m 0 n) in
+    let ends = MatchOption-at_some (length (path m 0 n) ≡ n)
+    (λ f. (length (path m 0 n) < n) × (m (0 + length (path m 0 n)) ≡ Stops f)) fault e (path-ends m 0 n) in
     subst (λ (k : ℕ). m k ≡ Stops fault) (zero-add (length (path m 0 n))) ends.1
 
-pub stopped-access : (regions : List Region) (route : Route) (a n : ℕ) (access : Permissions) (fault : Fault)
+pub stopped-access : (regions : List Region) (route : Route) (a n : ℕ) (access : Permissions) (fault : AccessFault)
     → allowed route a n access ≡ true → (access_of regions route a n access).fault ≡ Some fault
     → meets regions route a (length (access_of regions route a n access).path) ≡ Stops fault
 stopped-access regions route a n access fault ok e =
-    let reached = λ (b : Bool). cond {A = Access} b (record { path = path (meets regions route a) 0 n; fault = first_fault (meets regions route a) 0 n }) (record { path = []; fault = Some (refusal route a n) }) in
-    let here : first_fault (meets regions route a) 0 n ≡ Some fault = subst (λ (b : Bool). (reached b).fault ≡ Some fault) ok e in
+    let reached = λ (b : Bool). cond {A = Access} b
+    (record { path = path (meets regions route a) 0 n; fault = first_fault (meets regions route a) 0 n })
+    (record { path = []; fault = Some (refusal route a n) }) in
+    let here : first_fault (meets regions route a) 0 n ≡ Some fault =
+    subst (λ (b : Bool). (reached b).fault ≡ Some fault) ok e in
     subst (λ (b : Bool). meets regions route a (length (reached b).path) ≡ Stops fault) (sym ok)
     (stopped (meets regions route a) n fault here)

@@ -8,23 +8,29 @@ use Rattle.vm_memory_guest.specs.Inside.{blocks_of}
 use Rattle.vm_memory_guest.proofs.WrittenLaws.{bytes_at-block, length-bytes_at, length-cells_from, put-block}
 
 -- a block is its vector's bytes
-block-vec : (blocks : Vec (Vec ℕ Global) Global) (block : ℕ) (v d : Vec ℕ Global) → block < length blocks.items → v ≡ get_or blocks.items block d → v.items ≡ block_at (blocks_of blocks) block
-block-vec blocks block v d there is = ap (λ (w : Vec ℕ Global). w.items) is ∙ sym (get_or-map (λ (w : Vec ℕ Global). w.items) blocks.items block d [] there)
+block-vec : (blocks : Vec (Vec ℕ Global) Global) (block : ℕ) (v d : Vec ℕ Global) → block < length blocks.items
+    → v ≡ get_or blocks.items block d → v.items ≡ block_at (blocks_of blocks) block
+block-vec blocks block v d there is = ap (λ (w : Vec ℕ Global). w.items) is
+    ∙ sym (get_or-map (λ (w : Vec ℕ Global). w.items) blocks.items block d [] there)
 
 -- a block of which a part is replaced by bytes of a block
-pub moved : (blocks : Vec (Vec ℕ Global) Global) (items : List (Vec ℕ Global)) (source from target to len : ℕ) (s t d e : Vec ℕ Global) (old bytes new : List ℕ)
+pub moved : (blocks : Vec (Vec ℕ Global) Global) (items : List (Vec ℕ Global)) (source from target to len : ℕ)
+    (s t d e : Vec ℕ Global) (old bytes new : List ℕ)
     → source < length blocks.items → target < length blocks.items
     → s ≡ get_or blocks.items source d → t ≡ get_or blocks.items target e
     → from + len ≤ length (block_at (blocks_of blocks) source) → to + len ≤ length (block_at (blocks_of blocks) target)
-    → bytes ≡ take (from + len - from) (drop from s.items) → old ≡ t.items → new ≡ take to old ++ bytes ++ drop (to + length bytes) old
+    → bytes ≡ take (from + len - from) (drop from s.items) → old ≡ t.items
+    → new ≡ take to old ++ bytes ++ drop (to + length bytes) old
     → items ≡ set blocks.items target (with_items t new)
-    → blocks_of (with_items blocks items) ≡ written (cells_from target to len) (bytes_at (blocks_of blocks) (cells_from source from len)) (blocks_of blocks)
+    → blocks_of (with_items blocks items)
+    ≡ written (cells_from target to len) (bytes_at (blocks_of blocks) (cells_from source from len)) (blocks_of blocks)
 moved blocks items source from target to len s t d e old bytes new there here s_is t_is readable writable taken old_is put items_is =
     let all = blocks_of blocks in
     let source_is = block-vec blocks source s d there s_is in
     let target_is = block-vec blocks target t e here t_is in
     let count : from + len - from ≡ len = omega arith in
-    let bytes_are : bytes ≡ bytes_at all (cells_from source from len) = taken ∙ rw (count, source_is) (sym (bytes_at-block source from len all readable)) in
+    let bytes_are : bytes ≡ bytes_at all (cells_from source from len) =
+    taken ∙ rw (count, source_is) (sym (bytes_at-block source from len all readable)) in
     let long : length bytes ≡ len =
     let a = ap length taken in
     let b = length-drop from s.items in
@@ -34,7 +40,8 @@ moved blocks items source from target to len s t d e old bytes new there here s_
     let whole = block_at all target in
     let same : old ≡ whole = old_is ∙ target_is in
     let within : to + length bytes ≤ length whole = omega arith in
-    let new_is : new ≡ take to whole ++ bytes ++ drop (to + length bytes) whole = put ∙ ap (λ (b : List ℕ). take to b ++ bytes ++ drop (to + length bytes) b) same in
+    let new_is : new ≡ take to whole ++ bytes ++ drop (to + length bytes) whole =
+    put ∙ ap (λ (b : List ℕ). take to b ++ bytes ++ drop (to + length bytes) b) same in
     let items_kept : length items ≡ blocks.len =
     let a = ap length items_is in
     let b = length-set blocks.items target (with_items t new) in
@@ -49,27 +56,32 @@ pub moved-inside : (blocks : Vec (Vec ℕ Global) Global) (block from to len : �
     → block < length (blocks_of blocks) → all.items ≡ block_at (blocks_of blocks) block → old ≡ all.items
     → from + len ≤ length (block_at (blocks_of blocks) block) → to + len ≤ length (block_at (blocks_of blocks) block)
     → new ≡ take to old ++ take len (drop from old) ++ drop (to + len) old
-    → blocks_of (with_item blocks block (with_items all new)) ≡ written (cells_from block to len) (bytes_at (blocks_of blocks) (cells_from block from len)) (blocks_of blocks)
+    → blocks_of (with_item blocks block (with_items all new))
+    ≡ written (cells_from block to len) (bytes_at (blocks_of blocks) (cells_from block from len)) (blocks_of blocks)
 moved-inside blocks block from to len all old new there same is readable writable put =
     let bs = blocks_of blocks in
     let whole = block_at bs block in
     let bytes = bytes_at bs (cells_from block from len) in
-    let bytes_are : take len (drop from old) ≡ bytes = ap (λ (b : List ℕ). take len (drop from b)) (is ∙ same) ∙ sym (bytes_at-block block from len bs readable) in
+    let bytes_are : take len (drop from old) ≡ bytes =
+    ap (λ (b : List ℕ). take len (drop from b)) (is ∙ same) ∙ sym (bytes_at-block block from len bs readable) in
     let long : length bytes ≡ len = length-bytes_at bs (cells_from block from len) ∙ length-cells_from block from len in
     let within : to + length bytes ≤ length whole = omega arith in
-    let new_is : new ≡ take to whole ++ bytes ++ drop (to + length bytes) whole = put ∙ rw (bytes_are, long, is, same) refl in
+    let new_is : new ≡ take to whole ++ bytes ++ drop (to + length bytes) whole =
+    put ∙ rw (bytes_are, long, is, same) refl in
     put-block blocks.items block to all bytes new there same within new_is
     ∙ ap (λ (n : ℕ). written (cells_from block to n) bytes bs) long
 
 module _ (blocks low high : List (Vec ℕ Global)) (split : blocks ≡ low ++ high) where
   -- what lies in the two parts of a list, and what a write to one of them makes of it
   pub low-at : (i : ℕ) (d : Vec ℕ Global) → i < length low → get_or low i d ≡ get_or blocks i d
-  low-at i d inside = sym (ap (λ (xs : List (Vec ℕ Global)). get_or xs i d) split ∙ get_or_append_left low high d i inside)
+  low-at i d inside = sym
+      (ap (λ (xs : List (Vec ℕ Global)). get_or xs i d) split ∙ get_or_append_left low high d i inside)
 
   pub high-at : (i : ℕ) (d : Vec ℕ Global) → length low ≡ i → get_or high 0 d ≡ get_or blocks i d
   high-at i d seam =
       let none : i - i ≡ 0 = omega arith in
-      sym (ap (λ (xs : List (Vec ℕ Global)). get_or xs i d) split ∙ get_or-append_right low high i i d seam (omega arith) ∙ ap (λ (k : ℕ). get_or high k d) none)
+      sym (ap (λ (xs : List (Vec ℕ Global)). get_or xs i d) split
+      ∙ get_or-append_right low high i i d seam (omega arith) ∙ ap (λ (k : ℕ). get_or high k d) none)
 
   pub set-low : (i : ℕ) (v : Vec ℕ Global) → i < length low → set low i v ++ high ≡ set blocks i v
   set-low i v inside = sym (ap (λ (xs : List (Vec ℕ Global)). set xs i v) split ∙ set-append_left low high i v inside)
@@ -77,4 +89,5 @@ module _ (blocks low high : List (Vec ℕ Global)) (split : blocks ≡ low ++ hi
   pub set-high : (i : ℕ) (v : Vec ℕ Global) → length low ≡ i → low ++ set high 0 v ≡ set blocks i v
   set-high i v seam =
       let none : i - i ≡ 0 = omega arith in
-      sym (ap (λ (xs : List (Vec ℕ Global)). set xs i v) split ∙ set-append_right low high i i v seam (omega arith) ∙ ap (λ (k : ℕ). low ++ set high k v) none)
+      sym (ap (λ (xs : List (Vec ℕ Global)). set xs i v) split ∙ set-append_right low high i i v seam (omega arith)
+      ∙ ap (λ (k : ℕ). low ++ set high k v) none)

@@ -9,7 +9,7 @@ use Rattle.vm_memory_base.specs.declared.bitmap.BitmapId.TheVariants.{Block, Spa
 use Rattle.vm_memory_guest.specs.Host.{Host, Cell, written}
 use Rattle.vm_memory_guest.specs.Window.{cells, MarksOne, Marks, MarksWindow, MarksAll, Writes, Window}
 use Rattle.vm_memory_guest.specs.Access.{Reached, windows}
-use Rattle.vm_memory_guest.specs.Dirt.{change_one, changed, marks_pages, dirtied, path_marks, window_marks, path_cells, after_write, with_pages}
+use Rattle.vm_memory_guest.specs.Dirt.{change_one, changed_item, marks_pages, dirtied, path_marks, window_marks, path_cells, after_write, with_pages}
 
 -- the bytes of the windows of a path mark what the bytes of the path mark, at offsets of 64 bits
 pub record MarksFollow (xs : List Reached) : Type 0 where
@@ -24,24 +24,24 @@ change_one-cons f x xs i None = refl
 change_one-cons f x xs i (Some y) = refl
 
 -- a change past the first element is one of the others
-pub changed-cons : {X : Type 0} (f : X → X) (x : X) (xs : List X) (i : ℕ)
-    → changed f (x ∷ xs) (suc i) ≡ x ∷ changed f xs i
-changed-cons f x xs i = change_one-cons f x xs i (slice_get xs i)
+pub changed_item-cons : {X : Type 0} (f : X → X) (x : X) (xs : List X) (i : ℕ)
+    → changed_item f (x ∷ xs) (suc i) ≡ x ∷ changed_item f xs i
+changed_item-cons f x xs i = change_one-cons f x xs i (slice_get xs i)
 
 -- the same element changed twice
-changed-changed : {X : Type 0} (f g : X → X) (xs : List X) (i : ℕ)
-    → changed g (changed f xs i) i ≡ changed (λ x. g (f x)) xs i
-changed-changed f g [] i = refl
-changed-changed f g (x ∷ xs) zero = refl
-changed-changed {X} f g (x ∷ xs) (suc i) =
-    ap (λ (ys : List X). changed g ys (suc i)) (changed-cons f x xs i)
-    ∙ changed-cons g x (changed f xs i) i
-    ∙ ap (λ (ys : List X). x ∷ ys) (changed-changed f g xs i)
-    ∙ sym (changed-cons (λ y. g (f y)) x xs i)
+changed_item-changed_item : {X : Type 0} (f g : X → X) (xs : List X) (i : ℕ)
+    → changed_item g (changed_item f xs i) i ≡ changed_item (λ x. g (f x)) xs i
+changed_item-changed_item f g [] i = refl
+changed_item-changed_item f g (x ∷ xs) zero = refl
+changed_item-changed_item {X} f g (x ∷ xs) (suc i) =
+    ap (λ (ys : List X). changed_item g ys (suc i)) (changed_item-cons f x xs i)
+    ∙ changed_item-cons g x (changed_item f xs i) i
+    ∙ ap (λ (ys : List X). x ∷ ys) (changed_item-changed_item f g xs i)
+    ∙ sym (changed_item-cons (λ y. g (f y)) x xs i)
 
 -- two changes that agree
 changed_agree : {X : Type 0} (f g : X → X) → ((x : X) → f x ≡ g x) → (xs : List X) (i : ℕ)
-    → changed f xs i ≡ changed g xs i
+    → changed_item f xs i ≡ changed_item g xs i
 changed_agree {X} f g h xs i = at (slice_get xs i)
   where
     at : (o : Option X) → change_one f xs i o ≡ change_one g xs i o
@@ -49,20 +49,21 @@ changed_agree {X} f g h xs i = at (slice_get xs i)
     at (Some x) = ap (λ (y : X). set xs i y) (h x)
 
 -- a change that changes nothing
-changed_same : {X : Type 0} (f : X → X) → ((x : X) → f x ≡ x) → (xs : List X) (i : ℕ) → changed f xs i ≡ xs
+changed_same : {X : Type 0} (f : X → X) → ((x : X) → f x ≡ x) → (xs : List X) (i : ℕ) → changed_item f xs i ≡ xs
 changed_same f h [] i = refl
 changed_same {X} f h (x ∷ xs) zero = ap (λ (y : X). y ∷ xs) (h x)
-changed_same {X} f h (x ∷ xs) (suc i) = changed-cons f x xs i ∙ ap (λ (ys : List X). x ∷ ys) (changed_same f h xs i)
+changed_same {X} f h (x ∷ xs) (suc i) = changed_item-cons f x xs i
+    ∙ ap (λ (ys : List X). x ∷ ys) (changed_same f h xs i)
 
 -- a change of what is seen of a list
-changed-map : {X Y : Type 0} (p : X → Y) (f : Y → Y) (xs : List X) (i : ℕ) (x y : X)
-    → slice_get xs i ≡ Some x → p y ≡ f (p x) → map p (set xs i y) ≡ changed f (map p xs) i
-changed-map p f [] i x y h e = absurd (cc)
-changed-map {X} {Y} p f (z ∷ xs) zero x y h e =
+changed_item-map : {X Y : Type 0} (p : X → Y) (f : Y → Y) (xs : List X) (i : ℕ) (x y : X)
+    → slice_get xs i ≡ Some x → p y ≡ f (p x) → map p (set xs i y) ≡ changed_item f (map p xs) i
+changed_item-map p f [] i x y h e = absurd (cc)
+changed_item-map {X} {Y} p f (z ∷ xs) zero x y h e =
     let q : z ≡ x = cc in
     ap (λ (w : Y). w ∷ map p xs) (e ∙ ap (λ (w : X). f (p w)) (sym q))
-changed-map {X} {Y} p f (z ∷ xs) (suc i) x y h e =
-    ap (λ (ws : List Y). p z ∷ ws) (changed-map p f xs i x y h e) ∙ sym (changed-cons f (p z) (map p xs) i)
+changed_item-map {X} {Y} p f (z ∷ xs) (suc i) x y h e =
+    ap (λ (ws : List Y). p z ∷ ws) (changed_item-map p f xs i x y h e) ∙ sym (changed_item-cons f (p z) (map p xs) i)
 
 -- ---- marks of a host's bitmaps
 
@@ -79,15 +80,17 @@ each_marked-append (m ∷ ms) ns host = each_marked-append ms ns (marks_pages m.
 
 -- the marks of bytes of one bitmap change that bitmap, which is one of those of blocks or of spaces
 each_marked-one : (id : BitmapId) (number : ℕ) (put : List PageSet → Host PageSet)
-    → ((offset : ℕ) (bs : List PageSet) → marks_pages id offset 1 (put bs) ≡ put (changed (marked offset 1) bs number))
+    → ((offset : ℕ) (bs : List PageSet)
+    → marks_pages id offset 1 (put bs) ≡ put (changed_item (marked offset 1) bs number))
     → (offsets : List ℕ) (bs : List PageSet)
-    → each_marked (map (λ (offset : ℕ). (id, offset)) offsets) (put bs) ≡ put (changed (marked_each offsets) bs number)
+    → each_marked (map (λ (offset : ℕ). (id, offset)) offsets) (put bs)
+    ≡ put (changed_item (marked_each offsets) bs number)
 each_marked-one id number put one [] bs =
     ap put (sym (changed_same (marked_each []) (λ (s : PageSet). refl) bs number))
 each_marked-one id number put one (offset ∷ offsets) bs =
     ap (each_marked (map (λ (o : ℕ). (id, o)) offsets)) (one offset bs)
-    ∙ each_marked-one id number put one offsets (changed (marked offset 1) bs number)
-    ∙ ap put (changed-changed (marked offset 1) (marked_each offsets) bs number)
+    ∙ each_marked-one id number put one offsets (changed_item (marked offset 1) bs number)
+    ∙ ap put (changed_item-changed_item (marked offset 1) (marked_each offsets) bs number)
 
 -- the dirt of a path is the marks of its bytes
 dirtied-each : (xs : List Reached) (host : Host PageSet) → dirtied xs host ≡ each_marked (path_marks xs) host
@@ -118,12 +121,14 @@ module _ (by_bytes : MarkIsByBytes) where
       ap (λ (bs : List PageSet). record host { bitmaps = bs })
       (changed_agree (marked base len) (marked_each (numbers base len))
       (λ (s : PageSet). sym (by_bytes base len s fits)) host.bitmaps block)
-      ∙ sym (each_marked-one (Block block) block (λ bs. record host { bitmaps = bs }) (λ o bs. refl) (numbers base len) host.bitmaps)
+      ∙ sym (each_marked-one (Block block) block (λ bs. record host { bitmaps = bs }) (λ o bs. refl)
+      (numbers base len) host.bitmaps)
   marks_pages-by_bytes (Space space) base len host fits =
       ap (λ (bs : List PageSet). record host { spaces = bs })
       (changed_agree (marked base len) (marked_each (numbers base len))
       (λ (s : PageSet). sym (by_bytes base len s fits)) host.spaces space)
-      ∙ sym (each_marked-one (Space space) space (λ bs. record host { spaces = bs }) (λ o bs. refl) (numbers base len) host.spaces)
+      ∙ sym (each_marked-one (Space space) space (λ bs. record host { spaces = bs }) (λ o bs. refl)
+      (numbers base len) host.spaces)
 
   -- the dirt of windows is the marks of their bytes
   pub windows_dirtied-each : (ws : List Window) (host : Host PageSet) → All Fits ws
@@ -143,12 +148,14 @@ module _ (by_bytes : MarkIsByBytes) where
       ∙ ap (λ (ms : List (BitmapId × ℕ)). each_marked ms host) (sym follow.same)
       ∙ sym (dirtied-each xs host)
 
-module _ {B : Type 0} (marks : B → ℕ → ℕ → B → Type 0) (pages : B → PageSet) (exact : (old new : B) (offset len : ℕ) → marks old offset len new → pages new ≡ marked offset len (pages old)) where
-  changed-MarksOne : (number offset len : ℕ) (old new : List B) → MarksOne marks number offset len old new
-      → map pages new ≡ changed (marked offset len) (map pages old) number
-  changed-MarksOne number offset len old new h =
+module _ {B : Type 0} (marks : B → ℕ → ℕ → B → Type 0) (pages : B → PageSet)
+    (exact : (old new : B) (offset len : ℕ) → marks old offset len new
+    → pages new ≡ marked offset len (pages old)) where
+  changed_item-MarksOne : (number offset len : ℕ) (old new : List B) → MarksOne marks number offset len old new
+      → map pages new ≡ changed_item (marked offset len) (map pages old) number
+  changed_item-MarksOne number offset len old new h =
       ap (λ (bs : List B). map pages bs) h.is
-      ∙ changed-map pages (marked offset len) old number h.before h.after h.was
+      ∙ changed_item-map pages (marked offset len) old number h.before h.after h.was
       (exact h.before h.after offset len h.marked)
 
   -- a mark of an exact bitmap marks its pages
@@ -157,11 +164,11 @@ module _ {B : Type 0} (marks : B → ℕ → ℕ → B → Type 0) (pages : B �
   with_pages-Marks (Block block) offset len old new h =
       ap (λ (host : Host B). with_pages pages host) h.2
       ∙ ap (λ (bs : List PageSet). record (with_pages pages old) { bitmaps = bs })
-      (changed-MarksOne block offset len old.bitmaps h.0 h.1)
+      (changed_item-MarksOne block offset len old.bitmaps h.0 h.1)
   with_pages-Marks (Space space) offset len old new h =
       ap (λ (host : Host B). with_pages pages host) h.2
       ∙ ap (λ (bs : List PageSet). record (with_pages pages old) { spaces = bs })
-      (changed-MarksOne space offset len old.spaces h.0 h.1)
+      (changed_item-MarksOne space offset len old.spaces h.0 h.1)
 
   module _ (empty : EmptyMark) where
     marks_pages-none : (id : BitmapId) (offset : ℕ) (host : Host PageSet) → marks_pages id offset 0 host ≡ host
@@ -185,7 +192,8 @@ module _ {B : Type 0} (marks : B → ℕ → ℕ → B → Type 0) (pages : B �
         at (suc size) k =
             let some : ltb 0 (suc size) ≡ true = lt-ltb 0 (suc size) (omega arith) in
             with_pages-Marks w.bitmap.id w.bitmap.base (suc size) old new
-            (subst (λ (b : Bool). MatchBool b (Marks marks w.bitmap.id w.bitmap.base (suc size) old new) (new ≡ old)) some k)
+            (subst (λ (b : Bool). MatchBool b (Marks marks w.bitmap.id w.bitmap.base (suc size) old new)
+            (new ≡ old)) some k)
 
     -- marks of windows of exact bitmaps leave the dirt of the windows
     pub with_pages-MarksAll : (ws : List Window) (old new : Host B) → MarksAll marks ws old new
@@ -208,4 +216,5 @@ module _ {B : Type 0} (marks : B → ℕ → ℕ → B → Type 0) (pages : B �
           → with_pages pages new ≡ after_write xs bytes (with_pages pages old)
       after_write-Writes xs bytes old new follow same h =
           dirtied-MarksAll xs (record old { blocks = written (cells (windows xs)) bytes old.blocks }) new follow h
-          ∙ ap (λ (cs : List Cell). dirtied xs (record (with_pages pages old) { blocks = written cs bytes old.blocks })) same
+          ∙ ap (λ (cs : List Cell). dirtied xs
+          (record (with_pages pages old) { blocks = written cs bytes old.blocks })) same

@@ -9,8 +9,8 @@ use Rattle.vm_memory_base.specs.declared.bitmap.BitmapId.{BitmapId}
 use Rattle.vm_memory_base.specs.declared.bitmap.BitmapId.TheVariants.{Block, Space}
 use Rattle.vm_memory_guest.specs.Host.{Host, Cell, block_at, bytes_at, shape_of, written}
 use Rattle.vm_memory_guest.specs.Access.{Reached}
-use Rattle.vm_memory_guest.specs.Dirt.{change_one, changed, marks_pages, dirtied, pages_at, same_page, path_cells, after_write, bytes_read}
-use Rattle.vm_memory_guest.proofs.DirtLaws.{changed-cons}
+use Rattle.vm_memory_guest.specs.Dirt.{change_one, changed_item, marks_pages, dirtied, pages_at, same_page, path_cells, after_write, bytes_read}
+use Rattle.vm_memory_guest.proofs.DirtLaws.{changed_item-cons}
 use Rattle.vm_memory_guest.proofs.MarkLaws.{shape_of-written}
 use Rattle.vm_memory_guest.proofs.WrittenLaws.{written-take, bytes_at-written}
 
@@ -18,24 +18,24 @@ use Rattle.vm_memory_guest.proofs.WrittenLaws.{written-take, bytes_at-written}
 
 -- what is seen of each element stays, where the change keeps it
 map-changed_kept : {X Y : Type 0} (h : X → Y) (f : X → X) → ((x : X) → h (f x) ≡ h x) → (xs : List X) (i : ℕ)
-    → map h (changed f xs i) ≡ map h xs
+    → map h (changed_item f xs i) ≡ map h xs
 map-changed_kept h f e [] i = refl
 map-changed_kept {X} {Y} h f e (x ∷ xs) zero = ap (λ (y : Y). y ∷ map h xs) (e x)
 map-changed_kept {X} {Y} h f e (x ∷ xs) (suc i) =
-    ap (λ (ys : List X). map h ys) (changed-cons f x xs i)
+    ap (λ (ys : List X). map h ys) (changed_item-cons f x xs i)
     ∙ ap (λ (ys : List Y). h x ∷ ys) (map-changed_kept h f e xs i)
 
 -- the element that is changed
-get_or-changed : {X : Type 0} (f : X → X) (d : X) → f d ≡ d → (xs : List X) (i : ℕ)
-    → get_or (changed f xs i) i d ≡ f (get_or xs i d)
-get_or-changed f d h [] i = sym h
-get_or-changed f d h (x ∷ xs) zero = refl
-get_or-changed {X} f d h (x ∷ xs) (suc i) =
-    ap (λ (ys : List X). get_or ys (suc i) d) (changed-cons f x xs i) ∙ get_or-changed f d h xs i
+get_or-changed_item : {X : Type 0} (f : X → X) (d : X) → f d ≡ d → (xs : List X) (i : ℕ)
+    → get_or (changed_item f xs i) i d ≡ f (get_or xs i d)
+get_or-changed_item f d h [] i = sym h
+get_or-changed_item f d h (x ∷ xs) zero = refl
+get_or-changed_item {X} f d h (x ∷ xs) (suc i) =
+    ap (λ (ys : List X). get_or ys (suc i) d) (changed_item-cons f x xs i) ∙ get_or-changed_item f d h xs i
 
 -- an element beside the one that is changed
 get_or-changed_other : {X : Type 0} (f : X → X) (d : X) (xs : List X) (i j : ℕ) → j ≢ i
-    → get_or (changed f xs i) j d ≡ get_or xs j d
+    → get_or (changed_item f xs i) j d ≡ get_or xs j d
 get_or-changed_other {X} f d xs i j h = at (slice_get xs i)
   where
     at : (o : Option X) → get_or (change_one f xs i o) j d ≡ get_or xs j d
@@ -59,8 +59,8 @@ same_id (Space m) (Space n) = elim (cases_eq m n) [
 -- a mark of a bitmap, seen at that bitmap
 pub pages_at-marks : (id : BitmapId) (offset len : ℕ) (host : Host PageSet)
     → pages_at id (marks_pages id offset len host) ≡ marked offset len (pages_at id host)
-pages_at-marks (Block block) offset len host = get_or-changed (marked offset len) None refl host.bitmaps block
-pages_at-marks (Space space) offset len host = get_or-changed (marked offset len) None refl host.spaces space
+pages_at-marks (Block block) offset len host = get_or-changed_item (marked offset len) None refl host.bitmaps block
+pages_at-marks (Space space) offset len host = get_or-changed_item (marked offset len) None refl host.spaces space
 
 -- a mark of a bitmap, seen at another
 pages_at-marks_other : (id other : BitmapId) (offset len : ℕ) (host : Host PageSet) → other ≢ id
@@ -125,19 +125,24 @@ module _ (others_stay : OtherPagesStay) where
   is_dirty_at-dirtied_other [] id offset host h = refl
   is_dirty_at-dirtied_other (x ∷ xs) id offset host h =
       let next = marks_pages x.bitmap x.mark 1 host in
-      let still = λ (y : Reached) (k : IsElsewhere id offset host y) (e : y.bitmap ≡ id). same_page-marks id x.bitmap x.mark 1 host y.mark offset ∙ k e in
-      let rest = All-weaker (IsElsewhere id offset host) (IsElsewhere id offset next) still xs (All-tail (IsElsewhere id offset host) x xs h) in
+      let still = λ (y : Reached) (k : IsElsewhere id offset host y)
+      (e : y.bitmap ≡ id). same_page-marks id x.bitmap x.mark 1 host y.mark offset ∙ k e in
+      let rest = All-weaker (IsElsewhere id offset host) (IsElsewhere id offset next) still xs
+      (All-tail (IsElsewhere id offset host) x xs h) in
       is_dirty_at-dirtied_other xs id offset next rest
       ∙ is_dirty_at-marks_other id offset host x (All-head (IsElsewhere id offset host) x xs h)
 
   -- a write leaves the pages that no byte of its path names
-  pub is_dirty_at-after_write_other : (xs : List Reached) (bytes : List ℕ) (id : BitmapId) (offset : ℕ) (host : Host PageSet)
+  pub is_dirty_at-after_write_other : (xs : List Reached) (bytes : List ℕ) (id : BitmapId) (offset : ℕ)
+      (host : Host PageSet)
       → All (λ (x : Reached). x.bitmap ≡ id → same_page (pages_at id host) x.mark offset ≡ false) xs
       → is_dirty_at (pages_at id (after_write xs bytes host)) offset ≡ is_dirty_at (pages_at id host) offset
   is_dirty_at-after_write_other xs bytes (Block block) offset host h =
-      is_dirty_at-dirtied_other xs (Block block) offset (record host { blocks = written (path_cells xs) bytes host.blocks }) h
+      is_dirty_at-dirtied_other xs (Block block) offset
+      (record host { blocks = written (path_cells xs) bytes host.blocks }) h
   is_dirty_at-after_write_other xs bytes (Space space) offset host h =
-      is_dirty_at-dirtied_other xs (Space space) offset (record host { blocks = written (path_cells xs) bytes host.blocks }) h
+      is_dirty_at-dirtied_other xs (Space space) offset
+      (record host { blocks = written (path_cells xs) bytes host.blocks }) h
 
 -- ---- pages that are dirty
 
@@ -173,11 +178,14 @@ module _ (stays : DirtyPagesStay) where
       (is_dirty_at-marks_stays x.bitmap id x.mark 1 offset host h)
 
   -- a write makes no page clean
-  pub is_dirty_at-after_write_stays : (xs : List Reached) (bytes : List ℕ) (id : BitmapId) (offset : ℕ) (host : Host PageSet)
-      → is_dirty_at (pages_at id host) offset ≡ true → is_dirty_at (pages_at id (after_write xs bytes host)) offset ≡ true
+  pub is_dirty_at-after_write_stays : (xs : List Reached) (bytes : List ℕ) (id : BitmapId) (offset : ℕ)
+      (host : Host PageSet)
+      → is_dirty_at (pages_at id host) offset ≡ true
+      → is_dirty_at (pages_at id (after_write xs bytes host)) offset ≡ true
   is_dirty_at-after_write_stays xs bytes id offset host h =
       let blocks = written (path_cells xs) bytes host.blocks in
-      is_dirty_at-dirtied_stays xs id offset (record host { blocks = blocks }) (rw (pages_at-with_blocks id host blocks) h)
+      is_dirty_at-dirtied_stays xs id offset (record host { blocks = blocks })
+      (rw (pages_at-with_blocks id host blocks) h)
 
 module _ (own : OwnPageIsDirty) (stays : DirtyPagesStay) (as_many : PagesStay) where
   -- the pages of a bitmap are of one size, and as many, after any mark
@@ -185,7 +193,9 @@ module _ (own : OwnPageIsDirty) (stays : DirtyPagesStay) (as_many : PagesStay) w
       → (q : Pages) × (pages_at id (marks_pages other offset len host) ≡ Some q) × (q.page_size ≡ p.page_size)
       × (length q.flags ≡ length p.flags)
   same_pages other id offset len host p h = elim (same_id other id) [
-    | inl e ↦ (let q = as_many offset len p in (q.0, rw (e, pages_at-marks id offset len host) (ap (marked offset len) h ∙ q.1), q.2, q.3))
+    | inl e ↦
+        (let q = as_many offset len p in
+        (q.0, rw (e, pages_at-marks id offset len host) (ap (marked offset len) h ∙ q.1), q.2, q.3))
     | inr e ↦ (p, pages_at-marks_other id other offset len host e ∙ h, refl, refl)
   ]
 
@@ -194,9 +204,13 @@ module _ (own : OwnPageIsDirty) (stays : DirtyPagesStay) (as_many : PagesStay) w
       → is_dirty_at (pages_at x.bitmap (dirtied xs host)) x.mark ≡ true
   dirtied_at [] k x host p l e fits tracked within = absurd (omega arith)
   dirtied_at (y ∷ ys) zero x host p l e fits tracked within =
-      let now : pages_at x.bitmap (marks_pages x.bitmap x.mark 1 host) ≡ marked x.mark 1 (Some p) = pages_at-marks x.bitmap x.mark 1 host ∙ ap (marked x.mark 1) tracked in
-      let dirty : is_dirty_at (pages_at x.bitmap (marks_pages x.bitmap x.mark 1 host)) x.mark ≡ true = ap (λ (s : PageSet). is_dirty_at s x.mark) now ∙ own x.mark x.mark p fits refl within in
-      let first : is_dirty_at (pages_at x.bitmap (marks_pages y.bitmap y.mark 1 host)) x.mark ≡ true = subst (λ (z : Reached). is_dirty_at (pages_at x.bitmap (marks_pages z.bitmap z.mark 1 host)) x.mark ≡ true) (sym e) dirty in
+      let now : pages_at x.bitmap (marks_pages x.bitmap x.mark 1 host) ≡ marked x.mark 1 (Some p) =
+      pages_at-marks x.bitmap x.mark 1 host ∙ ap (marked x.mark 1) tracked in
+      let dirty : is_dirty_at (pages_at x.bitmap (marks_pages x.bitmap x.mark 1 host)) x.mark ≡ true =
+      ap (λ (s : PageSet). is_dirty_at s x.mark) now ∙ own x.mark x.mark p fits refl within in
+      let first : is_dirty_at (pages_at x.bitmap (marks_pages y.bitmap y.mark 1 host)) x.mark ≡ true =
+      subst (λ (z : Reached). is_dirty_at (pages_at x.bitmap (marks_pages z.bitmap z.mark 1 host)) x.mark ≡ true)
+      (sym e) dirty in
       is_dirty_at-dirtied_stays stays ys x.bitmap x.mark (marks_pages y.bitmap y.mark 1 host) first
   dirtied_at (y ∷ ys) (suc k) x host p l e fits tracked within =
       let q = same_pages y.bitmap x.bitmap y.mark 1 host p tracked in
@@ -222,12 +236,14 @@ blocks-marks_pages (Space space) offset len host = refl
 -- dirt leaves the blocks
 blocks-dirtied : (xs : List Reached) (host : Host PageSet) → (dirtied xs host).blocks ≡ host.blocks
 blocks-dirtied [] host = refl
-blocks-dirtied (x ∷ xs) host = blocks-dirtied xs (marks_pages x.bitmap x.mark 1 host) ∙ blocks-marks_pages x.bitmap x.mark 1 host
+blocks-dirtied (x ∷ xs) host = blocks-dirtied xs (marks_pages x.bitmap x.mark 1 host)
+    ∙ blocks-marks_pages x.bitmap x.mark 1 host
 
 -- what a write leaves of the bytes
 pub blocks-after_write : (xs : List Reached) (bytes : List ℕ) (host : Host PageSet)
     → (after_write xs bytes host).blocks ≡ written (path_cells xs) bytes host.blocks
-blocks-after_write xs bytes host = blocks-dirtied xs (record host { blocks = written (path_cells xs) bytes host.blocks })
+blocks-after_write xs bytes host =
+    blocks-dirtied xs (record host { blocks = written (path_cells xs) bytes host.blocks })
 
 -- what is written to a path and read back from it, where each cell is met once
 pub bytes_read-after_write : (xs : List Reached) (bytes : List ℕ) (host : Host PageSet)
@@ -238,7 +254,8 @@ bytes_read-after_write xs bytes host once inside enough =
     let cs = path_cells xs in
     let count : length cs ≡ length xs = length-map xs (λ (x : Reached). x.cell) in
     let first : List ℕ = take (length cs) bytes in
-    let same : (after_write xs bytes host).blocks ≡ written cs first host.blocks = blocks-dirtied xs (record host { blocks = written cs bytes host.blocks }) ∙ written-take cs bytes host.blocks in
+    let same : (after_write xs bytes host).blocks ≡ written cs first host.blocks =
+    blocks-dirtied xs (record host { blocks = written cs bytes host.blocks }) ∙ written-take cs bytes host.blocks in
     ap (λ (blocks : List (List ℕ)). bytes_at blocks cs) same
     ∙ bytes_at-written cs first host.blocks once inside (length-take-le (length cs) bytes (omega arith))
     ∙ ap (λ (n : ℕ). take n bytes) count

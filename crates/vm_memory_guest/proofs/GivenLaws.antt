@@ -16,7 +16,8 @@ use Rattle.vm_memory_guest.proofs.HostLemmas.{length-bytes}
 use Rattle.vm_memory_guest.specs.lemmas.Orders.{Then, order_does}
 use Rattle.vm_memory_guest.proofs.WrittenLaws.{bytes_at-append, span-cons}
 
-module _ {S E : Type 0} (sink : S → Option Sink) (taken : S → Option (List ℕ)) (wants : S → Type 0) (blocks : List (List ℕ)) (failure : VolatileMemoryError → E) (fault : Option E) where
+module _ {S E : Type 0} (sink : S → Option Sink) (taken : S → Option (List ℕ)) (wants : S → Type 0)
+    (blocks : List (List ℕ)) (failure : VolatileMemoryError → E) (fault : Option E) where
   -- there was no memory for what the sink takes, where it may want some
   abbrev pub Wanted : Result ℕ E → S → Type 0
   Wanted answer old = (answer ≡ Err (failure Memory)) × wants old
@@ -36,12 +37,14 @@ module _ {S E : Type 0} (sink : S → Option Sink) (taken : S → Option (List �
         | inr is ↦ inr (m.told ∙ ap (answered (λ all. w.size)) is.0, is.2)
       ]
 
-  pub given_is : (ws : List Window) (total : ℕ) (state : Sink) (old : S) (answer : Result ℕ E) (new : S) → sink old ≡ Some state
+  pub given_is : (ws : List Window) (total : ℕ) (state : Sink) (old : S) (answer : Result ℕ E) (new : S)
+      → sink old ≡ Some state
       → InOrder failure fault Moves ws total old answer new
       → let g = given_out failure fault ws total state in
       (Wanted answer old ⊎ ((answer ≡ g.answer) × (sink new ≡ Some g.left)))
   given_is ws total state old answer new tells h =
-      order_does failure fault IsGiven wants Moves sent_whole sends_does (λ w x z moved m. m.wanted) ws total old answer new
+      order_does failure fault IsGiven wants Moves sent_whole sends_does
+      (λ w x z moved m. m.wanted) ws total old answer new
       (state, total) tells h
 
   -- ---- what the sink took
@@ -58,9 +61,11 @@ module _ {S E : Type 0} (sink : S → Option Sink) (taken : S → Option (List �
       → InOrder failure fault Moves ws (total + w.size) mid answer new
   goes_on w ws total mid answer new h =
       let same : (w.size == w.size) ≡ true = grind (arith, nat_tests) in
-      subst (λ (b : Bool). MatchBool b (InOrder failure fault Moves ws (total + w.size) mid answer new) ((answer ≡ Ok (total + w.size)) × (new ≡ mid))) same h
+      subst (λ (b : Bool). MatchBool b (InOrder failure fault Moves ws (total + w.size) mid answer new)
+      ((answer ≡ Ok (total + w.size)) × (new ≡ mid))) same h
 
-  ended_count : (total : ℕ) (o : Option E) (answer : Result ℕ E) → answer ≡ ended total o → IfOk answer (λ n. n ≡ total + 0)
+  ended_count : (total : ℕ) (o : Option E) (answer : Result ℕ E) → answer ≡ ended total o
+      → IfOk answer (λ n. n ≡ total + 0)
   ended_count total o (Err e) is = tt
   ended_count total None (Ok n) is = let same : n ≡ total = cc in omega arith
   ended_count total (Some e) (Ok n) is = grind (arith, nat_tests)
@@ -82,19 +87,23 @@ module _ {S E : Type 0} (sink : S → Option Sink) (taken : S → Option (List �
       let long = length-bytes blocks w in
       ap (take k) (bytes_at-append blocks (cells_of w) (cells ws)) ∙ take-append-le k bytes rest (omega arith)
 
-  all_of_first : (w : Window) (k : ℕ) → k ≡ w.size → take k (bytes_at blocks (cells_of w)) ≡ bytes_at blocks (cells_of w)
+  all_of_first : (w : Window) (k : ℕ) → k ≡ w.size
+      → take k (bytes_at blocks (cells_of w)) ≡ bytes_at blocks (cells_of w)
   all_of_first w k whole =
       let bytes = bytes_at blocks (cells_of w) in
       ap (λ (n : ℕ). take n bytes) (whole ∙ sym (length-bytes blocks w)) ∙ take-length bytes
 
   and_more : (w : Window) (ws : List Window) (before : List ℕ) (n : ℕ)
-      → (before ++ bytes_at blocks (cells_of w)) ++ take n (bytes_at blocks (cells ws)) ≡ before ++ take (w.size + n) (bytes_at blocks (cells (w ∷ ws)))
+      → (before ++ bytes_at blocks (cells_of w)) ++ take n (bytes_at blocks (cells ws)) ≡ before
+      ++ take (w.size + n) (bytes_at blocks (cells (w ∷ ws)))
   and_more w ws before n =
       let bytes = bytes_at blocks (cells_of w) in
       let rest = bytes_at blocks (cells ws) in
       let all : bytes_at blocks (cells (w ∷ ws)) ≡ bytes ++ rest = bytes_at-append blocks (cells_of w) (cells ws) in
       append_assoc before bytes (take n rest)
-      ∙ ap (λ (bs : List ℕ). before ++ bs) (sym (ap (take (w.size + n)) all ∙ ap (λ (k : ℕ). take (k + n) (bytes ++ rest)) (sym (length-bytes blocks w)) ∙ take-append-add bytes rest n))
+      ∙ ap (λ (bs : List ℕ). before ++ bs)
+      (sym (ap (take (w.size + n)) all ∙ ap (λ (k : ℕ). take (k + n) (bytes ++ rest)) (sym (length-bytes blocks w))
+      ∙ take-append-add bytes rest n))
 
   took_on : (w : Window) (ws : List Window) (before : List ℕ) (total : ℕ) (old mid : S) (answer : Result ℕ E) (new : S)
       (moved : Answer) (m : Moves w old moved mid)
@@ -103,8 +112,10 @@ module _ {S E : Type 0} (sink : S → Option Sink) (taken : S → Option (List �
       → Took now (total + w.size) ws mid (in_order failure fault sent_whole ws (total + w.size)) answer new)
       → (r : Result (Unit {0}) VolatileMemoryError) → m.sent ≡ r → OnOk r (m.count ≡ w.size)
       → Then failure fault Moves w ws total mid answer new (answered (λ all. w.size) r)
-      → Took before total (w ∷ ws) old (λ y. let s = sent w.size y.0 in after_move failure total w (s.left, y.1 + s.count)
-      (answered (λ all. w.size) (sent_as s.stop)) (λ now. in_order failure fault sent_whole ws now (s.left, y.1 + s.count))) answer new
+      → Took before total (w ∷ ws) old
+      (λ y. let s = sent w.size y.0 in after_move failure total w (s.left, y.1 + s.count)
+      (answered (λ all. w.size) (sent_as s.stop))
+      (λ now. in_order failure fault sent_whole ws now (s.left, y.1 + s.count))) answer new
   took_on w ws before total old mid answer new moved m has more (Err e) is whole h =
       let k = m.count in
       let within : k ≤ w.size = m.within in
@@ -115,7 +126,9 @@ module _ {S E : Type 0} (sink : S → Option Sink) (taken : S → Option (List �
         failed_count answer (failure e) (total + k) h.0,
         λ y tells here.
             elim (subst (λ (o : Option Sink). SendsAs (wants old) o w.size k m.sent (sink mid)) tells m.tried) [
-              | inl wanted ↦ (let same : e ≡ Memory = cc in inl (h.0 ∙ ap (λ (f : VolatileMemoryError). Err (failure f)) same, wanted.1))
+              | inl wanted ↦
+                  (let same : e ≡ Memory = cc in
+                  inl (h.0 ∙ ap (λ (f : VolatileMemoryError). Err (failure f)) same, wanted.1))
               | inr does ↦ inr (rw (sym does.0 ∙ is) (let a = does.1 in omega arith))
             ],
       )
@@ -155,7 +168,8 @@ module _ {S E : Type 0} (sink : S → Option Sink) (taken : S → Option (List �
   )
   taken_is (w ∷ ws) total before old answer new keeps h =
       let m = h.2 in
-      let has = subst (λ (o : Option (List ℕ)). Keeps o (bytes_at blocks (cells_of w)) m.count (taken h.1)) keeps m.keeps in
+      let has = subst (λ (o : Option (List ℕ)). Keeps o (bytes_at blocks (cells_of w)) m.count
+      (taken h.1)) keeps m.keeps in
       took_on w ws before total old h.1 answer new h.0 m has
       (λ now at k. taken_is ws (total + w.size) now h.1 answer new at k) m.sent refl m.whole
       (subst (λ (r : Answer). Then failure fault Moves w ws total h.1 answer new r) m.told h.3)

@@ -116,7 +116,8 @@ removed-no_other (x ∷ rs) base size k r h at start len =
     by_test true rest t e k at = none-some (rs, x) (sym e)
     by_test false rest f e zero at =
         let is = same_Some x r at in
-        let both = is_exactly-both base size x (ap (λ (q : Region). q.start) is ∙ start) (ap (λ (q : Region). q.len) is ∙ len) in
+        let both = is_exactly-both base size x (ap (λ (q : Region). q.start) is ∙ start)
+        (ap (λ (q : Region). q.len) is ∙ len) in
         grind (arith, nat_tests)
     by_test false rest f e (suc k) at = rest k (behind (removed (λ r. r) rs base size) e) at
 

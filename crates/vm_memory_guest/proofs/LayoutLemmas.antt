@@ -31,7 +31,9 @@ module _ {X : Type 0} (region : X → Region) where
   inserted-at (x ∷ xs) (suc n) new l below above =
       let h : (region x).start ≤ (region new).start = below 0 (omega arith) in
       let t : nat_lt (region new).start (region x).start ≡ false = grind (arith, nat_tests) in
-      rw t (ap (λ ys. x ∷ ys) (inserted-at xs n new (omega arith) (λ k m. below (suc k) (omega arith)) (λ k m j. above (suc k) (omega arith) (omega arith))))
+      rw t (ap (λ ys. x ∷ ys)
+      (inserted-at xs n new (omega arith) (λ k m. below (suc k) (omega arith))
+      (λ k m j. above (suc k) (omega arith) (omega arith))))
 
   -- the first region with just these addresses is taken out
   pub removed-at : (xs : List X) (base size i : ℕ) (d : X) → i < length xs
@@ -42,7 +44,8 @@ module _ {X : Type 0} (region : X → Region) where
   removed-at (x ∷ xs) base size zero d l before at = rw at refl
   removed-at (x ∷ xs) base size (suc i) d l before at =
       let first : is_exactly base size (region x) ≡ false = before 0 (omega arith) in
-      rw first (ap (behind_first x) (removed-at xs base size i d (omega arith) (λ k m. before (suc k) (omega arith)) at))
+      rw first (ap (behind_first x)
+      (removed-at xs base size i d (omega arith) (λ k m. before (suc k) (omega arith)) at))
 
   pub removed-none : (xs : List X) (base size : ℕ)
       → ((k : ℕ) (d : X) → k < length xs → is_exactly base size (region (get_or xs k d)) ≡ false)
@@ -84,7 +87,8 @@ module _ {X : Type 0} (region : X → Region) (fits : (x : X) → IsRegion (regi
       let same = length-starts region fits xs starts indexed in
       inserted-at region xs n new (omega arith)
       (λ k l. let at = start-at region fits xs starts indexed k new (omega arith) in let low = below k l in omega arith)
-      (λ k l m. let at = start-at region fits xs starts indexed k new m in let high = above k l (omega arith) in omega arith)
+      (λ k l m. let at = start-at region fits xs starts indexed k new m in let high = above k l (omega arith) in
+      omega arith)
 
   -- and only the region before it may start at the address
   others : (size k : ℕ) (d : X) → k < length xs → (suc k ≡ n → ⊥)

@@ -7,7 +7,7 @@ use Rattle.std.proofs.lemmas.List.{length-take, set-get_or}
 use Rattle.std.proofs.lemmas.List.Elements.{All-cons, All-head, All-nil, All-tail}
 use Rattle.vm_memory_base.specs.Address.{is_within}
 use Rattle.vm_memory_base.specs.Pages.{Pages, PageSet, shape, is_dirty_at, in_view, marked}
-use Rattle.vm_memory_base.specs.Transfer.{Answer, Next, Gives, Fails, giving, tried, with_front, Stop, Whole, Dry, Failed, counted_as, again, retries, whole_of}
+use Rattle.vm_memory_base.specs.Transfer.{Answer, Next, Gives, Fails, giving, tried, over_front, Stop, Whole, Dry, Failed, counted_as, again, retries, whole_of}
 use Rattle.vm_memory_base.specs.declared.bitmap.BitmapId.{BitmapId}
 use Rattle.vm_memory_base.specs.declared.bitmap.BitmapId.TheVariants.{Block, Space}
 use Rattle.vm_memory_base.specs.declared.io.VolatileMemoryError.{VolatileMemoryError}
@@ -65,7 +65,7 @@ record Covers (b o n count : ℕ) (cell : Cell) : Type 0 where
 
 -- bytes that come to the front of cells change no byte behind them, and none beside the cells
 written_front : (b o n : ℕ) (xs : List ℕ) (blocks : List (List ℕ)) (cell : Cell)
-    → (byte_at (written (cells_from b o n) (with_front xs (bytes_at blocks (cells_from b o n))) blocks) cell
+    → (byte_at (written (cells_from b o n) (over_front xs (bytes_at blocks (cells_from b o n))) blocks) cell
     ≡ byte_at blocks cell) ⊎ Covers b o n (length xs) cell
 written_front b o zero xs blocks cell = inl refl
 written_front b o (suc n) [] blocks cell =
@@ -77,7 +77,7 @@ written_front b o (suc n) (x ∷ xs) blocks cell =
     let same : bytes_at next cs ≡ bytes_at blocks cs = bytes_at-behind b o (o + 1) n x blocks (omega arith) in
     elim (written_front b (o + 1) n xs next cell) [
       | inl e ↦
-          (let now = subst (λ (bs : List ℕ). byte_at (written cs (with_front xs bs) next) cell ≡ byte_at next cell)
+          (let now = subst (λ (bs : List ℕ). byte_at (written cs (over_front xs bs) next) cell ≡ byte_at next cell)
           same e in
           elim (same_or_not cell c) [
             | inl p ↦
@@ -147,7 +147,8 @@ still_dirty ws mid new c id offset h p has inside fits =
     subst (λ (s : PageSet). is_dirty_at s offset ≡ true) has (c.dirty id offset was)
 
 -- a marked byte stays so among windows that have its window, where it stays dirty
-marked_among : (ws vs : List Window) (old new : Host PageSet) (cell : Cell) (m : IsMarked ws cell old) → Contains vs m.window
+marked_among : (ws vs : List Window) (old new : Host PageSet) (cell : Cell) (m : IsMarked ws cell old)
+    → Contains vs m.window
     → IsDirty m.window.bitmap.id (m.window.bitmap.base + m.at) new → IsMarked vs cell new
 marked_among ws vs old new cell m among dirty = record {
   window = m.window;
@@ -161,7 +162,8 @@ marked_among ws vs old new cell m among dirty = record {
 still_marked : (ws : List Window) (mid new : Host PageSet) → MarksChanges ws mid new → (cell : Cell)
     → IsMarked ws cell mid → IsMarked ws cell new
 still_marked ws mid new c cell m =
-    marked_among ws ws mid new cell m m.among (still_dirty ws mid new c m.window.bitmap.id (m.window.bitmap.base + m.at) m.dirty)
+    marked_among ws ws mid new cell m m.among
+    (still_dirty ws mid new c m.window.bitmap.id (m.window.bitmap.base + m.at) m.dirty)
 
 -- changes one after the other
 both_changes : (ws : List Window) (old mid new : Host PageSet) → MarksChanges ws old mid → MarksChanges ws mid new
@@ -298,7 +300,7 @@ module _ (shape_stays : ShapeStays) (stays : DirtyPagesStay) (dirties : MarkedBy
   lent_changes w source host =
       let buffer : List ℕ = bytes_at host.blocks (cells_of w) in
       let t = tried (length buffer) source in
-      let blocks : List (List ℕ) = written (cells_of w) (with_front t.bytes buffer) host.blocks in
+      let blocks : List (List ℕ) = written (cells_of w) (over_front t.bytes buffer) host.blocks in
       let mid : Host PageSet = record host { blocks = blocks } in
       let id = w.bitmap.id in
       let base = w.bitmap.base in
@@ -312,7 +314,7 @@ module _ (shape_stays : ShapeStays) (stays : DirtyPagesStay) (dirties : MarkedBy
       pages_at-marks id base count mid ∙ ap (marked base count) (pages_at-with_blocks id host blocks) in
       record {
         lengths = ap (λ (bs : List (List ℕ)). map length bs) moved
-            ∙ lengths-written (cells_of w) (with_front t.bytes buffer) host.blocks;
+            ∙ lengths-written (cells_of w) (over_front t.bytes buffer) host.blocks;
         bitmaps = kept.bitmaps;
         spaces = kept.spaces;
         tables = kept.tables;
@@ -337,7 +339,8 @@ module _ (shape_stays : ShapeStays) (stays : DirtyPagesStay) (dirties : MarkedBy
     pub received_changes : (ws : List Window) (total : ℕ) (source : List Next) (host : Host PageSet)
         → MarksChanges ws host (received failure fault until_full ws total source host).host
     received_changes ws total source host =
-        (order_keeps failure fault (dealt until_full) Kept (λ e. Unit {0}) ws each total (source, host) (same_changes ws host)).0
+        (order_keeps failure fault (dealt until_full) Kept (λ e. Unit {0}) ws each total (source, host)
+        (same_changes ws host)).0
       where
         Kept : List Next × Host PageSet → Type 0
         Kept x = MarksChanges ws host x.1
@@ -419,7 +422,8 @@ module _ (test : VolatileMemoryError → Bool) where
         → ((v : VolatileMemoryError) × (test v ≡ true) × (e ≡ failure v))
         ⊎ ((fault ≡ Some e) × ((received failure fault until_full ws total source host).host ≡ host))
     received_refused ws total source host e some h is =
-        elim (subst (λ (r : Result ℕ E). IfErr r (Why failure fault (dealt until_full) Kept Good ws total (source, host) new)) is
+        elim (subst (λ (r : Result ℕ E). IfErr r
+        (Why failure fault (dealt until_full) Kept Good ws total (source, host) new)) is
         (order_keeps failure fault (dealt until_full) Kept Good ws each total (source, host) h).1) [
           | inl failed ↦ inl failed
           | inr met ↦ inr (met.0, ap (λ (x : List Next × Host PageSet). x.1) (met.1 some).1)

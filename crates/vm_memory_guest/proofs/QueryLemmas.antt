@@ -3,27 +3,27 @@ use Rattle.std.proofs.Common.{◌≡◌, ℕ, zero, suc, ◌+◌, ◌-◌, ◌<�
 use Rattle.std.specs.Prelude.{is_none, ◌==◌}
 use Rattle.std.proofs.lemmas.Bool.Decides.{nat_tests}
 use Rattle.vm_memory_base.specs.declared.iotlb.Permissions.{Permissions}
-use Rattle.vm_memory_guest.specs.Access.{Fault, access_of}
+use Rattle.vm_memory_guest.specs.Access.{AccessFault, access_of}
 use Rattle.vm_memory_guest.specs.Memory.{Route}
 use Rattle.vm_memory_guest.specs.Queries.{greatest_last, is_whole}
-use Rattle.vm_memory_guest.specs.Region.{Region, IsRegion, IsLayout, last, home_in}
+use Rattle.vm_memory_guest.specs.Region.{Region, IsRegion, IsLayout, last, containing_in}
 use Rattle.vm_memory_guest.proofs.PathLaws.{access-ends}
-use Rattle.vm_memory_guest.proofs.PathWalk.{is_within-bounds, home-within}
-use Rattle.vm_memory_guest.proofs.WalkLemmas.{home-found}
+use Rattle.vm_memory_guest.proofs.PathWalk.{is_within-bounds, containing_region-within}
+use Rattle.vm_memory_guest.proofs.WalkLemmas.{containing_region-found}
 
 module _ {R : Type 0} (region : R → Region) where
   -- the region that holds an address starts at it or below
-  pub found-from : (rs : List R) (a : ℕ) (r : R) → Some r ≡ home_in region rs a → (region r).start ≤ a
+  pub found-from : (rs : List R) (a : ℕ) (r : R) → Some r ≡ containing_in region rs a → (region r).start ≤ a
   found-from rs a r found =
       (is_within-bounds (region r).start (region r).len a
-      (home-within (map region rs) a (region r) (home-found region rs a r found))).0
+      (containing_region-within (map region rs) a (region r) (containing_region-found region rs a r found))).0
 
   -- and ends above it
-  pub found-below : (rs : List R) (a : ℕ) (r : R) → Some r ≡ home_in region rs a
+  pub found-below : (rs : List R) (a : ℕ) (r : R) → Some r ≡ containing_in region rs a
       → a < (region r).start + (region r).len
   found-below rs a r found =
       (is_within-bounds (region r).start (region r).len a
-      (home-within (map region rs) a (region r) (home-found region rs a r found))).1
+      (containing_region-within (map region rs) a (region r) (containing_region-found region rs a r found))).1
 
   module _ (fits : (r : R) → IsRegion (region r)) where
     first-below : (r : R) (rs : List R) → last (region r) ≤ greatest_last (map region (r ∷ rs))
@@ -58,7 +58,7 @@ module _ {R : Type 0} (region : R → Region) where
         none (r ∷ rs) (suc n) inside at = none rs n (omega arith) at
 
 -- what is reached has all of n bytes where nothing stops it
-whole-ends : (o : Option Fault) (len n : ℕ) → MatchOption o (len ≡ n) (λ fault. len < n) → is_none o ≡ (len == n)
+whole-ends : (o : Option AccessFault) (len n : ℕ) → MatchOption o (len ≡ n) (λ fault. len < n) → is_none o ≡ (len == n)
 whole-ends None len n h = grind (arith, nat_tests)
 whole-ends (Some fault) len n h = grind (arith, nat_tests)
 

@@ -102,8 +102,10 @@ module _ {B : Type 0} (made : ℕ → B → Type 0) (ranges : RangeList) (old : 
             fit = more_fit;
             blocks = more_blocks;
             regions_are = ap (λ (q : Region). regions ++ q ∷ []) here
-                ∙ ap (λ (rs : List Region). rs ++ range_region (length old.blocks + length (take n ranges)) r.0 r.1 ∷ []) so_far.regions_are
-                ∙ sym (ap (range_regions (length old.blocks)) next ∙ range_regions-more (length old.blocks) (take n ranges) r);
+                ∙ ap (λ (rs : List Region). rs ++ range_region (length old.blocks + length (take n ranges)) r.0 r.1
+                ∷ []) so_far.regions_are
+                ∙ sym (ap (range_regions (length old.blocks)) next
+                ∙ range_regions-more (length old.blocks) (take n ranges) r);
             held = (Holds-each (shape_of new) (regions ++ region ∷ [])).1 (All-push P regions region before names);
             kept = λ ns h. kept ns (so_far.kept ns h);
           }

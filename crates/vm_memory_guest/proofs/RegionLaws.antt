@@ -14,7 +14,7 @@ use Rattle.std.specs.declared.sync.Arc.{Arc}
 use Rattle.vm_memory_guest.specs.Collection.{IsIndexed, each_is_region}
 use Rattle.vm_memory_guest.specs.declared.region.GuestRegionCollectionError.{GuestRegionCollectionError}
 use Rattle.vm_memory_guest.specs.declared.region.GuestRegionCollectionError.TheVariants as layout
-use Rattle.vm_memory_guest.specs.Region.{Region, IsRegion, last, has_address, home, home_in, IsLayout}
+use Rattle.vm_memory_guest.specs.Region.{Region, IsRegion, last, has_address, containing_region, containing_in, IsLayout}
 use Rattle.vm_memory_guest.specs.Region.{neighbours_of, first_error, neighbours_error, layout_error, fault_of}
 
 -- a region that passes after another starts above its last address
@@ -180,39 +180,39 @@ layout-one rs each h i j a d l k x y =
     o) (cases_order i j)
 
 -- the region of a value that holds an address, and that of its region
-pub home_in-map : {X : Type 0} (region : X → Region) (xs : List X) (a : ℕ)
-    → option_map region (home_in region xs a) ≡ home (map region xs) a
-home_in-map region [] a = refl
-home_in-map {X} region (x ∷ xs) a =
-    elim (has_address (region x) a) as (λ b. option_map region (cond b (Some x) (home_in region xs a))
-    ≡ cond b (Some (region x)) (home (map region xs) a)) [
+pub containing_in-map : {X : Type 0} (region : X → Region) (xs : List X) (a : ℕ)
+    → option_map region (containing_in region xs a) ≡ containing_region (map region xs) a
+containing_in-map region [] a = refl
+containing_in-map {X} region (x ∷ xs) a =
+    elim (has_address (region x) a) as (λ b. option_map region (cond b (Some x) (containing_in region xs a))
+    ≡ cond b (Some (region x)) (containing_region (map region xs) a)) [
       | true ↦ refl
-      | false ↦ home_in-map region xs a
+      | false ↦ containing_in-map region xs a
     ]
 
 module _ {X : Type 0} (region : X → Region) where
-  pub home_in-nowhere : (xs : List X) (a : ℕ) (d : X)
+  pub containing_in-nowhere : (xs : List X) (a : ℕ) (d : X)
       → ((k : ℕ) → k < length xs → has_address (region (get_or xs k d)) a ≡ false)
-      → home_in region xs a ≡ None
-  home_in-nowhere xs a d h =
-      found_nowhere (λ (ys : List X). home_in region ys a) (λ (x : X). has_address (region x) a)
+      → containing_in region xs a ≡ None
+  containing_in-nowhere xs a d h =
+      found_nowhere (λ (ys : List X). containing_in region ys a) (λ (x : X). has_address (region x) a)
       (λ (x : X). Some x) None refl (λ x ys. refl) xs d h
 
-  home_in-none : (xs : List X) (a : ℕ)
+  containing_in-none : (xs : List X) (a : ℕ)
       → ((k : ℕ) (d : X) → k < length xs → has_address (region (get_or xs k d)) a ≡ false)
-      → home_in region xs a ≡ None
-  home_in-none [] a h = refl
-  home_in-none (x ∷ xs) a h = home_in-nowhere (x ∷ xs) a x (λ k l. h k x l)
+      → containing_in region xs a ≡ None
+  containing_in-none [] a h = refl
+  containing_in-none (x ∷ xs) a h = containing_in-nowhere (x ∷ xs) a x (λ k l. h k x l)
 
   -- the value that holds an address, where each ends below the start of the later ones
-  pub home_in-holds : (xs : List X)
+  pub containing_in-holds : (xs : List X)
       → ((i j : ℕ) (d : X) → i < j → j < length xs
       → last (region (get_or xs i d)) < (region (get_or xs j d)).start)
       → (i a : ℕ) (d : X) → i < length xs → has_address (region (get_or xs i d)) a ≡ true
-      → home_in region xs a ≡ Some (get_or xs i d)
-  home_in-holds xs apart i a d l x =
+      → containing_in region xs a ≡ Some (get_or xs i d)
+  containing_in-holds xs apart i a d l x =
       let p = has_address-from (region (get_or xs i d)) a x in
-      found_at (λ (ys : List X). home_in region ys a) (λ (y : X). has_address (region y) a)
+      found_at (λ (ys : List X). containing_in region ys a) (λ (y : X). has_address (region y) a)
       (λ (y : X). Some y) None refl (λ y ys. refl) xs i d l
       (λ k m. has_address-past (region (get_or xs k d)) a (let e = apart k i d m l in omega arith))
       x
@@ -259,8 +259,8 @@ module _ {X : Type 0} (region : X → Region) where
           let after : a < get_or starts k 0 = above k m (omega arith) in
           has_address-before (region (get_or xs k d)) a (rw (start-at k d l) at after)
 
-      pub home_in-below : n ≡ 0 → None ≡ home_in region xs a
-      home_in-below e = sym (home_in-none xs a (λ k d l. later k d (omega arith) l))
+      pub containing_in-below : n ≡ 0 → None ≡ containing_in region xs a
+      containing_in-below e = sym (containing_in-none xs a (λ k d l. later k d (omega arith) l))
 
       -- and the one before them is that of x, at the address or below
       module _ (x : X) (some : 0 < n) (within : n ≤ length starts) (at : x ≡ get_or xs (n - 1) x)
@@ -268,20 +268,20 @@ module _ {X : Type 0} (region : X → Region) where
         start_is : (region (get_or xs (n - 1) x)).start ≡ start
         start_is = let same = length-starts in sym (is ∙ start-at (n - 1) x (omega arith))
 
-        pub home_in-before : a - start < (region x).len → Some x ≡ home_in region xs a
-        home_in-before h =
+        pub containing_in-before : a - start < (region x).len → Some x ≡ containing_in region xs a
+        containing_in-before h =
             let same = length-starts in
             let here = start_is in
             let long = subst (λ (y : X). a - start < (region y).len) at h in
             let inside = has_address-inside (region (get_or xs (n - 1) x)) a (omega arith) (omega arith) in
-            sym (home_in-holds xs apart (n - 1) a x (omega arith) inside ∙ ap (λ (y : X). Some y) (sym at))
+            sym (containing_in-holds xs apart (n - 1) a x (omega arith) inside ∙ ap (λ (y : X). Some y) (sym at))
 
-        pub home_in-past : (region x).len ≤ a - start → None ≡ home_in region xs a
-        home_in-past h =
+        pub containing_in-past : (region x).len ≤ a - start → None ≡ containing_in region xs a
+        containing_in-past h =
             let same = length-starts in
             let here = start_is in
             let short = subst (λ (y : X). (region y).len ≤ a - start) at h in
-            sym (home_in-nowhere xs a x (λ k l. elim (cases_lt k n) [
+            sym (containing_in-nowhere xs a x (λ k l. elim (cases_lt k n) [
               | inl m ↦ has_address-past (region (get_or xs k x)) a (elim (cases_lt k (n - 1)) [
                 | inl p ↦ let before = apart k (n - 1) x p (omega arith) in omega arith
                 | inr p ↦

@@ -9,22 +9,41 @@ use Rattle.vm_memory_guest.specs.Window.{Window, cells_of}
 use Rattle.vm_memory_guest.proofs.HostLemmas.{length-bytes}
 
 -- a sink was offered the bytes of a window until it took them
-pub sends_of : {S : Type 0} (sink : S → Option Sink) (taken : S → Option (List ℕ)) (wants : S → Type 0) (blocks : List (List ℕ)) (w : Window) (old new : S) (bytes : List ℕ) (result : Result (Unit {0}) VolatileMemoryError)
+pub sends_of : {S : Type 0} (sink : S → Option Sink) (taken : S → Option (List ℕ)) (wants : S → Type 0)
+    (blocks : List (List ℕ)) (w : Window) (old new : S) (bytes : List ℕ)
+    (result : Result (Unit {0}) VolatileMemoryError)
     → bytes ≡ bytes_at blocks (cells_of w)
-    → ((count : ℕ) × (count ≤ length bytes) × OnOk result (count ≡ length bytes) × Keeps (taken old) bytes count (taken new) × SendsAs (wants old) (sink old) (length bytes) count result (sink new))
+    → ((count : ℕ) × (count ≤ length bytes) × OnOk result (count ≡ length bytes)
+    × Keeps (taken old) bytes count (taken new) × SendsAs (wants old) (sink old) (length bytes) count result (sink new))
     → (wants new → wants old) → Sends sink taken wants blocks w old (answered (λ all. w.size) result) new
 sends_of sink taken wants blocks w old new bytes result is sends wanted =
     let lent = bytes_at blocks (cells_of w) in
-    let here = subst (λ (bs : List ℕ). (count : ℕ) × (count ≤ length bs) × OnOk result (count ≡ length bs) × Keeps (taken old) bs count (taken new) × SendsAs (wants old) (sink old) (length bs) count result (sink new)) is sends in
-    let sized = subst (λ (n : ℕ). (count : ℕ) × (count ≤ n) × OnOk result (count ≡ n) × Keeps (taken old) lent count (taken new) × SendsAs (wants old) (sink old) n count result (sink new)) (length-bytes blocks w) here in
-    record { count = sized.0; sent = result; within = sized.1; whole = sized.2; keeps = sized.3; tried = sized.4; told = refl; wanted = wanted }
+    let here = subst (λ (bs : List ℕ). (count : ℕ) × (count ≤ length bs) × OnOk result (count ≡ length bs)
+    × Keeps (taken old) bs count (taken new)
+    × SendsAs (wants old) (sink old) (length bs) count result (sink new)) is sends in
+    let sized = subst (λ (n : ℕ). (count : ℕ) × (count ≤ n) × OnOk result (count ≡ n)
+    × Keeps (taken old) lent count (taken new) × SendsAs (wants old) (sink old) n count result (sink new))
+    (length-bytes blocks w) here in
+    record {
+      count = sized.0;
+      sent = result;
+      within = sized.1;
+      whole = sized.2;
+      keeps = sized.3;
+      tried = sized.4;
+      told = refl;
+      wanted = wanted;
+    }
 
 -- a sink was offered the bytes of a window by one try
-pub offers_of : {S : Type 0} (sink : S → Option Sink) (taken : S → Option (List ℕ)) (wants : S → Type 0) (blocks : List (List ℕ)) (w : Window) (old new : S) (bytes : List ℕ) (result : Answer)
-    → bytes ≡ bytes_at blocks (cells_of w) → OffersAs (wants old) (sink old) (length bytes) result (sink new) → Keeps (taken old) bytes (count_of result) (taken new)
+pub offers_of : {S : Type 0} (sink : S → Option Sink) (taken : S → Option (List ℕ)) (wants : S → Type 0)
+    (blocks : List (List ℕ)) (w : Window) (old new : S) (bytes : List ℕ) (result : Answer)
+    → bytes ≡ bytes_at blocks (cells_of w) → OffersAs (wants old) (sink old) (length bytes) result (sink new)
+    → Keeps (taken old) bytes (count_of result) (taken new)
     → (wants new → wants old) → Offers sink taken wants blocks w old result new
 offers_of sink taken wants blocks w old new bytes result is tells keeps wanted = record {
-  tried = subst (λ (n : ℕ). OffersAs (wants old) (sink old) n result (sink new)) (ap length is ∙ length-bytes blocks w) tells;
+  tried = subst (λ (n : ℕ). OffersAs (wants old) (sink old) n result (sink new))
+      (ap length is ∙ length-bytes blocks w) tells;
   keeps = subst (λ (bs : List ℕ). Keeps (taken old) bs (count_of result) (taken new)) is keeps;
   wanted = wanted;
 }

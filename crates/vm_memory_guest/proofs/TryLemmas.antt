@@ -3,8 +3,8 @@ use Rattle.std.proofs.Common.{◌≡◌, ℕ, ◌+◌, ◌-◌, min, List, Some,
 use Rattle.std.specs.Fn.{Mut, Called}
 use Rattle.vm_memory_base.specs.Address.{step}
 use Rattle.vm_memory_base.specs.declared.address.MemoryRegionAddress.{MemoryRegionAddress}
-use Rattle.vm_memory_guest.specs.Region.{Region, home_in}
-use Rattle.vm_memory_guest.specs.TryAccess.{CallsAt, CallsIn, Ends, GoesOn, next, ended, TryAccess, Nowhere, Last, More}
+use Rattle.vm_memory_guest.specs.Region.{Region, containing_in}
+use Rattle.vm_memory_guest.specs.TryAccess.{CallsAt, CallsIn, Ends, GoesOn, after_call, answer_at_unmapped, TryAccess, Nowhere, Last, More}
 use Rattle.vm_memory_guest.specs.declared.region.GuestMemoryError.{GuestMemoryError}
 
 module _ {R F : Type 0} (region : R → Region) (rs : List R)
@@ -18,7 +18,7 @@ module _ {R F : Type 0} (region : R → Region) (rs : List R)
       (called : Called call f (total, (len, (record { 0 = a - first }, (shown, tt)))) given g)
       (first_is : first ≡ (region shown.now).start) (size_is : size ≡ (region shown.now).len)
       (len_is : len ≡ min (size - (a - first)) (count - total))
-      (found : Some shown.now ≡ home_in region rs a) where
+      (found : Some shown.now ≡ containing_in region rs a) where
     made : CallsIn region rs (CallsAt call) start count f total a shown.now given g
     made =
         let offset = ap (λ s. a - s) first_is in
@@ -27,22 +27,23 @@ module _ {R F : Type 0} (region : R → Region) (rs : List R)
         record {
           shown = shown;
           shows = refl;
-          called = subst₂ (λ n o. Called call f (total, (n, (record { 0 = o }, (shown, tt)))) given g) rest offset called;
+          called = subst₂ (λ n o. Called call f
+              (total, (n, (record { 0 = o }, (shown, tt)))) given g) rest offset called;
         }
 
     -- the access ends with its answer, or goes on behind what was handled
-    pub ends-here : (answer : Result ℕ GuestMemoryError) → next count total a given ≡ Ends answer
+    pub ends-here : (answer : Result ℕ GuestMemoryError) → after_call count total a given ≡ Ends answer
         → Access f total a answer g
     ends-here answer then = Last shown.now given (sym found) made then
 
     pub goes-on : (n b : ℕ) (answer : Result ℕ GuestMemoryError) (last : F) → given ≡ Ok n
-        → next count total a (Ok n) ≡ GoesOn → b ≡ step a n
+        → after_call count total a (Ok n) ≡ GoesOn → b ≡ step a n
         → Access g (total + n) b answer last → Access f total a answer last
     goes-on n b answer last is then to rest =
         More shown.now n (sym found)
         (subst (λ x. CallsIn region rs (CallsAt call) start count f total a shown.now x g) is made) then
         (subst (λ x. Access g (total + n) x answer last) to rest)
 
-  pub ends-nowhere : (f : F) (total a : ℕ) (answer : Result ℕ GuestMemoryError) → None ≡ home_in region rs a
-      → answer ≡ ended start total → Access f total a answer f
+  pub ends-nowhere : (f : F) (total a : ℕ) (answer : Result ℕ GuestMemoryError) → None ≡ containing_in region rs a
+      → answer ≡ answer_at_unmapped start total → Access f total a answer f
   ends-nowhere f total a answer hole is = subst (λ x. Access f total a x f) (sym is) (Nowhere (sym hole))

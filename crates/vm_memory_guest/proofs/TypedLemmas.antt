@@ -14,16 +14,19 @@ use Rattle.vm_memory_guest.proofs.WrittenLaws.{bytes_at-block, put-block, writte
 
 -- a block of which a part is replaced by as many bytes
 block-put : (blocks : Vec (Vec ℕ Global) Global) (block offset len : ℕ) (all : Vec ℕ Global) (old bytes : List ℕ)
-    → block < length (blocks_of blocks) → all.items ≡ block_at (blocks_of blocks) block → old ≡ all.items → length bytes ≡ len
+    → block < length (blocks_of blocks) → all.items ≡ block_at (blocks_of blocks) block → old ≡ all.items
+    → length bytes ≡ len
     → offset + len ≤ length (block_at (blocks_of blocks) block)
-    → blocks_of (with_item blocks block (with_items all (take offset old ++ (bytes ++ drop (offset + len - offset) (drop offset old)))))
+    → blocks_of (with_item blocks block
+    (with_items all (take offset old ++ (bytes ++ drop (offset + len - offset) (drop offset old)))))
     ≡ written (cells_from block offset len) bytes (blocks_of blocks)
 block-put blocks block offset len all old bytes there is same long within =
     let whole = block_at (blocks_of blocks) block in
     let count : offset + len - offset ≡ len = omega arith in
     let new = take offset whole ++ bytes ++ drop (offset + length bytes) whole in
     let back : drop (offset + len - offset) (drop offset old) ≡ drop (offset + length bytes) whole =
-    ap (λ (k : ℕ). drop k (drop offset old)) (count ∙ sym long) ∙ drop-drop (length bytes) offset old ∙ ap (drop (offset + length bytes)) (same ∙ is) in
+    ap (λ (k : ℕ). drop k (drop offset old)) (count ∙ sym long) ∙ drop-drop (length bytes) offset old
+    ∙ ap (drop (offset + length bytes)) (same ∙ is) in
     let moved : take offset old ++ (bytes ++ drop (offset + len - offset) (drop offset old)) ≡ new =
     rw (back, same, is) (sym (append_assoc (take offset whole) bytes (drop (offset + length bytes) whole))) in
     let here : offset + length bytes ≤ length whole = omega arith in
@@ -39,7 +42,8 @@ module _ (blocks : Vec (Vec ℕ Global) Global) (block offset len : ℕ) (all : 
     pub lent : there_lent ≡ bytes_at (blocks_of blocks) (cells_from block offset len)
     pub long : length there_lent ≡ len
     pub put : (bytes : List ℕ) → length bytes ≡ length there_lent
-        → blocks_of (with_item blocks block (with_items all (take offset old ++ (bytes ++ drop (offset + len - offset) (drop offset old)))))
+        → blocks_of (with_item blocks block
+        (with_items all (take offset old ++ (bytes ++ drop (offset + len - offset) (drop offset old)))))
         ≡ written (cells_from block offset len) bytes (blocks_of blocks)
 
   pub place : block < length (blocks_of blocks) → all.items ≡ block_at (blocks_of blocks) block → old ≡ all.items
@@ -58,7 +62,8 @@ module _ (blocks : Vec (Vec ℕ Global) Global) (block offset len : ℕ) (all : 
       }
 
 -- a host whose blocks are as long as before is as sound
-pub sound-put : {B : Type 0} (shape : Shape) (old new : List (List ℕ)) (bitmaps spaces : List B) (tables : List Table) → map length new ≡ map length old
+pub sound-put : {B : Type 0} (shape : Shape) (old new : List (List ℕ)) (bitmaps spaces : List B) (tables : List Table)
+    → map length new ≡ map length old
     → IsSound shape old bitmaps spaces tables → IsSound shape new bitmaps spaces tables
 sound-put shape old new bitmaps spaces tables same sound = record {
   lengths = rw same sound.lengths;
@@ -69,27 +74,38 @@ sound-put shape old new bitmaps spaces tables same sound = record {
 }
 
 -- the window is marked behind the write of its bytes
-pub Writes-put : {B : Type 0} (marks : B → ℕ → ℕ → B → Type 0) (w : Window) (bytes : List ℕ) (old put new : Host B) (k : ℕ) → k ≡ w.size
-    → put ≡ record old { blocks = written (cells_of w) (take k bytes) old.blocks } → MarksWindow marks w put new → Writes marks (w ∷ []) bytes old new
+pub Writes-put : {B : Type 0} (marks : B → ℕ → ℕ → B → Type 0) (w : Window) (bytes : List ℕ) (old put new : Host B)
+    (k : ℕ) → k ≡ w.size
+    → put ≡ record old { blocks = written (cells_of w) (take k bytes) old.blocks } → MarksWindow marks w put new
+    → Writes marks (w ∷ []) bytes old new
 Writes-put {B} marks w bytes old put new k all is marked =
     let count : k ≡ length (cells_of w) = all ∙ sym (length-cells_from w.block.0 w.offset w.size) in
     let same : written (cells_of w) (take k bytes) old.blocks ≡ written (cells_of w) bytes old.blocks =
-    ap (λ (n : ℕ). written (cells_of w) (take n bytes) old.blocks) count ∙ sym (written-take (cells_of w) bytes old.blocks) in
-    Writes-one marks w bytes old new (subst (λ (h : Host B). MarksWindow marks w h new) (is ∙ ap (λ (bs : List (List ℕ)). record old { blocks = bs }) same) marked)
+    ap (λ (n : ℕ). written (cells_of w) (take n bytes) old.blocks) count
+    ∙ sym (written-take (cells_of w) bytes old.blocks) in
+    Writes-one marks w bytes old new
+    (subst (λ (h : Host B). MarksWindow marks w h new)
+    (is ∙ ap (λ (bs : List (List ℕ)). record old { blocks = bs }) same) marked)
 
 -- each block keeps its length
-lengths-put : (cells : List Cell) (bytes : List ℕ) (old new : List (List ℕ)) → new ≡ written cells bytes old → map length new ≡ map length old
+lengths-put : (cells : List Cell) (bytes : List ℕ) (old new : List (List ℕ)) → new ≡ written cells bytes old
+    → map length new ≡ map length old
 lengths-put cells bytes old new is = ap (map length) is ∙ lengths-written cells bytes old
 
 -- a host whose blocks are as long as before has the shape that it had
-pub shape-put : {B : Type 0} (old new : List (List ℕ)) (bitmaps spaces : List B) (tables : List Table) → map length new ≡ map length old
-    → shape_of (record { blocks = new; bitmaps = bitmaps; spaces = spaces; tables = tables }) ≡ shape_of (record { blocks = old; bitmaps = bitmaps; spaces = spaces; tables = tables })
-shape-put old new bitmaps spaces tables same = ap (λ (ls : List ℕ). record { blocks = ls; spaces = length spaces; tables = length tables }) same
+pub shape-put : {B : Type 0} (old new : List (List ℕ)) (bitmaps spaces : List B) (tables : List Table)
+    → map length new ≡ map length old
+    → shape_of (record { blocks = new; bitmaps = bitmaps; spaces = spaces; tables = tables })
+    ≡ shape_of (record { blocks = old; bitmaps = bitmaps; spaces = spaces; tables = tables })
+shape-put old new bitmaps spaces tables same =
+    ap (λ (ls : List ℕ). record { blocks = ls; spaces = length spaces; tables = length tables }) same
 
 -- both, where bytes are put at cells
-module _ {B : Type 0} (cells : List Cell) (bytes : List ℕ) (old new : List (List ℕ)) (is : new ≡ written cells bytes old)
+module _ {B : Type 0} (cells : List Cell) (bytes : List ℕ) (old new : List (List ℕ))
+    (is : new ≡ written cells bytes old)
     (bitmaps spaces : List B) (tables : List Table) where
-  pub sound-written : (shape : Shape) → IsSound shape old bitmaps spaces tables → IsSound shape new bitmaps spaces tables
+  pub sound-written : (shape : Shape) → IsSound shape old bitmaps spaces tables
+      → IsSound shape new bitmaps spaces tables
   sound-written shape = sound-put shape old new bitmaps spaces tables (lengths-put cells bytes old new is)
 
   pub shape-written : shape_of (record { blocks = new; bitmaps = bitmaps; spaces = spaces; tables = tables })
@@ -97,9 +113,12 @@ module _ {B : Type 0} (cells : List Cell) (bytes : List ℕ) (old new : List (Li
   shape-written = shape-put old new bitmaps spaces tables (lengths-put cells bytes old new is)
 
 -- a value of no bytes is read anywhere
-pub empty-value : {V : Type 0} (value_of : List ℕ → V) (w : Window) (offset width : ℕ) (blocks : List (List ℕ)) (value : V) (bytes : List ℕ)
+pub empty-value : {V : Type 0} (value_of : List ℕ → V) (w : Window) (offset width : ℕ) (blocks : List (List ℕ))
+    (value : V) (bytes : List ℕ)
     → width ≡ 0 → bytes ≡ replicate width 0 → value_of bytes ≡ value
-    → let r = window_reach w offset width in Ok value ≡ answered (λ done. value_of (bytes_at blocks (cells r.windows))) (exactly PartialBuffer (span r.windows) r.fault width)
+    → let r = window_reach w offset width in
+    Ok value ≡ answered (λ done. value_of (bytes_at blocks (cells r.windows)))
+    (exactly PartialBuffer (span r.windows) r.fault width)
 empty-value {V} value_of w offset width blocks value bytes none zeros same =
     let empty : bytes ≡ [] = zeros ∙ ap (λ (n : ℕ). replicate n 0) none in
     rw none (ap (λ (v : V). Ok v) (sym same ∙ ap value_of empty))

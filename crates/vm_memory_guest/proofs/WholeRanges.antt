@@ -53,12 +53,17 @@ whole-by-bytes regions route a n access = by (allowed route a n access) refl
     m = meets regions route a
 
     gives : Bool → Access
-    gives b = cond b (record { path = path m 0 n; fault = first_fault m 0 n }) (record { path = []; fault = Some (refusal route a n) })
+    gives b = cond b (record { path = path m 0 n; fault = first_fault m 0 n })
+        (record { path = []; fault = Some (refusal route a n) })
 
     by : (b : Bool) → allowed route a n access ≡ b
         → (is_whole (gives b).path n ≡ true) ↔ ((b ≡ true) × ((i : ℕ) → i < n → (x : Reached) × (m i ≡ Reaches x)))
     by true is = (
-      λ h. (refl, λ i l. subst (λ j. (x : Reached) × (m j ≡ Reaches x)) (zero-add i) (whole-reached m 0 n i (eqb-true _ _ h) l)),
+      λ h. (
+        refl,
+        λ i l. subst (λ j. (x : Reached) × (m j ≡ Reaches x)) (zero-add i)
+            (whole-reached m 0 n i (eqb-true _ _ h) l),
+      ),
       λ h. whole_test (length (path m 0 n)) n
           (path-whole m 0 n (λ k l. subst (λ j. (x : Reached) × (m j ≡ Reaches x)) (sym (zero-add k)) (h.1 k l))),
     )

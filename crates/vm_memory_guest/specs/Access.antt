@@ -7,22 +7,22 @@ use Rattle.vm_memory_base.specs.declared.iotlb.Permissions.{Permissions}
 use Rattle.vm_memory_base.specs.declared.iotlb.Reason.{Reason}
 use Rattle.vm_memory_guest.specs.Host.{Cell}
 use Rattle.vm_memory_guest.specs.Region.{Region, Lies, cell, same_region}
-use Rattle.vm_memory_guest.specs.Region.{Byte, Bare, Hole}
+use Rattle.vm_memory_guest.specs.Region.{Backed, Unbacked, Unmapped}
 use Rattle.vm_memory_guest.specs.Memory.{Route, Direct, Through, mapping_of, physical}
 use Rattle.vm_memory_guest.specs.Window.{Window}
 
 -- why an access goes no further: no region holds the address, its region has no host bytes, or the
 -- translation of a range was refused
-pub data Fault : Type 0 where
-  NoRegion : (address : ℕ) → Fault
-  NoHostBytes : Fault
-  Refused : (iova len : ℕ) (reason : Reason) → Fault
+pub data AccessFault : Type 0 where
+  NoRegion : (address : ℕ) → AccessFault
+  NoHostBytes : AccessFault
+  Refused : (iova len : ℕ) (reason : Reason) → AccessFault
 
--- a byte that an access reaches: its cell, the region that holds it, the mapping that led there, and the
+-- a byte that an access reaches: its cell, the region that contains it, the mapping that led there, and the
 -- offset of a bitmap that a write marks
 pub record Reached : Type 0 where
   pub cell : Cell
-  pub home : Region
+  pub region : Region
   pub mapping : Option Mapping
   pub bitmap : BitmapId
   pub mark : ℕ
@@ -30,28 +30,28 @@ pub record Reached : Type 0 where
 -- what byte i of an access meets
 pub data Meets : Type 0 where
   Reaches : (reached : Reached) → Meets
-  Stops : (fault : Fault) → Meets
+  Stops : (fault : AccessFault) → Meets
 
 -- with translation a write marks a space at the address that was asked for, without it the block at the
 -- byte's offset
-abbrev pub bitmap_of : Route → Cell → BitmapId
-bitmap_of Direct c = Block c.block
-bitmap_of (Through f space) c = Space space
+abbrev pub marked_bitmap : Route → Cell → BitmapId
+marked_bitmap Direct c = Block c.block
+marked_bitmap (Through f space) c = Space space
 
 abbrev pub mark_of : Route → ℕ → Cell → ℕ
 mark_of Direct x c = c.offset
 mark_of (Through f space) x c = x
 
 abbrev pub meets_at : Route → ℕ → Option Mapping → ℕ → Lies → Meets
-meets_at route x mapping p (Byte r c) = Reaches (record {
+meets_at route x mapping p (Backed r c) = Reaches (record {
   cell = c;
-  home = r;
+  region = r;
   mapping = mapping;
-  bitmap = bitmap_of route c;
+  bitmap = marked_bitmap route c;
   mark = mark_of route x c;
 })
-meets_at route x mapping p Bare = Stops NoHostBytes
-meets_at route x mapping p Hole = Stops (NoRegion p)
+meets_at route x mapping p Unbacked = Stops NoHostBytes
+meets_at route x mapping p Unmapped = Stops (NoRegion p)
 
 abbrev pub meets : List Region → Route → ℕ → ℕ → Meets
 meets regions route a i =
@@ -61,7 +61,7 @@ abbrev pub onto : Meets → List Reached → List Reached
 onto (Reaches r) rest = r ∷ rest
 onto (Stops fault) rest = []
 
-abbrev pub or_fault : Meets → Option Fault → Option Fault
+abbrev pub or_fault : Meets → Option AccessFault → Option AccessFault
 or_fault (Reaches r) rest = rest
 or_fault (Stops fault) rest = Some fault
 
@@ -71,7 +71,7 @@ path m i zero = []
 path m i (suc n) = onto (m i) (path m (i + 1) n)
 
 -- what stops it before n bytes, if something does
-unfoldable pub first_fault : (ℕ → Meets) → ℕ → ℕ → Option Fault
+unfoldable pub first_fault : (ℕ → Meets) → ℕ → ℕ → Option AccessFault
 first_fault m i zero = None
 first_fault m i (suc n) = or_fault (m i) (first_fault m (i + 1) n)
 
@@ -82,7 +82,7 @@ same_mappings (Some m) (Some n) = same_mapping m n
 same_mappings m n = false
 
 abbrev pub is_cut : Reached → Reached → Bool
-is_cut x y = not (same_region x.home y.home && same_mappings x.mapping y.mapping)
+is_cut x y = not (same_region x.region y.region && same_mappings x.mapping y.mapping)
 
 -- neighbouring bytes with no cut between them
 pub record Stretch : Type 0 where
@@ -114,14 +114,14 @@ windows xs = map window_of (stretches xs)
 -- what an access reaches, and what keeps it from reaching all of its bytes
 pub record Access : Type 0 where
   pub path : List Reached
-  pub fault : Option Fault
+  pub fault : Option AccessFault
 
 -- whether the access of n bytes at a is allowed
 abbrev pub allowed : Route → ℕ → ℕ → Permissions → Bool
 allowed Direct a n access = true
 allowed (Through f space) a n access = is_allowed f a n access
 
-abbrev pub refusal : Route → ℕ → ℕ → Fault
+abbrev pub refusal : Route → ℕ → ℕ → AccessFault
 refusal Direct a n = NoHostBytes
 refusal (Through f space) a n = Refused a n (reason f a n)
 

@@ -44,5 +44,5 @@ window_reach w offset n = if nat_lt 0 n && nat_lt offset w.size
     else record { windows = []; fault = Some (OutOfBounds offset) }
 
 -- the buffer after the bytes in these cells came to its front
-abbrev pub filled : List (List ℕ) → List Cell → List ℕ → List ℕ
-filled blocks cells buffer = bytes_at blocks cells ++ drop (length cells) buffer
+abbrev pub filled_buffer : List (List ℕ) → List Cell → List ℕ → List ℕ
+filled_buffer blocks cells buffer = bytes_at blocks cells ++ drop (length cells) buffer

@@ -2,7 +2,7 @@
 -- order.
 use Rattle.std.specs.Prelude.{ℕ, ◌+◌, ◌-◌, ◌==◌, Bool, true, false, if◌then◌else◌, List, [], ◌∷◌, length, Option, Result, Ok, Err}
 use Rattle.vm_memory_base.specs.Pages.{PageSet}
-use Rattle.vm_memory_base.specs.Transfer.{Answer, Next, Sink, tried, with_front, Made, again, whole_of, counted_as, sent, sent_as}
+use Rattle.vm_memory_base.specs.Transfer.{Answer, Next, Sink, tried, over_front, Made, again, whole_of, counted_as, sent, sent_as}
 use Rattle.vm_memory_base.specs.declared.io.VolatileMemoryError.{VolatileMemoryError}
 use Rattle.vm_memory_guest.specs.Copy.{front}
 use Rattle.vm_memory_guest.specs.Dirt.{marks_pages}
@@ -37,7 +37,7 @@ lent w x =
     let host = x.1 in
     let buffer = bytes_at host.blocks (cells_of w) in
     let t = tried (length buffer) x.0 in
-    let blocks = written (cells_of w) (with_front t.bytes buffer) host.blocks in
+    let blocks = written (cells_of w) (over_front t.bytes buffer) host.blocks in
     let marked = front w (marked_of w.size t.answer) in
     record { answer = t.answer; left = (t.left, dirty_window marked (record host { blocks = blocks })) }
 

@@ -13,15 +13,15 @@ abbrev pub change_one : {X : Type 0} → (X → X) → List X → ℕ → Option
 change_one f xs i None = xs
 change_one f xs i (Some x) = slice_set xs i (f x)
 
-abbrev pub changed : {X : Type 0} → (X → X) → List X → ℕ → List X
-changed f xs i = change_one f xs i (slice_get xs i)
+abbrev pub changed_item : {X : Type 0} → (X → X) → List X → ℕ → List X
+changed_item f xs i = change_one f xs i (slice_get xs i)
 
 -- a host whose named bitmap is marked by len bytes from an offset on
 abbrev pub marks_pages : BitmapId → ℕ → ℕ → Host PageSet → Host PageSet
 marks_pages (Block block) offset len host =
-    record host { bitmaps = changed (marked offset len) host.bitmaps block }
+    record host { bitmaps = changed_item (marked offset len) host.bitmaps block }
 marks_pages (Space space) offset len host =
-    record host { spaces = changed (marked offset len) host.spaces space }
+    record host { spaces = changed_item (marked offset len) host.spaces space }
 
 -- the dirt of each byte of a path, one after the other
 abbrev pub dirtied : List Reached → Host PageSet → Host PageSet

@@ -3,12 +3,12 @@ use Rattle.vm_memory_base.specs.declared.io.VolatileMemoryError.{VolatileMemoryE
 use Rattle.vm_memory_base.specs.declared.io.VolatileMemoryError.TheVariants.{OutOfBounds, Overflow, TooBig, Misaligned}
 use Rattle.vm_memory_base.specs.declared.io.VolatileMemoryError.TheVariants as window
 use Rattle.vm_memory_base.specs.declared.iotlb.IommuError.TheVariants.{CannotResolve}
-use Rattle.vm_memory_guest.specs.Access.{Fault, NoRegion, NoHostBytes, Refused}
+use Rattle.vm_memory_guest.specs.Access.{AccessFault, NoRegion, NoHostBytes, Refused}
 use Rattle.vm_memory_guest.specs.declared.region.GuestMemoryError.{GuestMemoryError}
 use Rattle.vm_memory_guest.specs.declared.region.GuestMemoryError.TheVariants.{IOError, InvalidBackendAddress, InvalidGuestAddress, HostAddressNotAvailable, IommuError, PartialBuffer, Memory}
 
 -- the error that a fault is told as
-abbrev pub error_of : Fault → GuestMemoryError
+abbrev pub error_of : AccessFault → GuestMemoryError
 error_of (NoRegion a) = InvalidGuestAddress (record { 0 = a })
 error_of NoHostBytes = HostAddressNotAvailable
 error_of (Refused iova len reason) =

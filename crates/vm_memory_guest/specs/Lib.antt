@@ -18,7 +18,6 @@ pub mod RegionBytes
 pub mod TryAccess
 pub mod Transfer
 pub mod Typed
-pub mod TypedFacts
 pub mod Volatile
 pub mod Walk
 pub mod Window

@@ -7,13 +7,13 @@ use Rattle.vm_memory_guest.specs.Host.{Name}
 use Rattle.vm_memory_guest.specs.Region.{Region, region_names}
 
 -- the table that translates, and the space that writes mark
-pub record Behind : Type 0 where
+pub record Translation : Type 0 where
   pub table : ℕ
   pub space : ℕ
 
 -- an IOMMU: what memory lies behind where it is on, and whether it is
 pub record Switched : Type 0 where
-  pub behind : Behind
+  pub behind : Translation
   pub on : Bool
 
 -- regions, and their IOMMU, if they have one
@@ -22,11 +22,11 @@ pub record Memory : Type 0 where
   pub iommu : Option Switched
 
 -- what a memory lies behind: nothing where its IOMMU is off
-abbrev pub behind_if : Bool → Behind → Option Behind
+abbrev pub behind_if : Bool → Translation → Option Translation
 behind_if false b = None
 behind_if true b = Some b
 
-abbrev pub behind_of : Option Switched → Option Behind
+abbrev pub behind_of : Option Switched → Option Translation
 behind_of None = None
 behind_of (Some s) = behind_if s.on s.behind
 
@@ -43,7 +43,7 @@ abbrev pub says_of : Option Table → Says
 says_of None = says_nothing
 says_of (Some table) = says table
 
-abbrev pub route_behind : Option Behind → List Table → Route
+abbrev pub route_behind : Option Translation → List Table → Route
 route_behind None tables = Direct
 route_behind (Some b) tables = Through (says_of (slice_get tables b.table)) b.space
 

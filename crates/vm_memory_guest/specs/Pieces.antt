@@ -3,22 +3,22 @@ use Rattle.std.specs.Prelude.{ℕ, List, [], ◌∷◌, ◌++◌, Option, Some, 
 use Rattle.vm_memory_base.specs.Address.{step}
 use Rattle.vm_memory_base.specs.declared.bitmap.BitmapId.TheVariants.{Space}
 use Rattle.vm_memory_base.specs.declared.iotlb.lookup.MappedRange.{MappedRange}
-use Rattle.vm_memory_guest.specs.Access.{Fault}
+use Rattle.vm_memory_guest.specs.Access.{AccessFault}
 use Rattle.vm_memory_guest.specs.Answer.{Reach}
 use Rattle.vm_memory_guest.specs.Region.{Region}
 use Rattle.vm_memory_guest.specs.Walk.{walk_of}
 use Rattle.vm_memory_guest.specs.Window.{Window}
 
 -- one walk, and behind it another, unless something stops the first
-abbrev pub unless_stopped : List Window → Option Fault → Reach Fault → Reach Fault
+abbrev pub unless_stopped : List Window → Option AccessFault → Reach AccessFault → Reach AccessFault
 unless_stopped ws None rest = record { windows = ws ++ rest.windows; fault = rest.fault }
 unless_stopped ws (Some fault) rest = record { windows = ws; fault = Some fault }
 
-abbrev pub followed_by : Reach Fault → Reach Fault → Reach Fault
+abbrev pub followed_by : Reach AccessFault → Reach AccessFault → Reach AccessFault
 followed_by first rest = unless_stopped first.windows first.fault rest
 
 -- the walks over pieces, one after the other, up to the first fault
-abbrev pub walk_of_pieces : List Region → List MappedRange → Reach Fault
+abbrev pub walk_of_pieces : List Region → List MappedRange → Reach AccessFault
 walk_of_pieces regions [] = record { windows = []; fault = None }
 walk_of_pieces regions (p ∷ ps) = followed_by (walk_of regions p.base.0 p.length) (walk_of_pieces regions ps)
 
@@ -28,7 +28,7 @@ marking_from space x [] = []
 marking_from space x (w ∷ ws) =
     record w { bitmap = record { id = Space space; base = x } } ∷ marking_from space (step x w.size) ws
 
-abbrev pub marking : ℕ → ℕ → Reach Fault → Reach Fault
+abbrev pub marking : ℕ → ℕ → Reach AccessFault → Reach AccessFault
 marking space x walk = record { windows = marking_from space x walk.windows; fault = walk.fault }
 
 -- what is left of such a walk behind the piece that it goes through: pieces, and the space that it marks, from
@@ -40,6 +40,6 @@ pub record PiecesLeft : Type 0 where
   pub iova : ℕ
 
 -- what a walk has left that goes through one piece alone, or through pieces of which it has these left
-abbrev pub left_of : Reach Fault → Option PiecesLeft → Reach Fault
+abbrev pub left_of : Reach AccessFault → Option PiecesLeft → Reach AccessFault
 left_of walk None = walk
 left_of walk (Some p) = marking p.space p.iova (followed_by walk (walk_of_pieces p.regions p.pieces))

@@ -6,7 +6,7 @@ use Rattle.vm_memory_base.specs.declared.bitmap.BitmapId.TheVariants.{Block}
 use Rattle.vm_memory_base.specs.declared.bitmap.BitmapRef.{BitmapRef}
 use Rattle.vm_memory_guest.specs.Access.{Reached}
 use Rattle.vm_memory_guest.specs.Host.{Cell}
-use Rattle.vm_memory_guest.specs.Region.{Region, last, has_address, home_in, slice_of}
+use Rattle.vm_memory_guest.specs.Region.{Region, last, has_address, containing_in, slice_of}
 use Rattle.vm_memory_guest.specs.declared.region.GuestMemoryError.{GuestMemoryError}
 use Rattle.vm_memory_guest.specs.declared.region.GuestMemoryError.TheVariants.{InvalidGuestAddress, InvalidBackendAddress, HostAddressNotAvailable}
 use Rattle.vm_memory_guest.specs.Window.{Window}
@@ -46,20 +46,20 @@ greatest_last (r ∷ rs) = max (last r) (greatest_last rs)
 module _ {R : Type 0} (region : R → Region) (rs : List R) where
   -- an address, where a region holds it
   abbrev pub address_in : ℕ → Option GuestAddress
-  address_in a = option_map (λ r. record { 0 = a }) (home_in region rs a)
+  address_in a = option_map (λ r. record { 0 = a }) (containing_in region rs a)
 
   -- the address so far above another, where that is an address and a region holds it
   abbrev pub address_above : ℕ → ℕ → Option GuestAddress
   address_above base offset = if nat_lt (base + offset) (2 ^ 64) then address_in (base + offset) else None
 
   -- what the region that holds an address answers at its offset there
-  abbrev pub answer_of : {T : Type 0} → (Region → ℕ → Result T GuestMemoryError) → ℕ → Option R
+  abbrev pub region_answer : {T : Type 0} → (Region → ℕ → Result T GuestMemoryError) → ℕ → Option R
       → Result T GuestMemoryError
-  answer_of ask a None = Err (InvalidGuestAddress (record { 0 = a }))
-  answer_of ask a (Some r) = ask (region r) (a - (region r).start)
+  region_answer ask a None = Err (InvalidGuestAddress (record { 0 = a }))
+  region_answer ask a (Some r) = ask (region r) (a - (region r).start)
 
   abbrev pub host_address_at : ℕ → Result HostAddress GuestMemoryError
-  host_address_at a = answer_of host_address_of a (home_in region rs a)
+  host_address_at a = region_answer host_address_of a (containing_in region rs a)
 
   abbrev pub slice_at : ℕ → ℕ → Result Window GuestMemoryError
-  slice_at a count = answer_of (λ r offset. slice_of r offset count) a (home_in region rs a)
+  slice_at a count = region_answer (λ r offset. slice_of r offset count) a (containing_in region rs a)

@@ -38,32 +38,32 @@ abbrev pub has_address : Region → ℕ → Bool
 has_address r a = is_within r.start r.len a
 
 -- the region that holds an address, among values that mean regions
-abbrev pub home_in : {R : Type 0} → (R → Region) → List R → ℕ → Option R
-home_in region rs a = find (λ r. has_address (region r) a) rs
+abbrev pub containing_in : {R : Type 0} → (R → Region) → List R → ℕ → Option R
+containing_in region rs a = find (λ r. has_address (region r) a) rs
 
 -- the region that holds an address
-abbrev pub home : List Region → ℕ → Option Region
-home regions a = home_in (λ r. r) regions a
+abbrev pub containing_region : List Region → ℕ → Option Region
+containing_region regions a = containing_in (λ r. r) regions a
 
 -- what lies at an address: a byte of a host, in its region; no byte, in a region without any; or no region
 pub data Lies : Type 0 where
-  Byte : (home : Region) (cell : Cell) → Lies
-  Bare : Lies
-  Hole : Lies
+  Backed : (region : Region) (cell : Cell) → Lies
+  Unbacked : Lies
+  Unmapped : Lies
 
 -- at an offset of a region, whose first byte lies there
 abbrev pub lies_from : Region → Option Cell → ℕ → Lies
-lies_from r None offset = Bare
-lies_from r (Some first) offset = Byte r (record { block = first.block; offset = first.offset + offset })
+lies_from r None offset = Unbacked
+lies_from r (Some first) offset = Backed r (record { block = first.block; offset = first.offset + offset })
 
--- at an address, of which this is the home
+-- at an address that this region contains, if one does
 abbrev pub lies_in : Option Region → ℕ → Lies
-lies_in None a = Hole
+lies_in None a = Unmapped
 lies_in (Some r) a = lies_from r r.place (a - r.start)
 
 -- what lies at an address, among regions
 abbrev pub cell : List Region → ℕ → Lies
-cell regions a = lies_in (home regions a) a
+cell regions a = lies_in (containing_region regions a) a
 
 -- regions of the same addresses
 abbrev pub same_region : Region → Region → Bool

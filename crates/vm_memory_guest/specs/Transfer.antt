@@ -7,7 +7,7 @@ use Rattle.vm_memory_guest.specs.Answer.{Reach}
 use Rattle.vm_memory_guest.specs.Copy.{front}
 use Rattle.vm_memory_guest.specs.Host.{Host, bytes_at, written}
 use Rattle.vm_memory_guest.specs.Typed.{answered}
-use Rattle.vm_memory_guest.specs.Window.{Window, cells_of, part, offset_of, subslice_of, MarksWindow}
+use Rattle.vm_memory_guest.specs.Window.{Window, cells_of, part, window_from, subslice_of, MarksWindow}
 
 -- how many bytes of so many that were lent to a source are marked: those that it told, or all after a failure
 abbrev pub marked_of : ℕ → Answer → ℕ
@@ -44,7 +44,7 @@ beside source host = (source, host)
 module _ {S B : Type 0} (source : S → Option (List Next)) (marks : B → ℕ → ℕ → B → Type 0) where
   -- for one try: the window's bytes are then these, and what the try filled, or all of the window after a
   -- failure, is marked at once
-  pub record Lends (w : Window) (old : S × Host B) (answer : Answer) (new : S × Host B) : Type 0 where
+  pub record LendsWindow (w : Window) (old : S × Host B) (answer : Answer) (new : S × Host B) : Type 0 where
     pub bytes : List ℕ
     pub size : length bytes ≡ w.size
     pub tried : ReadsAs (source old.0) (bytes_at old.1.blocks (cells_of w)) answer bytes (source new.0)
@@ -55,7 +55,7 @@ module _ {S B : Type 0} (source : S → Option (List Next)) (marks : B → ℕ �
   pub record LendsRest (w : Window) (old : S × Host B) (answer : Answer) (new : S × Host B) : Type 0 where
     pub count : ℕ
     pub stop : Stop
-    pub tried : WholeOf (λ filled. Again (Lends (part w filled (w.size - filled)))) w.size old count stop new
+    pub tried : WholeOf (λ filled. Again (LendsWindow (part w filled (w.size - filled)))) w.size old count stop new
     pub told : answer ≡ counted_as count stop
 
 module _ {S B : Type 0} (source : S → Option (List Next)) (known : S → Option ℕ) (marks : B → ℕ → ℕ → B → Type 0) where
@@ -71,7 +71,7 @@ module _ {S B : Type 0} (source : S → Option (List Next)) (known : S → Optio
         (record old.1 { blocks = written (cells_of w) bytes old.1.blocks }) new.1
 
   abbrev pub Fills : Moving → Window → S × Host B → Answer → S × Host B → Type 0
-  Fills Once w old answer new = Again (Lends source marks w) old answer new
+  Fills Once w old answer new = Again (LendsWindow source marks w) old answer new
   Fills UntilWhole w old answer new = LendsRest source marks w old answer new
   Fills Alone w old answer new = LendsWhole w old answer new
 
@@ -139,7 +139,7 @@ module _ {E : Type 0} where
 
 -- what a transfer of at most n bytes takes of a window from an offset on, and one of all n bytes
 abbrev pub cut_of : Window → ℕ → ℕ → Reach VolatileMemoryError
-cut_of w offset n = only (answered (λ v. front v (min n v.size)) (offset_of w offset))
+cut_of w offset n = only (answered (λ v. front v (min n v.size)) (window_from w offset))
 
 abbrev pub exact_of : Window → ℕ → ℕ → Reach VolatileMemoryError
 exact_of w offset n = only (subslice_of w offset n)

@@ -5,7 +5,7 @@ use Rattle.std.specs.Fn.{Mut, Called}
 use denote.Ref.{Bor}
 use Rattle.vm_memory_base.specs.Address.{step}
 use Rattle.vm_memory_base.specs.declared.address.MemoryRegionAddress.{MemoryRegionAddress}
-use Rattle.vm_memory_guest.specs.Region.{Region, home_in}
+use Rattle.vm_memory_guest.specs.Region.{Region, containing_in}
 use Rattle.vm_memory_guest.specs.declared.region.GuestMemoryError.{GuestMemoryError}
 use Rattle.vm_memory_guest.specs.declared.region.GuestMemoryError.TheVariants.{InvalidGuestAddress, CallbackOutOfRange, GuestAddressOverflow}
 
@@ -18,21 +18,21 @@ pub record CallsAt {F R : Type 0}
   pub called : Called call f (total, (len, (record { 0 = offset }, (shown, tt)))) given g
 
 -- what follows what the callback answered: an answer, or a call for what lies behind
-pub data Next : Type 0 where
-  Ends : (answer : Result ℕ GuestMemoryError) → Next
-  GoesOn : Next
+pub data AfterCall : Type 0 where
+  Ends : (answer : Result ℕ GuestMemoryError) → AfterCall
+  GoesOn : AfterCall
 
 -- after it was called at the address a, where total of count bytes were handled before
-abbrev pub next : ℕ → ℕ → ℕ → Result ℕ GuestMemoryError → Next
-next count total a (Err e) = Ends (Err e)
-next count total a (Ok n) = if n == 0 then Ends (Ok total)
+abbrev pub after_call : ℕ → ℕ → ℕ → Result ℕ GuestMemoryError → AfterCall
+after_call count total a (Err e) = Ends (Err e)
+after_call count total a (Ok n) = if n == 0 then Ends (Ok total)
     else (if nat_lt count (total + n) then Ends (Err CallbackOutOfRange)
     else (if total + n == count then Ends (Ok count)
     else (if nat_lt (2 ^ 64) (a + n) then Ends (Err GuestAddressOverflow) else GoesOn)))
 
 -- the answer at an address in no region
-abbrev pub ended : ℕ → ℕ → Result ℕ GuestMemoryError
-ended start total = if total == 0 then Err (InvalidGuestAddress (record { 0 = start })) else Ok total
+abbrev pub answer_at_unmapped : ℕ → ℕ → Result ℕ GuestMemoryError
+answer_at_unmapped start total = if total == 0 then Err (InvalidGuestAddress (record { 0 = start })) else Ok total
 
 module _ {R F : Type 0} (region : R → Region) (rs : List R)
     (Calls : F → ℕ → ℕ → ℕ → R → Result ℕ GuestMemoryError → F → Type 0) (start count : ℕ) where
@@ -44,10 +44,11 @@ module _ {R F : Type 0} (region : R → Region) (rs : List R)
 
   -- from the callback f, with total bytes handled, an access at a may answer so and leave the callback g
   pub data TryAccess : F → ℕ → ℕ → Result ℕ GuestMemoryError → F → Type 0 where
-    Nowhere : {f : F} {total a : ℕ} → home_in region rs a ≡ None → TryAccess f total a (ended start total) f
+    Nowhere : {f : F} {total a : ℕ} → containing_in region rs a ≡ None
+        → TryAccess f total a (answer_at_unmapped start total) f
     Last : {f g : F} {total a : ℕ} {answer : Result ℕ GuestMemoryError} (r : R)
-        (given : Result ℕ GuestMemoryError) → home_in region rs a ≡ Some r → CallsIn f total a r given g
-        → next count total a given ≡ Ends answer → TryAccess f total a answer g
+        (given : Result ℕ GuestMemoryError) → containing_in region rs a ≡ Some r → CallsIn f total a r given g
+        → after_call count total a given ≡ Ends answer → TryAccess f total a answer g
     More : {f g h : F} {total a : ℕ} {answer : Result ℕ GuestMemoryError} (r : R) (n : ℕ)
-        → home_in region rs a ≡ Some r → CallsIn f total a r (Ok n) g → next count total a (Ok n) ≡ GoesOn
+        → containing_in region rs a ≡ Some r → CallsIn f total a r (Ok n) g → after_call count total a (Ok n) ≡ GoesOn
         → TryAccess g (total + n) (step a n) answer h → TryAccess f total a answer h

@@ -2,7 +2,7 @@
 use Rattle.std.specs.Prelude.{◌≡◌, ℕ, true, false, List, [], ◌∷◌, ◌++◌, map, Option, Some, None, Result, Ok, Err}
 use Rattle.vm_memory_base.specs.Table.{Table}
 use Rattle.vm_memory_base.specs.declared.iotlb.Permissions.{Permissions}
-use Rattle.vm_memory_guest.specs.Access.{Fault, Access, windows, path, first_fault, meets, access_of, allowed, refusal}
+use Rattle.vm_memory_guest.specs.Access.{AccessFault, Access, windows, path, first_fault, meets, access_of, allowed, refusal}
 use Rattle.vm_memory_guest.specs.Answer.{Reach}
 use Rattle.vm_memory_guest.specs.Error.{error_of}
 use Rattle.vm_memory_guest.specs.Memory.{Memory, IsOn, Direct, route}
@@ -12,19 +12,19 @@ use Rattle.vm_memory_guest.specs.declared.region.GuestMemoryError.{GuestMemoryEr
 use Rattle.vm_memory_guest.specs.declared.region.GuestMemoryError.TheVariants as errors
 
 -- the windows of an access, and what stops it
-abbrev pub reach_of : Access → Reach Fault
+abbrev pub reach_of : Access → Reach AccessFault
 reach_of access = record { windows = windows access.path; fault = access.fault }
 
 -- what a walk gives that has these windows left: them in order, and then the error, if something stops it
-abbrev pub error_item : Option Fault → List (Result Window GuestMemoryError)
+abbrev pub error_item : Option AccessFault → List (Result Window GuestMemoryError)
 error_item None = []
 error_item (Some fault) = Err (error_of fault) ∷ []
 
-abbrev pub items_of : Reach Fault → List (Result Window GuestMemoryError)
+abbrev pub items_of : Reach AccessFault → List (Result Window GuestMemoryError)
 items_of walk = map (λ w. Ok w) walk.windows ++ error_item walk.fault
 
 -- the windows alone: its error is the answer where it comes first, and else is not told
-abbrev pub windows_before : List Window → Option Fault → Result (List Window) GuestMemoryError
+abbrev pub windows_before : List Window → Option AccessFault → Result (List Window) GuestMemoryError
 windows_before [] (Some fault) = Err (error_of fault)
 windows_before ws fault = Ok ws
 
@@ -34,18 +34,18 @@ windows_from None ws = []
 windows_from (Some w) ws = w ∷ ws
 
 -- the walk over n bytes from a on, without translation
-abbrev pub walk_of : List Region → ℕ → ℕ → Reach Fault
+abbrev pub walk_of : List Region → ℕ → ℕ → Reach AccessFault
 walk_of regions a n = reach_of (record {
   path = path (meets regions Direct a) 0 n;
   fault = first_fault (meets regions Direct a) 0 n;
 })
 
 -- what an access of a memory reaches
-abbrev pub reached : Memory → List Table → ℕ → ℕ → Permissions → Reach Fault
+abbrev pub reached : Memory → List Table → ℕ → ℕ → Permissions → Reach AccessFault
 reached memory tables a n access = reach_of (access_of memory.regions (route memory tables) a n access)
 
 -- an access is allowed, and this is its walk
-abbrev pub GivesAccess : Memory → List Table → ℕ → ℕ → Permissions → Reach Fault → Type 0
+abbrev pub GivesAccess : Memory → List Table → ℕ → ℕ → Permissions → Reach AccessFault → Type 0
 GivesAccess memory tables a n access walk =
     (allowed (route memory tables) a n access ≡ true) × (walk ≡ reached memory tables a n access)
 

@@ -54,8 +54,8 @@ subslice_of w offset count = if nat_lt (offset + count) (2 ^ 64)
 
 -- the bytes of a window from count on: refused where their place in the block is no number of 64 bits, or
 -- passes the window's end
-abbrev pub offset_of : Window → ℕ → Result Window VolatileMemoryError
-offset_of w count = if nat_lt (w.offset + count) (2 ^ 64)
+abbrev pub window_from : Window → ℕ → Result Window VolatileMemoryError
+window_from w count = if nat_lt (w.offset + count) (2 ^ 64)
     then (if nat_le count w.size then Ok (part w count (w.size - count)) else Err (OutOfBounds (w.offset + count)))
     else Err (Overflow w.offset count)
 

@@ -3,8 +3,8 @@
 ghost use Rattle.std.specs.Prelude.{◌≡◌, ℕ, ◌<◌, List, [], length, take, true, Some, Err, All};
 ghost use Rattle.vm_memory_base.specs.Pages.{PageSet};
 ghost use Rattle.vm_memory_base.specs.declared.iotlb.Permissions.{Permissions};
-ghost use Rattle.vm_memory_guest.specs.Access.{Fault, Stops, access_of, allowed, meets, windows};
-ghost use Rattle.vm_memory_guest.specs.Answer.{counted, filled};
+ghost use Rattle.vm_memory_guest.specs.Access.{AccessFault, Stops, access_of, allowed, meets, windows};
+ghost use Rattle.vm_memory_guest.specs.Answer.{counted, filled_buffer};
 ghost use Rattle.vm_memory_guest.specs.Dirt.{after_write, path_cells, with_pages};
 ghost use Rattle.vm_memory_guest.specs.Host.{Host, bytes_at};
 ghost use Rattle.vm_memory_guest.specs.Memory.{Route};
@@ -23,7 +23,7 @@ pub fn accesses_are_by_bytes<B: ExactBitmap>()
     ensures reads { (regions : List Region) (route : Route) (a n : ℕ) (access : Permissions)
         (blocks : List (List ℕ)) (buffer : List ℕ) → All IsRegion regions
         → let xs = (access_of regions route a n access).path in
-        take (length xs) (filled blocks (cells (windows xs)) buffer) ≡ bytes_at blocks (path_cells xs) }
+        take (length xs) (filled_buffer blocks (cells (windows xs)) buffer) ≡ bytes_at blocks (path_cells xs) }
     ensures writes { (regions : List Region) (route : Route) (a n : ℕ) (access : Permissions)
         (bytes : List ℕ) (old new : Host B) → All IsRegion regions
         → let xs = (access_of regions route a n access).path in Writes B.marks (windows xs) bytes old new
@@ -36,7 +36,7 @@ pub fn accesses_are_by_bytes<B: ExactBitmap>()
 /// What keeps an allowed access from going on is what its first byte that it does not reach meets. One that
 /// reaches no byte leaves everything, and answers what stopped it.
 pub fn accesses_stop_at_the_first_fault<E>()
-    ensures first { (regions : List Region) (route : Route) (a n : ℕ) (access : Permissions) (fault : Fault)
+    ensures first { (regions : List Region) (route : Route) (a n : ℕ) (access : Permissions) (fault : AccessFault)
         → allowed route a n access ≡ true → (access_of regions route a n access).fault ≡ Some fault
         → meets regions route a (length (access_of regions route a n access).path) ≡ Stops fault }
     ensures unchanged { (bytes : List ℕ) (host : Host PageSet) → after_write [] bytes host ≡ host }

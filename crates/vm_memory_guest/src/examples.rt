@@ -9,11 +9,11 @@ ghost use Rattle.vm_memory_base.specs.declared.io.VolatileMemoryError.TheVariant
 ghost use Rattle.vm_memory_base.specs.declared.iotlb.Permissions.TheVariants.{Read, Write, ReadWrite};
 ghost use Rattle.vm_memory_base.specs.declared.iotlb.Reason.TheVariants.{MissingMapping, AccessNotAllowed};
 ghost use Rattle.vm_memory_guest.specs.Access.{access_of, windows, NoRegion, NoHostBytes, Refused};
-ghost use Rattle.vm_memory_guest.specs.Answer.{told, counted, exactly, filled, window_reach};
+ghost use Rattle.vm_memory_guest.specs.Answer.{told, counted, exactly, filled_buffer, window_reach};
 ghost use Rattle.vm_memory_guest.specs.Dirt.{after_write, bytes_read, path_cells};
 ghost use Rattle.vm_memory_guest.specs.Error.{error_of};
-ghost use Rattle.vm_memory_guest.specs.examples.Fixtures.{address_of, answer_of, exact_answer_of, cannot_resolve};
-ghost use Rattle.vm_memory_guest.specs.examples.Fixtures.{backed_region, bare_region, one_region};
+ghost use Rattle.vm_memory_guest.specs.examples.Fixtures.{address_of, counted_access, exact_access, cannot_resolve};
+ghost use Rattle.vm_memory_guest.specs.examples.Fixtures.{backed_region, unbacked_region, one_region};
 ghost use Rattle.vm_memory_guest.specs.examples.Fixtures.{cell_of, block_window, window_marking};
 ghost use Rattle.vm_memory_guest.specs.examples.Fixtures.{host_of, one_block_shape, zeros};
 ghost use Rattle.vm_memory_guest.specs.examples.Fixtures.{clean_pages, MarksExactly};
@@ -26,7 +26,7 @@ ghost use Rattle.vm_memory_guest.specs.Layout.{inserted, removed, binary_digits}
 ghost use Rattle.vm_memory_guest.specs.Memory.{Direct, Through, memory_names, route};
 ghost use Rattle.vm_memory_guest.specs.Pieces.{marking, walk_of_pieces};
 ghost use Rattle.vm_memory_guest.specs.Ranges.{HasBlocks, range_error, range_regions};
-ghost use Rattle.vm_memory_guest.specs.Region.{home, last, layout_error, slice_of, IsRegion};
+ghost use Rattle.vm_memory_guest.specs.Region.{containing_region, last, layout_error, slice_of, IsRegion};
 ghost use Rattle.vm_memory_guest.specs.Walk.{items_of, reach_of, walk_of, GivesAccess, RefusesAccess};
 ghost use Rattle.vm_memory_guest.specs.Window.{cells, span, subslice_of, window_names, Writes};
 ghost use Rattle.vm_memory_guest.specs.declared.mmap.FromRangesError.TheVariants.{MmapRegion, InvalidGuestRegion};
@@ -56,7 +56,7 @@ pub fn what_a_host_holds()
     ensures window { Holds one_block_shape (window_names (window_marking 0 1 3 (Space 0) 20)) }
     ensures window_without_its_space { let window = window_marking 0 1 3 (Space 1) 20 in
         Holds one_block_shape (window_names window) → ⊥ }
-    ensures names { memory_names (memory_without_iommu (backed_region 100 4 0 2 ∷ bare_region 200 4 ∷ []))
+    ensures names { memory_names (memory_without_iommu (backed_region 100 4 0 2 ∷ unbacked_region 200 4 ∷ []))
         ≡ Place 0 2 4 ∷ [] }
     ensures names_of_an_iommu_that_is_off { memory_names (memory_switched false (backed_region 100 4 0 2 ∷ []) 3 5)
         ≡ Place 0 2 4 ∷ Tlb 3 ∷ names.Space 5 ∷ [] }
@@ -77,11 +77,11 @@ pub fn windows_of_a_block()
     ensures empty_access_past_the_end { let reached = window_reach (block_window 0 1 3) 9 0 in
         counted (span reached.windows) reached.fault 0 ≡ Ok 0 }
     ensures buffer { let reached = window_reach (block_window 0 1 3) 1 4 in
-        filled ((5 ∷ 6 ∷ 7 ∷ 8 ∷ []) ∷ []) (cells reached.windows) (0 ∷ 0 ∷ 0 ∷ 9 ∷ [])
+        filled_buffer ((5 ∷ 6 ∷ 7 ∷ 8 ∷ []) ∷ []) (cells reached.windows) (0 ∷ 0 ∷ 0 ∷ 9 ∷ [])
         ≡ 7 ∷ 8 ∷ 0 ∷ 9 ∷ [] }
     ensures of_a_region { slice_of (backed_region 100 4 0 2) 1 3 ≡ Ok (block_window 0 3 3) }
     ensures past_a_region { slice_of (backed_region 100 4 0 2) 2 3 ≡ Err InvalidBackendAddress }
-    ensures no_host_bytes { slice_of (bare_region 100 4) 0 1 ≡ Err HostAddressNotAvailable }
+    ensures no_host_bytes { slice_of (unbacked_region 100 4) 0 1 ≡ Err HostAddressNotAvailable }
     ensures write_to_two { let clean = clean_pages 4 1 in
         let before = host_of (zeros 4 ∷ zeros 4 ∷ []) (clean ∷ clean ∷ []) (clean_pages 16 2 ∷ []) [] in
         let both = block_window 0 3 1 ∷ window_marking 1 0 2 (Space 0) 20 ∷ [] in
@@ -107,8 +107,8 @@ pub fn layouts_of_regions()
     ensures touching { layout_error touching_regions ≡ None }
     ensures first_of_two { layout_error (two_regions 4 4 ++ backed_region 0 4 2 0 ∷ [])
         ≡ Some MemoryRegionOverlap }
-    ensures found { home touching_regions 4 ≡ Some (backed_region 4 4 1 0) }
-    ensures not_found { home touching_regions 8 ≡ None }
+    ensures found { containing_region touching_regions 4 ≡ Some (backed_region 4 4 1 0) }
+    ensures not_found { containing_region touching_regions 8 ≡ None }
     ensures put_behind { inserted (λ r. r) (two_regions 0 8) (backed_region 0 2 2 0)
         ≡ backed_region 0 4 0 0 ∷ backed_region 0 2 2 0 ∷ backed_region 8 4 1 0 ∷ [] }
     ensures taken { removed (λ r. r) (two_regions 0 8) 8 4
@@ -139,8 +139,8 @@ pub fn accesses_of_regions()
     ensures over_two_regions { let reached = access_of touching_regions Direct 3 3 Write in
         (path_cells reached.path ≡ cell_of 0 3 ∷ cell_of 1 0 ∷ cell_of 1 1 ∷ [])
         × (windows reached.path ≡ block_window 0 3 1 ∷ block_window 1 0 2 ∷ [])
-        × (answer_of reached 3 ≡ Ok 3)
-        × (exact_answer_of reached 3 ≡ Ok tt) }
+        × (counted_access reached 3 ≡ Ok 3)
+        × (exact_access reached 3 ≡ Ok tt) }
     ensures left_in_two_regions { let reached = access_of touching_regions Direct 3 3 Write in
         let before = host_of (zeros 4 ∷ zeros 4 ∷ []) (clean_pages 4 1 ∷ clean_pages 4 1 ∷ []) [] [] in
         after_write reached.path (1 ∷ 2 ∷ 3 ∷ []) before ≡ record before {
@@ -149,8 +149,8 @@ pub fn accesses_of_regions()
         } }
     ensures into_a_hole { let reached = access_of regions_with_hole Direct 2 4 Write in
         (windows reached.path ≡ block_window 0 2 2 ∷ [])
-        × (answer_of reached 4 ≡ Ok 2)
-        × (exact_answer_of reached 4 ≡ Err (PartialBuffer 4 2))
+        × (counted_access reached 4 ≡ Ok 2)
+        × (exact_access reached 4 ≡ Err (PartialBuffer 4 2))
         × (reached.fault ≡ Some (NoRegion 4)) }
     ensures left_before_a_hole { let reached = access_of regions_with_hole Direct 2 4 Write in
         let before = host_of (zeros 4 ∷ zeros 4 ∷ []) (clean_pages 2 2 ∷ clean_pages 2 2 ∷ []) [] [] in
@@ -159,19 +159,19 @@ pub fn accesses_of_regions()
           bitmaps = pages_with 2 (false ∷ true ∷ []) ∷ clean_pages 2 2 ∷ [];
         } }
     ensures from_a_hole { let reached = access_of regions_with_hole Direct 4 1 Write in
-        (answer_of reached 1 ≡ Err (NoRegion 4))
-        × (exact_answer_of reached 1 ≡ Err (InvalidGuestAddress (address_of 4))) }
+        (counted_access reached 1 ≡ Err (NoRegion 4))
+        × (exact_access reached 1 ≡ Err (InvalidGuestAddress (address_of 4))) }
     ensures over_a_hole { let reached = access_of regions_with_hole Direct 2 8 Read in
         path_cells reached.path ≡ cell_of 0 2 ∷ cell_of 0 3 ∷ [] }
     ensures empty_in_a_hole { let reached = access_of regions_with_hole Direct 4 0 Write in
         (windows reached.path ≡ [])
-        × (answer_of reached 0 ≡ Ok 0)
-        × (exact_answer_of reached 0 ≡ Ok tt) }
+        × (counted_access reached 0 ≡ Ok 0)
+        × (exact_access reached 0 ≡ Ok tt) }
     ensures over_the_greatest { let regions = two_regions 0 (2 ^ 64 - 4) in
         let reached = access_of regions Direct (2 ^ 64 - 1) 2 Read in
         let host = host_of (numbers 1 4 ∷ numbers 5 4 ∷ []) (None ∷ None ∷ []) [] [] in
         (windows reached.path ≡ block_window 1 3 1 ∷ block_window 0 0 1 ∷ [])
-        × (answer_of reached 2 ≡ Ok 2)
+        × (counted_access reached 2 ≡ Ok 2)
         × (bytes_read reached.path host ≡ 8 ∷ 1 ∷ []) }
     ensures hole_at_0 { let regions = backed_region (2 ^ 64 - 4) 4 1 0 ∷ [] in
         let reached = access_of regions Direct (2 ^ 64 - 1) 2 Read in
@@ -180,20 +180,20 @@ pub fn accesses_of_regions()
         let reached = access_of regions Direct 0 5 Write in
         let before = host_of (zeros 4 ∷ []) (clean_pages 4 1 ∷ []) [] [] in
         (windows reached.path ≡ block_window 0 0 4 ∷ block_window 0 0 1 ∷ [])
-        × (answer_of reached 5 ≡ Ok 5)
+        × (counted_access reached 5 ≡ Ok 5)
         × (after_write reached.path (1 ∷ 1 ∷ 1 ∷ 1 ∷ 9 ∷ []) before ≡ record before {
           blocks = (9 ∷ 1 ∷ 1 ∷ 1 ∷ []) ∷ [];
           bitmaps = pages_with 4 (true ∷ []) ∷ [];
         }) }
-    ensures into_no_host_bytes { let regions = backed_region 0 4 0 0 ∷ bare_region 4 4 ∷ [] in
+    ensures into_no_host_bytes { let regions = backed_region 0 4 0 0 ∷ unbacked_region 4 4 ∷ [] in
         let reached = access_of regions Direct 2 4 Read in
         (windows reached.path ≡ block_window 0 2 2 ∷ [])
-        × (answer_of reached 4 ≡ Ok 2)
+        × (counted_access reached 4 ≡ Ok 2)
         × (reached.fault ≡ Some NoHostBytes)
-        × (exact_answer_of reached 4 ≡ Err (PartialBuffer 4 2)) }
-    ensures from_no_host_bytes { let regions = backed_region 0 4 0 0 ∷ bare_region 4 4 ∷ [] in
+        × (exact_access reached 4 ≡ Err (PartialBuffer 4 2)) }
+    ensures from_no_host_bytes { let regions = backed_region 0 4 0 0 ∷ unbacked_region 4 4 ∷ [] in
         let reached = access_of regions Direct 4 1 Read in
-        (answer_of reached 1 ≡ Err NoHostBytes)
+        (counted_access reached 1 ≡ Err NoHostBytes)
         × (option_map error_of reached.fault ≡ Some HostAddressNotAvailable) }
 {}
 
@@ -206,35 +206,35 @@ pub fn accesses_through_an_iommu()
         let reached = access_of (one_region 8) (Through says 0) 3 2 Write in
         let host = host_of (numbers 1 8 ∷ []) (clean_pages 4 2 ∷ []) (clean_pages 4 2 ∷ []) [] in
         (reached.path ≡ [])
-        × (answer_of reached 2 ≡ Err (Refused 3 2 AccessNotAllowed))
-        × (exact_answer_of reached 2 ≡ Err (cannot_resolve 3 2 AccessNotAllowed))
+        × (counted_access reached 2 ≡ Err (Refused 3 2 AccessNotAllowed))
+        × (exact_access reached 2 ≡ Err (cannot_resolve 3 2 AccessNotAllowed))
         × (option_map error_of reached.fault ≡ Some (cannot_resolve 3 2 AccessNotAllowed))
         × (after_write reached.path (9 ∷ 9 ∷ []) host ≡ host) }
     ensures two_permissions { let says = new_table_after (Set 0 0 4 ReadWrite ∷ Set 4 4 4 Read ∷ []) in
         let reached = access_of (one_region 8) (Through says 0) 3 2 Read in
         let host = host_of (numbers 1 8 ∷ []) (clean_pages 4 2 ∷ []) (clean_pages 4 2 ∷ []) [] in
         (windows reached.path ≡ window_marking 0 3 1 (Space 0) 3 ∷ window_marking 0 4 1 (Space 0) 4 ∷ [])
-        × (answer_of reached 2 ≡ Ok 2)
+        × (counted_access reached 2 ≡ Ok 2)
         × (bytes_read reached.path host ≡ 4 ∷ 5 ∷ []) }
     ensures not_mapped { let reached = access_of (one_region 8) (Through says_nothing 0) 2 1 Read in
         (reached.path ≡ [])
-        × (answer_of reached 1 ≡ Err (Refused 2 1 MissingMapping)) }
+        × (counted_access reached 1 ≡ Err (Refused 2 1 MissingMapping)) }
     ensures mapped_in_part { let says = new_table_after (Set 0 0 4 ReadWrite ∷ []) in
         let reached = access_of (one_region 8) (Through says 0) 3 2 Read in
-        answer_of reached 2 ≡ Err (Refused 3 2 MissingMapping) }
+        counted_access reached 2 ≡ Err (Refused 3 2 MissingMapping) }
     ensures greatest_address { let says = new_table_after (Set (2 ^ 64 - 1) 0 1 ReadWrite ∷ []) in
         let reached = access_of (one_region 8) (Through says 0) (2 ^ 64 - 1) 1 Read in
-        answer_of reached 1 ≡ Err (Refused (2 ^ 64 - 1) 1 MissingMapping) }
+        counted_access reached 1 ≡ Err (Refused (2 ^ 64 - 1) 1 MissingMapping) }
     ensures empty { let reached = access_of (one_region 8) (Through says_nothing 0) 2 0 Read in
-        answer_of reached 0 ≡ Ok 0 }
+        counted_access reached 0 ≡ Ok 0 }
     ensures to_a_hole { let says = new_table_after (Set 20 6 4 Read ∷ []) in
         let reached = access_of (one_region 8) (Through says 0) 20 4 Read in
-        (answer_of reached 4 ≡ Ok 2)
+        (counted_access reached 4 ≡ Ok 2)
         × (reached.fault ≡ Some (NoRegion 8)) }
     ensures over_the_greatest { let says = new_table_after (Set 20 (2 ^ 64 - 2) 4 Read ∷ []) in
         let reached = access_of (two_regions 0 (2 ^ 64 - 4)) (Through says 0) 20 4 Read in
         (windows reached.path ≡ window_marking 1 2 2 (Space 0) 20 ∷ window_marking 0 0 2 (Space 0) 22 ∷ [])
-        × (answer_of reached 4 ≡ Ok 4) }
+        × (counted_access reached 4 ≡ Ok 4) }
     ensures marks_the_space { let memory = memory_with_iommu (one_region 8) 0 0 in
         let tables = table_of (run_of 20 4 (2 ^ 64 - 20) ReadWrite ∷ []) ∷ [] in
         let reached = access_of memory.regions (route memory tables) 20 1 Write in
@@ -295,7 +295,7 @@ pub fn windows_and_walks()
         let blocks = numbers 1 4 ∷ numbers 5 4 ∷ [] in
         (counted (span reached.windows) reached.fault 4 ≡ Ok 2)
         × (exactly PartialBuffer (span reached.windows) reached.fault 4 ≡ Err (PartialBuffer 4 2))
-        × (filled blocks (cells reached.windows) (9 ∷ 9 ∷ 9 ∷ 9 ∷ []) ≡ 3 ∷ 4 ∷ 9 ∷ 9 ∷ []) }
+        × (filled_buffer blocks (cells reached.windows) (9 ∷ 9 ∷ 9 ∷ 9 ∷ []) ≡ 3 ∷ 4 ∷ 9 ∷ 9 ∷ []) }
     ensures refused { let memory = memory_with_iommu (one_region 8) 0 0 in
         let tables = table_of (run_of 0 4 0 ReadWrite ∷ run_of 4 4 0 Read ∷ []) ∷ [] in
         RefusesAccess memory tables 3 2 Write (cannot_resolve 3 2 AccessNotAllowed) }

@@ -116,7 +116,7 @@ impl MmapRegion {
 /// The bytes of the block, writes to which mark the block's bitmap.
 impl VolatileMemory for MmapRegion {
     ghost use Rattle.vm_memory_guest.specs.Mmap.{whole_window};
-    ghost use Rattle.vm_memory_guest.specs.TypedFacts.{subslice-sized, subslice-whole};
+    ghost use Rattle.vm_memory_guest.specs.lemmas.TypedFacts.{subslice-sized, subslice-whole};
     ghost use Rattle.vm_memory_guest.specs.Window.{subslice_of};
 
     ghost size = { λ r. r.size };

@@ -10,7 +10,7 @@ ghost use Rattle.vm_memory_guest.specs.Host.{Cell, Shape, Space, Holds};
 ghost use Rattle.vm_memory_guest.specs.Memory.{Route, Direct, Through};
 ghost use Rattle.vm_memory_guest.specs.Pieces.{marking, walk_of_pieces};
 ghost use Rattle.vm_memory_guest.specs.Queries.{is_whole};
-ghost use Rattle.vm_memory_guest.specs.Region.{Region, IsRegion, IsLayout, home, region_names, window_at};
+ghost use Rattle.vm_memory_guest.specs.Region.{Region, IsRegion, IsLayout, containing_region, region_names, window_at};
 ghost use Rattle.vm_memory_guest.specs.Walk.{reach_of};
 ghost use Rattle.vm_memory_guest.specs.Window.{cells, window_names};
 
@@ -26,7 +26,7 @@ pub fn windows_are_the_path()
     ensures marks { (regions : List Region) (route : Route) (a n : ℕ) → All IsRegion regions
         → let xs = path (meets regions route a) 0 n in flat_map window_marks (windows xs) ≡ path_marks xs }
     ensures one { (regions : List Region) (a n : ℕ) (r : Region) (first : Cell) → IsLayout regions
-        → home regions a ≡ Some r → r.place ≡ Some first → IsRegion r → 0 < n → a - r.start + n ≤ r.len
+        → containing_region regions a ≡ Some r → r.place ≡ Some first → IsRegion r → 0 < n → a - r.start + n ≤ r.len
         → windows (path (meets regions Direct a) 0 n) ≡ window_at first (a - r.start) n ∷ [] }
     ensures held { (shape : Shape) (regions : List Region) (a n : ℕ) → All IsRegion regions
         → Holds shape (flat_map region_names regions)

@@ -3,7 +3,7 @@
 ghost use Rattle.std.specs.Prelude.{◌≡◌, ◌-◌, ◌^◌, [], ◌∷◌, ◌++◌, true, false, Some, None, Ok, Err};
 ghost use Rattle.vm_memory_base.specs.declared.iotlb.Permissions.TheVariants.{Read, Write};
 ghost use Rattle.vm_memory_guest.specs.Access.{NoRegion, access_of};
-ghost use Rattle.vm_memory_guest.specs.examples.Fixtures.{address_of, backed_region, bare_region, block_window, one_region};
+ghost use Rattle.vm_memory_guest.specs.examples.Fixtures.{address_of, backed_region, unbacked_region, block_window, one_region};
 ghost use Rattle.vm_memory_guest.specs.examples.Fixtures.{regions_with_hole, run_of, table_of, memory_with_iommu};
 ghost use Rattle.vm_memory_guest.specs.examples.Fixtures.{itself, AnswersLength, AnswersNumber, CalledWithNothing};
 ghost use Rattle.vm_memory_guest.specs.Memory.{Direct, route};
@@ -29,7 +29,7 @@ pub fn addresses_that_are_asked()
     ensures of_the_last { offset_of (backed_region 100 4 0 2) 103 ≡ Some (record { 0 = 3 }) }
     ensures of_the_next { offset_of (backed_region 100 4 0 2) 104 ≡ None }
     ensures below { offset_of (backed_region 100 4 0 2) 99 ≡ None }
-    ensures no_host_bytes { host_address_of (bare_region 100 4) 9 ≡ Err HostAddressNotAvailable }
+    ensures no_host_bytes { host_address_of (unbacked_region 100 4) 9 ≡ Err HostAddressNotAvailable }
     ensures over_the_hole { address_above itself regions_with_hole 3 5 ≡ Some (address_of 8) }
     ensures into_the_hole { address_above itself regions_with_hole 3 4 ≡ None }
     ensures past_all { address_above itself (one_region 4) 3 (2 ^ 64 - 3) ≡ None }
@@ -47,7 +47,7 @@ pub fn ranges_and_regions()
     ensures into_a_hole { is_whole (access_of regions_with_hole Direct 1 4 Read).path 4 ≡ false }
     ensures over_a_hole { is_whole (access_of regions_with_hole Direct 2 8 Read).path 8 ≡ false }
     ensures empty_in_a_hole { is_whole (access_of regions_with_hole Direct 4 0 Read).path 0 ≡ true }
-    ensures bare { is_whole (access_of (one_region 4 ++ bare_region 4 4 ∷ []) Direct 2 4 Read).path 4 ≡ false }
+    ensures bare { is_whole (access_of (one_region 4 ++ unbacked_region 4 4 ∷ []) Direct 2 4 Read).path 4 ≡ false }
     ensures not_mapped { let t = table_of (run_of 16 2 (2 ^ 64 - 16) Read ∷ []) in
         let way = route (memory_with_iommu (one_region 4) 0 0) (t ∷ []) in
         is_whole (access_of (one_region 4) way 16 3 Read).path 3 ≡ false }
@@ -59,7 +59,7 @@ pub fn ranges_and_regions()
         ≡ Ok (block_window 0 2 2 ∷ []) }
     ensures in_part { (region_reach (backed_region 100 4 0 2) 3 2).windows ≡ block_window 0 5 1 ∷ [] }
     ensures past_the_end { (region_reach (backed_region 100 4 0 2) 4 1).fault ≡ Some InvalidBackendAddress }
-    ensures no_host_bytes { (region_reach (bare_region 100 4) 0 1).fault ≡ Some HostAddressNotAvailable }
+    ensures no_host_bytes { (region_reach (unbacked_region 100 4) 0 1).fault ≡ Some HostAddressNotAvailable }
     ensures misaligned { region_place (backed_region 100 4 0 2) 1 2 ≡ Err InvalidBackendAddress }
 {}
 

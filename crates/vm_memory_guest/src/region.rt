@@ -8,7 +8,7 @@ ghost use Rattle.std.specs.declared.sync.Arc.{Arc};
 ghost use Rattle.vm_memory_guest.specs.Collection.{regions_of};
 ghost use Rattle.vm_memory_guest.specs.Host.{Holds};
 ghost use Rattle.vm_memory_guest.specs.Layout.{inserted, removed, binary_digits, IsFault};
-ghost use Rattle.vm_memory_guest.specs.Region.{Region, IsRegion, last, home_in, region_names, slice_of};
+ghost use Rattle.vm_memory_guest.specs.Region.{Region, IsRegion, last, containing_in, region_names, slice_of};
 ghost use Rattle.vm_memory_guest.specs.Queries.{bitmap_from, offset_in, offset_of, host_address_of};
 ghost use Rattle.vm_memory_guest.specs.Region.{IsLayout, neighbours_of, layout_error, fault_of};
 
@@ -348,7 +348,7 @@ impl<R: GuestMemoryRegion> GuestRegionCollection<R> {
     /// each binary digit of their number.
     #[inline]
     pub fn find_region(&self, addr: GuestAddress) -> Option<&R>
-        ensures found { option_copied result ≡ home_in R.region self.now addr.0 }
+        ensures found { option_copied result ≡ containing_in R.region self.now addr.0 }
         ensures layout { IsLayout (map R.region self.now) }
     {
         self.find_region_counted(addr).0
@@ -359,7 +359,7 @@ impl<R: GuestMemoryRegion> GuestRegionCollection<R> {
     // Inlined wherever it is called, so that a caller that drops the number does not count.
     #[inline(always)]
     pub fn find_region_counted(&self, addr: GuestAddress) -> (Option<&R>, usize)
-        ensures found { option_copied result.0 ≡ home_in R.region self.now addr.0 }
+        ensures found { option_copied result.0 ≡ containing_in R.region self.now addr.0 }
         ensures probes { result.1 ≡ binary_digits (length self.now) }
         ensures layout { IsLayout (map R.region self.now) }
     {

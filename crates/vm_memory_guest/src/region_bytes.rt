@@ -4,7 +4,7 @@ ghost use Rattle.vm_memory_guest.specs.Region.{slice_of};
 ghost use Rattle.vm_memory_guest.specs.RegionBytes.{as_guest, moved_in, region_place, region_reach};
 ghost use Rattle.vm_memory_guest.specs.Error.{of_window};
 ghost use Rattle.vm_memory_guest.specs.Transfer.{Alone, Once, cut_of, exact_of};
-ghost use Rattle.vm_memory_guest.specs.TypedFacts.{place-sized};
+ghost use Rattle.vm_memory_guest.specs.lemmas.TypedFacts.{place-sized};
 ghost use Rattle.vm_memory_guest.specs.declared.region.GuestMemoryError.TheVariants as errors;
 
 use crate::region::{GuestMemoryError, GuestMemoryRegion, GuestMemoryResult};

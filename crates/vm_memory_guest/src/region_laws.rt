@@ -3,7 +3,7 @@ ghost use Rattle.std.specs.Prelude.{◌≡◌, ◌↔◌, ℕ, ◌+◌, ◌^◌,
 ghost use Rattle.std.specs.Prelude.{List, All, length, slice_index_or, slice_get, insert, remove};
 ghost use Rattle.vm_memory_guest.specs.declared.region.GuestRegionCollectionError.{GuestRegionCollectionError};
 ghost use Rattle.vm_memory_guest.specs.Layout.{inserted, removed, binary_digits};
-ghost use Rattle.vm_memory_guest.specs.Region.{Region, IsRegion, last, has_address, home};
+ghost use Rattle.vm_memory_guest.specs.Region.{Region, IsRegion, last, has_address, containing_region};
 ghost use Rattle.vm_memory_guest.specs.Region.{neighbours_of, layout_error, IsLayout};
 
 /// At most one region of a layout holds an address: two places that hold it are the same place.
@@ -28,9 +28,10 @@ pub fn layouts_pass_the_tests()
 /// The home of an address in a layout is the region that holds it, and there is none where no region does.
 pub fn home_holds_the_address()
     ensures held { (rs : List Region) → All IsRegion rs → IsLayout rs → (i a : ℕ) (d : Region) →
-        i < length rs → has_address (slice_index_or rs i d) a ≡ true → home rs a ≡ Some (slice_index_or rs i d) }
+        i < length rs → has_address (slice_index_or rs i d) a ≡ true
+        → containing_region rs a ≡ Some (slice_index_or rs i d) }
     ensures hole { (rs : List Region) (a : ℕ) (d : Region) →
-        ((k : ℕ) → k < length rs → has_address (slice_index_or rs k d) a ≡ false) → home rs a ≡ None }
+        ((k : ℕ) → k < length rs → has_address (slice_index_or rs k d) a ≡ false) → containing_region rs a ≡ None }
 {}
 
 /// A region that is put into a layout stands behind each that starts no higher and before each that starts

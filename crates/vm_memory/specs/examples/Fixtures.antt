@@ -1,7 +1,7 @@
 -- A small machine, in the words of the model. The examples alone cite it.
 use Rattle.std.specs.Prelude.{ℕ, ◌+◌, ◌-◌, ◌*◌, ◌^◌, List, [], ◌∷◌, Some, None, Bool, true, false}
 use Rattle.vm_memory_base.specs.Pages.{PageSet}
-use Rattle.vm_memory_base.specs.Runs.{Run}
+use Rattle.vm_memory_base.specs.Runs.{AddressRun}
 use Rattle.vm_memory_base.specs.Table.{Table, Mapping, Range}
 use Rattle.vm_memory_base.specs.declared.address.GuestAddress.{GuestAddress}
 use Rattle.vm_memory_base.specs.declared.iotlb.IommuError.TheVariants.{CannotResolve}
@@ -28,8 +28,8 @@ low = record { start = 0; len = 4; place = Some (record { block = 0; offset = 0 
 abbrev pub high : Region
 high = record { start = 4; len = 4; place = Some (record { block = 1; offset = 0 }) }
 
-abbrev pub bare : Region
-bare = record { start = 12; len = 4; place = None }
+abbrev pub unbacked : Region
+unbacked = record { start = 12; len = 4; place = None }
 
 -- pages of two bytes in a block, and of sixteen addresses in a space
 abbrev pub block_pages : Bool → Bool → PageSet
@@ -39,7 +39,7 @@ abbrev pub space_pages : Bool → Bool → PageSet
 space_pages first second = Some (record { page_size = 16; flags = first ∷ second ∷ [] })
 
 -- 16 to 19 lead to 2 to 5, and 20 to 23 to 4 to 7, which may only be read there
-abbrev pub mapped : ℕ → ℕ → Permissions → Run Mapping
+abbrev pub mapped : ℕ → ℕ → Permissions → AddressRun Mapping
 mapped start difference access = record {
   start = start;
   len = 4;
@@ -58,16 +58,16 @@ host = record {
 }
 
 -- the two regions with bytes behind an IOMMU of this table and this space
-abbrev pub translated : Bool → Memory
-translated on = behind (low ∷ high ∷ []) 0 0 on
+abbrev pub translated_memory : Bool → Memory
+translated_memory on = behind (low ∷ high ∷ []) 0 0 on
 
 -- a machine of these regions: memory 0 is plain, the IOMMU of memory 1 is on, and that of memory 2 is off
 abbrev pub machine : State
 machine = record {
-  regions = low ∷ high ∷ bare ∷ [];
+  regions = low ∷ high ∷ unbacked ∷ [];
   translators = 0 ∷ [];
   layouts = (low ∷ high ∷ []) ∷ [];
-  memories = plain (low ∷ high ∷ bare ∷ []) ∷ translated true ∷ translated false ∷ [];
+  memories = plain (low ∷ high ∷ unbacked ∷ []) ∷ translated_memory true ∷ translated_memory false ∷ [];
   host = host;
 }
 
@@ -78,8 +78,8 @@ marked_host = record host {
   spaces = space_pages true false ∷ [];
 }
 
-abbrev pub marked : State
-marked = record machine { host = marked_host }
+abbrev pub marked_machine : State
+marked_machine = record machine { host = marked_host }
 
 -- the machine with these bytes in its blocks and these pages of them dirty, and with these bytes and the second
 -- page of its space

@@ -7,7 +7,7 @@ ghost use Rattle.vm_memory_guest.specs.Host as names;
 ghost use Rattle.vm_memory_guest.specs.Host.{Holds, block_at, shape_of};
 ghost use Rattle.vm_memory_guest.specs.Window.{with_bitmap};
 ghost use Rattle.vm_memory.specs.Parts.{state_of};
-ghost use Rattle.vm_memory.specs.Rounds.{patched, image_now, pages_of, IsSynced};
+ghost use Rattle.vm_memory.specs.Rounds.{patched, image_now, pages_of_block, IsSynced};
 
 use super::Machine;
 use crate::iommu::Iommu;
@@ -28,7 +28,7 @@ impl<R: GuestMemoryRegion, I: Iommu, B: ExactBitmap> Machine<R, I, B> {
         ensures synced { let state = state_of R.region I.number B.pages in
             OnOk result (IsSynced block.0 (state self.old) image.old (state self.new) image.new) }
         ensures clean { let before = with_pages B.pages self.old.host in
-            OnOk result ((after : B) × (B.pages after ≡ cleaned (pages_of block.0 before))
+            OnOk result ((after : B) × (B.pages after ≡ cleaned (pages_of_block block.0 before))
             × (self.new ≡ record self.old { host = with_bitmap self.old.host (Block block.0) after })) }
         ensures refused { OnErr result ((self.new ≡ self.old) × (image.new ≡ image.old)) }
     {
@@ -48,7 +48,7 @@ fn sync_in<B: ExactBitmap>(
     ensures image { let before = with_pages B.pages host.old in
         OnOk result (image.new ≡ image_now block.0 before image.old) }
     ensures clean { let before = with_pages B.pages host.old in
-        OnOk result ((after : B) × (B.pages after ≡ cleaned (pages_of block.0 before))
+        OnOk result ((after : B) × (B.pages after ≡ cleaned (pages_of_block block.0 before))
         × (host.new ≡ with_bitmap host.old (Block block.0) after)) }
     ensures refused { OnErr result ((host.new ≡ host.old) × (image.new ≡ image.old)) }
 {

@@ -178,7 +178,7 @@ impl Bitmap for ExclusiveBitmap {
 impl ExactBitmap for ExclusiveBitmap {
     ghost use Rattle.std.proofs.Common.{subst, sym, arith};
     ghost use Rattle.vm_memory_base.specs.Pages.{IsCleanFor};
-    ghost use Rattle.vm_memory_base.specs.NewPages.{new_pages_are_clean};
+    ghost use Rattle.vm_memory_base.specs.lemmas.NewPages.{new_pages_are_clean};
     ghost use Rattle.vm_memory_base.specs.Exclusive.{pages_of, bytes_of};
 
     ghost pages = { λ b. Some (pages_of b) };

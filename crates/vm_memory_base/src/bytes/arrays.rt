@@ -3,7 +3,7 @@
 ghost use Rattle.std.specs.Prelude.{◌≡◌, ◌+◌, ◌*◌, ◌≤◌, ◌++◌, length, take, drop};
 ghost use Rattle.std.specs.List.{flat_map};
 ghost use Rattle.vm_memory_base.specs.Bytes.{IsArrayOf, values_of};
-ghost use Rattle.vm_memory_base.specs.ArrayCodes.{array_code};
+ghost use Rattle.vm_memory_base.specs.lemmas.ArrayCodes.{array_code};
 
 use super::integers::{number_in, write_number};
 use super::{ByteSized, ByteValued, FixedInteger};

@@ -6,7 +6,7 @@ ghost use Rattle.std.specs.Int.RustNames.{FitsSigned};
 ghost use Rattle.std.specs.Bool.{Decides};
 ghost use Rattle.std.proofs.lemmas.Bool.Decides.{Decides-eqb, Decides-int_eq};
 ghost use Rattle.vm_memory_base.specs.Bytes.{IsByteCode};
-ghost use Rattle.vm_memory_base.specs.ByteCodes.{unsigned_code, signed_code, length-low};
+ghost use Rattle.vm_memory_base.specs.lemmas.ByteCodes.{unsigned_code, signed_code, length-low};
 
 use super::ByteSized;
 use std::fmt::Debug;

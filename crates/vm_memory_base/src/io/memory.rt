@@ -1,7 +1,7 @@
 //! Bytes in memory as sources and sinks.
 ghost use Rattle.std.specs.Prelude.{◌≡◌, ◌-◌, min, length, take, drop, [], Some, None, ⊤};
 ghost use Rattle.std.specs.Io.Cursor.{cursor_inner, cursor_position};
-ghost use Rattle.vm_memory_base.specs.Transfer.{giving, with_front};
+ghost use Rattle.vm_memory_base.specs.Transfer.{giving, over_front};
 
 use super::{ReadVolatile, VolatileMemoryError, VolatileMemoryResult, WriteVolatile};
 use std::io::{Cursor, Write};
@@ -9,7 +9,7 @@ use std::io::{Cursor, Write};
 // Copies as many bytes as both have to the beginning of a buffer, and answers how many.
 pub(super) fn copy_front(bytes: &[u8], buf: &mut [u8]) -> usize
     ensures count { result ≡ min (length buf.old) (length bytes.now) }
-    ensures copied { buf.new ≡ with_front (take (length buf.old) bytes.now) buf.old }
+    ensures copied { buf.new ≡ over_front (take (length buf.old) bytes.now) buf.old }
 {
     let count = buf.len().min(bytes.len());
     buf[..count].copy_from_slice(&bytes[..count]);

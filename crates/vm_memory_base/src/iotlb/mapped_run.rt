@@ -2,7 +2,7 @@
 ghost use Rattle.std.specs.Prelude.{◌≡◌, ◌+◌, ◌-◌, ◌^◌, ◌<◌, ◌≤◌, ◌++◌, ◌∷◌, [], length, take, drop, slice_index_or, IsSome, IfSome, OnOk, OnErr};
 ghost use Rattle.vm_memory_base.specs.Change.{EndBelow, StartFrom, IsKept, if_any, prepended, prepended_if_any, with_run, without_range};
 ghost use Rattle.vm_memory_base.specs.Permissions as set;
-ghost use Rattle.vm_memory_base.specs.Runs.{Run, IsCanonical, cut_to};
+ghost use Rattle.vm_memory_base.specs.Runs.{AddressRun, IsCanonical, cut_to};
 ghost use Rattle.vm_memory_base.specs.Table.{Mapping, same_mapping, target, canonical_list};
 
 use super::Permissions;
@@ -20,11 +20,11 @@ pub(super) struct MappedRun {
 
 impl Model for MappedRun {
     ghost use Rattle.std.specs.Prelude.{◌-◌, ◌+◌, ◌<◌};
-    ghost use Rattle.vm_memory_base.specs.Runs.{Run};
+    ghost use Rattle.vm_memory_base.specs.Runs.{AddressRun};
     ghost use Rattle.vm_memory_base.specs.Table.{Mapping};
     ghost use Rattle.std.proofs.Common.{ap, arith};
 
-    ghost Value = { Run Mapping };
+    ghost Value = { AddressRun Mapping };
 
     ghost view = { λ r. record {
       start = r.start;
@@ -138,7 +138,7 @@ pub(super) fn ends_below(runs: &[MappedRun], limit: u64) -> usize
     requires { IsCanonical same_mapping runs.now }
     ensures within { result ≤ length runs.now }
     ensures below { EndBelow limit (take result runs.now) }
-    ensures from { (d : Run Mapping) → result < length runs.now →
+    ensures from { (d : AddressRun Mapping) → result < length runs.now →
         let run = slice_index_or runs.now result d in limit ≤ run.start + run.len }
 {
     runs.partition_point(|run| run.end() < limit)
@@ -148,7 +148,7 @@ pub(super) fn ends_below(runs: &[MappedRun], limit: u64) -> usize
 pub(super) fn starts_upto(runs: &[MappedRun], limit: u64) -> usize
     requires { IsCanonical same_mapping runs.now }
     ensures within { result ≤ length runs.now }
-    ensures upto { (d : Run Mapping) → 0 < result → (slice_index_or runs.now (result - 1) d).start ≤ limit }
+    ensures upto { (d : AddressRun Mapping) → 0 < result → (slice_index_or runs.now (result - 1) d).start ≤ limit }
     ensures above { StartFrom (limit + 1) (drop result runs.now) }
 {
     runs.partition_point(|run| run.start() <= limit)
@@ -161,7 +161,7 @@ fn front(runs: &[MappedRun], at: u64) -> (usize, Option<MappedRun>)
     ensures parts { take result.0 runs.now ++ if_any result.1 ≡ cut_to 0 at runs.now }
     ensures apart { EndBelow at (take result.0 runs.now) }
     ensures reaches { IfSome result.1 (λ run. (0 < run.len) × (run.start + run.len ≡ at)) }
-    ensures there { IsSome result.1 → (d : Run Mapping) → (result.0 < length runs.now)
+    ensures there { IsSome result.1 → (d : AddressRun Mapping) → (result.0 < length runs.now)
         × ((slice_index_or runs.now result.0 d).start < at) }
 {
     let next = ends_below(runs, at);

@@ -1,7 +1,7 @@
 //! What holds of I/O tables and look-ups.
 ghost use Rattle.std.specs.Prelude.{◌≡◌, ◌↔◌, ℕ, ◌+◌, ◌-◌, ◌^◌, ◌<◌, ◌≤◌, ◌⊎◌, Bool, true, false, not, List, [], ◌∷◌, ◌++◌, map, filter, flat_map, sum_by, Option, Some, None, is_some, All};
 ghost use Rattle.vm_memory_base.specs.Address.{step, numbers, difference};
-ghost use Rattle.vm_memory_base.specs.Runs.{Run, TestsEquality, runs, IsCanonical, value_at, cut_to};
+ghost use Rattle.vm_memory_base.specs.Runs.{AddressRun, TestsEquality, runs, IsCanonical, value_at, cut_to};
 ghost use Rattle.vm_memory_base.specs.Table.{Mapping, same_mapping, target, Says, Table, says, range_count, TableCall, Set, Invalidate, InvalidateAll, covers, says_after, says_after_all, new_table_after, canonical_list, grants, each, overruns, is_allowed, reason, piece_of, pieces, addresses, target_if_any, forbids, range_of, if_forbidden, misses, failures};
 ghost use Rattle.vm_memory_base.specs.declared.iotlb.Permissions.{Permissions};
 ghost use Rattle.vm_memory_base.specs.declared.iotlb.Reason.TheVariants.{MissingMapping, AccessNotAllowed};
@@ -58,7 +58,7 @@ pub fn canonical_list_decides_the_table()
         → canonical_list f ≡ canonical_list g }
     ensures same_values { (f g : Says) → canonical_list f ≡ canonical_list g → (x : ℕ) → x < 2 ^ 64
         → f x ≡ g x }
-    ensures one_list { (rs ss : List (Run Mapping)) → IsCanonical same_mapping rs
+    ensures one_list { (rs ss : List (AddressRun Mapping)) → IsCanonical same_mapping rs
         → IsCanonical same_mapping ss → ((x : ℕ) → value_at rs x ≡ value_at ss x) → rs ≡ ss }
     ensures same_mapping { TestsEquality same_mapping }
 {}
@@ -66,9 +66,9 @@ pub fn canonical_list_decides_the_table()
 /// A kept list that is canonical, and says nothing past the last address, is the canonical list of
 /// what it says.
 pub fn kept_list_is_the_canonical_list()
-    ensures by_values { (rs : List (Run Mapping)) → IsCanonical same_mapping rs
+    ensures by_values { (rs : List (AddressRun Mapping)) → IsCanonical same_mapping rs
         → ((x : ℕ) → 2 ^ 64 ≤ x → value_at rs x ≡ None) → canonical_list (value_at rs) ≡ rs }
-    ensures by_ends { (rs : List (Run Mapping)) → IsCanonical same_mapping rs
+    ensures by_ends { (rs : List (AddressRun Mapping)) → IsCanonical same_mapping rs
         → All (λ r. r.start + r.len ≤ 2 ^ 64) rs → canonical_list (value_at rs) ≡ rs }
     ensures of_a_table { (table : Table) → IsCanonical same_mapping table.ranges
         → All (λ r. r.start + r.len ≤ 2 ^ 64) table.ranges
@@ -96,7 +96,7 @@ pub fn pieces_are_cut()
         → runs same_mapping f a n ≡ cut_to a n (canonical_list f) }
     ensures of_a_table { (f : Says) (a n : ℕ) → a + n ≤ 2 ^ 64
         → pieces f a n ≡ map piece_of (cut_to a n (canonical_list f)) }
-    ensures of_a_kept_list { (rs : List (Run Mapping)) (a n : ℕ) → IsCanonical same_mapping rs
+    ensures of_a_kept_list { (rs : List (AddressRun Mapping)) (a n : ℕ) → IsCanonical same_mapping rs
         → pieces (value_at rs) a n ≡ map piece_of (cut_to a n rs) }
     ensures failures { (f : Says) (a n : ℕ) (access : Permissions) → overruns a n ≡ false
         → failures f a n access

@@ -1,7 +1,7 @@
 -- Short names for the values that small cases speak of.
 use Rattle.std.specs.Prelude.{◌≡◌, ℕ, Bool, true, false, List, [], ◌∷◌, length, replicate, Some, None, option_map, Result, Ok}
 use Rattle.vm_memory_base.specs.Pages.{PageSet, marked, pages_with}
-use Rattle.vm_memory_base.specs.Runs.{Run}
+use Rattle.vm_memory_base.specs.Runs.{AddressRun}
 use Rattle.vm_memory_base.specs.Table.{Table, Mapping}
 use Rattle.vm_memory_base.specs.declared.address.GuestAddress.{GuestAddress}
 use Rattle.vm_memory_base.specs.declared.bitmap.BitmapId.{BitmapId}
@@ -10,7 +10,7 @@ use Rattle.vm_memory_base.specs.declared.bitmap.BitmapId.TheVariants.{Block}
 use Rattle.vm_memory_base.specs.declared.iotlb.IommuError.TheVariants.{CannotResolve}
 use Rattle.vm_memory_base.specs.declared.iotlb.Permissions.{Permissions}
 use Rattle.vm_memory_base.specs.declared.iotlb.Reason.{Reason}
-use Rattle.vm_memory_guest.specs.Access.{Access, Fault}
+use Rattle.vm_memory_guest.specs.Access.{Access, AccessFault}
 use Rattle.vm_memory_guest.specs.Answer.{counted, exactly}
 use Rattle.vm_memory_guest.specs.Error.{error_of}
 use Rattle.vm_memory_guest.specs.Host.{Host, Shape, Cell}
@@ -33,8 +33,8 @@ backed_region start len block offset = record {
 }
 
 -- len addresses from start on, without host bytes
-abbrev pub bare_region : ℕ → ℕ → Region
-bare_region start len = record { start = start; len = len; place = None }
+abbrev pub unbacked_region : ℕ → ℕ → Region
+unbacked_region start len = record { start = start; len = len; place = None }
 
 -- len bytes of block 0 at address 0
 abbrev pub one_region : ℕ → List Region
@@ -99,7 +99,7 @@ abbrev pub one_block_shape : Shape
 one_block_shape = record { blocks = 4 ∷ []; spaces = 1; tables = 0 }
 
 -- len addresses from start on that have one mapping
-abbrev pub run_of : ℕ → ℕ → ℕ → Permissions → Run Mapping
+abbrev pub run_of : ℕ → ℕ → ℕ → Permissions → AddressRun Mapping
 run_of start len difference permissions = record {
   start = start;
   len = len;
@@ -107,7 +107,7 @@ run_of start len difference permissions = record {
 }
 
 -- a table of these runs, with no limit
-abbrev pub table_of : List (Run Mapping) → Table
+abbrev pub table_of : List (AddressRun Mapping) → Table
 table_of ranges = record { limit = None; ranges = ranges }
 
 -- regions behind an IOMMU with this table and this space, and whether it is on
@@ -130,12 +130,12 @@ abbrev pub memory_without_iommu : List Region → Memory
 memory_without_iommu regions = record { regions = regions; iommu = None }
 
 -- the answer to an access of n bytes: how many it reached, or why none
-abbrev pub answer_of : Access → ℕ → Result ℕ Fault
-answer_of access n = counted (length access.path) access.fault n
+abbrev pub counted_access : Access → ℕ → Result ℕ AccessFault
+counted_access access n = counted (length access.path) access.fault n
 
 -- the answer to an access that wants all n bytes
-abbrev pub exact_answer_of : Access → ℕ → Result (Unit {0}) GuestMemoryError
-exact_answer_of access n = exactly PartialBuffer (length access.path) (option_map error_of access.fault) n
+abbrev pub exact_access : Access → ℕ → Result (Unit {0}) GuestMemoryError
+exact_access access n = exactly PartialBuffer (length access.path) (option_map error_of access.fault) n
 
 -- the error that tells that the translation of len addresses from base on was refused
 abbrev pub cannot_resolve : ℕ → ℕ → Reason → GuestMemoryError

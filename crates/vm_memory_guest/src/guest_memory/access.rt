@@ -3,12 +3,12 @@ ghost use Rattle.std.specs.Prelude.{◌≡◌, ◌⊎◌, ◌-◌, ◌^◌, ◌<
 ghost use Rattle.std.specs.List.{AllByRecursion};
 ghost use Rattle.vm_memory_guest.specs.Access.{access_of, windows};
 ghost use Rattle.vm_memory_guest.specs.Host.{shape_of, Holds};
-ghost use Rattle.vm_memory_guest.specs.Answer.{counted, filled, told};
+ghost use Rattle.vm_memory_guest.specs.Answer.{counted, filled_buffer, told};
 ghost use Rattle.vm_memory_guest.specs.Error.{error_of, of_window};
 ghost use Rattle.vm_memory_guest.specs.Memory.{IsOn, route};
 ghost use Rattle.vm_memory_guest.specs.Transfer.{UntilWhole};
 ghost use Rattle.vm_memory_guest.specs.Typed.{first_aligned, place_of};
-ghost use Rattle.vm_memory_guest.specs.TypedFacts.{first-sized};
+ghost use Rattle.vm_memory_guest.specs.lemmas.TypedFacts.{first-sized};
 ghost use Rattle.vm_memory_guest.specs.Walk.{reached, GivesAccess, RefusesAccess, WantsMemory};
 ghost use Rattle.vm_memory_guest.specs.Window.{span, cells, window_names, Writes};
 ghost use Rattle.vm_memory_guest.specs.declared.region.GuestMemoryError.TheVariants as errors;
@@ -260,7 +260,7 @@ fn read_windows<M: GuestMemoryBackend, B: Bitmap>(
     requires asked { OnSome walk.fault (0 < length buf.old) }
     ensures answer { let walk = walk.entry in
         result ≡ counted (span walk.windows) (option_map error_of walk.fault) (length buf.old) }
-    ensures bytes { buf.new ≡ filled host.now.blocks (cells walk.entry.windows) buf.old }
+    ensures bytes { buf.new ≡ filled_buffer host.now.blocks (cells walk.entry.windows) buf.old }
 {
     let mut total = 0;
     for item in walk {
@@ -317,7 +317,7 @@ fn read_value<M: GuestMemoryBackend, V: ByteValued, B: Bitmap>(
     ensures answer { let walk = walk.entry in
         result ≡ counted (span walk.windows) (option_map error_of walk.fault) V.width }
     ensures bytes { let cells = cells walk.entry.windows in
-        V.bytes value.new ≡ filled host.now.blocks cells (V.bytes value.old) }
+        V.bytes value.new ≡ filled_buffer host.now.blocks cells (V.bytes value.old) }
 {
     let mut total = 0;
     for item in walk {

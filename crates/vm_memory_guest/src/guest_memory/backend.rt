@@ -5,8 +5,8 @@ ghost use Rattle.vm_memory_guest.specs.Access.{meets, path};
 ghost use Rattle.vm_memory_guest.specs.Memory.{Direct};
 ghost use Rattle.vm_memory_guest.specs.Queries.{address_above, address_in, greatest_last};
 ghost use Rattle.vm_memory_guest.specs.Queries.{host_address_at, is_whole, slice_at};
-ghost use Rattle.vm_memory_guest.specs.Region.{IsLayout, home_in, region_names};
-ghost use Rattle.vm_memory_guest.specs.TryAccess.{CallsAt, Ends, GoesOn, next, TryAccess};
+ghost use Rattle.vm_memory_guest.specs.Region.{IsLayout, containing_in, region_names};
+ghost use Rattle.vm_memory_guest.specs.TryAccess.{CallsAt, Ends, GoesOn, after_call, TryAccess};
 ghost use Rattle.vm_memory_base.specs.Address.{step};
 ghost use Rattle.vm_memory_guest.specs.Walk.{items_of, walk_of};
 
@@ -40,7 +40,7 @@ pub trait GuestMemoryBackend: Named + Drop {
 
     /// The region that holds an address. Regions are disjoint, so that it is the only one.
     fn find_region(&self, addr: GuestAddress) -> Option<&Self::R>
-        ensures found { option_copied result ≡ home_in Self.R.region (regions self.now) addr.0 }
+        ensures found { option_copied result ≡ containing_in Self.R.region (regions self.now) addr.0 }
         ensures layout { IsLayout (map Self.R.region (regions self.now)) };
 
     /// The region of this number, in the order of addresses.
@@ -70,7 +70,7 @@ pub trait GuestMemoryBackend: Named + Drop {
     /// The region that holds an address, and the address's offset there.
     #[inline]
     final fn to_region_addr(&self, addr: GuestAddress) -> Option<(&Self::R, MemoryRegionAddress)>
-        ensures { let home = home_in Self.R.region (regions self.now) addr.0 in
+        ensures { let home = containing_in Self.R.region (regions self.now) addr.0 in
             MatchOption result (home ≡ None)
             (λ p. (home ≡ Some p.0.now) × (p.1.0 ≡ addr.0 - (Self.R.region p.0.now).start)) }
     {
@@ -82,7 +82,7 @@ pub trait GuestMemoryBackend: Named + Drop {
     /// Whether a region holds an address.
     #[inline]
     final fn address_in_range(&self, addr: GuestAddress) -> bool
-        ensures { IsTrue result ↔ IsSome (home_in Self.R.region (regions self.now) addr.0) }
+        ensures { IsTrue result ↔ IsSome (containing_in Self.R.region (regions self.now) addr.0) }
     {
         self.find_region(addr).is_some()
     }
@@ -212,11 +212,11 @@ pub struct GuestMemoryBackendSliceIterator<'a, M: GuestMemoryBackend> {
 
 impl<'a, M: GuestMemoryBackend> Model for GuestMemoryBackendSliceIterator<'a, M> {
     ghost use Rattle.std.specs.Prelude.{map};
-    ghost use Rattle.vm_memory_guest.specs.Access.{Fault};
+    ghost use Rattle.vm_memory_guest.specs.Access.{AccessFault};
     ghost use Rattle.vm_memory_guest.specs.Answer.{Reach};
     ghost use Rattle.vm_memory_guest.specs.Walk.{walk_of};
 
-    ghost Value = { Reach Fault };
+    ghost Value = { Reach AccessFault };
 
     ghost view = { λ it. walk_of (map M.R.region (M.regions it.mem.now)) it.addr.0 it.count };
 }
@@ -275,9 +275,9 @@ fn behind(
     handled: usize,
 ) -> GuestMemoryResult<Option<GuestAddress>>
     requires { total ≤ count }
-    ensures { let then = next count total addr.0 (Ok handled) in
+    ensures { let then = after_call count total addr.0 (Ok handled) in
         MatchResult result
-        (λ next. (total + handled ≤ count) × MatchOption next (then ≡ Ends (Ok (total + handled)))
+        (λ after_call. (total + handled ≤ count) × MatchOption after_call (then ≡ Ends (Ok (total + handled)))
         (λ a. (then ≡ GoesOn) × (0 < handled) × (total + handled < count) × (a.0 ≡ step addr.0 handled)))
         (λ e. then ≡ Ends (Err e)) }
 {

@@ -28,10 +28,10 @@ pub struct IommuMemorySliceIterator<'a, M: GuestMemoryBackend> {
 }
 
 impl<'a, M: GuestMemoryBackend> Model for IommuMemorySliceIterator<'a, M> {
-    ghost use Rattle.vm_memory_guest.specs.Access.{Fault};
+    ghost use Rattle.vm_memory_guest.specs.Access.{AccessFault};
     ghost use Rattle.vm_memory_guest.specs.Answer.{Reach};
 
-    ghost Value = { Reach Fault };
+    ghost Value = { Reach AccessFault };
 
     ghost use Rattle.vm_memory_guest.specs.Pieces.{left_of};
 

@@ -1,7 +1,7 @@
 //! Walks whose error is told first, or not at all.
 ghost use Rattle.std.specs.Prelude.{◌≡◌, Result, Option, is_none};
 ghost use Rattle.std.specs.Iterator.{IsFinite, YieldsFirst, item_count};
-ghost use Rattle.vm_memory_guest.specs.Access.{Fault};
+ghost use Rattle.vm_memory_guest.specs.Access.{AccessFault};
 ghost use Rattle.vm_memory_guest.specs.Answer.{Reach};
 ghost use Rattle.vm_memory_guest.specs.Walk.{items_of, windows_before, windows_from};
 ghost use Rattle.vm_memory_guest.specs.Window.{Window};
@@ -21,7 +21,7 @@ use std::marker::Model;
 /// ```
 pub trait GuestMemorySliceIterator: Iterator<Item = GuestMemoryResult<VolatileSlice>> {
     /// The windows that it has left, and what stops it behind them.
-    ghost left: { Self → Reach Fault };
+    ghost left: { Self → Reach AccessFault };
 
     /// The windows alone. An error that comes first is answered, and a later one ends them silently.
     #[inline]

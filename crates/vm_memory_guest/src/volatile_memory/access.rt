@@ -5,7 +5,7 @@ ghost use Rattle.vm_memory_base.specs.declared.iotlb.Permissions.{Permissions};
 ghost use Rattle.vm_memory_base.specs.declared.iotlb.Permissions.TheVariants.{Read, Write};
 ghost use Rattle.vm_memory_guest.specs.Host.{shape_of, bytes_at, Holds};
 ghost use Rattle.vm_memory_guest.specs.Window.{Window, span, cells, cells_of, Writes};
-ghost use Rattle.vm_memory_guest.specs.Answer.{Reach, Outcome, counted, exactly, filled};
+ghost use Rattle.vm_memory_guest.specs.Answer.{Reach, Outcome, counted, exactly, filled_buffer};
 ghost use Rattle.vm_memory_guest.specs.Transfer.{Moving, Once, UntilWhole, Fills, Takes, Transfers, all_of, beside};
 ghost use Rattle.vm_memory_guest.specs.Typed.{answered, given};
 ghost use Rattle.vm_memory_base.specs.declared.io.VolatileMemoryError.{VolatileMemoryError};
@@ -86,7 +86,7 @@ pub trait Bytes<A>: Named {
         ensures answer { let r = reach self.now host.now.tables addr (length buf.old) Read in
             Outcome no_memory (may_want self.now)
             (counted (span r.windows) r.fault (length buf.old)) (buf.new ≡ buf.old)
-            (buf.new ≡ filled host.now.blocks (cells r.windows) buf.old) result }
+            (buf.new ≡ filled_buffer host.now.blocks (cells r.windows) buf.old) result }
         ensures at_most { IfOk result (λ count. count ≤ length buf.old) };
 
     /// Writes the whole buffer. Where that is not possible, its beginning that fits is written, and the error
@@ -116,7 +116,7 @@ pub trait Bytes<A>: Named {
         ensures answer { let r = reach self.now host.now.tables addr (length buf.old) Read in
             Outcome no_memory (may_want self.now)
             (exactly partial (span r.windows) r.fault (length buf.old)) (buf.new ≡ buf.old)
-            (buf.new ≡ filled host.now.blocks (cells r.windows) buf.old) result };
+            (buf.new ≡ filled_buffer host.now.blocks (cells r.windows) buf.old) result };
 
     /// Writes a value, as `write_slice` writes its bytes.
     fn write_obj<T: ByteValued, B: Bitmap>(

@@ -116,7 +116,7 @@ fn array_size(nelements: usize, size: usize) -> VolatileMemoryResult<usize>
 }
 
 impl VolatileMemory for VolatileSlice {
-    ghost use Rattle.vm_memory_guest.specs.TypedFacts.{subslice-sized, subslice-whole};
+    ghost use Rattle.vm_memory_guest.specs.lemmas.TypedFacts.{subslice-sized, subslice-whole};
     ghost use Rattle.vm_memory_guest.specs.Window.{subslice_of};
 
     ghost size = { λ w. w.size };

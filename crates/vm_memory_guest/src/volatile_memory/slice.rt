@@ -3,12 +3,12 @@ ghost use Rattle.std.specs.Prelude.{◌≡◌, ◌+◌, ◌-◌, ◌*◌, ◌/�
 ghost use Rattle.std.specs.List.{flat_map};
 ghost use Rattle.vm_memory_base.specs.Bytes.{values_of};
 ghost use Rattle.vm_memory_guest.specs.Host.{shape_of, bytes_at, Holds};
-ghost use Rattle.vm_memory_guest.specs.Window.{window_names, cells_of, part, offset_of, subslice_of, Writes};
+ghost use Rattle.vm_memory_guest.specs.Window.{window_names, cells_of, part, window_from, subslice_of, Writes};
 ghost use Rattle.vm_memory_guest.specs.Answer.{window_reach};
 ghost use Rattle.vm_memory_guest.specs.Copy.{front, Copies};
 ghost use Rattle.vm_memory_guest.specs.Transfer.{Alone, Once, cut_of, exact_of, only};
 ghost use Rattle.vm_memory_guest.specs.Typed.{aligned_of, answered, size_of};
-ghost use Rattle.vm_memory_guest.specs.TypedFacts.{aligned-sized};
+ghost use Rattle.vm_memory_guest.specs.lemmas.TypedFacts.{aligned-sized};
 ghost use Rattle.vm_memory_base.specs.declared.io.VolatileMemoryError.TheVariants.{PartialBuffer, Memory};
 
 use super::access::Bytes;
@@ -122,7 +122,7 @@ impl VolatileSlice {
     /// `OutOfBounds` at that sum where `count` passes the length.
     #[inline]
     pub fn offset(&self, count: usize) -> VolatileMemoryResult<Self>
-        ensures { result ≡ offset_of self.now count }
+        ensures { result ≡ window_from self.now count }
     {
         let Some(start) = self.offset.checked_add(count) else {
             return Err(VolatileMemoryError::Overflow {
@@ -139,7 +139,7 @@ impl VolatileSlice {
     /// The first `mid` bytes, and the bytes from there on. Refused as `offset` is.
     #[inline]
     pub fn split_at(&self, mid: usize) -> VolatileMemoryResult<(Self, Self)>
-        ensures { result ≡ answered (λ end. (front self.now mid, end)) (offset_of self.now mid) }
+        ensures { result ≡ answered (λ end. (front self.now mid, end)) (window_from self.now mid) }
     {
         let end = self.offset(mid)?;
         Ok((self.front(mid), end))

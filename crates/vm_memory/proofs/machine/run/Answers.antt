@@ -2,7 +2,7 @@ use Rattle.std.proofs.Common.{◌≡◌, ◌++◌, ◌∷◌, [], ◌^◌, ◌<�
 use Rattle.std.proofs.lemmas.List.{take_all, take_more, append_assoc}
 use Rattle.vm_memory.specs.Machine.{Run}
 use Rattle.vm_memory.specs.Parts.{state_of}
-use Rattle.vm_memory.specs.Rounds.{bytes_of}
+use Rattle.vm_memory.specs.Rounds.{bytes_of_block}
 use Rattle.vm_memory.proofs.RunLemmas.{Run-step}
 use Rattle.vm_memory.proofs.machine.run.Goals as goal
 
@@ -41,7 +41,9 @@ returns-clause-ran g c =
       ran.1,
       run,
       λ block tracked direct.
-          let short : length (bytes_of block before.host) < 2 ^ 63 = rw (← c.machine.view_is) (c.blocks_are_short.ensures block) in
-          laws.kept block (bytes_of block before.host) before commands ran.0 after run tracked (omega arith) direct
+          let short : length (bytes_of_block block before.host) < 2 ^ 63 =
+          rw (← c.machine.view_is) (c.blocks_are_short.ensures block) in
+          laws.kept block (bytes_of_block block before.host) before commands ran.0 after run tracked
+          (omega arith) direct
           (laws.copy block before.host),
     )

@@ -12,7 +12,10 @@ pub returns : goal.returns
 returns c =
     let laws = history_laws c.canonical_list_decides_the_table.ensures.values c.path_writes_keep_shapes.ensures.tables
     c.transfers_in_mark_what_they_change.ensures in
-    let calls : CallLaws = record { last = c.last_call_decides.ensures.last; none = c.last_call_decides.ensures.none } in
+    let calls : CallLaws = record {
+      last = c.last_call_decides.ensures.last;
+      none = c.last_call_decides.ensures.none;
+    } in
     let grants = c.allowed_where_each_address_grants.ensures in
     record {
       all = λ old now cs rs m b t a n i access x run on there reached.

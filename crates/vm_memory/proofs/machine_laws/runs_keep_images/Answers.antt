@@ -1,7 +1,7 @@
 use Rattle.vm_memory.proofs.EffectLemmas.{ImageLaws}
 use Rattle.vm_memory.proofs.RoundsLemmas.{WriteLaws, copy_mirrors, kept_from_mirrors, mirrors_from_clean}
 use Rattle.vm_memory.proofs.RunLemmas.{run_keeps, unharvested_run_keeps}
-use Rattle.vm_memory.specs.Rounds.{bytes_of, pages_of}
+use Rattle.vm_memory.specs.Rounds.{bytes_of_block, pages_of_block}
 use Rattle.vm_memory.proofs.machine_laws.runs_keep_images.Goals as goal
 
 pub returns : goal.returns
@@ -27,7 +27,7 @@ returns c =
           run_keeps laws block image old cs rs new run
           (kept_from_mirrors are_listed block image old.host tracked short mirrors) direct;
       unharvested = λ block image old cs rs new run tracked short direct none mirrors.
-          mirrors_from_clean are_listed (pages_of block new.host) (bytes_of block new.host) image
+          mirrors_from_clean are_listed (pages_of_block block new.host) (bytes_of_block block new.host) image
           (unharvested_run_keeps laws block image old cs rs new run
           (kept_from_mirrors are_listed block image old.host tracked short mirrors) direct none).clean;
     }

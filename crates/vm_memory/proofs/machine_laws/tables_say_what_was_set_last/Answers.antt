@@ -7,7 +7,10 @@ pub returns : goal.returns
 returns c =
     let laws = history_laws c.canonical_list_decides_the_table.ensures.values c.path_writes_keep_shapes.ensures.tables
     c.transfers_in_mark_what_they_change.ensures in
-    let calls : CallLaws = record { last = c.last_call_decides.ensures.last; none = c.last_call_decides.ensures.none } in
+    let calls : CallLaws = record {
+      last = c.last_call_decides.ensures.last;
+      none = c.last_call_decides.ensures.none;
+    } in
     record {
       all = λ old new cs rs number x t. run_says laws number old cs rs new x t;
       last = run_says_last laws calls;

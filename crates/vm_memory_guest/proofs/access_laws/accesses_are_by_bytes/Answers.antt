@@ -12,7 +12,8 @@ returns g c = record {
       (cells-access regions each a n route access);
   writes = λ regions route a n access bytes old new each.
       after_write-Writes g.B.Bitmap.marks g.B.ExactBitmap.pages g.met.B.ExactBitmap.marks_pages
-      c.mark_is_by_bytes.ensures.empty c.mark_is_by_bytes.ensures.each (access_of regions route a n access).path bytes old new
+      c.mark_is_by_bytes.ensures.empty c.mark_is_by_bytes.ensures.each
+      (access_of regions route a n access).path bytes old new
       (follows-access regions each a n c.allowed_where_each_address_grants.ensures route access)
       (cells-access regions each a n route access);
 }

@@ -24,7 +24,8 @@ returns-in_err-add_range-clause-answer g c =
     _ c.in_err-add_range.field-0.0 c.loop-range.invariant c.loop-range-test.true c.in_err-add_range.ensures.err)
 
 pub returns-in_err-add_range-clause-kept : goal.returns-in_err-add_range-clause-kept
-returns-in_err-add_range-clause-kept g c names held = c.add_range.ensures.kept names (c.loop-range.invariant.kept names held)
+returns-in_err-add_range-clause-kept g c names held =
+    c.add_range.ensures.kept names (c.loop-range.invariant.kept names held)
 
 pub returns-clause-answer : goal.returns-clause-answer
 returns-clause-answer g c =
@@ -32,8 +33,13 @@ returns-clause-answer g c =
     let ranges = c.args.ranges.now in
     let n = c.loop-range.range-index in
     let all : n ≡ length ranges = omega arith in
-    let whole = take_all n ranges (omega arith) in
-    (n, omega arith, made.fit, made.blocks, (all, made.regions_are ∙ ap (range_regions (length c.args.host.now.blocks)) whole))
+    let whole = take_all n ranges (omega arith) in (
+      n,
+      omega arith,
+      made.fit,
+      made.blocks,
+      (all, made.regions_are ∙ ap (range_regions (length c.args.host.now.blocks)) whole),
+    )
 
 pub returns-clause-held : goal.returns-clause-held
 returns-clause-held g c = c.loop-range.invariant.held

@@ -14,4 +14,5 @@ values_stay {X} (r ∷ xs) (s ∷ ys) e = ap₂ (λ (v : X) (vs : List X). v ∷
 
 pub returns : goal.returns
 returns g c =
-    MatchResult-weaker c.clone.result c.clone.ensures.cases (λ copy e. values_stay c.args.regions.now.items copy.items e.0) (λ e none. tt)
+    MatchResult-weaker c.clone.result c.clone.ensures.cases
+    (λ copy e. values_stay c.args.regions.now.items copy.items e.0) (λ e none. tt)

@@ -17,7 +17,8 @@ returns g c until_full fault ws total next source after old new answer tells so 
     let empty = c.mark_is_by_bytes.ensures.empty in
     elim (order_does of_window fault (IsDealt reads marks pages exact empty) (λ x. ⊥)
     (Fills reads known marks (filling until_full)) (dealt until_full)
-    (fills_does reads marks pages exact empty known until_full) (λ w x z moved m no. no) ws total (source, old) answer (after, new)
+    (fills_does reads marks pages exact empty known until_full) (λ w x z moved m no. no) ws total (source, old) answer
+    (after, new)
     (next, with_pages pages old) (tells, refl) so) [
       | inl wanted ↦ absurd wanted.1
       | inr does ↦ (does.0, does.1.0, does.1.1)

@@ -3,7 +3,7 @@ ghost use Rattle.std.specs.Prelude.{◌≡◌, ℕ, ◌+◌, ◌<◌, ◌≤◌,
 ghost use Rattle.vm_memory_base.specs.Transfer.{ReadsAs, FillsAs, Again};
 ghost use Rattle.vm_memory_guest.specs.Host.{shape_of, Holds, block_at, bytes_at, cells_from, written};
 ghost use Rattle.vm_memory_guest.specs.Inside.{blocks_of};
-ghost use Rattle.vm_memory_guest.specs.Transfer.{Lends, LendsRest, LendsWhole, Fills, filling, marked_of, touched_of};
+ghost use Rattle.vm_memory_guest.specs.Transfer.{LendsWindow, LendsRest, LendsWhole, Fills, filling, marked_of, touched_of};
 ghost use Rattle.vm_memory_guest.specs.Window.{window_names, cells_of};
 
 use super::HostMemory;
@@ -103,7 +103,7 @@ impl<B> HostMemory<B> {
         B: Bitmap,
         requires { Holds (shape_of self.old) (window_names window.now) }
         ensures count { IfOk result (λ count. count ≤ window.now.size) }
-        ensures lends { Lends S.source B.marks window.now (source.old, self.old) result
+        ensures lends { LendsWindow S.source B.marks window.now (source.old, self.old) result
             (source.new, self.new) }
         ensures shape { shape_of self.new ≡ shape_of self.old }
     {
@@ -124,7 +124,7 @@ impl<B> HostMemory<B> {
         B: Bitmap,
         requires { Holds (shape_of self.old) (window_names window.now) }
         ensures count { IfOk result (λ count. count ≤ window.now.size) }
-        ensures lends { Again (Lends S.source B.marks window.now) (source.old, self.old) result
+        ensures lends { Again (LendsWindow S.source B.marks window.now) (source.old, self.old) result
             (source.new, self.new) }
         ensures shape { shape_of self.new ≡ shape_of self.old }
     {

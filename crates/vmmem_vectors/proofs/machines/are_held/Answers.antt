@@ -13,6 +13,8 @@ pub returns : goal.returns
 returns c h =
     let shape = shape_of c.args.host.now in
     let IsHeld : Region → Type 0 = λ r. Holds shape (region_names r) in
-    let each : All (λ (r : Arc TestRegion Global). IsHeld (test_region r.value)) c.args.regions.now.items = search rules in
-    let values = All-map (λ r. IsHeld (test_region r)) (λ (r : Arc TestRegion Global). r.value) c.args.regions.now.items each in
+    let each : All (λ (r : Arc TestRegion Global). IsHeld (test_region r.value)) c.args.regions.now.items =
+    search rules in
+    let values = All-map (λ r. IsHeld (test_region r))
+    (λ (r : Arc TestRegion Global). r.value) c.args.regions.now.items each in
     (c.regions_are_held_one_by_one.ensures.each shape _).1 (All-map IsHeld test_region _ values)

@@ -9,7 +9,8 @@ use Rattle.vm_memory.proofs.iommu.IommuMemoryGuestMemory.get_slices.Goals.{After
 there : (g : Over) (c : After-table-table g)
     → slice_get c.args.host.now.tables (g.I.Iommu.number c.self.inside.iommu.value) ≡ Some c.table-table.result.now
 there g c =
-    ap (slice_get c.args.host.now.tables) (sym (c.table.ensures ∙ ap g.I.Iommu.number c.deref.ensures)) ∙ c.table-table.ensures
+    ap (slice_get c.args.host.now.tables) (sym (c.table.ensures ∙ ap g.I.Iommu.number c.deref.ensures))
+    ∙ c.table-table.ensures
 
 pub get_slices-requires : goal.get_slices-requires
 get_slices-requires g c =
@@ -26,7 +27,8 @@ table-table-requires g c =
     let held = iommu-held c.names_are_held_one_by_one.ensures.joined shape (g.M.Named.names m.backend)
     (g.I.Named.names m.iommu) m.space c.requires in
     let table = subst (Holds shape) (g.met.I.Iommu.names_table m.iommu) held in
-    let number = c.table.ensures ∙ (ap g.I.Iommu.number c.deref.ensures ∙ ap (λ m. g.I.Iommu.number m.iommu) c.self.view_is) in
+    let number = c.table.ensures
+    ∙ (ap g.I.Iommu.number c.deref.ensures ∙ ap (λ m. g.I.Iommu.number m.iommu) c.self.view_is) in
     (subst (λ n. n < length c.args.host.now.tables) (sym number) table.0, tt)
 
 pub returns-in-Ok-clause-answer : goal.returns-in-Ok-clause-answer

@@ -44,7 +44,8 @@ returns-in-Err g c =
     let before = state_of region g.I.Iommu.number g.B.ExactBitmap.pages m in
     let fault = subst (λ (r : g.row.R.Denot). IsFault (layout_error (map region (inserted region rs r))) c.in-Err.error)
     c.in-Ok.ensures.cases c.in-Err.ensures in
-    subst (λ (r : Reply). Step before (command.Insert c.args.layout c.args.region) r before) (sym c.layout_refused.ensures)
+    subst (λ (r : Reply). Step before (command.Insert c.args.layout c.args.region) r before)
+    (sym c.layout_refused.ensures)
     (insert-refused region g.I.Iommu.number g.B.ExactBitmap.pages m c.args.layout c.args.region rs
     c.in-Some-Some.region.now.value (sym c.in-Some-Some.ensures.found) (sym c.in-Some-Some.ensures'.found)
     c.in-Err.error fault)

@@ -16,7 +16,8 @@ wants : (g : Over) (c : After-clone g)
 wants g c =
     made-wants g.R.GuestMemoryRegion.region g.I.Iommu.number g.B.ExactBitmap.pages c.args.self.now c.args.layout
     c.in-Some-Some.layout.now (sym c.in-Some-Some.ensures.found) c.args.translator c.args.space c.args.on
-    c.in-Some-Some.translator.now.value (sym c.in-Some-Some.ensures'.found) (c.has_space.ensures.0 c.if-not-has_space.false)
+    c.in-Some-Some.translator.now.value (sym c.in-Some-Some.ensures'.found)
+    (c.has_space.ensures.0 c.if-not-has_space.false)
 
 is_made : (g : Over) (c : After-new-memory g) → c.new-memory.result ≡ record {
   backend = c.in-Some-Some.layout.now;
@@ -49,7 +50,8 @@ returns g c =
     let pages = g.B.ExactBitmap.pages in
     let m = c.args.self.now in
     let share = c.in-Some-Some.translator.now in
-    made-step region number pages m c.args.layout c.in-Some-Some.layout.now (sym c.in-Some-Some.ensures.found) c.args.translator c.args.space
+    made-step region number pages m c.args.layout c.in-Some-Some.layout.now
+    (sym c.in-Some-Some.ensures.found) c.args.translator c.args.space
     c.args.on share.value (sym c.in-Some-Some.ensures'.found) (c.has_space.ensures.0 c.if-not-has_space.false)
     c.add_memory.result c.add_memory.new.self
     (subst (λ (x : Behind (List g.row.R.Denot) g.row.I.Denot). Added region number pages m (Translated x)

@@ -11,5 +11,6 @@ returns g c =
     let m = c.args.self.now in
     plain-step region number pages m c.args.layout c.in-Some.layout.now (sym c.in-Some.ensures.found)
     c.add_memory.result c.add_memory.new.self
-    (subst (λ (ys : List g.row.R.Denot). Added region number pages m (Plain ys) c.add_memory.result c.add_memory.new.self)
+    (subst (λ (ys : List g.row.R.Denot). Added region number pages m
+    (Plain ys) c.add_memory.result c.add_memory.new.self)
     c.in-Ok.ensures.cases c.add_memory.ensures)

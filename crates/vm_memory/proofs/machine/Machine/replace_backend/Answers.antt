@@ -20,9 +20,11 @@ add_memory-requires g c =
     let joined = c.names_are_held_one_by_one.ensures.joined (shape_of m.host) in
     let old = subst (HoldsMemory region number m.host) c.in-Some.ensures c.in-Some-Some.ensures.held in
     let others = Tlb (number x.iommu) ∷ Space x.space ∷ [] in
-    let kept : Holds (shape_of m.host) others = ((joined (flat_map region_names (map region x.backend)) others).0 old).1 in
+    let kept : Holds (shape_of m.host) others =
+    ((joined (flat_map region_names (map region x.backend)) others).0 old).1 in
     let names = (joined (flat_map region_names (map region rs)) others).1 (c.in-Some-Some.ensures'.held, kept) in
-    subst (λ (y : Behind (List g.row.R.Denot) g.row.I.Denot). HoldsMemory region number m.host (Translated y)) (sym is) names
+    subst (λ (y : Behind (List g.row.R.Denot) g.row.I.Denot). HoldsMemory region number m.host (Translated y))
+    (sym is) names
 
 pub returns-in-Ok-with_replaced_backend : goal.returns-in-Ok-with_replaced_backend
 returns-in-Ok-with_replaced_backend g c =
@@ -30,11 +32,13 @@ returns-in-Ok-with_replaced_backend g c =
     let number = g.I.Iommu.number in
     let pages = g.B.ExactBitmap.pages in
     let m = c.args.self.now in
-    let is : c.in-Ok-with_replaced_backend.memory ≡ (record c.in-Some.memory.now { backend = c.in-Some-Some.layout.now }) =
+    let is : c.in-Ok-with_replaced_backend.memory
+    ≡ (record c.in-Some.memory.now { backend = c.in-Some-Some.layout.now }) =
     rw c.in-Ok.ensures.cases at c.in-Ok-with_replaced_backend.ensures in
     replaced-step region number pages m c.args.layout c.in-Some-Some.layout.now (sym c.in-Some-Some.ensures'.found)
     c.args.memory c.in-Some.memory.now
-    (sym c.in-Some-Some.ensures.found ∙ ap (λ (y : MachineMemory g.row.R.Denot g.row.I.Denot). Some y) c.in-Some.ensures)
+    (sym c.in-Some-Some.ensures.found
+    ∙ ap (λ (y : MachineMemory g.row.R.Denot g.row.I.Denot). Some y) c.in-Some.ensures)
     c.add_memory.result c.add_memory.new.self
     (subst (λ (y : Behind (List g.row.R.Denot) g.row.I.Denot). Added region number pages m (Translated y)
     c.add_memory.result c.add_memory.new.self) is c.add_memory.ensures)
@@ -44,6 +48,7 @@ returns-in-Err g c = inr (
   refl,
   replaced-wants g.R.GuestMemoryRegion.region g.I.Iommu.number g.B.ExactBitmap.pages c.args.self.now c.args.layout
       c.in-Some-Some.layout.now (sym c.in-Some-Some.ensures'.found) c.args.memory c.in-Some.memory.now
-      (sym c.in-Some-Some.ensures.found ∙ ap (λ (y : MachineMemory g.row.R.Denot g.row.I.Denot). Some y) c.in-Some.ensures),
+      (sym c.in-Some-Some.ensures.found
+      ∙ ap (λ (y : MachineMemory g.row.R.Denot g.row.I.Denot). Some y) c.in-Some.ensures),
   refl,
 )

@@ -9,5 +9,6 @@ returns-clause-held g c =
     let number = g.I.Iommu.number in
     subst (λ (p : Parts g.row.R.Denot g.row.I.Denot g.row.B.Denot).
     IfSome c.get.result (λ i. IsHeld (shape_of p.host) (Tlb (number i.now.value)))) c.self.view_is
-    (All-item (λ (i : g.row.I.Denot). IsHeld (shape_of c.self.inside.host) (Tlb (number i))) c.self.inside.translators.items
+    (All-item (λ (i : g.row.I.Denot). IsHeld (shape_of c.self.inside.host)
+    (Tlb (number i))) c.self.inside.translators.items
     c.deref.result.now c.args.number c.get.result c.deref.ensures.value c.get.ensures.lookup c.self.invariant.tables)

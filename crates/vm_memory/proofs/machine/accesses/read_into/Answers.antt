@@ -5,7 +5,7 @@ use Rattle.vm_memory_guest.specs.Dirt.{path_cells}
 use Rattle.vm_memory_guest.specs.Host.{bytes_at}
 use Rattle.vm_memory_guest.specs.Memory.{route}
 use Rattle.vm_memory_guest.specs.Error.{error_of}
-use Rattle.vm_memory.specs.Reply.{reached_by, answer_of, reply_of_error}
+use Rattle.vm_memory.specs.Reply.{reached_by, access_result, reply_of_error}
 use Rattle.vm_memory.proofs.AccessLemmas.{counted_is}
 use Rattle.vm_memory.proofs.machine.accesses.read_into.Goals as goal
 
@@ -20,7 +20,7 @@ returns-in-Ok g c =
     let each = g.met.M.GuestMemory.each_fits c.args.memory.now in
     let reached = reached_by m host.tables c.args.addr.0 n permissions.Read in
     let given = rw c.as_mut_slice.ensures.value at c.in-Ok.ensures.answer in
-    let answer : Ok c.in-Ok.read ≡ answer_of reached n =
+    let answer : Ok c.in-Ok.read ≡ access_result reached n =
     rw (by_bytes.count m.regions way c.args.addr.0 n permissions.Read) at given.0 in
     let all = counted_is (length reached.path) (option_map error_of reached.fault) n c.in-Ok.read answer in
     let len : length c.read.new.buf ≡ buffer.len = omega (arith, buffer.ok.0) in
@@ -40,6 +40,7 @@ returns-in-Err g c =
     elim given [
       | inl wanted ↦ inr (c.refused.ensures ∙ ap reply_of_error wanted.0, wanted.1)
       | inr answer ↦ (
-          let told : Err c.in-Err.error ≡ answer_of (reached_by m host.tables a n permissions.Read) n = rw count at answer.0 in
+          let told : Err c.in-Err.error ≡ access_result (reached_by m host.tables a n permissions.Read) n =
+          rw count at answer.0 in
           inl (rw (← told) c.refused.ensures))
     ]

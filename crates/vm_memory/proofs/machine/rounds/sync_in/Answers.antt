@@ -3,8 +3,8 @@ use Rattle.std.proofs.lemmas.Result.{err_from_is_err_and}
 use Rattle.vm_memory_base.specs.Pages.{cleaned, dirty_pages}
 use Rattle.vm_memory_base.specs.declared.bitmap.BitmapId.TheVariants.{Block}
 use Rattle.vm_memory_guest.specs.Dirt.{with_pages}
-use Rattle.vm_memory.specs.Rounds.{bytes_of}
-use Rattle.vm_memory.proofs.BitmapLemmas.{pages_of-with_pages, with_bitmap-same}
+use Rattle.vm_memory.specs.Rounds.{bytes_of_block}
+use Rattle.vm_memory.proofs.BitmapLemmas.{pages_of_block-with_pages, with_bitmap-same}
 use Rattle.vm_memory.proofs.PatchLemmas.{patched_by-shape}
 use Rattle.vm_memory.proofs.machine.rounds.sync_in.Goals as goal
 
@@ -24,8 +24,8 @@ returns-clause-image g c =
     let host = c.args.host.now in
     let pages = g.B.ExactBitmap.pages in
     let bitmap = c.bitmap_mut-bitmap.result.now in
-    let set = pages_of-with_pages pages host block bitmap c.bitmap_mut-bitmap.ensures.value in
-    let now = bytes_of block (with_pages pages host) in
+    let set = pages_of_block-with_pages pages host block bitmap c.bitmap_mut-bitmap.ensures.value in
+    let now = bytes_of_block block (with_pages pages host) in
     let image = c.args.image.now in
     let dirty = dirty_pages (pages bitmap) in
     let size = c.in-Some.page_size in
@@ -37,5 +37,5 @@ pub returns-clause-clean : goal.returns-clause-clean
 returns-clause-clean g c =
     let pages = g.B.ExactBitmap.pages in
     let bitmap = c.bitmap_mut-bitmap.result.now in
-    let set = pages_of-with_pages pages c.args.host.now c.args.block.0 bitmap c.bitmap_mut-bitmap.ensures.value in
+    let set = pages_of_block-with_pages pages c.args.host.now c.args.block.0 bitmap c.bitmap_mut-bitmap.ensures.value in
     (c.harvest.new.self, c.in_ok-pages.ensures.clean ∙ ap cleaned (sym set), refl)

@@ -31,7 +31,8 @@ returns-then-whole-clause-received g c =
       | inl wanted ↦
           inr (c.done.ensures ∙ ap told wanted.0, wanted.1, ap (λ p. with_pages pages p.1) wanted.2)
       | inr so ↦
-          (let is = c.transfers_in_are_computed.ensures true fault (windows reached.path) 0 (map next_of c.args.steps.now)
+          (let is = c.transfers_in_are_computed.ensures true fault (windows reached.path) 0
+          (map next_of c.args.steps.now)
           c.new-source.result c.read_exact_volatile_from.new.src host new so.0
           (ap (λ (s : List Next). Some s) c.new-source.ensures) so.2 in
           inl
@@ -54,9 +55,11 @@ returns-clause-received g c =
             ap (λ p. with_pages pages p.1) wanted.2,
           )
       | inr so ↦
-          (let is = c.transfers_in_are_computed.ensures false fault (windows reached.path) 0 (map next_of c.args.steps.now)
+          (let is = c.transfers_in_are_computed.ensures false fault (windows reached.path) 0
+          (map next_of c.args.steps.now)
           c.new-source.result c.read_volatile_from.new.src host new so.0
           (ap (λ (s : List Next). Some s) c.new-source.ensures) so.2 in
           inl
-          (ap₂ (λ (r : Reply) (h : Host PageSet). (r, h)) (c.counted.ensures ∙ ap (reply_of reply.Count) (so.1 ∙ is.0)) is.2))
+          (ap₂ (λ (r : Reply) (h : Host PageSet). (r, h))
+          (c.counted.ensures ∙ ap (reply_of reply.Count) (so.1 ∙ is.0)) is.2))
     ])

@@ -71,7 +71,8 @@ returns g c =
       | inl wanted ↦
           inr (
             c.with_taken-2.ensures
-                ∙ ap (beside_taken c.into_taken-2.result.items) (c.counted-reply.ensures ∙ ap (reply_of reply.Count) wanted.0),
+                ∙ ap (beside_taken c.into_taken-2.result.items)
+                (c.counted-reply.ensures ∙ ap (reply_of reply.Count) wanted.0),
             inl wanted.1,
           )
       | inr so ↦

@@ -13,7 +13,8 @@ loop-page-preserved g c =
     let told : c.dirty_at.result ≡ is_dirty_at set (page * size) =
     g.met.Self.ExactBitmap.tells_pages bitmap (page * size) c.dirty_at.result c.dirty_at.ensures in
     let more =
-    dirty_below-more size c.in-Some.count set page (g.met.Self.ExactBitmap.fits bitmap) (sym c.in-Some.ensures) c.loop-page-test.true in
+    dirty_below-more size c.in-Some.count set page (g.met.Self.ExactBitmap.fits bitmap)
+    (sym c.in-Some.ensures) c.loop-page-test.true in
     elim c.if-dirty_at.branch [
       | then-dirty_at+in_ok-push w ↦
           rw (w.dirty-is, w.in_ok-push.ensures.items, c.loop-page.invariant, more, ← told, w.if-dirty_at.true)
@@ -26,7 +27,8 @@ returns g c =
     let set = g.Self.ExactBitmap.pages c.args.self.now in
     elim c.match-shape.branch [
       | in-Some+else-loop-page-test w ↦
-          let all = dirty_below-all w.in-Some.page_size w.in-Some.count set w.loop-page.page (sym w.in-Some.ensures) w.loop-page-test.false in
+          let all = dirty_below-all w.in-Some.page_size w.in-Some.count set w.loop-page.page
+          (sym w.in-Some.ensures) w.loop-page-test.false in
           rw (w.dirty-is, w.loop-page.invariant, all)
       | in_default w ↦ rw (w.dirty-is, c.new-dirty.ensures.items) (sym (nothing_dirty set (sym w.in_default.ensures)))
     ]

@@ -38,7 +38,8 @@ loop-bit-preserved c =
       | then-dirty w ↦
           let exact : 1 * 2 ^ bit % 2 ^ 64 ≡ 2 ^ bit = omega (arith, r.0) in
           let next = more flags bit true c.loop-bit-test.true w.if-dirty.true in
-          w.word-is ∙ rw (exact, c.loop-bit.invariant) (ap (λ (n : ℕ). word_of (take bit flags) + 2 ^ n) (sym front)) ∙ sym (next ∙ word_of-dirty (take bit flags))
+          w.word-is ∙ rw (exact, c.loop-bit.invariant) (ap (λ (n : ℕ). word_of (take bit flags) + 2 ^ n) (sym front))
+          ∙ sym (next ∙ word_of-dirty (take bit flags))
       | else-dirty w ↦
           let next = more flags bit false c.loop-bit-test.true w.if-dirty.false in
           w.word-is ∙ c.loop-bit.invariant ∙ sym (next ∙ word_of-clean (take bit flags))

@@ -6,7 +6,8 @@ abbrev pub invariant-loop-done : goal.invariant-loop-done
 invariant-loop-done g l =
     record {
       within : l.done ≤ l.size;
-      read : Consumes (g.R.Read.remaining l.initial.reader) (g.R.Read.remaining l.reader) (take l.done (g.Self.ByteValued.bytes l.value));
+      read : Consumes (g.R.Read.remaining l.initial.reader) (g.R.Read.remaining l.reader)
+          (take l.done (g.Self.ByteValued.bytes l.value));
     }
 
 abbrev pub decreases-loop-done : goal.decreases-loop-done

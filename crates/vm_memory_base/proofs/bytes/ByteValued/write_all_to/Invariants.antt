@@ -6,7 +6,8 @@ abbrev pub invariant-loop-done : goal.invariant-loop-done
 invariant-loop-done g l =
     record {
       within : l.done ≤ l.size;
-      written : Appends (g.W.Write.contents l.initial.writer) (g.W.Write.contents l.writer) (take l.done (g.Self.ByteValued.bytes l.self));
+      written : Appends (g.W.Write.contents l.initial.writer) (g.W.Write.contents l.writer)
+          (take l.done (g.Self.ByteValued.bytes l.self));
     }
 
 abbrev pub decreases-loop-done : goal.decreases-loop-done

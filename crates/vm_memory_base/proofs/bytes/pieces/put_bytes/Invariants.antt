@@ -7,5 +7,6 @@ invariant-loop-i g l =
       count : length (g.T.ByteValued.bytes l.value) ≡ g.T.ByteSized.width;
       before : take l.from (g.T.ByteValued.bytes l.value) ≡ take l.from (g.T.ByteValued.bytes l.initial.value);
       put : take l.i (drop l.from (g.T.ByteValued.bytes l.value)) ≡ take l.i l.data;
-      after : drop (l.from + l.i) (g.T.ByteValued.bytes l.value) ≡ drop (l.from + l.i) (g.T.ByteValued.bytes l.initial.value);
+      after : drop (l.from + l.i) (g.T.ByteValued.bytes l.value)
+          ≡ drop (l.from + l.i) (g.T.ByteValued.bytes l.initial.value);
     }

@@ -36,7 +36,8 @@ returns-in-Ok-eq0-clause-tells g c =
     rw (c.ended-in-Ok-eq0.ensures, c.touched.ensures) (
     fills_as source _ c.args.self.now read.new.source c.args.buf.now _ read.new.interrupted l.done Dry _
     (long g (goal.at.returns-in-Ok-eq0-clause-tells g c).At-loop-done)
-    (l.invariant.rest _ _ _ (NoneMoved c.loop-done-test.true (reads_behind source l.done l.buf read.ensures.reads none)))
+    (l.invariant.rest _ _ _
+    (NoneMoved c.loop-done-test.true (reads_behind source l.done l.buf read.ensures.reads none)))
     refl)
 
 pub returns-in-Err-clause-tells : goal.returns-in-Err-clause-tells
@@ -44,9 +45,11 @@ returns-in-Err-clause-tells g c =
     let source = g.Self.ReadVolatile.source in
     let l = c.loop-done in
     let read = c.read_again in
-    fills_as source _ c.args.self.now read.new.source c.args.buf.now _ read.new.interrupted l.done (Failed c.in-Err.error) _
+    fills_as source _ c.args.self.now read.new.source c.args.buf.now _ read.new.interrupted l.done
+    (Failed c.in-Err.error) _
     (long g (goal.at.returns-in-Err-clause-tells g c).At-loop-done)
-    (l.invariant.rest _ _ _ (TurnFailed c.loop-done-test.true (reads_behind source l.done l.buf read.ensures.reads c.in-Err.is)))
+    (l.invariant.rest _ _ _
+    (TurnFailed c.loop-done-test.true (reads_behind source l.done l.buf read.ensures.reads c.in-Err.is)))
     refl
 
 pub returns-clause-tells : goal.returns-clause-tells

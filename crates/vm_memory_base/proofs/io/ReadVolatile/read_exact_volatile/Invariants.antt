@@ -7,7 +7,8 @@ abbrev pub invariant-loop-done : goal.invariant-loop-done
 invariant-loop-done g l =
     record {
       within : l.done ≤ length l.buf;
-      rest : RestLeft (ReadsBehind g.Self.ReadVolatile.source) (length l.initial.buf) (l.initial.self, l.initial.buf, false)
+      rest : RestLeft (ReadsBehind g.Self.ReadVolatile.source) (length l.initial.buf)
+          (l.initial.self, l.initial.buf, false)
           l.done (l.self, l.buf, l.interrupted);
     }
 

@@ -8,7 +8,8 @@ use Rattle.vm_memory_base.proofs.io.WriteVolatile.write_all_volatile.Given.{Over
 use Rattle.vm_memory_base.proofs.io.WriteVolatile.write_all_volatile.Goals.{After-offer_again}
 
 -- what was offered is what is left of the buffer
-turn : (g : Over) (c : After-offer_again g) (answer : Answer) → c.offer_again.result ≡ answer → let w = g.Self.WriteVolatile in
+turn : (g : Over) (c : After-offer_again g) (answer : Answer) → c.offer_again.result ≡ answer
+    → let w = g.Self.WriteVolatile in
     OffersBehind w.sink w.taken w.may_want c.args.buf.now c.loop-done.done c.loop-done.self answer c.offer_again.new.sink
 turn g c answer is =
     let w = g.Self.WriteVolatile in
@@ -57,7 +58,9 @@ pub returns : goal.returns
 returns g c =
     let w = g.Self.WriteVolatile in
     let l = c.loop-done in
-    let full : l.done ≡ length c.args.buf.now = let a = l.invariant.within in let b = c.loop-done-test.false in omega arith in
+    let full : l.done ≡ length c.args.buf.now = let a = l.invariant.within in
+    let b = c.loop-done-test.false in
+    omega arith in
     let o = sends_of w.sink w.taken w.may_want c.args.buf.now c.args.self.now l.self l.done Whole _
     (l.invariant.rest _ _ _ (AllMoved c.loop-done-test.false)) refl in
     record { sends = (l.done, l.invariant.within, full, o.0, o.1); wants = o.2 }

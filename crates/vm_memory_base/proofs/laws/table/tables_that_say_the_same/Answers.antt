@@ -10,5 +10,6 @@ returns c =
     let first = c.num_ranges-first.ensures in
     let second = c.num_ranges-second.ensures in
     let one : ((x : ℕ) → x < 2 ^ 64 → says a x ≡ says b x) → a ≡ b =
-    λ agree. same_tables a b (first.limit ∙ sym second.limit) (sym first.canonical ∙ canonical_list-agree (says a) (says b) agree ∙ second.canonical) in
+    λ agree. same_tables a b (first.limit ∙ sym second.limit)
+    (sym first.canonical ∙ canonical_list-agree (says a) (says b) agree ∙ second.canonical) in
     record { same = one; ranges = λ agree. ap range_count (one agree) }

@@ -14,7 +14,8 @@ gives g c =
     gave c.loop-item.item-iterator c.next.new.self c.in-Some.item c.in-Ok.window c.in-Some.ensures.steps c.in-Ok.is
 
 pub loop-item-init : goal.loop-item-init
-loop-item-init g c = rw c.into_iter-item-iterator.ensures.into_iter_gives (filled_first c.args.walk c.args.host.now.blocks (g.V.ByteValued.bytes c.args.value.now))
+loop-item-init g c = rw c.into_iter-item-iterator.ensures.into_iter_gives
+    (filled_first c.args.walk c.args.host.now.blocks (g.V.ByteValued.bytes c.args.value.now))
 
 pub bytes-requires : goal.bytes-requires
 bytes-requires g c =
@@ -44,19 +45,28 @@ overflow_add-total g c =
 pub loop-item-preserved : goal.loop-item-preserved
 loop-item-preserved g c =
     let next = gives g (goal.at.loop-item-preserved g c).In-Ok in
-    let long : length c.bytes.result.now ≡ c.in-Ok.window.size = ap length c.bytes.ensures ∙ length-bytes c.args.host.now.blocks c.in-Ok.window in
-    filled_next c.loop-item.invariant next (g.V.ByteValued.bytes c.set_bytes.new.self) c.bytes.result.now c.len-total.result c.len-total.ensures long c.bytes.ensures c.set_bytes.ensures
+    let long : length c.bytes.result.now ≡ c.in-Ok.window.size =
+    ap length c.bytes.ensures ∙ length-bytes c.args.host.now.blocks c.in-Ok.window in
+    filled_next c.loop-item.invariant next
+    (g.V.ByteValued.bytes c.set_bytes.new.self) c.bytes.result.now c.len-total.result c.len-total.ensures long c.bytes.ensures c.set_bytes.ensures
 
 pub returns-in-Err-clause-answer : goal.returns-in-Err-clause-answer
 returns-in-Err-clause-answer g c =
-    let end = ends_in c.loop-item.item-iterator c.in-Some.item c.in-Err.error (items_of c.next.new.self) c.in-Some.ensures.steps c.in-Err.is in
+    let end = ends_in c.loop-item.item-iterator c.in-Some.item c.in-Err.error
+    (items_of c.next.new.self) c.in-Some.ensures.steps c.in-Err.is in
     c.ended.ensures ∙ answer-ends c.loop-item.invariant.came g.V.ByteSized.width end c.requires.asked
 
 pub returns-in-Err-clause-bytes : goal.returns-in-Err-clause-bytes
-returns-in-Err-clause-bytes g c = filled-ends c.loop-item.invariant (ends_in c.loop-item.item-iterator c.in-Some.item c.in-Err.error (items_of c.next.new.self) c.in-Some.ensures.steps c.in-Err.is)
+returns-in-Err-clause-bytes g c =
+    filled-ends c.loop-item.invariant
+    (ends_in c.loop-item.item-iterator c.in-Some.item c.in-Err.error
+    (items_of c.next.new.self) c.in-Some.ensures.steps c.in-Err.is)
 
 pub returns-clause-answer : goal.returns-clause-answer
-returns-clause-answer g c = answer-whole c.loop-item.invariant.came g.V.ByteSized.width (ends_whole c.loop-item.item-iterator c.in-None.ensures.steps.0)
+returns-clause-answer g c =
+    answer-whole c.loop-item.invariant.came g.V.ByteSized.width
+    (ends_whole c.loop-item.item-iterator c.in-None.ensures.steps.0)
 
 pub returns-clause-bytes : goal.returns-clause-bytes
-returns-clause-bytes g c = filled-ends c.loop-item.invariant (ends_whole c.loop-item.item-iterator c.in-None.ensures.steps.0)
+returns-clause-bytes g c =
+    filled-ends c.loop-item.invariant (ends_whole c.loop-item.item-iterator c.in-None.ensures.steps.0)

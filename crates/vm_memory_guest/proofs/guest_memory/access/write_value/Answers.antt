@@ -11,7 +11,8 @@ gives g c =
     gave c.loop-item.item-iterator c.next.new.self c.in-Some.item c.in-Ok.window c.in-Some.ensures.steps c.in-Ok.is
 
 pub loop-item-init : goal.loop-item-init
-loop-item-init g c = rw c.into_iter-item-iterator.ensures.into_iter_gives (wrote_first g.B.Bitmap.marks c.args.walk (g.V.ByteValued.bytes c.args.value.now) c.args.host.now)
+loop-item-init g c = rw c.into_iter-item-iterator.ensures.into_iter_gives
+    (wrote_first g.B.Bitmap.marks c.args.walk (g.V.ByteValued.bytes c.args.value.now) c.args.host.now)
 
 pub write_value-requires-clause-held : goal.write_value-requires-clause-held
 write_value-requires-clause-held g c =
@@ -39,21 +40,28 @@ overflow_add-total g c =
 pub loop-item-preserved : goal.loop-item-preserved
 loop-item-preserved g c =
     let next = gives g (goal.at.loop-item-preserved g c).In-Ok in
-    let long : length (g.V.ByteValued.bytes c.args.value.now) ≡ g.V.ByteSized.width = g.met.V.ByteValued.laws.length_bytes c.args.value.now c.known.ensures in
-    wrote_next g.B.Bitmap.marks c.loop-item.invariant next c.write_value.new.self c.len-total.result c.len-total.ensures (omega (arith, c.requires.fits)) c.write_value.ensures.bytes
+    let long : length (g.V.ByteValued.bytes c.args.value.now) ≡ g.V.ByteSized.width =
+    g.met.V.ByteValued.laws.length_bytes c.args.value.now c.known.ensures in
+    wrote_next g.B.Bitmap.marks c.loop-item.invariant next c.write_value.new.self c.len-total.result c.len-total.ensures
+    (omega (arith, c.requires.fits)) c.write_value.ensures.bytes
 
 pub returns-in-Err-clause-answer : goal.returns-in-Err-clause-answer
 returns-in-Err-clause-answer g c =
-    let end = ends_in c.loop-item.item-iterator c.in-Some.item c.in-Err.error (items_of c.next.new.self) c.in-Some.ensures.steps c.in-Err.is in
+    let end = ends_in c.loop-item.item-iterator c.in-Some.item c.in-Err.error
+    (items_of c.next.new.self) c.in-Some.ensures.steps c.in-Err.is in
     c.ended.ensures ∙ answer-ends c.loop-item.invariant.came g.V.ByteSized.width end c.requires.asked
 
 pub returns-in-Err-clause-bytes : goal.returns-in-Err-clause-bytes
 returns-in-Err-clause-bytes g c =
-    let end = ends_in c.loop-item.item-iterator c.in-Some.item c.in-Err.error (items_of c.next.new.self) c.in-Some.ensures.steps c.in-Err.is in
+    let end = ends_in c.loop-item.item-iterator c.in-Some.item c.in-Err.error
+    (items_of c.next.new.self) c.in-Some.ensures.steps c.in-Err.is in
     wrote-ends g.B.Bitmap.marks c.loop-item.invariant end
 
 pub returns-clause-answer : goal.returns-clause-answer
-returns-clause-answer g c = answer-whole c.loop-item.invariant.came g.V.ByteSized.width (ends_whole c.loop-item.item-iterator c.in-None.ensures.steps.0)
+returns-clause-answer g c =
+    answer-whole c.loop-item.invariant.came g.V.ByteSized.width
+    (ends_whole c.loop-item.item-iterator c.in-None.ensures.steps.0)
 
 pub returns-clause-bytes : goal.returns-clause-bytes
-returns-clause-bytes g c = wrote-ends g.B.Bitmap.marks c.loop-item.invariant (ends_whole c.loop-item.item-iterator c.in-None.ensures.steps.0)
+returns-clause-bytes g c =
+    wrote-ends g.B.Bitmap.marks c.loop-item.invariant (ends_whole c.loop-item.item-iterator c.in-None.ensures.steps.0)

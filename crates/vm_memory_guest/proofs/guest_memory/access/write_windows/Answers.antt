@@ -10,7 +10,8 @@ gives g c =
     gave c.loop-item.item-iterator c.next.new.self c.in-Some.item c.in-Ok.window c.in-Some.ensures.steps c.in-Ok.is
 
 pub loop-item-init : goal.loop-item-init
-loop-item-init g c = rw c.into_iter-item-iterator.ensures.into_iter_gives (wrote_first g.B.Bitmap.marks c.args.walk c.args.buf.now c.args.host.now)
+loop-item-init g c = rw c.into_iter-item-iterator.ensures.into_iter_gives
+    (wrote_first g.B.Bitmap.marks c.args.walk c.args.buf.now c.args.host.now)
 
 pub overflow_add-end : goal.overflow_add-end
 overflow_add-end g c =
@@ -36,16 +37,21 @@ loop-item-preserved g c =
 
 pub returns-in-Err-clause-answer : goal.returns-in-Err-clause-answer
 returns-in-Err-clause-answer g c =
-    let end = ends_in c.loop-item.item-iterator c.in-Some.item c.in-Err.error (items_of c.next.new.self) c.in-Some.ensures.steps c.in-Err.is in
+    let end = ends_in c.loop-item.item-iterator c.in-Some.item c.in-Err.error
+    (items_of c.next.new.self) c.in-Some.ensures.steps c.in-Err.is in
     c.ended.ensures ∙ answer-ends c.loop-item.invariant.came (length c.args.buf.now) end c.requires.asked
 
 pub returns-in-Err-clause-bytes : goal.returns-in-Err-clause-bytes
 returns-in-Err-clause-bytes g c =
-    let end = ends_in c.loop-item.item-iterator c.in-Some.item c.in-Err.error (items_of c.next.new.self) c.in-Some.ensures.steps c.in-Err.is in
+    let end = ends_in c.loop-item.item-iterator c.in-Some.item c.in-Err.error
+    (items_of c.next.new.self) c.in-Some.ensures.steps c.in-Err.is in
     wrote-ends g.B.Bitmap.marks c.loop-item.invariant end
 
 pub returns-clause-answer : goal.returns-clause-answer
-returns-clause-answer g c = answer-whole c.loop-item.invariant.came (length c.args.buf.now) (ends_whole c.loop-item.item-iterator c.in-None.ensures.steps.0)
+returns-clause-answer g c =
+    answer-whole c.loop-item.invariant.came (length c.args.buf.now)
+    (ends_whole c.loop-item.item-iterator c.in-None.ensures.steps.0)
 
 pub returns-clause-bytes : goal.returns-clause-bytes
-returns-clause-bytes g c = wrote-ends g.B.Bitmap.marks c.loop-item.invariant (ends_whole c.loop-item.item-iterator c.in-None.ensures.steps.0)
+returns-clause-bytes g c =
+    wrote-ends g.B.Bitmap.marks c.loop-item.invariant (ends_whole c.loop-item.item-iterator c.in-None.ensures.steps.0)

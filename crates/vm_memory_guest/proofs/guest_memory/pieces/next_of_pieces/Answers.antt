@@ -9,16 +9,19 @@ pub returns-in-Some-Ok : goal.returns-in-Some-Ok
 returns-in-Some-Ok g c =
     let walk = c.pieces.walk in
     let new = c.next.new.self in
-    let steps = subst (λ item. items_of walk ≡ item ∷ items_of new) c.in-Some-Ok.field-0-is c.in-Some-Ok.ensures.steps in
+    let steps = subst (λ item. items_of walk ≡ item
+    ∷ items_of new) c.in-Some-Ok.field-0-is c.in-Some-Ok.ensures.steps in
     ap items_of c.pieces.invariant.2
     ∙ (left-gives walk new c.in-Some-Ok.window c.pieces.behind steps
-    ∙ ap₂ (λ (w : Window) (p : PiecesLeft). Ok w ∷ items_of (left_of new (Some p))) (sym c.marked.ensures.window) (sym c.marked.ensures.behind))
+    ∙ ap₂ (λ (w : Window) (p : PiecesLeft). Ok w ∷ items_of (left_of new (Some p))) (sym c.marked.ensures.window)
+    (sym c.marked.ensures.behind))
 
 pub returns-in-Some-Err : goal.returns-in-Some-Err
 returns-in-Some-Err g c =
     let walk = c.pieces.walk in
     let new = c.next.new.self in
-    let steps = subst (λ item. items_of walk ≡ item ∷ items_of new) c.in-Some-Err.field-0-is c.in-Some-Err.ensures.steps in
+    let steps = subst (λ item. items_of walk ≡ item
+    ∷ items_of new) c.in-Some-Err.field-0-is c.in-Some-Err.ensures.steps in
     ap items_of c.pieces.invariant.2
     ∙ (left-refuses walk new c.in-Some-Err.error c.pieces.behind steps
     ∙ ap (λ (p : PiecesLeft). Err c.in-Some-Err.error ∷ items_of (left_of new (Some p))) (sym c.end.ensures))
@@ -30,7 +33,8 @@ returns-in_err-walk-in-None g c =
     let nothing = λ (p : PiecesLeft). walk_of_pieces p.regions p.pieces ≡ record { windows = []; fault = None } in
     rw c.from_residual.ensures (
       ap items_of c.pieces.invariant.2 ∙ left-none c.pieces.walk old c.in-None.ensures.steps.0 left.walk,
-      left-none c.next.new.self c.next_walk.new.self c.in-None.ensures.steps.1 (subst nothing (sym left.left.0) left.walk),
+      left-none c.next.new.self c.next_walk.new.self c.in-None.ensures.steps.1
+          (subst nothing (sym left.left.0) left.walk),
     )
 
 pub pieces-preserved : goal.pieces-preserved

@@ -26,7 +26,8 @@ sent g c =
     c.loop-item.sink call.new.self c.bytes.result.now call.result c.bytes.ensures call.ensures.sends call.ensures.wants
 
 pub loop-item-init : goal.loop-item-init
-loop-item-init g c = rw c.into_iter-item-iterator.ensures.into_iter_gives (moved_first (Takes g.S.WriteVolatile.sink g.S.WriteVolatile.taken g.S.WriteVolatile.may_want c.args.host.now.blocks UntilWhole) c.args.walk c.args.sink.now)
+loop-item-init g c = rw c.into_iter-item-iterator.ensures.into_iter_gives
+    (moved_first (Takes g.S.WriteVolatile.sink g.S.WriteVolatile.taken g.S.WriteVolatile.may_want c.args.host.now.blocks UntilWhole) c.args.walk c.args.sink.now)
 
 pub bytes-requires : goal.bytes-requires
 bytes-requires g c =
@@ -41,7 +42,9 @@ returns-in_err-write_all_volatile-in-Ok-clause-answer g c =
     let next = gives g (goal.at.returns-in_err-write_all_volatile-in-Ok-clause-answer g c).In-Ok in
     let sends = sent g (goal.at.returns-in_err-write_all_volatile-in-Ok-clause-answer g c).After-write_all_volatile in
     let p = err_from_is_err_and c.from_residual.result c.from_residual.ensures.1 in
-    rw (p.1, p.2) (moved_fails _ c.loop-item.invariant next call.new.self (answered (λ all. w.size) call.result) sends c.in_err-write_all_volatile-in-Ok.field-0.0 (ap (answered (λ all. w.size)) c.in_err-write_all_volatile-in-Ok.was))
+    rw (p.1, p.2) (moved_fails _ c.loop-item.invariant next call.new.self
+    (answered (λ all. w.size) call.result) sends c.in_err-write_all_volatile-in-Ok.field-0.0
+    (ap (answered (λ all. w.size)) c.in_err-write_all_volatile-in-Ok.was))
 
 pub overflow_add-total : goal.overflow_add-total
 overflow_add-total g c =
@@ -56,11 +59,16 @@ loop-item-preserved g c =
     let call = c.write_all_volatile in
     let next = gives g (goal.at.loop-item-preserved g c).In-Ok in
     let sends = sent g (goal.at.loop-item-preserved g c).After-write_all_volatile in
-    moved_next _ c.loop-item.invariant next call.new.self (answered (λ all. w.size) call.result) sends c.len-total.result (ap (answered (λ all. w.size)) c.in_ok-write_all_volatile-in-Ok.was ∙ ap (λ (n : ℕ). Ok n) (sym c.len-total.ensures)) c.len-total.ensures
+    moved_next _ c.loop-item.invariant next call.new.self
+    (answered (λ all. w.size) call.result) sends c.len-total.result
+    (ap (answered (λ all. w.size)) c.in_ok-write_all_volatile-in-Ok.was
+    ∙ ap (λ (n : ℕ). Ok n) (sym c.len-total.ensures)) c.len-total.ensures
 
 pub returns-in-Err-clause-answer : goal.returns-in-Err-clause-answer
 returns-in-Err-clause-answer g c =
-    rw c.ended.ensures (moved_ends _ c.loop-item.invariant (ends_in c.loop-item.item-iterator c.in-Some.item c.in-Err.error (items_of c.next.new.self) c.in-Some.ensures.steps c.in-Err.is))
+    rw c.ended.ensures (moved_ends _ c.loop-item.invariant
+    (ends_in c.loop-item.item-iterator c.in-Some.item c.in-Err.error
+    (items_of c.next.new.self) c.in-Some.ensures.steps c.in-Err.is))
 
 pub returns-clause-answer : goal.returns-clause-answer
 returns-clause-answer g c =

@@ -37,7 +37,8 @@ module _ {X : Type 0} (region : X → Region) (shape : Shape) (rs : List (Arc X 
       AreHeldFrom-at shape (regions region rs) i (region r.value) within read before
       (subst (λ (qs : List Region). Holds shape (flat_map region_names qs)) (sym same) all)
 
-is : (g : Over) (c : After-held_by g) → map (λ (q : Arc g.row.R.Denot Global). q.value) c.deref-region-items.result.now ≡ c.args.self.now
+is : (g : Over) (c : After-held_by g)
+    → map (λ (q : Arc g.row.R.Denot Global). q.value) c.deref-region-items.result.now ≡ c.args.self.now
 is g c = ap (map (λ q. q.value)) c.deref-region-items.ensures.value ∙ c.self.view_is
 
 names : (g : Over) (c : After-held_by g)
@@ -49,7 +50,8 @@ names g c =
 pub returns-then-not-held_by : goal.returns-then-not-held_by
 returns-then-not-held_by g c =
     let here = (goal.at.returns-then-not-held_by g c).After-held_by in
-    let this = this_one g.R.GuestMemoryRegion.region c.args.shape.now c.deref-region-items.result.now c.args.self.now (is g here)
+    let this = this_one g.R.GuestMemoryRegion.region c.args.shape.now c.deref-region-items.result.now c.args.self.now
+    (is g here)
     c.loop-region.region-index c.region-item.result (omega arith) c.region-item.is c.loop-region.invariant in
     let test : IsTrue c.held_by.result → IsTrue false = subst (λ (b : Bool). IsTrue b) c.if-not-held_by.true in
     (λ h. absurd (false≢true h), λ h. test (c.held_by.ensures.1 (rw (names g here) (this h))))

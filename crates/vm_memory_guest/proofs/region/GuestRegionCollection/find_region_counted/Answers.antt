@@ -4,9 +4,9 @@ use Rattle.std.proofs.lemmas.List.{get_or-map, length-map}
 use Rattle.std.specs.declared.alloc.Global.{Global}
 use Rattle.std.specs.declared.sync.Arc.{Arc}
 use Rattle.vm_memory_guest.specs.Collection.{regions_of, IsIndexed}
-use Rattle.vm_memory_guest.specs.Region.{home_in}
+use Rattle.vm_memory_guest.specs.Region.{containing_in}
 use Rattle.vm_memory_guest.proofs.RegionLaws.{length-starts, starts-ascend}
-use Rattle.vm_memory_guest.proofs.RegionLaws.{home_in-below, home_in-before, home_in-past}
+use Rattle.vm_memory_guest.proofs.RegionLaws.{containing_in-below, containing_in-before, containing_in-past}
 use Rattle.vm_memory_guest.proofs.region.GuestRegionCollection.find_region_counted.Given.{Over}
 use Rattle.vm_memory_guest.proofs.region.GuestRegionCollection.find_region_counted.Goals as goal
 use Rattle.vm_memory_guest.proofs.region.GuestRegionCollection.find_region_counted.Goals.{After-deref-region}
@@ -42,23 +42,24 @@ module _ (g : Over) (c : After-deref-region g) where
 
   found : let r = g.R.GuestMemoryRegion.region c.deref-region.result.now in
       c.args.addr.0 - c.first_above-next.result.1 < r.len
-      → Some c.deref-region.result.now ≡ home_in g.R.GuestMemoryRegion.region c.args.self.now c.args.addr.0
+      → Some c.deref-region.result.now ≡ containing_in g.R.GuestMemoryRegion.region c.args.self.now c.args.addr.0
   found h =
       let told = c.first_above-next.ensures in
       let region = g.R.GuestMemoryRegion.region in
-      subst (λ (ys : List g.row.R.Denot). Some c.deref-region.result.now ≡ home_in region ys c.args.addr.0) c.self.view_is
-      (home_in-before region g.met.R.GuestMemoryRegion.fits values c.as_slice.result.now indexed c.args.addr.0
+      subst (λ (ys : List g.row.R.Denot). Some c.deref-region.result.now
+      ≡ containing_in region ys c.args.addr.0) c.self.view_is
+      (containing_in-before region g.met.R.GuestMemoryRegion.fits values c.as_slice.result.now indexed c.args.addr.0
       c.first_above-next.result.0 told.above c.deref-region.result.now some told.within value_at c.first_above-next.result.1
       (told.start some) low h)
 
   missed : let r = g.R.GuestMemoryRegion.region c.deref-region.result.now in
       r.len ≤ c.args.addr.0 - c.first_above-next.result.1
-      → None ≡ home_in g.R.GuestMemoryRegion.region c.args.self.now c.args.addr.0
+      → None ≡ containing_in g.R.GuestMemoryRegion.region c.args.self.now c.args.addr.0
   missed h =
       let told = c.first_above-next.ensures in
       let region = g.R.GuestMemoryRegion.region in
-      subst (λ (ys : List g.row.R.Denot). None ≡ home_in region ys c.args.addr.0) c.self.view_is
-      (home_in-past region g.met.R.GuestMemoryRegion.fits values c.as_slice.result.now indexed c.args.addr.0
+      subst (λ (ys : List g.row.R.Denot). None ≡ containing_in region ys c.args.addr.0) c.self.view_is
+      (containing_in-past region g.met.R.GuestMemoryRegion.fits values c.as_slice.result.now indexed c.args.addr.0
       c.first_above-next.result.0 told.above c.deref-region.result.now some told.within value_at c.first_above-next.result.1
       (told.start some) low h)
 
@@ -73,13 +74,15 @@ returns-then-next-eq0-clause-found g c =
     let region = g.R.GuestMemoryRegion.region in
     let xs = regions_of c.self.inside.regions in
     let told = c.first_above-next.ensures in
-    subst (λ (ys : List g.row.R.Denot). None ≡ home_in region ys c.args.addr.0) c.self.view_is
-    (home_in-below region g.met.R.GuestMemoryRegion.fits xs
+    subst (λ (ys : List g.row.R.Denot). None ≡ containing_in region ys c.args.addr.0) c.self.view_is
+    (containing_in-below region g.met.R.GuestMemoryRegion.fits xs
     c.as_slice.result.now (rw c.as_slice.ensures.value c.self.invariant)
     c.args.addr.0 c.first_above-next.result.0 told.above c.if-next-eq0.true)
 
 pub returns-then-addr-start-clause-found : goal.returns-then-addr-start-clause-found
-returns-then-addr-start-clause-found g c = found g (goal.at.returns-then-addr-start-clause-found g c).After-deref-region (omega arith)
+returns-then-addr-start-clause-found g c =
+    found g (goal.at.returns-then-addr-start-clause-found g c).After-deref-region (omega arith)
 
 pub returns-else-addr-start-clause-found : goal.returns-else-addr-start-clause-found
-returns-else-addr-start-clause-found g c = missed g (goal.at.returns-else-addr-start-clause-found g c).After-deref-region (omega arith)
+returns-else-addr-start-clause-found g c =
+    missed g (goal.at.returns-else-addr-start-clause-found g c).After-deref-region (omega arith)

@@ -24,7 +24,8 @@ some g c = omega arith
 
 inside : (g : Over) (c : After-len g) → c.first_above-next.result.0 - 1 < length (regions_of c.self.inside.regions)
 inside g c =
-    let same = length-starts g.R.GuestMemoryRegion.region g.met.R.GuestMemoryRegion.fits (regions_of c.self.inside.regions)
+    let same = length-starts g.R.GuestMemoryRegion.region g.met.R.GuestMemoryRegion.fits
+    (regions_of c.self.inside.regions)
     c.as_slice.result.now (indexed g c) in
     omega (arith, c.first_above-next.ensures.within, same, some g c)
 
@@ -66,7 +67,8 @@ returns-else-len-size g c =
     let x = c.deref-region.result.now in
     let here = (goal.at.returns-else-len-size g c).After-len in
     subst (λ (ys : List g.row.R.Denot). removed region ys a c.args.size ≡ None) c.self.view_is
-    (removed-other region g.met.R.GuestMemoryRegion.fits (regions_of c.self.inside.regions) c.as_slice.result.now (indexed g here)
+    (removed-other region g.met.R.GuestMemoryRegion.fits (regions_of c.self.inside.regions) c.as_slice.result.now
+    (indexed g here)
     a c.first_above-next.result.0 told.within told.below told.above c.args.size x (some g here) (at g here)
     (is_exactly-len a c.args.size (region x) (λ e. c.if-len-size.false (c.len.ensures ∙ e))))
 
@@ -86,7 +88,8 @@ returns-then-len-size g c =
     ∙ sym (ap (λ (y : g.row.R.Denot). (region y).start) (at g here))) in
     let found = removed-here region fits xs starts (indexed g here) a n told.within told.below told.above
     c.args.size x (some g here) (at g here)
-    (is_exactly-both a c.args.size (region x) (start ∙ c.if-start-base.false) (sym c.len.ensures ∙ c.if-len-size.true)) in
+    (is_exactly-both a c.args.size (region x) (start ∙ c.if-start-base.false)
+    (sym c.len.ensures ∙ c.if-len-size.true)) in
     subst (λ (ys : List g.row.R.Denot). (y : g.row.R.Denot) × (n - 1 < length ys) × (slice_get ys (n - 1) ≡ Some y)
     × (removed region ys a c.args.size ≡ Some (remove ys (n - 1), y))) c.self.view_is
     (x, within, slice_get_read xs (length xs) (n - 1) x refl within (at g here), found)

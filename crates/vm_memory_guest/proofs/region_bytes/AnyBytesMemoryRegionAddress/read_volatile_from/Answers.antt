@@ -12,5 +12,6 @@ returns-in_err-window-clause-answer g c =
 pub returns-clause-answer : goal.returns-clause-answer
 returns-clause-answer g c =
     rw c.told.ensures (region_moved _ _ _ (λ total. refl) _ _ c.in_ok-window.window
-    (sym c.as_volatile_slice.ensures ∙ c.in_ok-window.was) (c.args.src.now, c.args.host.now) (c.read_volatile_from.new.src, c.read_volatile_from.new.host)
+    (sym c.as_volatile_slice.ensures ∙ c.in_ok-window.was) (c.args.src.now, c.args.host.now)
+    (c.read_volatile_from.new.src, c.read_volatile_from.new.host)
     c.read_volatile_from.result c.read_volatile_from.ensures.answer)

@@ -17,9 +17,11 @@ returns-then-source-target c =
     let s = get_or low c.args.source c.index-low-source.result in
     let t = get_or high 0 c.index-high-0.result in
     let new = c.move_into.new.block in
-    let taken : take (c.args.from + c.args.len - c.args.from) (drop c.args.from c.as_slice.result.now) ≡ take (c.args.from + c.args.len - c.args.from) (drop c.args.from s.items) =
+    let taken : take (c.args.from + c.args.len - c.args.from) (drop c.args.from c.as_slice.result.now)
+    ≡ take (c.args.from + c.args.len - c.args.from) (drop c.args.from s.items) =
     ap (λ xs. take (c.args.from + c.args.len - c.args.from) (drop c.args.from xs)) c.as_slice.ensures.value in
-    moved blocks (low ++ set high 0 (with_items t new)) c.args.source c.args.from c.args.target c.args.to c.args.len s t c.index-low-source.result c.index-high-0.result c.as_mut_slice-then-source-target.result.now (take (c.args.from + c.args.len - c.args.from) (drop c.args.from c.as_slice.result.now)) new
+    moved blocks (low ++ set high 0
+    (with_items t new)) c.args.source c.args.from c.args.target c.args.to c.args.len s t c.index-low-source.result c.index-high-0.result c.as_mut_slice-then-source-target.result.now (take (c.args.from + c.args.len - c.args.from) (drop c.args.from c.as_slice.result.now)) new
     c.requires.source c.requires.target
     (low-at blocks.items low high split c.args.source c.index-low-source.result inside)
     (high-at blocks.items low high split c.args.target c.index-high-0.result seam)
@@ -31,16 +33,20 @@ returns-then-target-source c =
     let blocks = c.args.blocks.now in
     let low = c.split_at_mut-low-then-target-source.result.0.now in
     let high = c.split_at_mut-low-then-target-source.result.1.now in
-    let split = sym c.as_mut_slice-then-target-source.ensures.value ∙ c.split_at_mut-low-then-target-source.ensures.value in
+    let split = sym c.as_mut_slice-then-target-source.ensures.value
+    ∙ c.split_at_mut-low-then-target-source.ensures.value in
     let seam : length low ≡ c.args.source = c.split_at_mut-low-then-target-source.ensures.front_len in
     let inside : c.args.target < length low = omega arith in
     let s = get_or high 0 c.index-high-0-then-target-source.result in
     let t = get_or low c.args.target c.index-low-target.result in
     let new = c.move_into-then-target-source.new.block in
     let read = c.as_slice-then-target-source.result.now in
-    let taken : take (c.args.from + c.args.len - c.args.from) (drop c.args.from read) ≡ take (c.args.from + c.args.len - c.args.from) (drop c.args.from s.items) =
-    ap (λ xs. take (c.args.from + c.args.len - c.args.from) (drop c.args.from xs)) c.as_slice-then-target-source.ensures.value in
-    moved blocks (set low c.args.target (with_items t new) ++ high) c.args.source c.args.from c.args.target c.args.to c.args.len s t c.index-high-0-then-target-source.result c.index-low-target.result c.as_mut_slice-then-target-source-2.result.now (take (c.args.from + c.args.len - c.args.from) (drop c.args.from read)) new
+    let taken : take (c.args.from + c.args.len - c.args.from) (drop c.args.from read)
+    ≡ take (c.args.from + c.args.len - c.args.from) (drop c.args.from s.items) =
+    ap (λ xs. take (c.args.from + c.args.len - c.args.from)
+    (drop c.args.from xs)) c.as_slice-then-target-source.ensures.value in
+    moved blocks (set low c.args.target (with_items t new)
+    ++ high) c.args.source c.args.from c.args.target c.args.to c.args.len s t c.index-high-0-then-target-source.result c.index-low-target.result c.as_mut_slice-then-target-source-2.result.now (take (c.args.from + c.args.len - c.args.from) (drop c.args.from read)) new
     c.requires.source c.requires.target
     (high-at blocks.items low high split c.args.source c.index-high-0-then-target-source.result seam)
     (low-at blocks.items low high split c.args.target c.index-low-target.result inside)

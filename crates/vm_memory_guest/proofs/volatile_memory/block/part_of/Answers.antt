@@ -7,6 +7,8 @@ use Rattle.vm_memory_guest.proofs.volatile_memory.block.part_of.Goals as goal
 
 pub returns : goal.returns
 returns c =
-    let same : c.as_slice.result.now ≡ block_at (blocks_of c.args.blocks.now) c.args.block = grind (arith, common_steps) in
+    let same : c.as_slice.result.now ≡ block_at (blocks_of c.args.blocks.now) c.args.block =
+    grind (arith, common_steps) in
     let count : c.args.offset + c.args.len - c.args.offset ≡ c.args.len = omega arith in
-    rw (same, count) (sym (bytes_at-block c.args.block c.args.offset c.args.len (blocks_of c.args.blocks.now) c.requires.within))
+    rw (same, count) (sym (bytes_at-block c.args.block c.args.offset c.args.len
+    (blocks_of c.args.blocks.now) c.requires.within))

@@ -12,5 +12,7 @@ returns c =
     let there : c.args.block < length blocks = grind (arith, common_steps) in
     let is : all.items ≡ block_at blocks c.args.block = grind (arith, common_steps) in
     let same : c.as_mut_slice.result.now ≡ block_at blocks c.args.block = grind (arith, common_steps) in
-    let moved : c.move_into.new.block ≡ take c.args.offset (block_at blocks c.args.block) ++ c.args.bytes.now ++ drop (c.args.offset + length c.args.bytes.now) (block_at blocks c.args.block) = rw (← same) c.move_into.ensures in
+    let moved : c.move_into.new.block ≡ take c.args.offset (block_at blocks c.args.block) ++ c.args.bytes.now
+    ++ drop (c.args.offset + length c.args.bytes.now) (block_at blocks c.args.block) =
+    rw (← same) c.move_into.ensures in
     put-block c.args.blocks.now.items c.args.block c.args.offset all c.args.bytes.now c.move_into.new.block there is c.requires.within moved

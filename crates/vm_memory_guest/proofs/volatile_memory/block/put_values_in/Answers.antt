@@ -21,4 +21,5 @@ returns-clause-lengths g c =
     c.as_mut_slice.result.now (grind (arith, common_steps)) (grind (arith, common_steps)) c.as_mut_slice.ensures.value
     c.requires.within in
     ap (map length) (p.put c.fill_place.new.place c.fill_place.auto.place)
-    ∙ lengths-written (cells_from c.args.block c.args.offset c.args.len) c.fill_place.new.place (blocks_of c.args.blocks.now)
+    ∙ lengths-written (cells_from c.args.block c.args.offset c.args.len) c.fill_place.new.place
+    (blocks_of c.args.blocks.now)

@@ -21,8 +21,11 @@ invariant_of-self c =
     elim c.match-add.branch [
       | in-Ok w ↦
           let joined =
-          c.names_are_held_one_by_one.ensures.joined (shape_of host) (flat_map region_names old) (region_names region) in
-          rw (w.in-Ok.ensures.ok, map-append)
-          (rw flat_map-append (joined.1 (c.self.invariant.0, rw c.in-Some.ensures.value.1 (place, tt))), c.self.invariant.1)
+          c.names_are_held_one_by_one.ensures.joined (shape_of host) (flat_map region_names old)
+          (region_names region) in
+          rw (w.in-Ok.ensures.ok, map-append) (
+            rw flat_map-append (joined.1 (c.self.invariant.0, rw c.in-Some.ensures.value.1 (place, tt))),
+            c.self.invariant.1,
+          )
       | in-Err w ↦ (rw w.in-Err.ensures.err c.self.invariant.0, c.self.invariant.1)
     ]

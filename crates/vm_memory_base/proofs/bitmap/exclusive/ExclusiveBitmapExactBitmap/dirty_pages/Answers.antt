@@ -17,4 +17,5 @@ loop-page-preserved c =
 pub returns : goal.returns
 returns c =
     c.loop-page.invariant
-    ∙ ap (dirty_from 0) (take_all c.loop-page.page c.deref-dirty-items.result.now c.loop-page-test.false ∙ c.deref-dirty-items.ensures.value)
+    ∙ ap (dirty_from 0) (take_all c.loop-page.page c.deref-dirty-items.result.now c.loop-page-test.false
+    ∙ c.deref-dirty-items.ensures.value)

@@ -7,5 +7,6 @@ invariant-loop-k g l =
       count : length l.all ≡ g.row.N;
       filled :
           (j : ℕ) (d : g.row.T.Denot) → j < l.k
-          → get_or l.all j d ≡ g.T.FixedInteger.value_of (take g.T.ByteSized.width (drop (j * g.T.ByteSized.width) l.data));
+          → get_or l.all j d ≡ g.T.FixedInteger.value_of
+          (take g.T.ByteSized.width (drop (j * g.T.ByteSized.width) l.data));
     }

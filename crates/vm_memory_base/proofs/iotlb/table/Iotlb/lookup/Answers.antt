@@ -18,7 +18,8 @@ new-requires-then-are_granted c =
 pub returns-then-are_granted-clause-found : goal.returns-then-are_granted-clause-found
 returns-then-are_granted-clause-found c =
     let told = looked_up c.self.inside.ranges.items c.as_slice-ranges.result.now c.as_slice-ranges.ensures.value c.self.invariant c.args.iova.0 c.args.length c.in-Some.end c.ends_below.result c.in-Some.ensures.1 (omega arith) c.in-Some.ensures.0 c.args.access c.ends_below.ensures.below c.ends_below.ensures.from (sym c.are_granted.ensures ∙ c.if-are_granted.true) in
-    subst (λ (t : Table). (is_allowed (says t) c.args.iova.0 c.args.length c.args.access ≡ true) × (c.new-then-are_granted.result ≡ pieces (says t) c.args.iova.0 c.args.length))
+    subst (λ (t : Table). (is_allowed (says t) c.args.iova.0 c.args.length c.args.access ≡ true)
+    × (c.new-then-are_granted.result ≡ pieces (says t) c.args.iova.0 c.args.length))
     c.self.view_is (told.0, c.new-then-are_granted.ensures ∙ told.2)
 
 pub refusal-requires-clause-canonical : goal.refusal-requires-clause-canonical
@@ -26,7 +27,9 @@ refusal-requires-clause-canonical c =
     canonical_asked c.self.inside.ranges.items c.as_slice-ranges.result.now c.as_slice-ranges.ensures.value c.self.invariant c.args.iova.0 c.args.length c.in-Some.end c.ends_below.result c.in-Some.ensures.1 (omega arith) c.in-Some.ensures.0 c.args.access c.ends_below.ensures.below c.ends_below.ensures.from
 
 -- the same answer of lists that are the same
-same_fails : (e : LookupError) (m m' f f' : List Range) → m ≡ m' → f ≡ f' → (e ≡ Memory) ⊎ (e ≡ Fails (record { misses = m; access_fails = f })) → (e ≡ Memory) ⊎ (e ≡ Fails (record { misses = m'; access_fails = f' }))
+same_fails : (e : LookupError) (m m' f f' : List Range) → m ≡ m' → f ≡ f' → (e ≡ Memory)
+    ⊎ (e ≡ Fails (record { misses = m; access_fails = f })) → (e ≡ Memory)
+    ⊎ (e ≡ Fails (record { misses = m'; access_fails = f' }))
 same_fails e m m' f f' p q (inl z) = inl z
 same_fails e m m' f f' p q (inr s) = inr (cc)
 
@@ -34,5 +37,10 @@ pub returns-clause-refused : goal.returns-clause-refused
 returns-clause-refused c =
     let told = looked_up_in_vain c.self.inside.ranges.items c.as_slice-ranges.result.now c.as_slice-ranges.ensures.value c.self.invariant c.args.iova.0 c.args.length c.in-Some.end c.ends_below.result c.in-Some.ensures.1 (omega arith) c.in-Some.ensures.0 c.args.access c.ends_below.ensures.below c.ends_below.ensures.from (sym c.are_granted.ensures ∙ c.if-are_granted.false) in
     subst (λ (t : Table). (is_allowed (says t) c.args.iova.0 c.args.length c.args.access ≡ false)
-    × ((c.refusal.result ≡ Memory) ⊎ (c.refusal.result ≡ Fails (record { misses = misses (says t) c.args.iova.0 c.args.length; access_fails = failures (says t) c.args.iova.0 c.args.length c.args.access }))))
+    × ((c.refusal.result ≡ Memory)
+    ⊎ (c.refusal.result ≡ Fails
+    (record {
+      misses = misses (says t) c.args.iova.0 c.args.length;
+      access_fails = failures (says t) c.args.iova.0 c.args.length c.args.access;
+    }))))
     c.self.view_is (told.0, same_fails c.refusal.result _ _ _ _ told.1 told.2 c.refusal.ensures)

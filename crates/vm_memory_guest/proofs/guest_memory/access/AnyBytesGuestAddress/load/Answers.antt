@@ -14,12 +14,16 @@ returns-in_err-walk g c =
     let memory = g.T.GuestMemory.memory c.args.self.now in
     let host = c.args.host.now in
     let e = c.in_err-walk.field-0.0 in
-    let width : c.size-size.result ≡ g.V.ByteSized.width = omega (arith, c.size-size.ensures, g.met.V.AtomicAccess.fits_word.1) in
-    let why = subst (λ n. WantsMemory memory e ⊎ RefusesAccess memory host.tables c.args.addr.0 n Read e) width c.in_err-walk.ensures.answer in
-    rw (p.1, p.2) (typed-refused memory host.tables c.args.addr.0 g.V.ByteSized.width Read (λ w. g.V.ByteValued.value_of (bytes_at host.blocks (cells_of w))) (Unit {0}) (λ ws. Unit {0}) e why tt tt)
+    let width : c.size-size.result ≡ g.V.ByteSized.width =
+    omega (arith, c.size-size.ensures, g.met.V.AtomicAccess.fits_word.1) in
+    let why = subst (λ n. WantsMemory memory e
+    ⊎ RefusesAccess memory host.tables c.args.addr.0 n Read e) width c.in_err-walk.ensures.answer in
+    rw (p.1, p.2) (typed-refused memory host.tables c.args.addr.0 g.V.ByteSized.width Read
+    (λ w. g.V.ByteValued.value_of (bytes_at host.blocks (cells_of w))) (Unit {0}) (λ ws. Unit {0}) e why tt tt)
 
 pub value-requires-clause-held : goal.value-requires-clause-held
 value-requires-clause-held g c =
     let walk = c.in_ok-walk.walk in
-    first-held (λ w. Holds (shape_of c.args.host.now) (window_names w)) c.size-size.result walk.windows (option_map error_of walk.fault)
+    first-held (λ w. Holds (shape_of c.args.host.now) (window_names w)) c.size-size.result walk.windows
+    (option_map error_of walk.fault)
     c.in_ok-window.window c.in_ok-window.ensures c.in_ok-walk.ensures.held

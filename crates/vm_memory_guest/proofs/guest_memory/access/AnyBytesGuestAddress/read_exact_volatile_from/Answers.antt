@@ -22,6 +22,7 @@ returns-in_err-completed-clause-answer g c =
 pub returns-clause-answer : goal.returns-clause-answer
 returns-clause-answer g c =
     let receive = c.receive_windows in
-    transfers-walked _ _ _ _ _ _ _ c.in_ok-windows.windows c.in_ok-windows.ensures.answer (c.args.src.now, c.args.host.now)
+    transfers-walked _ _ _ _ _ _ _ c.in_ok-windows.windows c.in_ok-windows.ensures.answer
+    (c.args.src.now, c.args.host.now)
     (receive.new.source, receive.new.host) receive.result _ receive.ensures.answer
     (c.whole.ensures ∙ sym (ap (all_of errors.PartialBuffer c.args.count) c.in_ok-completed.was))

@@ -16,11 +16,19 @@ returns-in_err-walk-clause-answer g c short =
     let host = c.args.host.now in
     let e = c.in_err-walk.field-0.0 in
     let width : c.size.result ≡ g.V.ByteSized.width = omega (arith, c.size.ensures) in
-    let why = subst (λ n. WantsMemory memory e ⊎ RefusesAccess memory host.tables c.args.addr.0 n Write e) width c.in_err-walk.ensures.answer in
-    rw (p.1, p.2) (value-refused memory host.tables c.args.addr.0 g.V.ByteSized.width Write (λ r. exactly PartialBuffer (span r.windows) r.fault g.V.ByteSized.width) (host ≡ host) (λ ws. Writes g.B.Bitmap.marks ws (g.V.ByteValued.bytes c.args.val) host host) e why (exactly-none g.V.ByteSized.width e) refl refl)
+    let why = subst (λ n. WantsMemory memory e
+    ⊎ RefusesAccess memory host.tables c.args.addr.0 n Write e) width c.in_err-walk.ensures.answer in
+    rw (p.1, p.2) (value-refused memory host.tables c.args.addr.0 g.V.ByteSized.width Write
+    (λ r. exactly PartialBuffer (span r.windows) r.fault g.V.ByteSized.width) (host ≡ host)
+    (λ ws. Writes g.B.Bitmap.marks ws (g.V.ByteValued.bytes c.args.val) host host) e why
+    (exactly-none g.V.ByteSized.width e) refl refl)
 
 pub returns-in_err-completed-clause-shape : goal.returns-in_err-completed-clause-shape
-returns-in_err-completed-clause-shape g c = shape_of-Writes g.B.Bitmap.marks c.in_ok-walk.walk.windows (g.V.ByteValued.bytes c.args.val) c.args.host.now c.write_value.new.host c.write_value.ensures.bytes
+returns-in_err-completed-clause-shape g c =
+    shape_of-Writes g.B.Bitmap.marks c.in_ok-walk.walk.windows
+    (g.V.ByteValued.bytes c.args.val) c.args.host.now c.write_value.new.host c.write_value.ensures.bytes
 
 pub returns-clause-shape : goal.returns-clause-shape
-returns-clause-shape g c = shape_of-Writes g.B.Bitmap.marks c.in_ok-walk.walk.windows (g.V.ByteValued.bytes c.args.val) c.args.host.now c.write_value.new.host c.write_value.ensures.bytes
+returns-clause-shape g c =
+    shape_of-Writes g.B.Bitmap.marks c.in_ok-walk.walk.windows
+    (g.V.ByteValued.bytes c.args.val) c.args.host.now c.write_value.new.host c.write_value.ensures.bytes

@@ -2,7 +2,7 @@ use Rattle.std.proofs.Common.{◌∙◌, ◌+◌, Ok, Err, ap, refl, inl, inr, a
 use Rattle.std.proofs.lemmas.Bool.Decides.{nat_tests}
 use denote.Param.Always.{mut_next}
 use Rattle.std.proofs.lemmas.Result.{err_from_is_err_and}
-use Rattle.vm_memory_guest.specs.TryAccess.{next}
+use Rattle.vm_memory_guest.specs.TryAccess.{after_call}
 use Rattle.vm_memory_guest.specs.declared.region.GuestMemoryError.TheVariants.{InvalidGuestAddress}
 use Rattle.vm_memory_guest.proofs.TryLemmas.{ends-here, goes-on, ends-nowhere}
 use Rattle.vm_memory_guest.proofs.QueryLemmas.{found-from, found-below}
@@ -34,7 +34,7 @@ returns-in_err-handled g c =
     let end = ends-here region rs g.F.FnMut c.args.addr.0 c.args.count c.loop-region.f c.f.new.self c.in-Some.region
     c.loop-region.total c.loop-region.current.0 c.start_addr.result.0 c.len.result c.min-len.result c.f.result
     c.f.ensures c.start_addr.ensures c.len.ensures c.min-len.ensures c.in-Some.ensures.found
-    (Err e) (ap (next c.args.count c.loop-region.total c.loop-region.current.0) c.in_err-handled.was) in
+    (Err e) (ap (after_call c.args.count c.loop-region.total c.loop-region.current.0) c.in_err-handled.was) in
     rw (p.1, p.2) (c.f.new.self, c.loop-region.invariant.2 (Err e) c.f.new.self end)
 
 pub returns-in_err-next : goal.returns-in_err-next
@@ -46,7 +46,8 @@ returns-in_err-next g c =
     let end = ends-here region rs g.F.FnMut c.args.addr.0 c.args.count c.loop-region.f c.f.new.self c.in-Some.region
     c.loop-region.total c.loop-region.current.0 c.start_addr.result.0 c.len.result c.min-len.result c.f.result
     c.f.ensures c.start_addr.ensures c.len.ensures c.min-len.ensures c.in-Some.ensures.found
-    (Err e) (ap (next c.args.count c.loop-region.total c.loop-region.current.0) c.in_ok-handled.was ∙ c.in_err-next.ensures) in
+    (Err e) (ap (after_call c.args.count c.loop-region.total c.loop-region.current.0) c.in_ok-handled.was
+    ∙ c.in_err-next.ensures) in
     rw (p.1, p.2) (c.f.new.self, c.loop-region.invariant.2 (Err e) c.f.new.self end)
 
 pub returns-in_default-next : goal.returns-in_default-next
@@ -57,7 +58,8 @@ returns-in_default-next g c =
     let end = ends-here region rs g.F.FnMut c.args.addr.0 c.args.count c.loop-region.f c.f.new.self c.in-Some.region
     c.loop-region.total c.loop-region.current.0 c.start_addr.result.0 c.len.result c.min-len.result c.f.result
     c.f.ensures c.start_addr.ensures c.len.ensures c.min-len.ensures c.in-Some.ensures.found
-    answer (ap (next c.args.count c.loop-region.total c.loop-region.current.0) c.in_ok-handled.was ∙ (rw c.in_default-next.is at c.in_ok-next.ensures.1)) in
+    answer (ap (after_call c.args.count c.loop-region.total c.loop-region.current.0) c.in_ok-handled.was
+    ∙ (rw c.in_default-next.is at c.in_ok-next.ensures.1)) in
     (c.f.new.self, c.loop-region.invariant.2 answer c.f.new.self end)
 
 pub loop-region-preserved : goal.loop-region-preserved
@@ -71,7 +73,8 @@ loop-region-preserved g c =
     let behind = rw c.in-Some-next.is at c.in_ok-next.ensures.1 in (
       mut_next g.F.FnMut c.loop-region.f _ c.f.result c.f.new.self c.f.new.self c.f.ensures refl c.loop-region.invariant.0,
       inl behind.2,
-      λ answer last rest. c.loop-region.invariant.2 answer last (goes answer last c.in_ok-handled.was behind.0 behind.3 rest),
+      λ answer last rest. c.loop-region.invariant.2 answer last
+          (goes answer last c.in_ok-handled.was behind.0 behind.3 rest),
     )
 
 pub returns-then-total-eq0 : goal.returns-then-total-eq0

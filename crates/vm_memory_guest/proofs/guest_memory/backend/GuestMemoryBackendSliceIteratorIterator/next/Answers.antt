@@ -1,7 +1,7 @@
 use Rattle.std.proofs.Common.{◌≡◌, ℕ, List, ◌-◌, ◌+◌, ◌≤◌, ◌<◌, ◌^◌, min, map, [], ◌∷◌, Some, refl, sym, ap, ◌∙◌, arith, Ok}
-use Rattle.vm_memory_guest.specs.Region.{Region, home}
-use Rattle.vm_memory_guest.proofs.PathWalk.{direct_items, walk-none, home-within, is_within-bounds}
-use Rattle.vm_memory_guest.proofs.WalkLemmas.{first_goes, home-found, home-missed, walk-ends, walk-gives, walk-refuses}
+use Rattle.vm_memory_guest.specs.Region.{Region, containing_region}
+use Rattle.vm_memory_guest.proofs.PathWalk.{direct_items, walk-none, containing_region-within, is_within-bounds}
+use Rattle.vm_memory_guest.proofs.WalkLemmas.{first_goes, containing_region-found, containing_region-missed, walk-ends, walk-gives, walk-refuses}
 use Rattle.vm_memory_guest.proofs.guest_memory.backend.GuestMemoryBackendSliceIteratorIterator.next.Given.{Over}
 use Rattle.vm_memory_guest.proofs.guest_memory.backend.GuestMemoryBackendSliceIteratorIterator.next.Goals as goal
 use Rattle.vm_memory_guest.proofs.guest_memory.backend.GuestMemoryBackendSliceIteratorIterator.next.Goals.{In-Some, After-get_slice}
@@ -11,10 +11,11 @@ abbrev regions_of : (g : Over) (m : g.row.M.Denot) → List Region
 regions_of g m = map g.M.R.GuestMemoryRegion.region (g.M.GuestMemoryBackend.regions m)
 
 found : (g : Over) (c : In-Some g) → let it = c.self.inside in
-    home (regions_of g it.mem.now) it.addr.0 ≡ Some (g.M.R.GuestMemoryRegion.region c.in-Some.region.now)
+    containing_region (regions_of g it.mem.now) it.addr.0 ≡ Some (g.M.R.GuestMemoryRegion.region c.in-Some.region.now)
 found g c =
     let it = c.self.inside in
-    home-found g.M.R.GuestMemoryRegion.region (g.M.GuestMemoryBackend.regions it.mem.now) it.addr.0 c.in-Some.region.now
+    containing_region-found g.M.R.GuestMemoryRegion.region
+    (g.M.GuestMemoryBackend.regions it.mem.now) it.addr.0 c.in-Some.region.now
     c.in-Some.ensures.found
 
 pub returns-then-self-eq0-clause-steps : goal.returns-then-self-eq0-clause-steps
@@ -34,7 +35,7 @@ returns-in_default-clause-steps g c =
     let more : 0 < it.count = omega arith in
     rw (← c.self.view_is)
     (walk-ends (regions_of g it.mem.now) a it.count below
-    (home-missed region (g.M.GuestMemoryBackend.regions it.mem.now) a c.in_default.ensures.found) more)
+    (containing_region-missed region (g.M.GuestMemoryBackend.regions it.mem.now) a c.in_default.ensures.found) more)
 
 pub returns-in_default-clause-goes : goal.returns-in_default-clause-goes
 returns-in_default-clause-goes g c = first_goes _ _ _ _ (returns-in_default-clause-steps g c)
@@ -45,7 +46,8 @@ bounds : (g : Over) (c : In-Some g) → let r = g.M.R.GuestMemoryRegion.region c
 bounds g c =
     let it = c.self.inside in
     let r = g.M.R.GuestMemoryRegion.region c.in-Some.region.now in
-    is_within-bounds r.start r.len it.addr.0 (home-within (regions_of g it.mem.now) it.addr.0 r (found g c))
+    is_within-bounds r.start r.len it.addr.0
+    (containing_region-within (regions_of g it.mem.now) it.addr.0 r (found g c))
 
 pub overflow_sub-start : goal.overflow_sub-start
 overflow_sub-start g c =
@@ -62,7 +64,8 @@ start_is : (g : Over) (c : After-get_slice g) → let a = c.self.inside.addr.0 i
 start_is g c = ap (λ x. c.self.inside.addr.0 - x) c.start_addr.ensures
 
 len_is : (g : Over) (c : After-get_slice g) → let it = c.self.inside in
-    c.min-len.result ≡ min ((g.M.R.GuestMemoryRegion.region c.in-Some.region.now).len - (it.addr.0 - c.start_addr.result.0)) it.count
+    c.min-len.result ≡ min ((g.M.R.GuestMemoryRegion.region c.in-Some.region.now).len -
+    (it.addr.0 - c.start_addr.result.0)) it.count
 len_is g c =
     let it = c.self.inside in
     c.min-len.ensures ∙ ap (λ n. min (n - (it.addr.0 - c.start_addr.result.0)) it.count) c.len.ensures
@@ -77,9 +80,12 @@ returns-in-Ok-clause-steps g c =
     let more : 0 < it.count = omega arith in
     let below : a < 2 ^ 64 = omega arith in
     rw (← c.self.view_is)
-    (walk-gives regions a it.count r c.find_region.ensures.layout (found g here.In-Some) (g.met.M.R.GuestMemoryRegion.fits c.in-Some.region.now) more below
-    (a - c.start_addr.result.0) c.min-len.result c.in-Ok.window (start_is g here.After-get_slice) (len_is g here.After-get_slice) r.place refl (sym c.in-Ok.ensures)
-    ∙ ap (λ (b : ℕ). Ok c.in-Ok.window ∷ direct_items regions b (it.count - c.min-len.result)) (sym c.overflowing_add.ensures.wrapped))
+    (walk-gives regions a it.count r c.find_region.ensures.layout (found g here.In-Some)
+    (g.met.M.R.GuestMemoryRegion.fits c.in-Some.region.now) more below
+    (a - c.start_addr.result.0) c.min-len.result c.in-Ok.window (start_is g here.After-get_slice)
+    (len_is g here.After-get_slice) r.place refl (sym c.in-Ok.ensures)
+    ∙ ap (λ (b : ℕ). Ok c.in-Ok.window ∷ direct_items regions b (it.count - c.min-len.result))
+    (sym c.overflowing_add.ensures.wrapped))
 
 pub returns-in-Ok-clause-goes : goal.returns-in-Ok-clause-goes
 returns-in-Ok-clause-goes g c = first_goes _ _ _ _ (returns-in-Ok-clause-steps g c)
@@ -93,8 +99,10 @@ returns-in-Err-clause-steps g c =
     let more : 0 < it.count = omega arith in
     let below : a < 2 ^ 64 = omega arith in
     rw (← c.self.view_is)
-    (walk-refuses (regions_of g it.mem.now) a it.count r c.find_region.ensures.layout (found g here.In-Some) (g.met.M.R.GuestMemoryRegion.fits c.in-Some.region.now) more below
-    (a - c.start_addr.result.0) c.min-len.result c.in-Err.error (start_is g here.After-get_slice) (len_is g here.After-get_slice) r.place refl (sym c.in-Err.ensures))
+    (walk-refuses (regions_of g it.mem.now) a it.count r c.find_region.ensures.layout (found g here.In-Some)
+    (g.met.M.R.GuestMemoryRegion.fits c.in-Some.region.now) more below
+    (a - c.start_addr.result.0) c.min-len.result c.in-Err.error (start_is g here.After-get_slice)
+    (len_is g here.After-get_slice) r.place refl (sym c.in-Err.ensures))
 
 pub returns-in-Err-clause-goes : goal.returns-in-Err-clause-goes
 returns-in-Err-clause-goes g c = first_goes _ _ _ _ (returns-in-Err-clause-steps g c)

@@ -1,7 +1,7 @@
 use Rattle.std.proofs.Common.{◌≡◌, ℕ, ◌-◌, ◌<◌, ◌≤◌, ◌∙◌, refl, ap, subst, Ok, Err, arith}
 use Rattle.vm_memory_base.specs.Transfer.{Answer, Again, Whole, Dry, Failed, AllMoved, NoneMoved, TurnFailed}
 use Rattle.vm_memory_base.specs.lemmas.Turns.{rest_more}
-use Rattle.vm_memory_guest.specs.Transfer.{Lends}
+use Rattle.vm_memory_guest.specs.Transfer.{LendsWindow}
 use Rattle.vm_memory_guest.specs.Window.{Window, part}
 use Rattle.vm_memory_guest.proofs.volatile_memory.host.HostMemory.fill_from.Given.{Over}
 use Rattle.vm_memory_guest.proofs.volatile_memory.host.HostMemory.fill_from.Goals as goal
@@ -19,9 +19,10 @@ is_rest g c =
 
 turn : (g : Over) (c : After-read_from g) (answer : Answer) → c.read_from.result ≡ answer
     → let w = c.args.window.now in let l = c.loop-filled in
-    Again (Lends g.S.ReadVolatile.source g.B.Bitmap.marks (part w l.filled (w.size - l.filled))) (l.source, l.self) answer
+    Again (LendsWindow g.S.ReadVolatile.source g.B.Bitmap.marks (part w l.filled (w.size - l.filled)))
+    (l.source, l.self) answer
     (c.read_from.new.source, c.read_from.new.self)
-turn g c answer is = rw is at (subst (λ (v : Window). Again (Lends g.S.ReadVolatile.source g.B.Bitmap.marks v)
+turn g c answer is = rw is at (subst (λ (v : Window). Again (LendsWindow g.S.ReadVolatile.source g.B.Bitmap.marks v)
     (c.loop-filled.source, c.loop-filled.self) c.read_from.result (c.read_from.new.source, c.read_from.new.self))
     (is_rest g c) c.read_from.ensures.lends)
 
@@ -34,11 +35,13 @@ loop-filled-preserved g c =
     let w = c.args.window.now in
     let here = (goal.at.loop-filled-preserved g c).After-read_from in
     let count = c.in-Ok.count in
-    let fits : count ≤ w.size - l.filled = subst (λ (v : Window). count ≤ v.size) (is_rest g here) c.in-Ok.ensures.count in
+    let fits : count ≤ w.size - l.filled =
+    subst (λ (v : Window). count ≤ v.size) (is_rest g here) c.in-Ok.ensures.count in
     record {
       shape = c.read_from.ensures.shape ∙ l.invariant.shape;
       within = let a = l.invariant.within in omega arith;
-      rest = rest_more _ w.size count l.invariant.rest (left g here) (turn g here (Ok count) c.in-Ok.is) c.in-Ok.count-test.1;
+      rest = rest_more _ w.size count l.invariant.rest (left g here)
+          (turn g here (Ok count) c.in-Ok.is) c.in-Ok.count-test.1;
     }
 
 pub returns-in-Ok-eq0-clause-lends : goal.returns-in-Ok-eq0-clause-lends

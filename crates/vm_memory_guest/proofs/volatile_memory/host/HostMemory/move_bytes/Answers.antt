@@ -8,7 +8,8 @@ invariant_of-self g c =
     let to = c.to.inside in
     let from = c.from.inside in
     let host = c.self.inside in
-    sound-written (cells_from to.block.0 to.offset to.size) (bytes_at (blocks_of host.blocks) (cells_from from.block.0 from.offset to.size))
+    sound-written (cells_from to.block.0 to.offset to.size)
+    (bytes_at (blocks_of host.blocks) (cells_from from.block.0 from.offset to.size))
     (blocks_of host.blocks) (blocks_of c.copy_in.new.blocks) c.copy_in.ensures
     host.bitmaps.items host.spaces.items host.tables.items host.shape c.self.invariant
 
@@ -18,6 +19,7 @@ returns-clause-shape g c =
     let from = c.from.inside in
     let host = c.self.inside in
     rw (← c.self.view_is)
-    (shape-written (cells_from to.block.0 to.offset to.size) (bytes_at (blocks_of host.blocks) (cells_from from.block.0 from.offset to.size))
+    (shape-written (cells_from to.block.0 to.offset to.size)
+    (bytes_at (blocks_of host.blocks) (cells_from from.block.0 from.offset to.size))
     (blocks_of host.blocks) (blocks_of c.copy_in.new.blocks) c.copy_in.ensures
     host.bitmaps.items host.spaces.items host.tables.items)

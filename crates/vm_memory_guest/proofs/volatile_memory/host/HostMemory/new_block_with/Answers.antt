@@ -7,4 +7,6 @@ returns-clause-kept g c =
     let old = c.args.self.now in
     let bytes = replicate c.args.size 0 in
     let made = c.add_block.ensures in
-    Holds-made old c.add_block.new.self (record old { blocks = old.blocks ++ bytes ∷ []; bitmaps = old.bitmaps ++ c.args.bitmap ∷ [] }) (Holds-block old bytes c.args.bitmap) c.add_block.result made.ok made.err
+    Holds-made old c.add_block.new.self
+    (record old { blocks = old.blocks ++ bytes ∷ []; bitmaps = old.bitmaps ++ c.args.bitmap ∷ [] })
+    (Holds-block old bytes c.args.bitmap) c.add_block.result made.ok made.err

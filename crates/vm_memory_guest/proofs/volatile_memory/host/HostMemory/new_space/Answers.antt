@@ -6,4 +6,5 @@ pub returns-clause-kept : goal.returns-clause-kept
 returns-clause-kept g c =
     let old = c.args.self.now in
     let made = c.add_space.ensures in
-    Holds-made old c.add_space.new.self (record old { spaces = old.spaces ++ c.args.bitmap ∷ [] }) (Holds-space old c.args.bitmap) c.add_space.result made.ok made.err
+    Holds-made old c.add_space.new.self (record old { spaces = old.spaces ++ c.args.bitmap ∷ [] })
+    (Holds-space old c.args.bitmap) c.add_space.result made.ok made.err

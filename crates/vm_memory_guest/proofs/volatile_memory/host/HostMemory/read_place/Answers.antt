@@ -8,7 +8,8 @@ invariant_of-self g c =
     let w = c.window.inside in
     let host = c.self.inside in
     let put = c.read_in.ensures.tried in
-    sound-written (cells_from w.block.0 w.offset w.size) put.0 (blocks_of host.blocks) (blocks_of c.read_in.new.blocks) put.3
+    sound-written (cells_from w.block.0 w.offset w.size) put.0 (blocks_of host.blocks)
+    (blocks_of c.read_in.new.blocks) put.3
     host.bitmaps.items host.spaces.items host.tables.items host.shape c.self.invariant
 
 pub returns-clause-shape : goal.returns-clause-shape
@@ -17,5 +18,6 @@ returns-clause-shape g c =
     let host = c.self.inside in
     let put = c.read_in.ensures.tried in
     rw (← c.self.view_is)
-    (shape-written (cells_from w.block.0 w.offset w.size) put.0 (blocks_of host.blocks) (blocks_of c.read_in.new.blocks) put.3
+    (shape-written (cells_from w.block.0 w.offset w.size) put.0 (blocks_of host.blocks)
+    (blocks_of c.read_in.new.blocks) put.3
     host.bitmaps.items host.spaces.items host.tables.items)

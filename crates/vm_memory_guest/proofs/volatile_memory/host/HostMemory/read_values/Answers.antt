@@ -7,7 +7,8 @@ use Rattle.vm_memory_guest.proofs.volatile_memory.host.HostMemory.read_values.Go
 pub value_in-requires : goal.value_in-requires
 value_in-requires g c =
     let long = ap length c.bytes-bytes.ensures ∙ length-bytes c.args.self.now.blocks c.args.window.now in
-    element-inside c.loop-k.k (length c.args.values.now) (size_of g.T.ByteSized.width) (length c.bytes-bytes.result.now) (omega arith) (omega (arith, c.requires.size))
+    element-inside c.loop-k.k (length c.args.values.now) (size_of g.T.ByteSized.width) (length c.bytes-bytes.result.now)
+    (omega arith) (omega (arith, c.requires.size))
 
 pub loop-k-preserved : goal.loop-k-preserved
 loop-k-preserved g c short =

@@ -13,7 +13,9 @@ returns-clause-tried g c =
     let new = c.read_exact_volatile.new.buf in (
       new,
       c.read_exact_volatile.auto.buf ∙ p.long,
-      subst (λ (bytes : List ℕ). FillsAs (g.S.ReadVolatile.known_left c.args.source.now) (source c.args.source.now) bytes
-          c.read_exact_volatile.result new (source c.read_exact_volatile.new.self)) p.lent c.read_exact_volatile.ensures.tells,
+      subst (λ (bytes : List ℕ). FillsAs (g.S.ReadVolatile.known_left c.args.source.now)
+          (source c.args.source.now) bytes
+          c.read_exact_volatile.result new
+          (source c.read_exact_volatile.new.self)) p.lent c.read_exact_volatile.ensures.tells,
       p.put new c.read_exact_volatile.auto.buf,
     )

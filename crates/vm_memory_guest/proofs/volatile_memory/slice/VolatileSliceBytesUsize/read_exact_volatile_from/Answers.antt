@@ -16,7 +16,8 @@ pub returns-in_err-fill_whole-clause-answer : goal.returns-in_err-fill_whole-cla
 returns-in_err-fill_whole-clause-answer g c =
     let fill = c.fill_whole in
     let p = err_from_is_err_and c.from_residual-in_err-fill_whole.result c.from_residual-in_err-fill_whole.ensures.1 in
-    rw (p.1, p.2) (part_moved _ _ _ c.in_ok-window.window (c.args.src.now, c.args.host.now) (fill.new.source, fill.new.self)
+    rw (p.1, p.2) (part_moved _ _ _ c.in_ok-window.window (c.args.src.now, c.args.host.now)
+    (fill.new.source, fill.new.self)
     fill.result _ (ap only (sym c.subslice.ensures ∙ c.in_ok-window.was)) fill.ensures.lends
     (sym (ap (all_of PartialBuffer c.args.count) c.in_err-fill_whole.was)))
 
@@ -27,4 +28,5 @@ returns-clause-answer g c =
     let size = size-given c.args.self.now w c.args.addr c.args.count c.subslice.result c.subslice.ensures c.in_ok-window.was in
     part_moved _ _ _ w (c.args.src.now, c.args.host.now) (fill.new.source, fill.new.self) fill.result _
     (ap only (sym c.subslice.ensures ∙ c.in_ok-window.was)) fill.ensures.lends
-    (sym (ap (answered (λ all. tt)) c.in_ok-fill_whole.was) ∙ all_of_one c.args.count w fill.result fill.ensures.count size)
+    (sym (ap (answered (λ all. tt)) c.in_ok-fill_whole.was)
+    ∙ all_of_one c.args.count w fill.result fill.ensures.count size)

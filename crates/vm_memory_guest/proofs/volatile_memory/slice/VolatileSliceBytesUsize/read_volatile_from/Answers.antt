@@ -13,5 +13,6 @@ returns-in_err-window-clause-answer g c =
 pub returns-clause-answer : goal.returns-clause-answer
 returns-clause-answer g c =
     let read = c.read_from in
-    part_moved _ _ _ c.in_ok-window.window (c.args.src.now, c.args.host.now) (read.new.source, read.new.self) read.result
+    part_moved _ _ _ c.in_ok-window.window (c.args.src.now, c.args.host.now)
+    (read.new.source, read.new.self) read.result
     read.result (sym c.cut.ensures.cut ∙ ap only c.in_ok-window.was) read.ensures.lends refl

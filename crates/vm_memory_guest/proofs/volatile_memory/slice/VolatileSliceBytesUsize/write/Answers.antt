@@ -10,5 +10,8 @@ returns-clause-answer g c =
     let old = c.args.host.now in
     let new = c.write.new.self in
     let count = c.len-count.ensures ∙ sym (span-one w) in
-    rw c.in_ok-window.ensures.reach
-    (ap (λ n. Ok n) count, Writes-taken marks (w ∷ []) c.args.buf.now old new (subst (λ n. Writes marks (w ∷ []) (take n c.args.buf.now) old new) count c.write.ensures.bytes))
+    rw c.in_ok-window.ensures.reach (
+      ap (λ n. Ok n) count,
+      Writes-taken marks (w ∷ []) c.args.buf.now old new
+          (subst (λ n. Writes marks (w ∷ []) (take n c.args.buf.now) old new) count c.write.ensures.bytes),
+    )
