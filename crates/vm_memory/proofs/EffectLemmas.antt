@@ -7,7 +7,7 @@ use Rattle.vm_memory_base.specs.Script.{next_of}
 use Rattle.vm_memory_base.specs.Table as table
 use Rattle.vm_memory_base.specs.declared.bitmap.BitmapId.{BitmapId}
 use Rattle.vm_memory_base.specs.declared.bitmap.BitmapId.TheVariants.{Block, Space}
-use Rattle.vm_memory_base.specs.declared.io.script.SourceStep.{SourceStep}
+use Rattle.vm_memory_base.specs.declared.io.scripted.SourceStep.{SourceStep}
 use Rattle.vm_memory_base.specs.declared.iotlb.Permissions.TheVariants as permissions
 use Rattle.vm_memory_guest.specs.Access.{Access, Reached, windows}
 use Rattle.vm_memory_guest.specs.Dirt.{after_write}

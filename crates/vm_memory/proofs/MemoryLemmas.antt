@@ -18,8 +18,8 @@ use Rattle.vm_memory.specs.declared.machine.command.Command.{Command}
 use Rattle.vm_memory.specs.declared.machine.command.Command.TheVariants as command
 use Rattle.vm_memory.specs.declared.machine.command.Reply.{Reply}
 use Rattle.vm_memory.specs.declared.machine.command.Reply.TheVariants as reply
-use Rattle.vm_memory.specs.declared.machine.memory.MachineMemory.{MachineMemory}
-use Rattle.vm_memory.specs.declared.machine.memory.MachineMemory.TheVariants.{Plain, Translated}
+use Rattle.vm_memory.specs.declared.machine.machine_memory.MachineMemory.{MachineMemory}
+use Rattle.vm_memory.specs.declared.machine.machine_memory.MachineMemory.TheVariants.{Plain, Translated}
 
 module _ {R I B : Type 0} (region : R → Region) (number_of : I → ℕ) (pages : B → PageSet) (m : Parts R I B) where
   abbrev before : State

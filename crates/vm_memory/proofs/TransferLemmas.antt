@@ -8,9 +8,9 @@ use Rattle.vm_memory_base.specs.Transfer.{Next}
 use Rattle.vm_memory_base.specs.declared.io.VolatileMemoryError.{VolatileMemoryError}
 use Rattle.vm_memory_base.specs.declared.io.VolatileMemoryError.TheVariants.{OutOfBounds, Overflow, TooBig, Misaligned, IOError, PartialBuffer}
 use Rattle.vm_memory_base.specs.declared.io.VolatileMemoryError.TheVariants as window_errors
-use Rattle.vm_memory_base.specs.declared.io.script.SinkStep.{SinkStep}
-use Rattle.vm_memory_base.specs.declared.io.script.SourceStep.{SourceStep}
-use Rattle.vm_memory_base.specs.declared.io.script.SourceStep.TheVariants.{Give, Interrupted, Fail}
+use Rattle.vm_memory_base.specs.declared.io.scripted.SinkStep.{SinkStep}
+use Rattle.vm_memory_base.specs.declared.io.scripted.SourceStep.{SourceStep}
+use Rattle.vm_memory_base.specs.declared.io.scripted.SourceStep.TheVariants.{Give, Interrupted, Fail}
 use Rattle.vm_memory_base.specs.declared.iotlb.Permissions.{Permissions}
 use Rattle.vm_memory_base.specs.declared.iotlb.Permissions.TheVariants as permissions
 use Rattle.vm_memory_guest.specs.Access.{Access, Reached, access_of, allowed, first_fault, meets, path, refusal, stretches, windows}

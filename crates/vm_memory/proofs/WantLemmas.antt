@@ -10,9 +10,9 @@ use Rattle.vm_memory_base.specs.Table as table
 use Rattle.vm_memory_base.specs.Transfer.{Taking, Takes, Refuses, Sink, Stop, Whole, Dry, Failed, again, retries, offered, offered_next, sent, sent_as}
 use Rattle.vm_memory_base.specs.declared.io.VolatileMemoryError.{VolatileMemoryError}
 use Rattle.vm_memory_base.specs.declared.io.VolatileMemoryError.TheVariants as window
-use Rattle.vm_memory_base.specs.declared.io.script.SinkStep.{SinkStep}
-use Rattle.vm_memory_base.specs.declared.io.script.SinkStep.TheVariants as sinks
-use Rattle.vm_memory_base.specs.declared.io.script.SourceStep.{SourceStep}
+use Rattle.vm_memory_base.specs.declared.io.scripted.SinkStep.{SinkStep}
+use Rattle.vm_memory_base.specs.declared.io.scripted.SinkStep.TheVariants as sinks
+use Rattle.vm_memory_base.specs.declared.io.scripted.SourceStep.{SourceStep}
 use Rattle.vm_memory_base.specs.declared.iotlb.Permissions.{Permissions}
 use Rattle.vm_memory_base.specs.declared.iotlb.Permissions.TheVariants as permissions
 use Rattle.vm_memory_guest.specs.Access as access

@@ -7,8 +7,8 @@ use Rattle.vm_memory.specs.Iommu.{behind}
 use Rattle.vm_memory.specs.State.{plain}
 use Rattle.vm_memory.specs.declared.machine.command.Reply.{Reply}
 use Rattle.vm_memory.specs.declared.machine.command.Reply.TheVariants.{Done, NoSuch}
-use Rattle.vm_memory.specs.declared.machine.memory.MachineMemory.{MachineMemory}
-use Rattle.vm_memory.specs.declared.machine.memory.MachineMemory.TheVariants.{Plain, Translated}
+use Rattle.vm_memory.specs.declared.machine.machine_memory.MachineMemory.{MachineMemory}
+use Rattle.vm_memory.specs.declared.machine.machine_memory.MachineMemory.TheVariants.{Plain, Translated}
 
 -- the guest memory that a memory of a machine is
 abbrev pub memory_meant : {R I : Type 0} → (R → Region) → (I → ℕ) → MachineMemory R I → Memory

@@ -10,7 +10,7 @@ use Rattle.vm_memory_guest.specs.Window.{Window}
 use Rattle.vm_memory.specs.Memories.{memory_meant}
 use Rattle.vm_memory.specs.State.{State}
 use Rattle.vm_memory.specs.declared.machine.command.BlockRange.{BlockRange}
-use Rattle.vm_memory.specs.declared.machine.memory.MachineMemory.{MachineMemory}
+use Rattle.vm_memory.specs.declared.machine.machine_memory.MachineMemory.{MachineMemory}
 
 -- a host, pools of regions and of translators, and the layouts and memories that were made
 pub record Parts (R I B : Type 0) : Type 0 where

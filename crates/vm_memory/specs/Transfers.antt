@@ -2,8 +2,8 @@
 use Rattle.std.specs.Prelude.{ℕ, Bool, List, map, take, Some, option_map}
 use Rattle.vm_memory_base.specs.Pages.{PageSet}
 use Rattle.vm_memory_base.specs.Script.{next_of, taking_of}
-use Rattle.vm_memory_base.specs.declared.io.script.SinkStep.{SinkStep}
-use Rattle.vm_memory_base.specs.declared.io.script.SourceStep.{SourceStep}
+use Rattle.vm_memory_base.specs.declared.io.scripted.SinkStep.{SinkStep}
+use Rattle.vm_memory_base.specs.declared.io.scripted.SourceStep.{SourceStep}
 use Rattle.vm_memory_base.specs.declared.iotlb.Permissions.TheVariants as permissions
 use Rattle.vm_memory_guest.specs.Access.{Access, windows}
 use Rattle.vm_memory_guest.specs.Dealt.{Dealt, Given, received, given_out}

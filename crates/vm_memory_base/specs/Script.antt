@@ -4,10 +4,10 @@ use Rattle.std.specs.declared.io.ErrorKind.TheVariants.{Other}
 use Rattle.std.specs.declared.io.ErrorKind.TheVariants as kinds
 use Rattle.vm_memory_base.specs.Transfer.{Next, Gives, Fails, Taking, Takes, Refuses}
 use Rattle.vm_memory_base.specs.declared.io.VolatileMemoryError.TheVariants.{IOError}
-use Rattle.vm_memory_base.specs.declared.io.script.SourceStep.{SourceStep}
-use Rattle.vm_memory_base.specs.declared.io.script.SourceStep.TheVariants.{Give, Interrupted, Fail}
-use Rattle.vm_memory_base.specs.declared.io.script.SinkStep.{SinkStep}
-use Rattle.vm_memory_base.specs.declared.io.script.SinkStep.TheVariants as sink
+use Rattle.vm_memory_base.specs.declared.io.scripted.SourceStep.{SourceStep}
+use Rattle.vm_memory_base.specs.declared.io.scripted.SourceStep.TheVariants.{Give, Interrupted, Fail}
+use Rattle.vm_memory_base.specs.declared.io.scripted.SinkStep.{SinkStep}
+use Rattle.vm_memory_base.specs.declared.io.scripted.SinkStep.TheVariants as sink
 
 -- what a source does next by a step of its script
 abbrev pub next_of : SourceStep → Next

@@ -4,12 +4,12 @@ ghost use Rattle.std.specs.IoError.{error_kind};
 ghost use Rattle.vm_memory_base.specs.Transfer.{Next, ReadsAs, FillsAs, is_short};
 ghost use Rattle.vm_memory_base.specs.Transfer.{Sink, TakesAs, SendsAs, Keeps, count_of};
 
-mod memory;
-mod script;
+mod in_memory;
+mod scripted;
 mod system;
 mod turns;
 
-pub use self::script::{ScriptSink, ScriptSource, SinkStep, SourceStep};
+pub use self::scripted::{ScriptSink, ScriptSource, SinkStep, SourceStep};
 use self::turns::read_again;
 pub use self::turns::{RETRIES, is_interrupted, offer_again};
 use std::fmt;

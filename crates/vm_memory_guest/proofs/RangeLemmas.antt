@@ -13,7 +13,7 @@ use Rattle.vm_memory_guest.specs.declared.mmap.FromRangesError.{FromRangesError}
 use Rattle.vm_memory_guest.specs.declared.mmap.GuestRegionMmap.{GuestRegionMmap}
 use Rattle.vm_memory_guest.specs.declared.mmap.FromRangesError.TheVariants.{Collection, MmapRegion, InvalidGuestRegion}
 use Rattle.vm_memory_guest.specs.declared.region.GuestRegionCollectionError.TheVariants as layout
-use Rattle.vm_memory_guest.specs.declared.volatile_memory.host.MmapRegionError.TheVariants as block
+use Rattle.vm_memory_guest.specs.declared.host.MmapRegionError.TheVariants as block
 use Rattle.vm_memory_guest.proofs.HoldsLemmas.{Holds-each}
 
 -- an error is a want of memory, or tells what it is

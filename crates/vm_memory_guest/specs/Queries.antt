@@ -10,7 +10,7 @@ use Rattle.vm_memory_guest.specs.Region.{Region, last, has_address, containing_i
 use Rattle.vm_memory_guest.specs.declared.region.GuestMemoryError.{GuestMemoryError}
 use Rattle.vm_memory_guest.specs.declared.region.GuestMemoryError.TheVariants.{InvalidGuestAddress, InvalidBackendAddress, HostAddressNotAvailable}
 use Rattle.vm_memory_guest.specs.Window.{Window}
-use Rattle.vm_memory_guest.specs.declared.volatile_memory.host_address.HostAddress.{HostAddress}
+use Rattle.vm_memory_guest.specs.declared.host.address.HostAddress.{HostAddress}
 
 -- the view of the bitmap of a block, from a cell on
 abbrev pub bitmap_from : Cell → BitmapRef

@@ -8,7 +8,7 @@ use Rattle.vm_memory_base.specs.declared.bitmap.BitmapId.TheVariants.{Block, Spa
 use Rattle.vm_memory_guest.specs.Host as host
 use Rattle.vm_memory_guest.specs.Host.{Host, Name, Cell, cells_from, written}
 use Rattle.vm_memory_base.specs.declared.bitmap.BitmapRef.{BitmapRef}
-use Rattle.vm_memory_guest.specs.declared.volatile_memory.host.BlockId.{BlockId}
+use Rattle.vm_memory_guest.specs.declared.host.BlockId.{BlockId}
 
 -- so many bytes of a block from an offset on, and the view of a bitmap that their writes mark
 pub record Window : Type 0 where

@@ -3,8 +3,8 @@ ghost use Rattle.std.specs.Prelude.{map, flat_map};
 ghost use Rattle.vm_memory_guest.specs.Region.{region_names};
 
 use crate::guest_memory::backend::GuestMemoryBackend;
+use crate::host::{HostShape, Named};
 use crate::region::{GuestMemoryRegion, GuestRegionCollection};
-use crate::volatile_memory::host::{HostShape, Named};
 use vm_memory_base::GuestAddress;
 
 impl<R: GuestMemoryRegion> Named for GuestRegionCollection<R> {

@@ -30,7 +30,7 @@ ghost use Rattle.vm_memory_guest.specs.Region.{containing_region, last, layout_e
 ghost use Rattle.vm_memory_guest.specs.Walk.{items_of, reach_of, walk_of, GivesAccess, RefusesAccess};
 ghost use Rattle.vm_memory_guest.specs.Window.{cells, span, subslice_of, window_names, Writes};
 ghost use Rattle.vm_memory_guest.specs.declared.mmap.FromRangesError.TheVariants.{MmapRegion, InvalidGuestRegion};
-ghost use Rattle.vm_memory_guest.specs.declared.volatile_memory.host.MmapRegionError.TheVariants.{InvalidSize};
+ghost use Rattle.vm_memory_guest.specs.declared.host.MmapRegionError.TheVariants.{InvalidSize};
 ghost use Rattle.vm_memory_guest.specs.declared.region.GuestMemoryError.TheVariants.{
   HostAddressNotAvailable,
   InvalidBackendAddress,

@@ -1,9 +1,193 @@
 //! Guest memory: backends, which are collections of regions, the walk through them, and access by guest
 //! address.
+ghost use Rattle.std.specs.Prelude.{◌≡◌, ◌⊎◌, map, All, None, MatchOption, MatchResult};
+ghost use Rattle.std.specs.Iterator.{YieldsFirst, item_count};
+ghost use Rattle.vm_memory_guest.specs.Access.{access_of};
+ghost use Rattle.vm_memory_guest.specs.Host.{shape_of, Holds};
+ghost use Rattle.vm_memory_guest.specs.Region.{IsRegion, IsLayout};
+ghost use Rattle.vm_memory_guest.specs.Memory.{Memory, IsOn, behind_of, memory_names, route};
+ghost use Rattle.vm_memory_guest.specs.Pieces.{marking, walk_of_pieces};
+ghost use Rattle.vm_memory_guest.specs.Queries.{is_whole};
+ghost use Rattle.vm_memory_guest.specs.Walk.{items_of, GivesAccess, RefusesAccess, WantsMemory};
+
 pub mod access;
 pub mod backend;
 pub mod iter;
-pub mod memory;
 mod pieces;
 pub mod stop_on_error;
 mod transfer;
+
+use self::backend::{GuestMemoryBackend, GuestMemoryBackendSliceIterator};
+use self::pieces::{PiecesBehind, next_of_pieces};
+use self::stop_on_error::{GuestMemorySliceIterator, ends_well};
+use crate::host::{HostMemory, Named, SpaceId};
+use crate::region::{GuestMemoryError, GuestMemoryResult};
+use crate::volatile_memory::slice::VolatileSlice;
+use std::marker::Model;
+use vm_memory_base::{Bitmap, GuestAddress, MappedRange, Permissions};
+
+/// The windows of an access, whatever translated it, and then the error of what stopped it. After its end
+/// or an error it stays ended.
+#[derive(Drop)]
+pub struct IommuMemorySliceIterator<'a, M: GuestMemoryBackend> {
+    walk: GuestMemoryBackendSliceIterator<'a, M>,
+    // Where addresses are translated: what comes behind the piece of the walk.
+    behind: Option<PiecesBehind<'a, M>>,
+}
+
+impl<'a, M: GuestMemoryBackend> Model for IommuMemorySliceIterator<'a, M> {
+    ghost use Rattle.vm_memory_guest.specs.Access.{AccessFault};
+    ghost use Rattle.vm_memory_guest.specs.Answer.{Reach};
+
+    ghost Value = { Reach AccessFault };
+
+    ghost use Rattle.vm_memory_guest.specs.Pieces.{left_of};
+
+    ghost view = { λ it. left_of it.walk it.behind };
+}
+
+impl<'a, M: GuestMemoryBackend> IommuMemorySliceIterator<'a, M> {
+    /// The windows of pieces of physical addresses, one piece after the other, up to the first fault. They mark
+    /// the space, from the address `iova` on: behind the greatest address comes 0.
+    pub fn of_pieces(
+        backend: &'a M,
+        pieces: Vec<MappedRange>,
+        iova: GuestAddress,
+        space: SpaceId,
+    ) -> IommuMemorySliceIterator<'a, M>
+        ensures { let regions = map M.R.region (M.regions backend.now) in
+            result ≡ marking space.0 iova.0 (walk_of_pieces regions pieces.items) }
+    {
+        IommuMemorySliceIterator {
+            walk: GuestMemoryBackend::get_slices(backend, iova, 0),
+            behind: Some(PiecesBehind::new(backend, pieces, iova, space)),
+        }
+    }
+}
+
+impl<'a, M: GuestMemoryBackend> GuestMemorySliceIterator for IommuMemorySliceIterator<'a, M> {
+    ghost left = { λ it. it };
+
+    ghost can = { λ it. tt };
+
+    ghost ends = { λ it. tt };
+
+    ghost gives = { λ s r t h. h };
+}
+
+impl<'a, M: GuestMemoryBackend> Iterator for IommuMemorySliceIterator<'a, M> {
+    type Item = GuestMemoryResult<VolatileSlice>;
+
+    ghost next_gives = { YieldsFirst items_of };
+
+    ghost remaining = { item_count items_of };
+
+    #[inline(always)]
+    fn next(&mut self) -> Option<GuestMemoryResult<VolatileSlice>> {
+        match &mut self.behind {
+            None => self.walk.next(),
+            Some(behind) => next_of_pieces(&mut self.walk, behind),
+        }
+    }
+}
+
+/// Guest memory: a backend, or one behind an IOMMU. Everything that implements it gives `Bytes` by guest
+/// address.
+///
+/// ```text
+/// for window in memory.get_slices(&host, GuestAddress(0x1000), 8, Permissions::Read)? {
+///     count += window?.len();
+/// }
+/// ```
+pub trait GuestMemory: Named {
+    /// The backend in which translated addresses lie.
+    type PhysicalMemory: GuestMemoryBackend;
+
+    /// Its regions, and its IOMMU, if it has one.
+    ghost memory: { Self → Memory };
+
+    /// The windows of `count` bytes from an address on, and then the error of the first that is not there. An
+    /// access that the translation does not allow is refused at once. `Memory` comes only with an IOMMU that
+    /// is on.
+    fn get_slices<B: Bitmap>(
+        &self,
+        host: &HostMemory<B>,
+        addr: GuestAddress,
+        count: usize,
+        access: Permissions,
+    ) -> GuestMemoryResult<IommuMemorySliceIterator<'_, Self::PhysicalMemory>>
+        requires { Holds (shape_of host.now) (Self.names self.now) }
+        ensures answer { MatchResult result
+            (GivesAccess (memory self.now) host.now.tables addr.0 count access)
+            (λ e. WantsMemory (memory self.now) e
+            ⊎ RefusesAccess (memory self.now) host.now.tables addr.0 count access e) }
+        ensures layout { IsLayout (memory self.now).regions };
+
+    /// Whether each of `count` bytes from an address on may be accessed so, and has a byte of the host. Of no
+    /// byte it is so. `Memory` comes only with an IOMMU that is on, and no other error comes.
+    #[inline]
+    fn check_range<B: Bitmap>(
+        &self,
+        host: &HostMemory<B>,
+        addr: GuestAddress,
+        count: usize,
+        access: Permissions,
+    ) -> GuestMemoryResult<bool>
+        requires { Holds (shape_of host.now) (Self.names self.now) }
+        ensures { let m = memory self.now in
+            let reached = access_of m.regions (route m host.now.tables) addr.0 count access in
+            MatchResult result (λ all. all ≡ is_whole reached.path count) (WantsMemory m) }
+    {
+        match self.get_slices(host, addr, count, access) {
+            Ok(walk) => Ok(ends_well(walk)),
+            Err(GuestMemoryError::Memory) => Err(GuestMemoryError::Memory),
+            Err(_) => Ok(false),
+        }
+    }
+
+    /// The backend, where addresses are physical: where no IOMMU is on.
+    fn physical_memory(&self) -> Option<&Self::PhysicalMemory>
+        ensures { let m = memory self.now in
+            MatchOption result (IsOn m) (λ backend. (behind_of m.iommu ≡ None)
+            × (m.regions ≡ map Self.PhysicalMemory.R.region (Self.PhysicalMemory.regions backend.now))) };
+
+    /// Its regions' addresses and offsets fit 64 bits.
+    ghost each_fits: { (m : Self) → All IsRegion (memory m).regions };
+
+    /// It names the places of its regions' bytes, and its table and space, also where its IOMMU is off.
+    ghost names_memory: { (m : Self) → Self.names m ≡ memory_names (memory m) };
+}
+
+impl<M: GuestMemoryBackend> GuestMemory for M {
+    ghost use Rattle.std.proofs.Common.{append-nil, ◌∙◌, sym};
+    ghost use Rattle.vm_memory_guest.specs.Collection.{each_is_region};
+
+    type PhysicalMemory = M;
+
+    ghost memory = { λ m. record { regions = map M.R.region (M.regions m); iommu = None } };
+
+    ghost each_fits = { λ m. each_is_region M.R.region M.R.fits (M.regions m) };
+
+    ghost names_memory = { λ m. M.names_regions m ∙ sym (append-nil _) };
+
+    #[inline(always)]
+    fn get_slices<B: Bitmap>(
+        &self,
+        _host: &HostMemory<B>,
+        addr: GuestAddress,
+        count: usize,
+        _access: Permissions,
+    ) -> GuestMemoryResult<IommuMemorySliceIterator<'_, M>> {
+        // That the regions are a layout is what this call tells.
+        let _ = self.num_regions();
+        Ok(IommuMemorySliceIterator {
+            walk: GuestMemoryBackend::get_slices(self, addr, count),
+            behind: None,
+        })
+    }
+
+    #[inline]
+    fn physical_memory(&self) -> Option<&M> {
+        Some(self)
+    }
+}

@@ -5,7 +5,7 @@ ghost use Rattle.vm_memory_guest.specs.Host as names;
 ghost use Rattle.vm_memory_guest.specs.Host.{Host, Name, Shape, Holds, IsHeld, block_at, shape_of};
 ghost use Rattle.vm_memory_guest.specs.Region.{Region, region_names};
 
-use crate::volatile_memory::host::HostMemory;
+use crate::host::HostMemory;
 
 /// Each block of a host is shorter than 2^63 bytes.
 pub fn blocks_are_short<B>(host: &HostMemory<B>)

@@ -2,10 +2,12 @@
 #![tactic(auto)]
 
 pub mod access_laws;
+mod bytes;
 mod collection;
 pub mod effect_laws;
 pub mod examples;
 mod guest_memory;
+mod host;
 pub mod host_laws;
 mod mmap;
 pub mod path_laws;
@@ -19,22 +21,20 @@ pub mod typed_examples;
 pub mod typed_laws;
 mod volatile_memory;
 
+pub use bytes::Bytes;
 pub use guest_memory::backend::{GuestMemoryBackend, GuestMemoryBackendSliceIterator};
 pub use guest_memory::iter::RegionIter;
-pub use guest_memory::memory::{GuestMemory, IommuMemorySliceIterator};
 pub use guest_memory::stop_on_error::{GuestMemorySliceIterator, StopOnError};
+pub use guest_memory::{GuestMemory, IommuMemorySliceIterator};
+pub use host::address::HostAddress;
+pub use host::{BlockId, HostMemory, HostShape, MmapRegionError, Named, SpaceId, TlbId};
 pub use mmap::{FromRangesError, GuestMemoryMmap, GuestRegionMmap, MmapRegion};
 pub use region::{
     GuestMemoryError, GuestMemoryRegion, GuestMemoryResult, GuestRegionCollection,
     GuestRegionCollectionError,
 };
 pub use region_bytes::GuestMemoryRegionBytes;
-pub use volatile_memory::access::Bytes;
 pub use volatile_memory::array::VolatileArrayRef;
-pub use volatile_memory::host::{
-    BlockId, HostMemory, HostShape, MmapRegionError, Named, SpaceId, TlbId,
-};
-pub use volatile_memory::host_address::HostAddress;
-pub use volatile_memory::memory::{VolatileMemory, compute_offset};
 pub use volatile_memory::reference::VolatileRef;
 pub use volatile_memory::slice::VolatileSlice;
+pub use volatile_memory::{VolatileMemory, compute_offset};

@@ -12,13 +12,13 @@ ghost use Rattle.vm_memory_guest.specs.Region.{slice_from, layout_error, region_
 ghost use Rattle.vm_memory_guest.specs.declared.mmap.FromRangesError.TheVariants as error;
 ghost use Rattle.vm_memory_guest.specs.declared.mmap.GuestRegionMmap.{GuestRegionMmap};
 
+use crate::host::{BlockId, HostMemory, HostShape, MmapRegionError, Named};
 use crate::region::{
     GuestMemoryError, GuestMemoryRegion, GuestMemoryResult, GuestRegionCollection,
     GuestRegionCollectionError,
 };
 use crate::region_bytes::GuestMemoryRegionBytes;
-use crate::volatile_memory::host::{BlockId, HostMemory, HostShape, MmapRegionError, Named};
-use crate::volatile_memory::memory::VolatileMemory;
+use crate::volatile_memory::VolatileMemory;
 use crate::volatile_memory::slice::VolatileSlice;
 use std::alloc::{AllocError, Global};
 use std::marker::Model;

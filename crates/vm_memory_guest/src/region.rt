@@ -12,8 +12,8 @@ ghost use Rattle.vm_memory_guest.specs.Region.{Region, IsRegion, last, containin
 ghost use Rattle.vm_memory_guest.specs.Queries.{bitmap_from, offset_in, offset_of, host_address_of};
 ghost use Rattle.vm_memory_guest.specs.Region.{IsLayout, neighbours_of, layout_error, fault_of};
 
-use crate::volatile_memory::host::{HostShape, Named};
-use crate::volatile_memory::host_address::HostAddress;
+use crate::host::address::HostAddress;
+use crate::host::{HostShape, Named};
 use crate::volatile_memory::slice::VolatileSlice;
 use std::alloc::{AllocError, Global};
 use std::marker::Model;

@@ -7,9 +7,9 @@ ghost use Rattle.vm_memory_guest.specs.Transfer.{Alone, Once, cut_of, exact_of};
 ghost use Rattle.vm_memory_guest.specs.lemmas.TypedFacts.{place-sized};
 ghost use Rattle.vm_memory_guest.specs.declared.region.GuestMemoryError.TheVariants as errors;
 
+use crate::bytes::Bytes;
+use crate::host::HostMemory;
 use crate::region::{GuestMemoryError, GuestMemoryRegion, GuestMemoryResult};
-use crate::volatile_memory::access::Bytes;
-use crate::volatile_memory::host::HostMemory;
 use std::sync::atomic::Ordering;
 use vm_memory_base::{
     AtomicAccess, Bitmap, ByteValued, MemoryRegionAddress, ReadVolatile, VolatileMemoryResult,

@@ -8,7 +8,7 @@ ghost use Rattle.vm_memory.specs.declared.machine.command.Reply.TheVariants as r
 
 use super::Machine;
 use super::command::Reply;
-use super::memory::MachineMemory;
+use super::machine_memory::MachineMemory;
 use crate::iommu::{Iommu, IommuMemory};
 use vm_memory_base::ExactBitmap;
 use vm_memory_guest::host_laws::names_are_held_one_by_one;

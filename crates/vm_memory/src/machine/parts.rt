@@ -5,7 +5,7 @@ ghost use Rattle.vm_memory_guest.specs.Region.{region_names};
 ghost use Rattle.vm_memory.specs.Parts.{HoldsMemory, HoldsRegions};
 
 use super::Machine;
-use super::memory::MachineMemory;
+use super::machine_memory::MachineMemory;
 use crate::iommu::Iommu;
 use std::sync::Arc;
 use vm_memory_guest::host_laws::regions_are_held_one_by_one;

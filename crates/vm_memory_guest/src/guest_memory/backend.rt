@@ -12,9 +12,9 @@ ghost use Rattle.vm_memory_guest.specs.Walk.{items_of, walk_of};
 
 use super::iter::RegionIter;
 use super::stop_on_error::{GuestMemorySliceIterator, ends_well};
+use crate::host::Named;
+use crate::host::address::HostAddress;
 use crate::region::{GuestMemoryError, GuestMemoryRegion, GuestMemoryResult};
-use crate::volatile_memory::host::Named;
-use crate::volatile_memory::host_address::HostAddress;
 use crate::volatile_memory::slice::VolatileSlice;
 use std::marker::Model;
 use vm_memory_base::{Address, GuestAddress, MemoryRegionAddress};

@@ -7,8 +7,8 @@ ghost use Rattle.vm_memory_guest.specs.Pieces.{PiecesLeft, followed_by, left_of,
 ghost use Rattle.vm_memory_guest.specs.Walk.{items_of};
 
 use super::backend::{GuestMemoryBackend, GuestMemoryBackendSliceIterator};
+use crate::host::SpaceId;
 use crate::region::GuestMemoryResult;
-use crate::volatile_memory::host::SpaceId;
 use crate::volatile_memory::slice::VolatileSlice;
 use std::marker::Model;
 use vm_memory_base::{Address, BitmapId, BitmapRef, GuestAddress, MappedRange};

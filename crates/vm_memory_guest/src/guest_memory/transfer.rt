@@ -6,10 +6,10 @@ ghost use Rattle.vm_memory_guest.specs.Host.{shape_of, Holds};
 ghost use Rattle.vm_memory_guest.specs.Transfer.{Fills, InOrder, Takes, UntilWhole, ended, filling};
 ghost use Rattle.vm_memory_guest.specs.Window.{span, window_names};
 
+use super::IommuMemorySliceIterator;
 use super::backend::GuestMemoryBackend;
-use super::memory::IommuMemorySliceIterator;
+use crate::host::HostMemory;
 use crate::region::{GuestMemoryError, GuestMemoryResult};
-use crate::volatile_memory::host::HostMemory;
 use vm_memory_base::{Bitmap, ReadVolatile, WriteVolatile};
 
 // Lends a source the windows that a walk gives, one after the other, up to the first that it does not fill.

@@ -8,9 +8,9 @@ ghost use Rattle.vm_memory_guest.specs.Typed.{size_of};
 ghost use Rattle.vm_memory_guest.specs.Volatile.{element_at};
 ghost use Rattle.vm_memory_guest.specs.Window.{window_names, cells_of, Writes};
 
-use super::host::{HostMemory, HostShape, Named};
 use super::reference::VolatileRef;
 use super::slice::VolatileSlice;
+use crate::host::{HostMemory, HostShape, Named};
 use std::marker::{Model, PhantomData};
 use vm_memory_base::{Bitmap, BitmapRef, ByteSized, ByteValued};
 

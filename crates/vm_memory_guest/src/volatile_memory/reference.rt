@@ -4,8 +4,8 @@ ghost use Rattle.vm_memory_guest.specs.Host.{shape_of, bytes_at, Holds};
 ghost use Rattle.vm_memory_guest.specs.Typed.{size_of};
 ghost use Rattle.vm_memory_guest.specs.Window.{window_names, cells_of, Writes};
 
-use super::host::{HostMemory, HostShape, Named};
 use super::slice::VolatileSlice;
+use crate::host::{HostMemory, HostShape, Named};
 use std::marker::{Model, PhantomData};
 use vm_memory_base::{Bitmap, BitmapRef, ByteSized, ByteValued};
 

@@ -11,9 +11,9 @@ ghost use Rattle.vm_memory_guest.specs.Typed.{aligned_of, answered, size_of};
 ghost use Rattle.vm_memory_guest.specs.lemmas.TypedFacts.{aligned-sized};
 ghost use Rattle.vm_memory_base.specs.declared.io.VolatileMemoryError.TheVariants.{PartialBuffer, Memory};
 
-use super::access::Bytes;
-use super::host::{BlockId, HostMemory, HostShape, Named};
-use super::host_address::HostAddress;
+use crate::bytes::Bytes;
+use crate::host::address::HostAddress;
+use crate::host::{BlockId, HostMemory, HostShape, Named};
 use std::marker::Model;
 use std::sync::atomic::Ordering;
 use vm_memory_base::{
@@ -26,10 +26,10 @@ use vm_memory_base::{
 /// It is a plain value, which names its block and its bitmap by number.
 #[derive(Clone, Copy, Debug)]
 pub struct VolatileSlice {
-    pub(super) block: BlockId,
-    pub(super) offset: usize,
-    pub(super) size: usize,
-    pub(super) bitmap: BitmapRef,
+    pub(crate) block: BlockId,
+    pub(crate) offset: usize,
+    pub(crate) size: usize,
+    pub(crate) bitmap: BitmapRef,
 }
 
 impl Model for VolatileSlice {
@@ -147,7 +147,7 @@ impl VolatileSlice {
 
     // The first `size` bytes.
     #[inline]
-    pub(super) fn front(&self, size: usize) -> Self
+    pub(crate) fn front(&self, size: usize) -> Self
         requires { size ≤ self.now.size }
         ensures { result ≡ front self.now size }
     {
@@ -155,7 +155,7 @@ impl VolatileSlice {
     }
 
     #[inline]
-    pub(super) fn part(&self, offset: usize, size: usize) -> Self
+    pub(crate) fn part(&self, offset: usize, size: usize) -> Self
         requires { offset + size ≤ self.now.size }
         ensures { result ≡ part self.now offset size }
     {

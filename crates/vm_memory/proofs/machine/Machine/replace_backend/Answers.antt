@@ -3,8 +3,8 @@ use Rattle.vm_memory_guest.specs.Host.{Space, Tlb, Holds, shape_of}
 use Rattle.vm_memory_guest.specs.Region.{region_names}
 use Rattle.vm_memory.specs.Iommu.{Behind}
 use Rattle.vm_memory.specs.Parts.{HoldsMemory}
-use Rattle.vm_memory.specs.declared.machine.memory.MachineMemory.{MachineMemory}
-use Rattle.vm_memory.specs.declared.machine.memory.MachineMemory.TheVariants.{Translated}
+use Rattle.vm_memory.specs.declared.machine.machine_memory.MachineMemory.{MachineMemory}
+use Rattle.vm_memory.specs.declared.machine.machine_memory.MachineMemory.TheVariants.{Translated}
 use Rattle.vm_memory.proofs.MemoryLemmas.{Added, replaced-step, replaced-wants}
 use Rattle.vm_memory.proofs.machine.Machine.replace_backend.Goals as goal
 

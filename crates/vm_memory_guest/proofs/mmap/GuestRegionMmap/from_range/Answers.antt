@@ -4,8 +4,8 @@ use Rattle.std.proofs.lemmas.Result.{err_from_is_err_and}
 use Rattle.vm_memory_base.specs.declared.address.GuestAddress.{GuestAddress}
 use Rattle.vm_memory_guest.specs.Ranges.{range_error, refusal_of}
 use Rattle.vm_memory_guest.specs.declared.mmap.FromRangesError.TheVariants.{MmapRegion}
-use Rattle.vm_memory_guest.specs.declared.volatile_memory.host.MmapRegionError.{MmapRegionError}
-use Rattle.vm_memory_guest.specs.declared.volatile_memory.host.MmapRegionError.TheVariants as block
+use Rattle.vm_memory_guest.specs.declared.host.MmapRegionError.{MmapRegionError}
+use Rattle.vm_memory_guest.specs.declared.host.MmapRegionError.TheVariants as block
 use Rattle.vm_memory_guest.proofs.mmap.GuestRegionMmap.from_range.Goals as goal
 
 -- of a range that makes a region only memory can be wanting

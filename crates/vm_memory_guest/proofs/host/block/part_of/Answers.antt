@@ -1,0 +1,14 @@
+use Rattle.std.proofs.Common.{◌≡◌, ◌+◌, ◌-◌, arith, sym}
+use Rattle.std.proofs.lemmas.Grind.{common_steps}
+use Rattle.vm_memory_guest.specs.Host.{block_at}
+use Rattle.vm_memory_guest.specs.Inside.{blocks_of}
+use Rattle.vm_memory_guest.proofs.WrittenLaws.{bytes_at-block}
+use Rattle.vm_memory_guest.proofs.host.block.part_of.Goals as goal
+
+pub returns : goal.returns
+returns c =
+    let same : c.as_slice.result.now ≡ block_at (blocks_of c.args.blocks.now) c.args.block =
+    grind (arith, common_steps) in
+    let count : c.args.offset + c.args.len - c.args.offset ≡ c.args.len = omega arith in
+    rw (same, count) (sym (bytes_at-block c.args.block c.args.offset c.args.len
+    (blocks_of c.args.blocks.now) c.requires.within))

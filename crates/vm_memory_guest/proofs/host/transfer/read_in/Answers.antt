@@ -1,0 +1,19 @@
+use Rattle.std.proofs.Common.{ℕ, List, arith, subst, ◌∙◌}
+use Rattle.std.proofs.lemmas.Grind.{common_steps}
+use Rattle.vm_memory_base.specs.Transfer.{ReadsAs}
+use Rattle.vm_memory_guest.proofs.TypedLemmas.{place}
+use Rattle.vm_memory_guest.proofs.host.transfer.read_in.Goals as goal
+
+pub returns-clause-tried : goal.returns-clause-tried
+returns-clause-tried g c =
+    let p = place c.args.blocks.now c.args.block c.args.offset c.args.len c.index_mut-all.result.now
+    c.as_mut_slice.result.now (grind (arith, common_steps)) (grind (arith, common_steps)) c.as_mut_slice.ensures.value
+    c.requires.within in
+    let source = g.S.ReadVolatile.source in
+    let new = c.read_volatile.new.buf in (
+      new,
+      c.read_volatile.auto.buf ∙ p.long,
+      subst (λ (bytes : List ℕ). ReadsAs (source c.args.source.now) bytes
+          c.read_volatile.result new (source c.read_volatile.new.self)) p.lent c.read_volatile.ensures.tells,
+      p.put new c.read_volatile.auto.buf,
+    )

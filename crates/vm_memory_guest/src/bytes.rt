@@ -1,0 +1,244 @@
+//! What access to bytes means, whatever is accessed.
+ghost use Rattle.std.specs.Prelude.{◌≡◌, ◌≤◌, ◌<◌, ◌^◌, ℕ, List, length, Result, IfOk};
+ghost use Rattle.vm_memory_base.specs.Table.{Table};
+ghost use Rattle.vm_memory_base.specs.declared.iotlb.Permissions.{Permissions};
+ghost use Rattle.vm_memory_base.specs.declared.iotlb.Permissions.TheVariants.{Read, Write};
+ghost use Rattle.vm_memory_guest.specs.Host.{shape_of, bytes_at, Holds};
+ghost use Rattle.vm_memory_guest.specs.Window.{Window, span, cells, cells_of, Writes};
+ghost use Rattle.vm_memory_guest.specs.Answer.{Reach, Outcome, counted, exactly, filled_buffer};
+ghost use Rattle.vm_memory_guest.specs.Transfer.{Moving, Once, UntilWhole, Fills, Takes, Transfers, all_of, beside};
+ghost use Rattle.vm_memory_guest.specs.Typed.{answered, given};
+ghost use Rattle.vm_memory_base.specs.declared.io.VolatileMemoryError.{VolatileMemoryError};
+
+use crate::host::{HostMemory, Named};
+use std::sync::atomic::Ordering;
+use vm_memory_base::{AtomicAccess, Bitmap, ByteValued, ReadVolatile, WriteVolatile};
+
+/// Access to bytes by addresses of type `A`: an offset of a window, or an address of guest memory.
+///
+/// An access reaches windows of the host that it is lent, one after the other, up to the first address
+/// at which there is no byte: docs/DEFINITIONS.md, "Accesses". A write moves the buffer into them and marks
+/// each at once. A call asks that the host holds what `self` names.
+///
+/// ```text
+/// let count = memory.write(&mut host, &[1, 2, 3], address)?;
+/// memory.read_slice(&host, &mut buffer, address)?;
+/// ```
+pub trait Bytes<A>: Named {
+    /// The error that tells why an access was refused.
+    type E;
+
+    /// What an access of so many bytes at an address reaches, in a host with these tables.
+    ghost reach: { Self → List Table → A → ℕ → Permissions → Reach Self.E };
+
+    /// The one window that a load or a store of so many bytes at an address takes, in a host with these
+    /// tables, or why there is none.
+    ghost place: { Self → List Table → A → ℕ → Permissions → Result Window Self.E };
+
+    /// The error of an access in part, of the expected and the completed bytes.
+    ghost partial: { ℕ → ℕ → Self.E };
+
+    /// The error that says that there was no memory. Then nothing changed.
+    ghost no_memory: { Self.E };
+
+    /// When a call may want memory.
+    ghost may_want: { Self → Type 0 };
+
+    /// The windows that a transfer of at most so many bytes at an address moves, in a host with these tables,
+    /// and what keeps it from moving more.
+    ghost moved: { Self → List Table → A → ℕ → Permissions → Reach Self.E };
+
+    /// Those of a transfer that is to move all of so many bytes.
+    ghost moved_whole: { Self → List Table → A → ℕ → Permissions → Reach Self.E };
+
+    /// How a transfer in that is to fill all bytes fills a window.
+    ghost filling: { Moving };
+
+    /// How a transfer out moves a window.
+    ghost sending: { Moving };
+
+    /// How an error of a source or a sink is told.
+    ghost failure: { VolatileMemoryError → Self.E };
+
+    /// Writes the beginning of the buffer that fits, and answers how many bytes that is.
+    fn write<B: Bitmap>(
+        &self,
+        host: &mut HostMemory<B>,
+        buf: &[u8],
+        addr: A,
+    ) -> Result<usize, Self::E>
+        requires { Holds (shape_of host.old) (Self.names self.now) }
+        ensures answer { let r = reach self.now host.old.tables addr (length buf.now) Write in
+            Outcome no_memory (may_want self.now)
+            (counted (span r.windows) r.fault (length buf.now)) (host.new ≡ host.old)
+            (Writes B.marks r.windows buf.now host.old host.new) result }
+        ensures at_most { IfOk result (λ count. count ≤ length buf.now) }
+        ensures shape { shape_of host.new ≡ shape_of host.old };
+
+    /// Reads into the beginning of the buffer, and answers how many bytes that is.
+    fn read<B: Bitmap>(
+        &self,
+        host: &HostMemory<B>,
+        buf: &mut [u8],
+        addr: A,
+    ) -> Result<usize, Self::E>
+        requires { Holds (shape_of host.now) (Self.names self.now) }
+        ensures answer { let r = reach self.now host.now.tables addr (length buf.old) Read in
+            Outcome no_memory (may_want self.now)
+            (counted (span r.windows) r.fault (length buf.old)) (buf.new ≡ buf.old)
+            (buf.new ≡ filled_buffer host.now.blocks (cells r.windows) buf.old) result }
+        ensures at_most { IfOk result (λ count. count ≤ length buf.old) };
+
+    /// Writes the whole buffer. Where that is not possible, its beginning that fits is written, and the error
+    /// says how long that is.
+    fn write_slice<B: Bitmap>(
+        &self,
+        host: &mut HostMemory<B>,
+        buf: &[u8],
+        addr: A,
+    ) -> Result<(), Self::E>
+        requires { Holds (shape_of host.old) (Self.names self.now) }
+        ensures answer { let r = reach self.now host.old.tables addr (length buf.now) Write in
+            Outcome no_memory (may_want self.now)
+            (exactly partial (span r.windows) r.fault (length buf.now)) (host.new ≡ host.old)
+            (Writes B.marks r.windows buf.now host.old host.new) result }
+        ensures shape { shape_of host.new ≡ shape_of host.old };
+
+    /// Fills the whole buffer. Where that is not possible, its beginning is filled, and the error says how
+    /// long that is.
+    fn read_slice<B: Bitmap>(
+        &self,
+        host: &HostMemory<B>,
+        buf: &mut [u8],
+        addr: A,
+    ) -> Result<(), Self::E>
+        requires { Holds (shape_of host.now) (Self.names self.now) }
+        ensures answer { let r = reach self.now host.now.tables addr (length buf.old) Read in
+            Outcome no_memory (may_want self.now)
+            (exactly partial (span r.windows) r.fault (length buf.old)) (buf.new ≡ buf.old)
+            (buf.new ≡ filled_buffer host.now.blocks (cells r.windows) buf.old) result };
+
+    /// Writes a value, as `write_slice` writes its bytes.
+    fn write_obj<T: ByteValued, B: Bitmap>(
+        &self,
+        host: &mut HostMemory<B>,
+        val: T,
+        addr: A,
+    ) -> Result<(), Self::E>
+        requires { Holds (shape_of host.old) (Self.names self.now) }
+        ensures answer { T.width < 2 ^ 64 → let r = reach self.now host.old.tables addr T.width Write in
+            Outcome no_memory (may_want self.now)
+            (exactly partial (span r.windows) r.fault T.width) (host.new ≡ host.old)
+            (Writes B.marks r.windows (T.bytes val) host.old host.new) result }
+        ensures shape { shape_of host.new ≡ shape_of host.old };
+
+    /// Reads a value, as `read_slice` reads its bytes.
+    fn read_obj<T: ByteValued, B: Bitmap>(
+        &self,
+        host: &HostMemory<B>,
+        addr: A,
+    ) -> Result<T, Self::E>
+        requires { Holds (shape_of host.now) (Self.names self.now) }
+        ensures { T.width < 2 ^ 64 → let r = reach self.now host.now.tables addr T.width Read in
+            Outcome no_memory (may_want self.now)
+            (answered (λ _. T.value_of (bytes_at host.now.blocks (cells r.windows)))
+            (exactly partial (span r.windows) r.fault T.width))
+            (Unit {0}) (Unit {0}) result };
+
+    /// Stores a value as one atomic integer, in one window at a place that is a multiple of the value's
+    /// size. Every store is sequentially consistent, whichever order is asked for.
+    fn store<T: AtomicAccess, B: Bitmap>(
+        &self,
+        host: &mut HostMemory<B>,
+        val: T,
+        addr: A,
+        order: Ordering,
+    ) -> Result<(), Self::E>
+        requires { Holds (shape_of host.old) (Self.names self.now) }
+        ensures answer { let w = place self.now host.old.tables addr T.width Write in
+            Outcome no_memory (may_want self.now) (answered (λ _. tt) w) (host.new ≡ host.old)
+            (Writes B.marks (given w) (T.bytes val) host.old host.new) result }
+        ensures shape { shape_of host.new ≡ shape_of host.old };
+
+    /// Loads a value as one atomic integer, from one window at a place that is a multiple of the value's
+    /// size. Every load is sequentially consistent, whichever order is asked for.
+    fn load<T: AtomicAccess, B: Bitmap>(
+        &self,
+        host: &HostMemory<B>,
+        addr: A,
+        order: Ordering,
+    ) -> Result<T, Self::E>
+        requires { Holds (shape_of host.now) (Self.names self.now) }
+        ensures { let w = place self.now host.now.tables addr T.width Read in
+            Outcome no_memory (may_want self.now)
+            (answered (λ v. T.value_of (bytes_at host.now.blocks (cells_of v))) w)
+            (Unit {0}) (Unit {0}) result };
+
+    /// Lends a source the windows of at most `count` bytes one after the other, up to the first that it does not
+    /// fill, and answers how many bytes came. An interrupted try is made again, at most 64 times in a row; any
+    /// other error of the source is answered at once. Each try marks what it filled, or all that was lent where it
+    /// failed.
+    fn read_volatile_from<F: ReadVolatile, B: Bitmap>(
+        &self,
+        host: &mut HostMemory<B>,
+        addr: A,
+        src: &mut F,
+        count: usize,
+    ) -> Result<usize, Self::E>
+        requires { Holds (shape_of host.old) (Self.names self.now) }
+        ensures answer { let r = moved self.now host.old.tables addr count Write in
+            Transfers no_memory (may_want self.now) failure r (Fills F.source F.known_left B.marks Once)
+            (λ total. total) (beside src.old host.old) result (beside src.new host.new) }
+        ensures at_most { IfOk result (λ total. total ≤ count) }
+        ensures shape { shape_of host.new ≡ shape_of host.old };
+
+    /// Fills `count` bytes from a source. Where it ends before, or not all bytes are there, the error says how
+    /// many came.
+    fn read_exact_volatile_from<F: ReadVolatile, B: Bitmap>(
+        &self,
+        host: &mut HostMemory<B>,
+        addr: A,
+        src: &mut F,
+        count: usize,
+    ) -> Result<(), Self::E>
+        requires { Holds (shape_of host.old) (Self.names self.now) }
+        ensures answer { let r = moved_whole self.now host.old.tables addr count Write in
+            Transfers no_memory (may_want self.now) failure r (Fills F.source F.known_left B.marks filling)
+            (all_of partial count) (beside src.old host.old) result (beside src.new host.new) }
+        ensures shape { shape_of host.new ≡ shape_of host.old };
+
+    /// Offers a sink the bytes of the windows of at most `count` bytes, one window after the other, and answers
+    /// how many it took. An interrupted try is made again, at most 64 times in a row; any other error of the sink is
+    /// answered at once. No byte and no mark changes.
+    fn write_volatile_to<F: WriteVolatile, B: Bitmap>(
+        &self,
+        host: &HostMemory<B>,
+        addr: A,
+        dst: &mut F,
+        count: usize,
+    ) -> Result<usize, Self::E>
+        requires { Holds (shape_of host.now) (Self.names self.now) }
+        ensures answer { let r = moved self.now host.now.tables addr count Read in
+            Transfers no_memory (may_want self.now) failure r
+            (Takes F.sink F.taken F.may_want host.now.blocks sending) (λ total. total) dst.old result dst.new }
+        ensures at_most { IfOk result (λ total. total ≤ count) };
+
+    /// Offers a sink `count` bytes until it has taken them. Where not all bytes are there, the error says how
+    /// many it took. No byte and no mark changes.
+    fn write_all_volatile_to<F: WriteVolatile, B: Bitmap>(
+        &self,
+        host: &HostMemory<B>,
+        addr: A,
+        dst: &mut F,
+        count: usize,
+    ) -> Result<(), Self::E>
+        requires { Holds (shape_of host.now) (Self.names self.now) }
+        ensures answer { let r = moved_whole self.now host.now.tables addr count Read in
+            Transfers no_memory (may_want self.now) failure r
+            (Takes F.sink F.taken F.may_want host.now.blocks UntilWhole) (all_of partial count)
+            dst.old result dst.new };
+
+    /// A load or a store of so many bytes takes as many.
+    ghost place_has_all: { (m : Self) (tables : List Table) (addr : A) (n : ℕ) (access : Permissions)
+        → IfOk (place m tables addr n access) (λ w. w.size ≡ n) };
+}

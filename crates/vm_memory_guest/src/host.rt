@@ -1,0 +1,367 @@
+//! Host memory: every block, bitmap, space and table, which each access is lent.
+ghost use Rattle.std.specs.Prelude.{◌≡◌, ◌+◌, ◌*◌, ◌^◌, ◌<◌, ◌≤◌, ◌↔◌, ◌⊎◌, [], ◌∷◌, ◌++◌, List, length, take, drop, replicate, slice_get, nat_lt, All, IsTrue, Some, IfOk, OnOk, OnErr, IsErrOf};
+ghost use Rattle.vm_memory_guest.specs.Host as names;
+ghost use Rattle.vm_memory_guest.specs.Host.{Host, Shape, with_block, with_space, with_table, with_table_at, shape_of, Name, IsHeld, Holds, block_at, bytes_at, cells_from, written};
+ghost use Rattle.std.specs.List.{flat_map};
+ghost use Rattle.vm_memory_base.specs.Bytes.{values_of};
+ghost use Rattle.vm_memory_guest.specs.Inside.{blocks_of};
+ghost use Rattle.vm_memory_guest.specs.Typed.{size_of};
+
+pub mod address;
+mod block;
+mod transfer;
+mod windows;
+
+use std::alloc::{AllocError, Global};
+use std::marker::Model;
+use thiserror::Error;
+use vm_memory_base::{BitmapId, Iotlb, NewBitmap};
+
+/// The number of a block of a host, from 0 in the order of making.
+#[derive(Clone, Copy, Debug, PartialEq, Eq)]
+pub struct BlockId(pub usize);
+
+/// The number of a space of a host: a bitmap that belongs to no block.
+#[derive(Clone, Copy, Debug, PartialEq, Eq)]
+pub struct SpaceId(pub usize);
+
+/// The number of an I/O table of a host.
+#[derive(Clone, Copy, Debug, PartialEq, Eq)]
+pub struct TlbId(pub usize);
+
+// The length of the longest block in bytes.
+const MAX_BLOCK: usize = 0x7fff_ffff_ffff_ffff;
+
+/// Why a block could not be made.
+#[derive(Debug, Drop, Error)]
+pub enum MmapRegionError {
+    /// A block has 1 to 2^63 - 1 bytes.
+    #[error("invalid block size")]
+    InvalidSize,
+    #[error("out of memory")]
+    Memory,
+}
+
+/// What a host holds, asked of any number: how long each block is, and which spaces and tables there are.
+#[derive(Drop)]
+pub struct HostShape {
+    blocks: Vec<usize>,
+    spaces: usize,
+    tables: usize,
+}
+
+impl Model for HostShape {
+    ghost use Rattle.vm_memory_guest.specs.Host.{Shape};
+
+    ghost Value = { Shape };
+
+    ghost view = { λ s. record { blocks = s.blocks.items; spaces = s.spaces; tables = s.tables } };
+}
+
+impl HostShape {
+    ghost use Rattle.vm_memory_guest.specs.Window.{bitmap_name};
+
+    fn new(alloc: Global) -> HostShape
+        ensures { result ≡ record { blocks = []; spaces = 0; tables = 0 } }
+    {
+        HostShape {
+            blocks: Vec::new(alloc),
+            spaces: 0,
+            tables: 0,
+        }
+    }
+
+    /// Whether a block may have so many bytes: 1 to 2^63 - 1.
+    pub fn is_block_size(size: usize) -> bool
+        ensures { IsTrue result ↔ ((0 < size) × (size < 2 ^ 63)) }
+    {
+        0 < size && size <= MAX_BLOCK
+    }
+
+    fn push_block(&mut self, size: usize) -> Result<(), AllocError>
+        ensures ok { OnOk result (self.new ≡ record self.old { blocks = self.old.blocks ++ size ∷ [] }) }
+        ensures err { OnErr result (self.new ≡ self.old) }
+    {
+        self.blocks.push(size)?;
+        Ok(())
+    }
+
+    /// The length of a block in bytes, if there is one of this number.
+    pub fn block_len(&self, block: BlockId) -> Option<usize>
+        ensures { result ≡ slice_get self.now.blocks block.0 }
+    {
+        self.blocks.get(block.0).copied()
+    }
+
+    /// Whether there is a space of this number.
+    pub fn has_space(&self, space: SpaceId) -> bool
+        ensures { result ≡ nat_lt space.0 self.now.spaces }
+    {
+        space.0 < self.spaces
+    }
+
+    /// Whether there is a table of this number.
+    pub fn has_table(&self, table: TlbId) -> bool
+        ensures { result ≡ nat_lt table.0 self.now.tables }
+    {
+        table.0 < self.tables
+    }
+
+    /// Whether so many bytes of a block from an offset on are there.
+    pub fn has_place(&self, block: BlockId, offset: usize, len: usize) -> bool
+        ensures { IsTrue result ↔ IsHeld self.now (names.Place block.0 offset len) }
+    {
+        match self.block_len(block) {
+            Some(all) => offset <= all && len <= all - offset,
+            None => false,
+        }
+    }
+
+    /// Whether there is a bitmap of this name.
+    pub fn has_bitmap(&self, bitmap: BitmapId) -> bool
+        ensures { IsTrue result ↔ IsHeld self.now (bitmap_name bitmap) }
+    {
+        match bitmap {
+            BitmapId::Block(block) => block < self.blocks.len(),
+            BitmapId::Space(space) => space < self.spaces,
+        }
+    }
+}
+
+/// A value that names parts of a host: blocks, places in them, spaces and tables.
+pub trait Named {
+    /// The parts of a host that the value names.
+    ghost names: { Self → List Name };
+
+    /// Whether everything that it names is in a host of this shape.
+    fn held_by(&self, shape: &HostShape) -> bool
+        ensures { IsTrue result ↔ Holds shape.now (names self.now) };
+}
+
+/// All bytes, bitmaps, spaces and tables. Numbers start at 0 in each kind, no number ever stops naming, and
+/// no block changes its length.
+#[derive(Drop)]
+pub struct HostMemory<B> {
+    alloc: Global,
+    blocks: Vec<Vec<u8>>,
+    bitmaps: Vec<B>,
+    spaces: Vec<B>,
+    tables: Vec<Iotlb>,
+    shape: HostShape,
+}
+
+impl<B> Model for HostMemory<B> {
+    ghost use Rattle.std.specs.Prelude.{[]};
+    ghost use Rattle.vm_memory_guest.specs.Host.{Host};
+
+    ghost Value = { Host B };
+
+    ghost use Rattle.vm_memory_guest.specs.Inside.{IsSound, blocks_of};
+
+    ghost view = { λ h. record {
+      blocks = blocks_of h.blocks;
+      bitmaps = h.bitmaps.items;
+      spaces = h.spaces.items;
+      tables = h.tables.items;
+    } };
+
+    ghost invariant = { λ h. IsSound h.shape (blocks_of h.blocks) h.bitmaps.items h.spaces.items
+        h.tables.items };
+}
+
+impl<B> HostMemory<B> {
+    /// A host that holds nothing.
+    pub fn new(alloc: Global) -> Self
+        ensures { result ≡ record { blocks = []; bitmaps = []; spaces = []; tables = [] } }
+    {
+        HostMemory {
+            alloc,
+            blocks: Vec::new(alloc),
+            bitmaps: Vec::new(alloc),
+            spaces: Vec::new(alloc),
+            tables: Vec::new(alloc),
+            shape: HostShape::new(alloc),
+        }
+    }
+
+    /// What the host holds. Each block has 1 to 2^63 - 1 bytes, and a bitmap.
+    pub fn shape(&self) -> &HostShape
+        ensures value { result.now ≡ shape_of self.now }
+        ensures tracked { length self.now.bitmaps ≡ length self.now.blocks }
+        ensures sized { All (λ len. (0 < len) × (len < 2 ^ 63)) (shape_of self.now).blocks }
+    {
+        &self.shape
+    }
+
+    /// Whether the host holds everything that a value names.
+    pub fn holds<N: Named>(&self, named: &N) -> bool
+        ensures { IsTrue result ↔ Holds (shape_of self.now) (N.names named.now) }
+    {
+        named.held_by(self.shape())
+    }
+
+    /// The length of a block in bytes, 1 to 2^63 - 1.
+    pub fn block_len(&self, block: BlockId) -> usize
+        requires { Holds (shape_of self.now) (names.Block block.0 ∷ []) }
+        ensures value { result ≡ length (block_at self.now.blocks block.0) }
+        ensures some { 0 < result }
+        ensures bound { result < 2 ^ 63 }
+    {
+        self.blocks[block.0].len()
+    }
+
+    /// Makes a block of `size` zeroed bytes, tracked by a bitmap: the answer is its number. A size of 0 or
+    /// above 2^63 - 1 is refused as `InvalidSize`, and want of memory as `Memory`; then nothing changes.
+    pub fn new_block_with(&mut self, size: usize, bitmap: B) -> Result<BlockId, MmapRegionError>
+    where
+        B: Drop,
+        ensures number { IfOk result (λ block. block.0 ≡ length self.old.blocks) }
+        ensures ok { OnOk result (self.new ≡ with_block self.old size bitmap) }
+        ensures invalid { IsErrOf result MmapRegionError.InvalidSize ↔ ((size ≡ 0) ⊎ (2 ^ 63 ≤ size)) }
+        ensures sized { OnOk result ((0 < size) × (size < 2 ^ 63)) }
+        ensures err { OnErr result (self.new ≡ self.old) }
+        ensures kept { (names : List Name) → Holds (shape_of self.old) names
+            → Holds (shape_of self.new) names }
+    {
+        if !HostShape::is_block_size(size) {
+            return Err(MmapRegionError::InvalidSize);
+        }
+        self.add_block(size, bitmap)
+            .map_err(|_| MmapRegionError::Memory)
+    }
+
+    // The pushes come last and find room, so that a refusal leaves everything.
+    fn add_block(&mut self, size: usize, bitmap: B) -> Result<BlockId, AllocError>
+    where
+        B: Drop,
+        requires some { 0 < size }
+        requires bound { size < 2 ^ 63 }
+        ensures number { IfOk result (λ block. block.0 ≡ length self.old.blocks) }
+        ensures ok { OnOk result (self.new ≡ with_block self.old size bitmap) }
+        ensures err { OnErr result (self.new ≡ self.old) }
+    {
+        let bytes = vec![in self.alloc; 0u8; size]?;
+        let block = BlockId(self.blocks.len());
+        self.blocks.reserve(1)?;
+        self.bitmaps.reserve(1)?;
+        self.shape.push_block(size)?;
+        self.blocks.push(bytes)?;
+        self.bitmaps.push(bitmap)?;
+        Ok(block)
+    }
+
+    /// Makes a space, the pages of which `bitmap` tracks: the answer is its number. Refused, nothing changes.
+    pub fn new_space(&mut self, bitmap: B) -> Result<SpaceId, AllocError>
+    where
+        B: Drop,
+        ensures number { IfOk result (λ space. space.0 ≡ length self.old.spaces) }
+        ensures ok { OnOk result (self.new ≡ with_space self.old bitmap) }
+        ensures err { OnErr result (self.new ≡ self.old) }
+        ensures kept { (names : List Name) → Holds (shape_of self.old) names
+            → Holds (shape_of self.new) names }
+    {
+        self.add_space(bitmap)
+    }
+
+    fn add_space(&mut self, bitmap: B) -> Result<SpaceId, AllocError>
+    where
+        B: Drop,
+        ensures number { IfOk result (λ space. space.0 ≡ length self.old.spaces) }
+        ensures ok { OnOk result (self.new ≡ with_space self.old bitmap) }
+        ensures err { OnErr result (self.new ≡ self.old) }
+    {
+        let space = SpaceId(self.spaces.len());
+        self.spaces.push(bitmap)?;
+        self.shape.spaces += 1;
+        Ok(space)
+    }
+
+    /// Makes a table that says nothing of any address: the answer is its number. Refused, nothing changes.
+    pub fn new_table(&mut self) -> Result<TlbId, AllocError>
+        ensures number { IfOk result (λ table. table.0 ≡ length self.old.tables) }
+        ensures ok { OnOk result (self.new ≡ with_table self.old) }
+        ensures err { OnErr result (self.new ≡ self.old) }
+        ensures kept { (names : List Name) → Holds (shape_of self.old) names
+            → Holds (shape_of self.new) names }
+    {
+        self.add_table()
+    }
+
+    fn add_table(&mut self) -> Result<TlbId, AllocError>
+        ensures number { IfOk result (λ table. table.0 ≡ length self.old.tables) }
+        ensures ok { OnOk result (self.new ≡ with_table self.old) }
+        ensures err { OnErr result (self.new ≡ self.old) }
+    {
+        let table = TlbId(self.tables.len());
+        self.tables.push(Iotlb::new(self.alloc))?;
+        self.shape.tables += 1;
+        Ok(table)
+    }
+}
+
+impl<B> HostMemory<B> {
+    ghost use Rattle.std.specs.Borrow.{Lends, sem};
+    ghost use Rattle.vm_memory_guest.specs.contracts.host.HostMemory.{the_row};
+    ghost use Rattle.vm_memory_base.specs.contracts.iotlb.table.Iotlb.{the_row as table_row};
+    ghost use Rattle.vm_memory_guest.specs.Window.{with_bitmap, bitmap_name, bitmap_of};
+
+    /// The bitmap of a block, or of a space.
+    pub fn bitmap(&self, bitmap: BitmapId) -> &B
+        requires { Holds (shape_of self.now) (bitmap_name bitmap ∷ []) }
+        ensures { bitmap_of self.now bitmap ≡ Some result.now }
+    {
+        match bitmap {
+            BitmapId::Block(block) => &self.bitmaps[block],
+            BitmapId::Space(space) => &self.spaces[space],
+        }
+    }
+
+    /// The bitmap of a block or of a space, to change.
+    pub fn bitmap_mut(&mut self, bitmap: BitmapId) -> &mut B
+        requires { Holds (shape_of self.old) (bitmap_name bitmap ∷ []) }
+        ensures* lends { sem 𝓛 (Lends (the_row B.row) B.row self.entry result (with_bitmap self.old bitmap)) }
+        ensures value { bitmap_of self.old bitmap ≡ Some result.now }
+    {
+        match bitmap {
+            BitmapId::Block(block) => &mut self.bitmaps[block],
+            BitmapId::Space(space) => &mut self.spaces[space],
+        }
+    }
+
+    /// Lends the table of this number.
+    pub fn table(&self, table: TlbId) -> &Iotlb
+        requires { Holds (shape_of self.now) (names.Tlb table.0 ∷ []) }
+        ensures { slice_get self.now.tables table.0 ≡ Some result.now }
+    {
+        &self.tables[table.0]
+    }
+
+    /// Lends the table of this number to be changed.
+    pub fn table_mut(&mut self, table: TlbId) -> &mut Iotlb
+        requires { Holds (shape_of self.old) (names.Tlb table.0 ∷ []) }
+        ensures* lends { sem 𝓛
+            (Lends (the_row B.row) table_row self.entry result (with_table_at self.old table.0)) }
+        ensures value { slice_get self.old.tables table.0 ≡ Some result.now }
+    {
+        &mut self.tables[table.0]
+    }
+}
+
+impl<B: NewBitmap + Drop> HostMemory<B> {
+    /// Makes a block of `size` zeroed bytes, tracked by a new bitmap for as many, as `new_block_with` does.
+    pub fn new_block(&mut self, size: usize) -> Result<BlockId, MmapRegionError>
+        ensures number { IfOk result (λ block. block.0 ≡ length self.old.blocks) }
+        ensures ok { OnOk result ((bitmap : B) × B.made size bitmap × (self.new ≡ with_block self.old size bitmap)) }
+        ensures invalid { IsErrOf result MmapRegionError.InvalidSize ↔ ((size ≡ 0) ⊎ (2 ^ 63 ≤ size)) }
+        ensures sized { OnOk result ((0 < size) × (size < 2 ^ 63)) }
+        ensures err { OnErr result (self.new ≡ self.old) }
+        ensures kept { (names : List Name) → Holds (shape_of self.old) names
+            → Holds (shape_of self.new) names }
+    {
+        if !HostShape::is_block_size(size) {
+            return Err(MmapRegionError::InvalidSize);
+        }
+        let bitmap = B::with_len(self.alloc, size).map_err(|_| MmapRegionError::Memory)?;
+        self.new_block_with(size, bitmap)
+    }
+}
