@@ -8,7 +8,7 @@ use Rattle.vm_memory_base.specs.declared.iotlb.Reason.{Reason}
 use Rattle.vm_memory_guest.specs.Host.{Cell}
 use Rattle.vm_memory_guest.specs.Region.{Region, Lies, cell, same_region}
 use Rattle.vm_memory_guest.specs.Region.{Backed, Unbacked, Unmapped}
-use Rattle.vm_memory_guest.specs.Memory.{Route, Direct, Through, mapping_of, physical}
+use Rattle.vm_memory_guest.specs.Memory.{Route, Direct, Through, said_on, mapping_of, physical}
 use Rattle.vm_memory_guest.specs.Window.{Window}
 
 -- why an access goes no further: no region holds the address, its region has no host bytes, or the
@@ -122,8 +122,7 @@ allowed Direct a n access = true
 allowed (Through f space) a n access = is_allowed f a n access
 
 abbrev pub refusal : Route → ℕ → ℕ → AccessFault
-refusal Direct a n = NoHostBytes
-refusal (Through f space) a n = Refused a n (reason f a n)
+refusal route a n = Refused a n (reason (said_on route) a n)
 
 -- an access of n bytes at a: one that is not allowed reaches nothing
 abbrev pub access_of : List Region → Route → ℕ → ℕ → Permissions → Access

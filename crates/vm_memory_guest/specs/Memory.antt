@@ -50,10 +50,14 @@ route_behind (Some b) tables = Through (says_of (slice_get tables b.table)) b.sp
 abbrev pub route : Memory → List Table → Route
 route memory tables = route_behind (behind_of memory.iommu) tables
 
+-- what is said of addresses on the way: nothing where they are physical as they are
+abbrev pub said_on : Route → Says
+said_on Direct = says_nothing
+said_on (Through f space) = f
+
 -- the mapping of the byte i of an access at a, where its address is translated and has one
 abbrev pub mapping_of : Route → ℕ → ℕ → Option Mapping
-mapping_of Direct a i = None
-mapping_of (Through f space) a i = f (a + i)
+mapping_of route a i = said_on route (a + i)
 
 -- the physical address of byte i of an access at a. One that is translated has a mapping, since an access
 -- without is refused

@@ -48,7 +48,8 @@ loop-item-preserved g c =
     let long : length c.bytes.result.now ≡ c.in-Ok.window.size =
     ap length c.bytes.ensures ∙ length-bytes c.args.host.now.blocks c.in-Ok.window in
     filled_next c.loop-item.invariant next
-    (g.V.ByteValued.bytes c.set_bytes.new.self) c.bytes.result.now c.len-total.result c.len-total.ensures long c.bytes.ensures c.set_bytes.ensures
+    (g.V.ByteValued.bytes c.set_bytes.new.self) c.bytes.result.now c.len-total.result c.len-total.ensures long
+      c.bytes.ensures c.set_bytes.ensures
 
 pub returns-in-Err-clause-answer : goal.returns-in-Err-clause-answer
 returns-in-Err-clause-answer g c =
