@@ -121,6 +121,10 @@ module _ {S : Type 0} (sink : S → Option Sink) (taken : S → Option (List ℕ
   abbrev IsSink : S → Sink → Type 0
   IsSink x y = sink x ≡ Some y
 
+  -- memory may be wanted of bytes alone
+  abbrev WantsOf : ℕ → S → Type 0
+  WantsOf n x = (0 < n) × wants x
+
   -- bytes were offered by one try, and by tries
   abbrev pub TakesOf : List ℕ → S → Answer → S → Type 0
   TakesOf bytes old answer new = TakesAs (wants old) (sink old) (length bytes) answer (sink new)
@@ -131,10 +135,10 @@ module _ {S : Type 0} (sink : S → Option Sink) (taken : S → Option (List ℕ
       × Keeps (taken old) bytes (count_of answer) (taken new) × (wants new → wants old)
 
   takes_does : (bytes : List ℕ) (x z : S) (answer : Answer) (y : Sink) → IsSink x y → TakesOf bytes x answer z
-      → Does IsSink wants x answer z (offered (length bytes) y)
+      → Does IsSink (WantsOf (length bytes)) x answer z (offered (length bytes) y)
   takes_does bytes x z answer y like h =
       elim (subst (λ (o : Option Sink). TakesAs (wants x) o (length bytes) answer (sink z)) like h.0) [
-        | inl wanted ↦ inl (wanted.0, wanted.1)
+        | inl wanted ↦ inl (wanted.0, (wanted.1, wanted.2))
         | inr does ↦ inr does
       ]
 
@@ -154,8 +158,12 @@ module _ {S : Type 0} (sink : S → Option Sink) (taken : S → Option (List ℕ
     where
       go : (o : Option Sink) → sink s ≡ o → OffersAs (wants s) o (length bytes) answer (sink t)
       go None tells = tt
-      go (Some y) tells = again_does IsSink wants (TakesOf bytes) (offered (length bytes)) (takes_does bytes)
-          (λ x z a t. t.2) tries y tells
+      go (Some y) tells =
+          elim (again_does IsSink (WantsOf (length bytes)) (TakesOf bytes) (offered (length bytes)) (takes_does bytes)
+          (λ x z a t want. (want.0, t.2 want.1)) tries y tells) [
+            | inl wanted ↦ inl (wanted.0, wanted.1.0, wanted.1.1)
+            | inr does ↦ inr does
+          ]
 
   -- offers of what is left of the bytes, in turn
   abbrev pub OffersBehind : List ℕ → ℕ → S → Answer → S → Type 0
@@ -184,17 +192,20 @@ module _ {S : Type 0} (sink : S → Option Sink) (taken : S → Option (List ℕ
       n = length bytes
 
       each : (done : ℕ) (x z : S) (a : Answer) (y : Sink) → done < n → IsSink x y → OffersBehind bytes done x a z
-          → Does IsSink wants x a z (again (offered (n - done)) y)
+          → Does IsSink (WantsOf n) x a z (again (offered (n - done)) y)
       each done x z a y some like h =
           let left = subst (λ (k : ℕ). OffersAs (wants x) (sink x) k a (sink z)) (length-drop done bytes) h.0 in
-          subst (λ (o : Option Sink). OffersAs (wants x) o (n - done) a (sink z)) like left
+          elim (subst (λ (o : Option Sink). OffersAs (wants x) o (n - done) a (sink z)) like left) [
+            | inl wanted ↦ inl (wanted.0, (omega arith, wanted.2))
+            | inr does ↦ inr does
+          ]
 
       go : (o : Option Sink) → sink s ≡ o → SendsAs (wants s) o n count answer (sink t)
       go None tells = tt
       go (Some y) tells =
-          elim (rest_does IsSink wants (OffersBehind bytes) (λ done. again (offered (n - done))) n each
-          (λ done x z a h. h.2) whole n (omega arith) y tells) [
-            | inl wanted ↦ inl (is ∙ ap sent_as wanted.0, wanted.1)
+          elim (rest_does IsSink (WantsOf n) (OffersBehind bytes) (λ done. again (offered (n - done))) n each
+          (λ done x z a h want. (want.0, h.2 want.1)) whole n (omega arith) y tells) [
+            | inl wanted ↦ inl (is ∙ ap sent_as wanted.0, wanted.1.0, wanted.1.1)
             | inr does ↦ inr (is ∙ ap sent_as does.1, does.0, does.2)
           ]
 

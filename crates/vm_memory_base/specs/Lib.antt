@@ -11,5 +11,6 @@ pub mod Lookup
 pub mod PowerOfTwo
 pub mod Bytes
 pub mod Transfer
+pub mod InMemory
 pub mod Script
 pub mod lemmas

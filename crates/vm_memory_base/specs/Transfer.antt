@@ -264,11 +264,12 @@ offered_next n (Refuses e ∷ rest) room =
 abbrev pub offered : ℕ → Sink → Made VolatileMemoryError Sink
 offered n sink = offered_next n sink.next sink.room
 
--- a sink that tells what it does next was offered n bytes. Or it wanted memory, where it may, and took none
+-- a sink that tells what it does next was offered n bytes. Or it wanted memory, where it may and n is not 0, and
+-- took none
 abbrev pub TakesAs : Type 0 → Option Sink → ℕ → Answer → Option Sink → Type 0
 TakesAs may_want sink n answer after = IfSome sink (λ before.
     let o = offered n before in
-    ((answer ≡ Err Memory) × may_want × (after ≡ Some before)) ⊎ ((answer ≡ o.answer) × (after ≡ Some o.left)))
+    ((answer ≡ Err Memory) × (0 < n) × may_want × (after ≡ Some before)) ⊎ ((answer ≡ o.answer) × (after ≡ Some o.left)))
 
 -- a sink that keeps what it takes has taken the first bytes of what it was offered
 abbrev pub Keeps : Option (List ℕ) → List ℕ → ℕ → Option (List ℕ) → Type 0
@@ -279,7 +280,7 @@ Keeps (Some before) bytes count after = after ≡ Some (before ++ take count byt
 abbrev pub OffersAs : Type 0 → Option Sink → ℕ → Answer → Option Sink → Type 0
 OffersAs may_want sink n answer after = IfSome sink (λ before.
     let o = again (offered n) before in
-    ((answer ≡ Err Memory) × may_want) ⊎ ((answer ≡ o.answer) × (after ≡ Some o.left)))
+    ((answer ≡ Err Memory) × (0 < n) × may_want) ⊎ ((answer ≡ o.answer) × (after ≡ Some o.left)))
 
 -- n bytes are sent to a sink by tries, each of what is left of them
 abbrev pub sent : ℕ → Sink → Moved Sink
@@ -296,5 +297,5 @@ abbrev pub SendsAs : Type 0 → Option Sink → ℕ → ℕ → Result (Unit {0}
     → Type 0
 SendsAs may_want sink n count answer after = IfSome sink (λ before.
     let s = sent n before in
-    ((answer ≡ Err Memory) × may_want)
+    ((answer ≡ Err Memory) × (0 < n) × may_want)
     ⊎ ((answer ≡ sent_as s.stop) × (count ≡ s.count) × (after ≡ Some s.left)))

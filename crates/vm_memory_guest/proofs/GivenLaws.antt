@@ -33,7 +33,7 @@ module _ {S E : Type 0} (sink : S → Option Sink) (taken : S → Option (List �
       → Does IsGiven wants x moved z (sent_whole w y)
   sends_does w x z moved y like m =
       elim (subst (λ (o : Option Sink). SendsAs (wants x) o w.size m.count m.sent (sink z)) like m.tried) [
-        | inl wanted ↦ inl (m.told ∙ ap (answered (λ all. w.size)) wanted.0, wanted.1)
+        | inl wanted ↦ inl (m.told ∙ ap (answered (λ all. w.size)) wanted.0, wanted.2)
         | inr is ↦ inr (m.told ∙ ap (answered (λ all. w.size)) is.0, is.2)
       ]
 
@@ -128,7 +128,7 @@ module _ {S E : Type 0} (sink : S → Option Sink) (taken : S → Option (List �
             elim (subst (λ (o : Option Sink). SendsAs (wants old) o w.size k m.sent (sink mid)) tells m.tried) [
               | inl wanted ↦
                   (let same : e ≡ Memory = cc in
-                  inl (h.0 ∙ ap (λ (f : VolatileMemoryError). Err (failure f)) same, wanted.1))
+                  inl (h.0 ∙ ap (λ (f : VolatileMemoryError). Err (failure f)) same, wanted.2))
               | inr does ↦ inr (rw (sym does.0 ∙ is) (let a = does.1 in omega arith))
             ],
       )
