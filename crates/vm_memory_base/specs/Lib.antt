@@ -12,4 +12,5 @@ pub mod PowerOfTwo
 pub mod Bytes
 pub mod Transfer
 pub mod Script
+pub mod System
 pub mod lemmas
