@@ -4,9 +4,9 @@ use Rattle.std.proofs.lemmas.List.{take_rest, drop_all, drop_min, length-drop, l
 use Rattle.std.proofs.Math.Seq.{take-add}
 use borrow.Rule.Slice.PartMut.{put_mid}
 use mathlib.Core.Bool.{true≢false}
-use Rattle.vm_memory_base.specs.Transfer.{Next, tried, giving, is_interrupted, ReadsAs, Reads, Lending, lending, lent_once, lent_behind, filled_as, is_short, FillsAs, Sink, offered, again, TakesAs, OffersAs, count_of, Keeps, sent_as, SendsAs, Stop, Again, WholeOf, Answer, AgainUpto, Last, Done, Retry, RestOf, AllMoved, NoneMoved, TurnFailed, SomeMoved}
+use Rattle.vm_memory_base.specs.Transfer.{Next, tried, giving, is_interrupted, ReadsAs, Reads, ReadsBehind, Lending, lending, lent_once, lent_behind, filled_as, is_short, FillsAs, FillsBy, Sink, offered, again, TakesAs, OffersAs, count_of, Keeps, sent_as, SendsAs, SendsBy, Stop, Again, WholeOf, Answer, AgainUpto, Last, Done, Retry, RestOf, AllMoved, NoneMoved, TurnFailed, SomeMoved}
 use Rattle.vm_memory_base.specs.declared.io.VolatileMemoryError.{VolatileMemoryError}
-use Rattle.vm_memory_base.specs.lemmas.Turns.{Does, again_does, rest_does}
+use Rattle.vm_memory_base.specs.lemmas.Turns.{Does, again_is, rest_is, again_does, rest_does}
 
 -- ---- sources
 
@@ -28,37 +28,31 @@ length-placed done buf new within same =
     (ap length (placed done buf new) ∙ omega arith, rest)
 
 -- a source, a buffer that it is lent, and whether a try was interrupted
-module _ {S : Type 0} (source : S → Option (List Next)) where
+module _ {S : Type 0} (source : S → Option (List Next)) (reads : S → List ℕ → Answer → List ℕ → S → Type 0) where
   -- the same as is computed
   abbrev IsLent : S × List ℕ × Bool → Lending → Type 0
   IsLent x y = (source x.0 ≡ Some y.next) × (x.1 ≡ y.buffer) × (x.2 ≡ y.interrupted)
 
   reads_does : (x z : S × List ℕ × Bool) (answer : Answer) (y : Lending) → IsLent x y
-      → Reads source x answer z → Does IsLent (λ x. ⊥) x answer z (lent_once y)
+      → Reads source reads x answer z → Does IsLent (λ x. ⊥) x answer z (lent_once y)
   reads_does x z answer y like h =
       let told = subst (λ (o : Option (List Next)). ReadsAs o x.1 answer z.1 (source z.0)) like.0 h.0 in
       let here = subst (λ (b : List ℕ). ReadsAs (Some y.next) b answer z.1 (source z.0)) like.1 told in
-      let flag = h.1 ∙ ap₂ (λ (b : Bool) (r : Answer). b || is_interrupted r) like.2 here.0 in
+      let flag = h.3 ∙ ap₂ (λ (b : Bool) (r : Answer). b || is_interrupted r) like.2 here.0 in
       inr (here.0, (here.2, here.1, flag))
-
-  -- tries of what is behind the bytes that are done
-  abbrev pub ReadsBehind : ℕ → S × List ℕ × Bool → Answer → S × List ℕ × Bool → Type 0
-  ReadsBehind done old answer new = (part : List ℕ)
-      × Again (Reads source) (old.0, drop done old.1, old.2) answer (new.0, part, new.2)
-      × (new.1 ≡ take done old.1 ++ part)
 
   pub reads_behind : {old new : S} {part : List ℕ} {flag interrupted : Bool} {given answer : Answer}
       (done : ℕ) (buf : List ℕ)
-      → Again (Reads source) (old, take (length buf - done) (drop done buf), flag) given (new, part, interrupted)
+      → Again (Reads source reads) (old, take (length buf - done) (drop done buf), flag) given (new, part, interrupted)
       → given ≡ answer
-      → ReadsBehind done (old, buf, flag) answer (new, put_mid done (length buf - done) buf part, interrupted)
-  reads_behind {part = part} done buf reads is =
-      (part, rw is at (rw (take_rest buf done) at reads), placed done buf part)
+      → ReadsBehind source reads done (old, buf, flag) answer (new, put_mid done (length buf - done) buf part, interrupted)
+  reads_behind {part = part} done buf tries is =
+      (part, rw is at (rw (take_rest buf done) at tries), placed done buf part)
 
   behind_does : (done : ℕ) (x z : S × List ℕ × Bool) (answer : Answer) (y : Lending) → IsLent x y
-      → ReadsBehind done x answer z → Does IsLent (λ x. ⊥) x answer z (lent_behind done y)
+      → ReadsBehind source reads done x answer z → Does IsLent (λ x. ⊥) x answer z (lent_behind done y)
   behind_does done x z answer y like h =
-      elim (again_does IsLent (λ x. ⊥) (Reads source) lent_once reads_does (λ x z a t no. no) h.1
+      elim (again_does IsLent (λ x. ⊥) (Reads source reads) lent_once reads_does (λ x z a t no. no) h.1
       (record y { buffer = drop done y.buffer }) (like.0, ap (λ (b : List ℕ). drop done b) like.1, like.2)) [
         | inl wanted ↦ inl wanted
         | inr does ↦
@@ -69,19 +63,26 @@ module _ {S : Type 0} (source : S → Option (List Next)) where
   -- a buffer is filled as is computed
   pub fills_as : (known : Option ℕ) (s t : S) (start buf : List ℕ) (flag : Bool) (count : ℕ) (stop : Stop)
       (answer : Result (Unit {0}) _) → is_short known (length start) ≡ false
-      → WholeOf ReadsBehind (length start) (s, start, false) count stop (t, buf, flag)
+      → WholeOf (ReadsBehind source reads) (length start) (s, start, false) count stop (t, buf, flag)
       → answer ≡ filled_as (length start) flag count stop → FillsAs known (source s) start answer buf (source t)
   fills_as known s t start buf flag count stop answer long whole is = go (source s) refl
     where
       go : (o : Option (List Next)) → source s ≡ o → FillsAs known o start answer buf (source t)
       go None tells = tt
       go (Some next) tells =
-          elim (rest_does IsLent (λ x. ⊥) ReadsBehind lent_behind (length start)
+          elim (rest_does IsLent (λ x. ⊥) (ReadsBehind source reads) lent_behind (length start)
           (λ done x z a y some. behind_does done x z a y) (λ done x z a t no. no) whole (length start) (omega arith)
           (lending start next) (tells, refl, refl)) [
             | inl wanted ↦ absurd wanted.1
             | inr does ↦ rw long (rw (does.0, does.1, does.2.2) at is, does.2.1, does.2.0)
           ]
+
+  -- and by reads in turn
+  pub fills_by : (known : S → Option ℕ) (s t : S) (start buf : List ℕ) (flag : Bool) (count : ℕ) (stop : Stop)
+      (answer : Result (Unit {0}) _) → is_short (known s) (length start) ≡ false
+      → WholeOf (ReadsBehind source reads) (length start) (s, start, false) count stop (t, buf, flag)
+      → answer ≡ filled_as (length start) flag count stop → FillsBy source reads known s start answer buf t
+  fills_by known s t start buf flag count stop answer long whole is = rw long (count, stop, flag, whole, is)
 
 -- ---- sinks
 
@@ -117,7 +118,8 @@ interrupted-count : (answer : Answer) → is_interrupted answer ≡ true → cou
 interrupted-count (Ok count) is = absurd (true≢false (sym is))
 interrupted-count (Err e) is = refl
 
-module _ {S : Type 0} (sink : S → Option Sink) (taken : S → Option (List ℕ)) (wants : S → Type 0) where
+module _ {S : Type 0} (sink : S → Option Sink) (taken : S → Option (List ℕ)) (wants : S → Type 0)
+    (writes : S → List ℕ → Answer → S → Type 0) where
   abbrev IsSink : S → Sink → Type 0
   IsSink x y = sink x ≡ Some y
 
@@ -128,11 +130,12 @@ module _ {S : Type 0} (sink : S → Option Sink) (taken : S → Option (List ℕ
   -- bytes were offered by one try, and by tries
   abbrev pub TakesOf : List ℕ → S → Answer → S → Type 0
   TakesOf bytes old answer new = TakesAs (wants old) (sink old) (length bytes) answer (sink new)
-      × Keeps (taken old) bytes (count_of answer) (taken new) × (wants new → wants old)
+      × Keeps (taken old) bytes (count_of answer) (taken new) × (wants new → wants old) × writes old bytes answer new
 
   abbrev pub OffersOf : List ℕ → S → Answer → S → Type 0
   OffersOf bytes old answer new = OffersAs (wants old) (sink old) (length bytes) answer (sink new)
       × Keeps (taken old) bytes (count_of answer) (taken new) × (wants new → wants old)
+      × Again (λ s. writes s bytes) old answer new
 
   takes_does : (bytes : List ℕ) (x z : S) (answer : Answer) (y : Sink) → IsSink x y → TakesOf bytes x answer z
       → Does IsSink (WantsOf (length bytes)) x answer z (offered (length bytes) y)
@@ -154,7 +157,8 @@ module _ {S : Type 0} (sink : S → Option Sink) (taken : S → Option (List ℕ
 
   pub offers_of : (bytes : List ℕ) (s t : S) (answer : Answer) → Again (TakesOf bytes) s answer t
       → OffersOf bytes s answer t
-  offers_of bytes s t answer tries = let k = tries_keep bytes tries in (go (sink s) refl, k.0, k.1)
+  offers_of bytes s t answer tries = let k = tries_keep bytes tries in
+      (go (sink s) refl, k.0, k.1, again_is (λ x z a t. t.3) tries)
     where
       go : (o : Option Sink) → sink s ≡ o → OffersAs (wants s) o (length bytes) answer (sink t)
       go None tells = tt
@@ -184,9 +188,10 @@ module _ {S : Type 0} (sink : S → Option Sink) (taken : S → Option (List ℕ
   pub sends_of : (bytes : List ℕ) (s t : S) (count : ℕ) (stop : Stop) (answer : Result (Unit {0}) VolatileMemoryError)
       → WholeOf (OffersBehind bytes) (length bytes) s count stop t → answer ≡ sent_as stop
       → Keeps (taken s) bytes count (taken t) × SendsAs (wants s) (sink s) (length bytes) count answer (sink t)
-      × (wants t → wants s)
+      × SendsBy writes s bytes count answer t × (wants t → wants s)
   sends_of bytes s t count stop answer whole is =
-      let k = turns_keep s bytes (keeps_none (taken s) bytes) whole in (k.0, go (sink s) refl, k.1)
+      let k = turns_keep s bytes (keeps_none (taken s) bytes) whole in
+      (k.0, go (sink s) refl, (stop, rest_is (λ done x z a t. t.3) whole, is), k.1)
     where
       n : ℕ
       n = length bytes

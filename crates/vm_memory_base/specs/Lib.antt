@@ -13,4 +13,5 @@ pub mod Bytes
 pub mod Transfer
 pub mod InMemory
 pub mod Script
+pub mod System
 pub mod lemmas

@@ -1,5 +1,5 @@
 -- Sources and sinks of bytes: what they do at a try, where they tell it, and tries again after interruptions.
-use Rattle.std.specs.Prelude.{◌≡◌, ◌⊎◌, ℕ, zero, suc, ◌+◌, ◌-◌, ◌<◌, ◌≤◌, Bool, true, false, ◌||◌, nat_lt, if◌then◌else◌, min, List, [], ◌∷◌, ◌++◌, length, take, drop, Option, Some, None, IfSome, option_map, Result, Ok, Err}
+use Rattle.std.specs.Prelude.{◌≡◌, ◌⊎◌, ℕ, zero, suc, ◌+◌, ◌-◌, ◌<◌, ◌≤◌, Bool, true, false, ◌||◌, nat_lt, if◌then◌else◌, min, List, [], ◌∷◌, ◌++◌, length, take, drop, Option, Some, None, IfSome, option_map, Result, Ok, Err, IfOk, MatchBool}
 use Rattle.std.specs.declared.io.ErrorKind.{ErrorKind}
 use Rattle.std.specs.declared.io.ErrorKind.TheVariants.{Interrupted, WriteZero, UnexpectedEof}
 use Rattle.vm_memory_base.specs.declared.io.ReadExactFault.{ReadExactFault}
@@ -156,11 +156,19 @@ ReadsAs source old answer new after = IfSome source (λ next.
     let t = tried (length old) next in
     (answer ≡ t.answer) × (new ≡ over_front t.bytes old) × (after ≡ Some t.left))
 
--- one try of a source that is lent a buffer, and whether it was interrupted so far
-abbrev pub Reads : {S : Type 0} → (S → Option (List Next)) → S × List ℕ × Bool → Answer
-    → S × List ℕ × Bool → Type 0
-Reads source old answer new =
-    ReadsAs (source old.0) old.1 answer new.1 (source new.0) × (new.2 ≡ (old.2 || is_interrupted answer))
+-- a source that is lent a buffer, and whether a try was interrupted so far
+module _ {S : Type 0} (source : S → Option (List Next)) (reads : S → List ℕ → Answer → List ℕ → S → Type 0) where
+  -- one try
+  abbrev pub Reads : S × List ℕ × Bool → Answer → S × List ℕ × Bool → Type 0
+  Reads old answer new = ReadsAs (source old.0) old.1 answer new.1 (source new.0)
+      × IfOk answer (λ count. count ≤ length old.1) × reads old.0 old.1 answer new.1 new.0
+      × (new.2 ≡ (old.2 || is_interrupted answer))
+
+  -- tries of what is behind the bytes that are done
+  abbrev pub ReadsBehind : ℕ → S × List ℕ × Bool → Answer → S × List ℕ × Bool → Type 0
+  ReadsBehind done old answer new = (part : List ℕ)
+      × Again Reads (old.0, drop done old.1, old.2) answer (new.0, part, new.2)
+      × (new.1 ≡ take done old.1 ++ part)
 
 -- a source that is lent a buffer: what that is, what the source does next, and whether a try was interrupted
 pub record Lending : Type 0 where
@@ -223,6 +231,18 @@ filled_whole known buffer source =
       answer = filled_as n m.left.interrupted m.count m.stop;
       left = m.left.next;
     }
+
+-- a whole buffer was to be filled: by tries of what is left of it, until it is full or the source gives none. Or
+-- a source that knows that it has too few bytes left refused at once
+abbrev pub FillsBy : {S : Type 0} → (S → Option (List Next)) → (S → List ℕ → Answer → List ℕ → S → Type 0)
+    → (S → Option ℕ) → S → List ℕ → Result (Unit {0}) ReadExactFault → List ℕ → S → Type 0
+FillsBy source reads known old buffer answer new after =
+    let n = length buffer in
+    MatchBool (is_short (known old) n)
+    ((answer ≡ Err (record { touched = 0; error = IOError UnexpectedEof })) × (new ≡ buffer) × (after ≡ old))
+    ((count : ℕ) × (stop : Stop) × (interrupted : Bool)
+    × WholeOf (ReadsBehind source reads) n (old, buffer, false) count stop (after, new, interrupted)
+    × (answer ≡ filled_as n interrupted count stop))
 
 -- where a source tells what it does next: it fills a buffer
 abbrev pub FillsAs : Option ℕ → Option (List Next) → List ℕ → Result (Unit {0}) ReadExactFault → List ℕ
@@ -299,3 +319,10 @@ SendsAs may_want sink n count answer after = IfSome sink (λ before.
     let s = sent n before in
     ((answer ≡ Err Memory) × (0 < n) × may_want)
     ⊎ ((answer ≡ sent_as s.stop) × (count ≡ s.count) × (after ≡ Some s.left)))
+
+-- bytes were sent to a sink by tries of what is left of them, until all are taken or the sink takes none
+abbrev pub SendsBy : {S : Type 0} → (S → List ℕ → Answer → S → Type 0) → S → List ℕ → ℕ
+    → Result (Unit {0}) VolatileMemoryError → S → Type 0
+SendsBy writes old bytes count answer after = (stop : Stop)
+    × WholeOf (λ done. Again (λ sink. writes sink (drop done bytes))) (length bytes) old count stop after
+    × (answer ≡ sent_as stop)

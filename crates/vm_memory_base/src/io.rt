@@ -1,8 +1,8 @@
 //! Sources and sinks of bytes, and what accesses of windows answer.
-ghost use Rattle.std.specs.Prelude.{◌≡◌, ℕ, ◌≤◌, List, length, Option, IfOk, IfErr, OnOk, if◌then◌else◌};
+ghost use Rattle.std.specs.Prelude.{◌≡◌, ℕ, ◌≤◌, List, length, Option, IfOk, IfErr, OnOk, if◌then◌else◌, ⊤};
 ghost use Rattle.std.specs.IoError.{error_kind};
-ghost use Rattle.vm_memory_base.specs.Transfer.{Next, ReadsAs, FillsAs, is_short};
-ghost use Rattle.vm_memory_base.specs.Transfer.{Sink, TakesAs, SendsAs, Keeps, count_of};
+ghost use Rattle.vm_memory_base.specs.Transfer.{Answer, Next, ReadsAs, FillsAs, FillsBy, is_short};
+ghost use Rattle.vm_memory_base.specs.Transfer.{Sink, TakesAs, SendsAs, SendsBy, Keeps, count_of};
 
 mod in_memory;
 mod scripted;
@@ -133,11 +133,15 @@ pub trait ReadVolatile {
     // How many bytes it has left, where it looks before it fills a buffer.
     ghost known_left: { Self → Option ℕ };
 
+    // What else is known of one read: of the source and the buffer before it, its answer, and both after it.
+    ghost reads: { Self → List ℕ → Answer → List ℕ → Self → Type 0 } = { λ s old answer new t. ⊤ };
+
     /// Fills the beginning of the buffer, and answers how many bytes that is. None is the end of the source,
     /// where the buffer has some. An error may leave the buffer changed.
     fn read_volatile(&mut self, buf: &mut [u8]) -> VolatileMemoryResult<usize>
         ensures count { IfOk result (λ count. count ≤ length buf.old) }
-        ensures tells { ReadsAs (source self.old) buf.old result buf.new (source self.new) };
+        ensures tells { ReadsAs (source self.old) buf.old result buf.new (source self.new) }
+        ensures reads { reads self.old buf.old result buf.new self.new };
 
     /// How many bytes it has left, where it looks before it fills a buffer: then a buffer that is longer is
     /// refused at once. Most sources do not look.
@@ -150,6 +154,7 @@ pub trait ReadVolatile {
         ensures touched { IfErr result (λ fault. fault.touched ≤ length buf.old) }
         ensures tells { FillsAs (known_left self.old) (source self.old) buf.old result buf.new
             (source self.new) }
+        ensures reads { FillsBy source reads known_left self.old buf.old result buf.new self.new }
     {
         let all = buf.len();
         if is_short(self.known_left(), all) {
@@ -216,19 +221,24 @@ pub trait WriteVolatile {
     // When it may want memory.
     ghost may_want: { Self → Type 0 };
 
+    // What else is known of one write: of the sink before it, the bytes, its answer, and the sink after it.
+    ghost writes: { Self → List ℕ → Answer → Self → Type 0 } = { λ s bytes answer t. ⊤ };
+
     /// Takes the first bytes of the buffer, and answers how many.
     fn write_volatile(&mut self, buf: &[u8]) -> VolatileMemoryResult<usize>
         ensures count { IfOk result (λ count. count ≤ length buf.now) }
         ensures tells { TakesAs (may_want self.old) (sink self.old) (length buf.now) result (sink self.new) }
         ensures keeps { Keeps (taken self.old) buf.now (count_of result) (taken self.new) }
-        ensures wants { may_want self.new → may_want self.old };
+        ensures wants { may_want self.new → may_want self.old }
+        ensures writes { writes self.old buf.now result self.new };
 
     /// Takes the whole buffer, by as many writes as that takes. A write that is interrupted is made again, at
     /// most 64 times in a row. `WriteZero` where the sink takes nothing of bytes that are left.
     final fn write_all_volatile(&mut self, buf: &[u8]) -> VolatileMemoryResult<()>
         ensures sends { (count : ℕ) × (count ≤ length buf.now) × OnOk result (count ≡ length buf.now)
             × Keeps (taken self.old) buf.now count (taken self.new)
-            × SendsAs (may_want self.old) (sink self.old) (length buf.now) count result (sink self.new) }
+            × SendsAs (may_want self.old) (sink self.old) (length buf.now) count result (sink self.new)
+            × SendsBy writes self.old buf.now count result self.new }
         ensures wants { may_want self.new → may_want self.old }
     {
         let mut done = 0;

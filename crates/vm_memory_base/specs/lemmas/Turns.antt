@@ -39,6 +39,23 @@ module _ {X : Type 0} (Turn : ℕ → X → Answer → X → Type 0) (n : ℕ) w
   rest_more count so_far some t moved total stop new rest =
       so_far total stop new (SomeMoved some t (omega arith) rest)
 
+-- ---- turns that say more
+
+module _ {X : Type 0} where
+  pub again_is : {Try Other : X → Answer → X → Type 0} → ((x z : X) (a : Answer) → Try x a z → Other x a z)
+      → {more : ℕ} {x z : X} {answer : Answer} → AgainUpto Try more x answer z → AgainUpto Other more x answer z
+  again_is each (Last t) = Last (each _ _ _ t)
+  again_is each (Done t is) = Done (each _ _ _ t) is
+  again_is each (Retry t is rest) = Retry (each _ _ _ t) is (again_is each rest)
+
+  pub rest_is : {Turn Other : ℕ → X → Answer → X → Type 0} {n : ℕ}
+      → ((done : ℕ) (x z : X) (a : Answer) → Turn done x a z → Other done x a z)
+      → {done total : ℕ} {x z : X} {stop : Stop} → RestOf Turn n done x total stop z → RestOf Other n done x total stop z
+  rest_is each (AllMoved full) = AllMoved full
+  rest_is each (NoneMoved some t) = NoneMoved some (each _ _ _ _ t)
+  rest_is each (TurnFailed some t) = TurnFailed some (each _ _ _ _ t)
+  rest_is each (SomeMoved some t moved rest) = SomeMoved some (each _ _ _ _ t) moved (rest_is each rest)
+
 -- ---- what is computed
 
 module _ {X Y : Type 0} (Like : X → Y → Type 0) (Wants : X → Type 0) where

@@ -1,37 +1,60 @@
 //! Files, sockets and the standard output as sources and sinks. They tell nothing of their bytes.
-ghost use Rattle.std.specs.Prelude.{◌≤◌, length, None, IfOk};
+ghost use Rattle.std.specs.Prelude.{◌≡◌, None};
+ghost use Rattle.vm_memory_base.specs.System.{ReadsOnce, WritesOnce, told_as};
 
 use super::{IoError, ReadVolatile, VolatileMemoryError, VolatileMemoryResult, WriteVolatile};
 use std::fs::File;
-use std::io::{Read, Stdout, Write};
+use std::io::{self, Read, Stdout, Write};
 use std::net::TcpStream;
 use std::os::unix::net::UnixStream;
 
-// Reads once into a buffer: the answer is how many bytes came.
-fn read_from<R: Read>(reader: &mut R, buf: &mut [u8]) -> VolatileMemoryResult<usize>
-    ensures { IfOk result (λ count. count ≤ length buf.old) }
+/// A reader of the system, which is a source.
+pub trait SystemSource: Read {}
+
+impl SystemSource for File {}
+impl SystemSource for &File {}
+impl SystemSource for &mut File {}
+impl SystemSource for TcpStream {}
+impl SystemSource for &TcpStream {}
+impl SystemSource for &mut TcpStream {}
+impl SystemSource for UnixStream {}
+impl SystemSource for &UnixStream {}
+impl SystemSource for &mut UnixStream {}
+
+/// A writer of the system, which is a sink.
+pub trait SystemSink: Write {}
+
+impl SystemSink for File {}
+impl SystemSink for &File {}
+impl SystemSink for &mut File {}
+impl SystemSink for TcpStream {}
+impl SystemSink for &TcpStream {}
+impl SystemSink for &mut TcpStream {}
+impl SystemSink for UnixStream {}
+impl SystemSink for &UnixStream {}
+impl SystemSink for &mut UnixStream {}
+impl SystemSink for Stdout {}
+impl SystemSink for &Stdout {}
+
+// Tells the answer of the system: its count, or its error by kind.
+fn told(answer: io::Result<usize>) -> VolatileMemoryResult<usize>
+    ensures { result ≡ told_as answer }
 {
-    reader
-        .read(buf)
-        .map_err(|error| VolatileMemoryError::IOError(IoError::from(error)))
+    match answer {
+        Ok(count) => Ok(count),
+        Err(error) => Err(VolatileMemoryError::IOError(IoError::from(error))),
+    }
 }
 
-// Writes a buffer once: the answer is how many bytes were taken.
-fn write_to<W: Write>(writer: &mut W, buf: &[u8]) -> VolatileMemoryResult<usize>
-    ensures { IfOk result (λ count. count ≤ length buf.now) }
-{
-    writer
-        .write(buf)
-        .map_err(|error| VolatileMemoryError::IOError(IoError::from(error)))
-}
-
-impl ReadVolatile for File {
+impl<R: SystemSource> ReadVolatile for R {
     ghost source = { λ s. None };
 
     ghost known_left = { λ s. None };
 
+    ghost reads = { ReadsOnce R.remaining };
+
     fn read_volatile(&mut self, buf: &mut [u8]) -> VolatileMemoryResult<usize> {
-        read_from(self, buf)
+        told(self.read(buf))
     }
 
     fn known_left(&self) -> Option<usize> {
@@ -39,246 +62,16 @@ impl ReadVolatile for File {
     }
 }
 
-impl WriteVolatile for File {
+impl<W: SystemSink> WriteVolatile for W {
     ghost sink = { λ s. None };
 
     ghost taken = { λ s. None };
 
     ghost may_want = { λ s. ⊥ };
 
-    fn write_volatile(&mut self, buf: &[u8]) -> VolatileMemoryResult<usize> {
-        write_to(self, buf)
-    }
-}
-
-impl ReadVolatile for &File {
-    ghost source = { λ s. None };
-
-    ghost known_left = { λ s. None };
-
-    fn read_volatile(&mut self, buf: &mut [u8]) -> VolatileMemoryResult<usize> {
-        read_from(self, buf)
-    }
-
-    fn known_left(&self) -> Option<usize> {
-        None
-    }
-}
-
-impl WriteVolatile for &File {
-    ghost sink = { λ s. None };
-
-    ghost taken = { λ s. None };
-
-    ghost may_want = { λ s. ⊥ };
+    ghost writes = { WritesOnce W.contents };
 
     fn write_volatile(&mut self, buf: &[u8]) -> VolatileMemoryResult<usize> {
-        write_to(self, buf)
-    }
-}
-
-impl ReadVolatile for &mut File {
-    ghost source = { λ s. None };
-
-    ghost known_left = { λ s. None };
-
-    fn read_volatile(&mut self, buf: &mut [u8]) -> VolatileMemoryResult<usize> {
-        read_from(&mut **self, buf)
-    }
-
-    fn known_left(&self) -> Option<usize> {
-        None
-    }
-}
-
-impl WriteVolatile for &mut File {
-    ghost sink = { λ s. None };
-
-    ghost taken = { λ s. None };
-
-    ghost may_want = { λ s. ⊥ };
-
-    fn write_volatile(&mut self, buf: &[u8]) -> VolatileMemoryResult<usize> {
-        write_to(&mut **self, buf)
-    }
-}
-
-impl ReadVolatile for TcpStream {
-    ghost source = { λ s. None };
-
-    ghost known_left = { λ s. None };
-
-    fn read_volatile(&mut self, buf: &mut [u8]) -> VolatileMemoryResult<usize> {
-        read_from(self, buf)
-    }
-
-    fn known_left(&self) -> Option<usize> {
-        None
-    }
-}
-
-impl WriteVolatile for TcpStream {
-    ghost sink = { λ s. None };
-
-    ghost taken = { λ s. None };
-
-    ghost may_want = { λ s. ⊥ };
-
-    fn write_volatile(&mut self, buf: &[u8]) -> VolatileMemoryResult<usize> {
-        write_to(self, buf)
-    }
-}
-
-impl ReadVolatile for &TcpStream {
-    ghost source = { λ s. None };
-
-    ghost known_left = { λ s. None };
-
-    fn read_volatile(&mut self, buf: &mut [u8]) -> VolatileMemoryResult<usize> {
-        read_from(self, buf)
-    }
-
-    fn known_left(&self) -> Option<usize> {
-        None
-    }
-}
-
-impl WriteVolatile for &TcpStream {
-    ghost sink = { λ s. None };
-
-    ghost taken = { λ s. None };
-
-    ghost may_want = { λ s. ⊥ };
-
-    fn write_volatile(&mut self, buf: &[u8]) -> VolatileMemoryResult<usize> {
-        write_to(self, buf)
-    }
-}
-
-impl ReadVolatile for &mut TcpStream {
-    ghost source = { λ s. None };
-
-    ghost known_left = { λ s. None };
-
-    fn read_volatile(&mut self, buf: &mut [u8]) -> VolatileMemoryResult<usize> {
-        read_from(&mut **self, buf)
-    }
-
-    fn known_left(&self) -> Option<usize> {
-        None
-    }
-}
-
-impl WriteVolatile for &mut TcpStream {
-    ghost sink = { λ s. None };
-
-    ghost taken = { λ s. None };
-
-    ghost may_want = { λ s. ⊥ };
-
-    fn write_volatile(&mut self, buf: &[u8]) -> VolatileMemoryResult<usize> {
-        write_to(&mut **self, buf)
-    }
-}
-
-impl ReadVolatile for UnixStream {
-    ghost source = { λ s. None };
-
-    ghost known_left = { λ s. None };
-
-    fn read_volatile(&mut self, buf: &mut [u8]) -> VolatileMemoryResult<usize> {
-        read_from(self, buf)
-    }
-
-    fn known_left(&self) -> Option<usize> {
-        None
-    }
-}
-
-impl WriteVolatile for UnixStream {
-    ghost sink = { λ s. None };
-
-    ghost taken = { λ s. None };
-
-    ghost may_want = { λ s. ⊥ };
-
-    fn write_volatile(&mut self, buf: &[u8]) -> VolatileMemoryResult<usize> {
-        write_to(self, buf)
-    }
-}
-
-impl ReadVolatile for &UnixStream {
-    ghost source = { λ s. None };
-
-    ghost known_left = { λ s. None };
-
-    fn read_volatile(&mut self, buf: &mut [u8]) -> VolatileMemoryResult<usize> {
-        read_from(self, buf)
-    }
-
-    fn known_left(&self) -> Option<usize> {
-        None
-    }
-}
-
-impl WriteVolatile for &UnixStream {
-    ghost sink = { λ s. None };
-
-    ghost taken = { λ s. None };
-
-    ghost may_want = { λ s. ⊥ };
-
-    fn write_volatile(&mut self, buf: &[u8]) -> VolatileMemoryResult<usize> {
-        write_to(self, buf)
-    }
-}
-
-impl ReadVolatile for &mut UnixStream {
-    ghost source = { λ s. None };
-
-    ghost known_left = { λ s. None };
-
-    fn read_volatile(&mut self, buf: &mut [u8]) -> VolatileMemoryResult<usize> {
-        read_from(&mut **self, buf)
-    }
-
-    fn known_left(&self) -> Option<usize> {
-        None
-    }
-}
-
-impl WriteVolatile for &mut UnixStream {
-    ghost sink = { λ s. None };
-
-    ghost taken = { λ s. None };
-
-    ghost may_want = { λ s. ⊥ };
-
-    fn write_volatile(&mut self, buf: &[u8]) -> VolatileMemoryResult<usize> {
-        write_to(&mut **self, buf)
-    }
-}
-
-impl WriteVolatile for Stdout {
-    ghost sink = { λ s. None };
-
-    ghost taken = { λ s. None };
-
-    ghost may_want = { λ s. ⊥ };
-
-    fn write_volatile(&mut self, buf: &[u8]) -> VolatileMemoryResult<usize> {
-        write_to(self, buf)
-    }
-}
-
-impl WriteVolatile for &Stdout {
-    ghost sink = { λ s. None };
-
-    ghost taken = { λ s. None };
-
-    ghost may_want = { λ s. ⊥ };
-
-    fn write_volatile(&mut self, buf: &[u8]) -> VolatileMemoryResult<usize> {
-        write_to(self, buf)
+        told(self.write(buf))
     }
 }

@@ -25,7 +25,7 @@ fn read_once<S: ReadVolatile>(
     interrupted: &mut bool,
 ) -> VolatileMemoryResult<usize>
     ensures count { IfOk result (λ count. count ≤ length buf.old) }
-    ensures reads { Reads S.source (source.old, buf.old, interrupted.old) result
+    ensures reads { Reads S.source S.reads (source.old, buf.old, interrupted.old) result
         (source.new, buf.new, interrupted.new) }
 {
     let answer = source.read_volatile(buf);
@@ -42,7 +42,7 @@ pub(super) fn read_again<S: ReadVolatile>(
     interrupted: &mut bool,
 ) -> VolatileMemoryResult<usize>
     ensures count { IfOk result (λ count. count ≤ length buf.old) }
-    ensures reads { Again (Reads S.source) (source.old, buf.old, interrupted.old) result
+    ensures reads { Again (Reads S.source S.reads) (source.old, buf.old, interrupted.old) result
         (source.new, buf.new, interrupted.new) }
 {
     let mut left = RETRIES;
@@ -62,6 +62,7 @@ pub fn offer_again<S: WriteVolatile>(sink: &mut S, buf: &[u8]) -> VolatileMemory
     ensures tells { OffersAs (S.may_want sink.old) (S.sink sink.old) (length buf.now) result (S.sink sink.new) }
     ensures keeps { Keeps (S.taken sink.old) buf.now (count_of result) (S.taken sink.new) }
     ensures wants { S.may_want sink.new → S.may_want sink.old }
+    ensures writes { Again (λ s. S.writes s buf.now) sink.old result sink.new }
 {
     let mut left = RETRIES;
     while left > 0 {

@@ -7,8 +7,8 @@ abbrev pub invariant-loop-done : goal.invariant-loop-done
 invariant-loop-done g l =
     record {
       within : l.done ≤ length l.buf;
-      rest : RestLeft (OffersBehind g.Self.WriteVolatile.sink g.Self.WriteVolatile.taken g.Self.WriteVolatile.may_want l.buf)
-          (length l.buf) l.initial.self l.done l.self;
+      rest : RestLeft (OffersBehind g.Self.WriteVolatile.sink g.Self.WriteVolatile.taken g.Self.WriteVolatile.may_want
+          g.Self.WriteVolatile.writes l.buf) (length l.buf) l.initial.self l.done l.self;
     }
 
 abbrev pub decreases-loop-done : goal.decreases-loop-done
