@@ -11,7 +11,8 @@ use Rattle.vm_memory_guest.specs.Transfer.{LendsWindow, Fills, filling, marked_o
 use Rattle.vm_memory_guest.specs.Window.{Window, cells_of, part}
 use Rattle.vm_memory_guest.proofs.DirtLaws.{EmptyMark, with_pages-MarksWindow}
 
-module _ {S B : Type 0} (source : S → Option (List Next)) (marks : B → ℕ → ℕ → B → Type 0) (pages : B → PageSet)
+module _ {S B : Type 0} (source : S → Option (List Next)) (reads : S → List ℕ → Answer → List ℕ → S → Type 0)
+    (marks : B → ℕ → ℕ → B → Type 0) (pages : B → PageSet)
     (exact : (old new : B) (offset len : ℕ) → marks old offset len new → pages new ≡ marked offset len (pages old))
     (empty : EmptyMark) where
   -- the same as is computed
@@ -19,7 +20,7 @@ module _ {S B : Type 0} (source : S → Option (List Next)) (marks : B → ℕ �
   IsDealt x y = (source x.0 ≡ Some y.0) × (with_pages pages x.1 ≡ y.1)
 
   lends_does : (w : Window) (x z : S × Host B) (answer : Answer) (y : List Next × Host PageSet)
-      → IsDealt x y → LendsWindow source marks w x answer z → Does IsDealt (λ x. ⊥) x answer z (lent w y)
+      → IsDealt x y → LendsWindow source reads marks w x answer z → Does IsDealt (λ x. ⊥) x answer z (lent w y)
   lends_does w x z answer y like l =
       let buffer = bytes_at x.1.blocks (cells_of w) in
       let told = subst (λ (o : Option (List Next)). ReadsAs o buffer answer l.bytes (source z.0)) like.0 l.tried in
@@ -36,18 +37,18 @@ module _ {S B : Type 0} (source : S → Option (List Next)) (marks : B → ℕ �
       ))
 
   again_lends : (w : Window) (x z : S × Host B) (answer : Answer) (y : List Next × Host PageSet)
-      → IsDealt x y → Again (LendsWindow source marks w) x answer z
+      → IsDealt x y → Again (LendsWindow source reads marks w) x answer z
       → Does IsDealt (λ x. ⊥) x answer z (again (lent w) y)
   again_lends w x z answer y like tries =
-      again_does IsDealt (λ x. ⊥) (LendsWindow source marks w) (lent w) (lends_does w) (λ x z a t no. no) tries y like
+      again_does IsDealt (λ x. ⊥) (LendsWindow source reads marks w) (lent w) (lends_does w) (λ x z a t no. no) tries y like
 
   pub fills_does : (known : S → Option ℕ) (until_full : Bool) (w : Window) (x z : S × Host B)
       (answer : Answer) (y : List Next × Host PageSet) → IsDealt x y
-      → Fills source known marks (filling until_full) w x answer z
+      → Fills source reads known marks (filling until_full) w x answer z
       → Does IsDealt (λ x. ⊥) x answer z (dealt until_full w y)
   fills_does known false w x z answer y like tries = again_lends w x z answer y like tries
   fills_does known true w x z answer y like rest =
-      elim (rest_does IsDealt (λ x. ⊥) (λ filled. Again (LendsWindow source marks (part w filled (w.size - filled))))
+      elim (rest_does IsDealt (λ x. ⊥) (λ filled. Again (LendsWindow source reads marks (part w filled (w.size - filled))))
       (λ filled. again (lent (part w filled (w.size - filled)))) w.size
       (λ filled x z a y some. again_lends (part w filled (w.size - filled)) x z a y) (λ done x z a t no. no)
       rest.tried w.size (omega arith) y like) [

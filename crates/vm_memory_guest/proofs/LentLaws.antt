@@ -137,14 +137,26 @@ same_changes ws host = record {
   bytes = λ cell. inl refl;
 }
 
+-- pages that only become dirty
+pub record Dirtier (old new : Host PageSet) : Type 0 where
+  pub bitmaps : map shape new.bitmaps ≡ map shape old.bitmaps
+  pub spaces : map shape new.spaces ≡ map shape old.spaces
+  pub dirty : (id : BitmapId) (offset : ℕ) → is_dirty_at (pages_at id old) offset ≡ true
+      → is_dirty_at (pages_at id new) offset ≡ true
+
 -- what is dirty stays so
-still_dirty : (ws : List Window) (mid new : Host PageSet) → MarksChanges ws mid new → (id : BitmapId) (offset : ℕ)
+pub stays_dirty : (mid new : Host PageSet) → Dirtier mid new → (id : BitmapId) (offset : ℕ)
     → IsDirty id offset mid → IsDirty id offset new
-still_dirty ws mid new c id offset h p has inside fits =
+stays_dirty mid new c id offset h p has inside fits =
     let q = as_many (pages_at id mid) p (sym (shape_at id mid new c.bitmaps c.spaces) ∙ ap shape has) in
     let inside' : offset < length (q.0).flags * (q.0).page_size = rw (q.2, q.3) inside in
     let was : is_dirty_at (pages_at id mid) offset ≡ true = rw q.1 (h q.0 q.1 inside' fits) in
     subst (λ (s : PageSet). is_dirty_at s offset ≡ true) has (c.dirty id offset was)
+
+still_dirty : (ws : List Window) (mid new : Host PageSet) → MarksChanges ws mid new → (id : BitmapId) (offset : ℕ)
+    → IsDirty id offset mid → IsDirty id offset new
+still_dirty ws mid new c =
+    stays_dirty mid new (record { bitmaps = c.bitmaps; spaces = c.spaces; dirty = c.dirty })
 
 -- a marked byte stays so among windows that have its window, where it stays dirty
 marked_among : (ws vs : List Window) (old new : Host PageSet) (cell : Cell) (m : IsMarked ws cell old)
@@ -276,7 +288,7 @@ module _ (Kept : List Next × Host PageSet → Type 0) (Good : VolatileMemoryErr
 
 module _ (shape_stays : ShapeStays) (stays : DirtyPagesStay) (dirties : MarkedBytesAreDirty) where
   -- a byte of a mark is dirty
-  dirty_after : (set : PageSet) (start len at : ℕ) (p : Pages) → marked start len set ≡ Some p → at < len
+  pub dirty_after : (set : PageSet) (start len at : ℕ) (p : Pages) → marked start len set ≡ Some p → at < len
       → start + at < length p.flags * p.page_size → start + at < 2 ^ 64 → is_dirty_at (Some p) (start + at) ≡ true
   dirty_after None start len at p is within inside fits = absurd (cc)
   dirty_after (Some q) start len at p is within inside fits =

@@ -27,5 +27,6 @@ pub mod WholeRanges
 pub mod AccessLemmas
 pub mod OrderLemmas
 pub mod DealtLaws
+pub mod FilledLaws
 pub mod GivenLaws
 pub mod LentLaws

@@ -1,7 +1,7 @@
 -- What transfers in leave of a host, and how their sources fail.
-use Rattle.std.specs.Prelude.{◌≡◌, ◌⊎◌, ℕ, ◌+◌, ◌*◌, ◌^◌, ◌<◌, Bool, true, List, length, map, Some, Contains}
+use Rattle.std.specs.Prelude.{◌≡◌, ◌⊎◌, ℕ, ◌+◌, ◌*◌, ◌^◌, ◌<◌, Bool, true, List, [], ◌∷◌, length, map, Some, Ok, Contains}
 use Rattle.vm_memory_base.specs.Pages.{Pages, PageSet, shape, is_dirty_at}
-use Rattle.vm_memory_base.specs.Transfer.{Next, Gives, Fails}
+use Rattle.vm_memory_base.specs.Transfer.{Answer, Next, Gives, Fails}
 use Rattle.vm_memory_base.specs.declared.bitmap.BitmapId.{BitmapId}
 use Rattle.vm_memory_base.specs.declared.io.VolatileMemoryError.{VolatileMemoryError}
 use Rattle.vm_memory_guest.specs.Dirt.{pages_at}
@@ -37,3 +37,13 @@ pub record MarksChanges (ws : List Window) (old new : Host PageSet) : Type 0 whe
 abbrev pub fails_as : (VolatileMemoryError → Bool) → Next → Bool
 fails_as test (Gives bytes) = true
 fails_as test (Fails scribble e) = test e
+
+-- each of these windows is moved whole, one after the other
+unfoldable pub AllWhole : {X : Type 0} → (Window → X → Answer → X → Type 0) → List Window → X → X → Type 0
+AllWhole {X = X} Moves [] old new = new ≡ old
+AllWhole {X = X} Moves (w ∷ ws) old new = (mid : X) × Moves w old (Ok w.size) mid × AllWhole Moves ws mid new
+
+-- each byte of these windows is dirty
+abbrev pub AreDirty : List Window → Host PageSet → Type 0
+AreDirty ws host = (w : Window) → Contains ws w → (at : ℕ) → at < w.size
+    → IsDirty w.bitmap.id (w.bitmap.base + at) host

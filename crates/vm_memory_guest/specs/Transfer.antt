@@ -1,6 +1,6 @@
 -- Transfers between windows of a host and sources or sinks of bytes.
-use Rattle.std.specs.Prelude.{◌≡◌, ◌⊎◌, ℕ, ◌+◌, ◌-◌, ◌≤◌, ◌==◌, Bool, true, false, if◌then◌else◌, min, List, [], ◌∷◌, length, Option, Some, None, Result, Ok, Err, OnOk, MatchBool, MatchResult}
-use Rattle.vm_memory_base.specs.Transfer.{Answer, Next, ReadsAs, FillsAs, Sink, OffersAs, SendsAs, Keeps, count_of, Stop, counted_as, Again, WholeOf}
+use Rattle.std.specs.Prelude.{◌≡◌, ◌⊎◌, ℕ, ◌+◌, ◌-◌, ◌≤◌, ◌==◌, Bool, true, false, if◌then◌else◌, min, List, [], ◌∷◌, length, Option, Some, None, Result, Ok, Err, OnOk, IfOk, MatchBool, MatchResult}
+use Rattle.vm_memory_base.specs.Transfer.{Answer, Next, ReadsAs, FillsAs, FillsBy, Sink, OffersAs, SendsAs, SendsBy, Keeps, count_of, Stop, counted_as, Again, WholeOf}
 use Rattle.vm_memory_base.specs.declared.io.ReadExactFault.{ReadExactFault}
 use Rattle.vm_memory_base.specs.declared.io.VolatileMemoryError.{VolatileMemoryError}
 use Rattle.vm_memory_guest.specs.Answer.{Reach}
@@ -41,13 +41,16 @@ abbrev pub beside : {S B : Type 0} → S → Host B → S × Host B
 beside source host = (source, host)
 
 -- a source and a host, before and after a window was lent
-module _ {S B : Type 0} (source : S → Option (List Next)) (marks : B → ℕ → ℕ → B → Type 0) where
+module _ {S B : Type 0} (source : S → Option (List Next)) (reads : S → List ℕ → Answer → List ℕ → S → Type 0)
+    (marks : B → ℕ → ℕ → B → Type 0) where
   -- for one try: the window's bytes are then these, and what the try filled, or all of the window after a
   -- failure, is marked at once
   pub record LendsWindow (w : Window) (old : S × Host B) (answer : Answer) (new : S × Host B) : Type 0 where
     pub bytes : List ℕ
     pub size : length bytes ≡ w.size
+    pub within : IfOk answer (λ count. count ≤ w.size)
     pub tried : ReadsAs (source old.0) (bytes_at old.1.blocks (cells_of w)) answer bytes (source new.0)
+    pub read : reads old.0 (bytes_at old.1.blocks (cells_of w)) answer bytes new.0
     pub marked : MarksWindow marks (front w (marked_of w.size answer))
         (record old.1 { blocks = written (cells_of w) bytes old.1.blocks }) new.1
 
@@ -58,7 +61,8 @@ module _ {S B : Type 0} (source : S → Option (List Next)) (marks : B → ℕ �
     pub tried : WholeOf (λ filled. Again (LendsWindow (part w filled (w.size - filled)))) w.size old count stop new
     pub told : answer ≡ counted_as count stop
 
-module _ {S B : Type 0} (source : S → Option (List Next)) (known : S → Option ℕ) (marks : B → ℕ → ℕ → B → Type 0) where
+module _ {S B : Type 0} (source : S → Option (List Next)) (reads : S → List ℕ → Answer → List ℕ → S → Type 0)
+    (known : S → Option ℕ) (marks : B → ℕ → ℕ → B → Type 0) where
   -- to be filled by the source alone: its bytes are then these, and all of the window, or what the source
   -- touched where it failed, is marked at once
   pub record LendsWhole (w : Window) (old : S × Host B) (answer : Answer) (new : S × Host B) : Type 0 where
@@ -66,21 +70,24 @@ module _ {S B : Type 0} (source : S → Option (List Next)) (known : S → Optio
     pub filled : Result (Unit {0}) ReadExactFault
     pub size : length bytes ≡ w.size
     pub tried : FillsAs (known old.0) (source old.0) (bytes_at old.1.blocks (cells_of w)) filled bytes (source new.0)
+    pub read : FillsBy source reads known old.0 (bytes_at old.1.blocks (cells_of w)) filled bytes new.0
     pub told : answer ≡ filled_of w.size filled
     pub marked : MarksWindow marks (front w (touched_of w.size filled))
         (record old.1 { blocks = written (cells_of w) bytes old.1.blocks }) new.1
 
   abbrev pub Fills : Moving → Window → S × Host B → Answer → S × Host B → Type 0
-  Fills Once w old answer new = Again (LendsWindow source marks w) old answer new
-  Fills UntilWhole w old answer new = LendsRest source marks w old answer new
+  Fills Once w old answer new = Again (LendsWindow source reads marks w) old answer new
+  Fills UntilWhole w old answer new = LendsRest source reads marks w old answer new
   Fills Alone w old answer new = LendsWhole w old answer new
 
 -- a sink, before and after the bytes of a window were offered
 module _ {S : Type 0} (sink : S → Option Sink) (taken : S → Option (List ℕ)) (wants : S → Type 0)
-    (blocks : List (List ℕ)) where
+    (writes : S → List ℕ → Answer → S → Type 0) (blocks : List (List ℕ)) where
   -- by one try
   pub record Offers (w : Window) (old : S) (answer : Answer) (new : S) : Type 0 where
+    pub within : IfOk answer (λ count. count ≤ w.size)
     pub tried : OffersAs (wants old) (sink old) w.size answer (sink new)
+    pub written_by : Again (λ s. writes s (bytes_at blocks (cells_of w))) old answer new
     pub keeps : Keeps (taken old) (bytes_at blocks (cells_of w)) (count_of answer) (taken new)
     pub wanted : wants new → wants old
 
@@ -91,6 +98,7 @@ module _ {S : Type 0} (sink : S → Option Sink) (taken : S → Option (List ℕ
     pub within : count ≤ w.size
     pub whole : OnOk sent (count ≡ w.size)
     pub tried : SendsAs (wants old) (sink old) w.size count sent (sink new)
+    pub written_by : SendsBy writes old (bytes_at blocks (cells_of w)) count sent new
     pub keeps : Keeps (taken old) (bytes_at blocks (cells_of w)) count (taken new)
     pub told : answer ≡ answered (λ all. w.size) sent
     pub wanted : wants new → wants old

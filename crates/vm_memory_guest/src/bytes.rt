@@ -187,7 +187,7 @@ pub trait Bytes<A>: Named {
     ) -> Result<usize, Self::E>
         requires { Holds (shape_of host.old) (Self.names self.now) }
         ensures answer { let r = moved self.now host.old.tables addr count Write in
-            Transfers no_memory (may_want self.now) failure r (Fills F.source F.known_left B.marks Once)
+            Transfers no_memory (may_want self.now) failure r (Fills F.source F.reads F.known_left B.marks Once)
             (λ total. total) (beside src.old host.old) result (beside src.new host.new) }
         ensures at_most { IfOk result (λ total. total ≤ count) }
         ensures shape { shape_of host.new ≡ shape_of host.old };
@@ -203,7 +203,7 @@ pub trait Bytes<A>: Named {
     ) -> Result<(), Self::E>
         requires { Holds (shape_of host.old) (Self.names self.now) }
         ensures answer { let r = moved_whole self.now host.old.tables addr count Write in
-            Transfers no_memory (may_want self.now) failure r (Fills F.source F.known_left B.marks filling)
+            Transfers no_memory (may_want self.now) failure r (Fills F.source F.reads F.known_left B.marks filling)
             (all_of partial count) (beside src.old host.old) result (beside src.new host.new) }
         ensures shape { shape_of host.new ≡ shape_of host.old };
 
@@ -220,7 +220,7 @@ pub trait Bytes<A>: Named {
         requires { Holds (shape_of host.now) (Self.names self.now) }
         ensures answer { let r = moved self.now host.now.tables addr count Read in
             Transfers no_memory (may_want self.now) failure r
-            (Takes F.sink F.taken F.may_want host.now.blocks sending) (λ total. total) dst.old result dst.new }
+            (Takes F.sink F.taken F.may_want F.writes host.now.blocks sending) (λ total. total) dst.old result dst.new }
         ensures at_most { IfOk result (λ total. total ≤ count) };
 
     /// Offers a sink `count` bytes until it has taken them. Where not all bytes are there, the error says how
@@ -235,7 +235,7 @@ pub trait Bytes<A>: Named {
         requires { Holds (shape_of host.now) (Self.names self.now) }
         ensures answer { let r = moved_whole self.now host.now.tables addr count Read in
             Transfers no_memory (may_want self.now) failure r
-            (Takes F.sink F.taken F.may_want host.now.blocks UntilWhole) (all_of partial count)
+            (Takes F.sink F.taken F.may_want F.writes host.now.blocks UntilWhole) (all_of partial count)
             dst.old result dst.new };
 
     /// A load or a store of so many bytes takes as many.

@@ -1,6 +1,6 @@
 //! What a transfer of guest memory is, where the source or the sink tells what it does: each function here is a
 //! theorem, and does nothing. It calls the theorems that it follows from.
-ghost use Rattle.std.specs.Prelude.{◌≡◌, ◌⊎◌, ℕ, ◌+◌, ◌++◌, ◌≤◌, Bool, true, All, List, Option, Some, Result, Err, IfOk, take};
+ghost use Rattle.std.specs.Prelude.{◌≡◌, ◌⊎◌, ℕ, ◌+◌, ◌++◌, ◌≤◌, Bool, true, All, List, Option, Some, Result, Ok, Err, IfOk, take};
 ghost use Rattle.vm_memory_base.specs.Pages.{PageSet};
 ghost use Rattle.vm_memory_base.specs.Transfer.{Next, Sink};
 ghost use Rattle.vm_memory_base.specs.declared.io.VolatileMemoryError.{VolatileMemoryError};
@@ -9,13 +9,13 @@ ghost use Rattle.vm_memory_guest.specs.Dealt.{given_out, received};
 ghost use Rattle.vm_memory_guest.specs.Dirt.{with_pages};
 ghost use Rattle.vm_memory_guest.specs.Error.{of_window};
 ghost use Rattle.vm_memory_guest.specs.Host.{Host, bytes_at};
-ghost use Rattle.vm_memory_guest.specs.Lent.{MarksChanges, fails_as};
+ghost use Rattle.vm_memory_guest.specs.Lent.{AllWhole, AreDirty, MarksChanges, fails_as};
 ghost use Rattle.vm_memory_guest.specs.Transfer.{Fills, InOrder, Takes, UntilWhole, beside, filling};
 ghost use Rattle.vm_memory_guest.specs.Window.{Window, cells, span};
 ghost use Rattle.vm_memory_guest.specs.declared.region.GuestMemoryError.{GuestMemoryError};
 
 use vm_memory_base::laws::pages::{mark_is_by_bytes, mark_keeps_shape, marked_bytes_are_dirty};
-use vm_memory_base::{ExactBitmap, ReadVolatile, WriteVolatile};
+use vm_memory_base::{Bitmap, ExactBitmap, ReadVolatile, WriteVolatile};
 
 /// A transfer in from a source that tells what it does, into a host with exact bitmaps: its answer, what the
 /// source does next, and the bytes and the pages of the host are computed from what the source was to do.
@@ -23,7 +23,7 @@ pub fn transfers_in_are_computed<S: ReadVolatile, B: ExactBitmap>()
     ensures { (until_full : Bool) (fault : Option GuestMemoryError) (ws : List Window) (total : ℕ)
         (next : List Next) (source after : S) (old new : Host B) (answer : Result ℕ GuestMemoryError)
         → S.source source ≡ Some next
-        → InOrder of_window fault (Fills S.source S.known_left B.marks (filling until_full)) ws total
+        → InOrder of_window fault (Fills S.source S.reads S.known_left B.marks (filling until_full)) ws total
         (beside source old) answer (beside after new)
         → let dealt = received of_window fault until_full ws total next (with_pages B.pages old) in
         (answer ≡ dealt.answer) × (S.source after ≡ Some dealt.left) × (with_pages B.pages new ≡ dealt.host) }
@@ -52,12 +52,32 @@ pub fn refused_transfers_in_change_nothing()
         ⊎ ((fault ≡ Some e) × (dealt.host ≡ host)) }
 {}
 
+/// A transfer in that lends each window until it is full, and answers as many bytes as its windows have, filled each
+/// of them whole, one after the other. So it is of any source, whether it tells what it does or not.
+pub fn whole_transfers_in_fill_each_window<S: ReadVolatile, B: Bitmap>()
+    ensures { (fault : Option GuestMemoryError) (ws : List Window) (n : ℕ) (source after : S) (old new : Host B)
+        → let Moves = Fills S.source S.reads S.known_left B.marks UntilWhole in
+        InOrder of_window fault Moves ws 0 (beside source old) (Ok n) (beside after new) → span ws ≤ n
+        → AllWhole Moves ws (beside source old) (beside after new) }
+{}
+
+/// Each byte of a window that any source filled whole is dirty then, where the bitmaps are exact.
+pub fn filled_windows_are_dirty<S: ReadVolatile, B: ExactBitmap>()
+    ensures { (ws : List Window) (source after : S) (old new : Host B)
+        → AllWhole (Fills S.source S.reads S.known_left B.marks UntilWhole) ws (beside source old) (beside after new)
+        → AreDirty ws (with_pages B.pages new) }
+{
+    mark_is_by_bytes();
+    mark_keeps_shape();
+    marked_bytes_are_dirty();
+}
+
 /// A transfer out to a sink that tells what it does: its answer and what the sink does next are computed from
 /// what the sink was to do. Or the sink wanted memory, where it may.
 pub fn transfers_out_are_computed<S: WriteVolatile>()
     ensures { (fault : Option GuestMemoryError) (ws : List Window) (total : ℕ) (state : Sink) (old new : S)
         (blocks : List (List ℕ)) (answer : Result ℕ GuestMemoryError) → S.sink old ≡ Some state
-        → InOrder of_window fault (Takes S.sink S.taken S.may_want blocks UntilWhole) ws total old answer new
+        → InOrder of_window fault (Takes S.sink S.taken S.may_want S.writes blocks UntilWhole) ws total old answer new
         → let given = given_out of_window fault ws total state in
         ((answer ≡ Err GuestMemoryError.Memory) × S.may_want old)
         ⊎ ((answer ≡ given.answer) × (S.sink new ≡ Some given.left)) }
@@ -69,7 +89,7 @@ pub fn sinks_take_what_is_computed<S: WriteVolatile>()
     ensures { (fault : Option GuestMemoryError) (ws : List Window) (total : ℕ) (state : Sink) (before : List ℕ)
         (old new : S) (blocks : List (List ℕ)) (answer : Result ℕ GuestMemoryError) → S.sink old ≡ Some state
         → S.taken old ≡ Some before
-        → InOrder of_window fault (Takes S.sink S.taken S.may_want blocks UntilWhole) ws total old answer new
+        → InOrder of_window fault (Takes S.sink S.taken S.may_want S.writes blocks UntilWhole) ws total old answer new
         → let given = given_out of_window fault ws total state in
         ((answer ≡ Err GuestMemoryError.Memory) × S.may_want old)
         ⊎ ((count : ℕ) × (given.taken ≡ total + count)
@@ -81,7 +101,7 @@ pub fn sinks_take_what_is_computed<S: WriteVolatile>()
 pub fn sinks_take_the_first_bytes<S: WriteVolatile>()
     ensures { (fault : Option GuestMemoryError) (ws : List Window) (total : ℕ) (before : List ℕ) (old new : S)
         (blocks : List (List ℕ)) (answer : Result ℕ GuestMemoryError) → S.taken old ≡ Some before
-        → InOrder of_window fault (Takes S.sink S.taken S.may_want blocks UntilWhole) ws total old answer new
+        → InOrder of_window fault (Takes S.sink S.taken S.may_want S.writes blocks UntilWhole) ws total old answer new
         → (count : ℕ) × (count ≤ span ws) × (S.taken new ≡ Some (before ++ take count (bytes_at blocks (cells ws))))
         × IfOk answer (λ n. n ≡ total + count) }
 {}

@@ -24,7 +24,7 @@ pub(super) fn receive_windows<M: GuestMemoryBackend, S: ReadVolatile, B: Bitmap>
     requires fits { span walk.windows < 2 ^ 64 }
     ensures answer { let walk = walk.entry in
         InOrder of_window (option_map error_of walk.fault)
-        (Fills S.source S.known_left B.marks (filling until_full)) walk.windows 0
+        (Fills S.source S.reads S.known_left B.marks (filling until_full)) walk.windows 0
         (source.old, host.old) result (source.new, host.new) }
     ensures at_most { IfOk result (λ total. total ≤ span walk.entry.windows) }
     ensures shape { shape_of host.new ≡ shape_of host.old }
@@ -56,7 +56,7 @@ pub(super) fn send_windows<M: GuestMemoryBackend, S: WriteVolatile, B: Bitmap>(
     requires fits { span walk.windows < 2 ^ 64 }
     ensures answer { let walk = walk.entry in
         InOrder of_window (option_map error_of walk.fault)
-        (Takes S.sink S.taken S.may_want host.now.blocks UntilWhole) walk.windows 0
+        (Takes S.sink S.taken S.may_want S.writes host.now.blocks UntilWhole) walk.windows 0
         sink.old result sink.new }
     ensures at_most { IfOk result (λ total. total ≤ span walk.entry.windows) }
 {

@@ -1,6 +1,6 @@
 //! Windows that are lent to sources of bytes.
 ghost use Rattle.std.specs.Prelude.{◌≡◌, ℕ, ◌+◌, ◌<◌, ◌≤◌, List, length, IfOk, IfErr};
-ghost use Rattle.vm_memory_base.specs.Transfer.{ReadsAs, FillsAs, Again};
+ghost use Rattle.vm_memory_base.specs.Transfer.{ReadsAs, FillsAs, FillsBy, Again};
 ghost use Rattle.vm_memory_guest.specs.Host.{shape_of, Holds, block_at, bytes_at, cells_from, written};
 ghost use Rattle.vm_memory_guest.specs.Inside.{blocks_of};
 ghost use Rattle.vm_memory_guest.specs.Transfer.{LendsWindow, LendsRest, LendsWhole, Fills, filling, marked_of, touched_of};
@@ -26,6 +26,7 @@ fn read_in<S: ReadVolatile>(
     ensures tried { (bytes : List ℕ) × (length bytes ≡ len)
         × ReadsAs (S.source source.old) (bytes_at (blocks_of blocks.old) (cells_from block offset len)) result
         bytes (S.source source.new)
+        × S.reads source.old (bytes_at (blocks_of blocks.old) (cells_from block offset len)) result bytes source.new
         × (blocks_of blocks.new ≡ written (cells_from block offset len) bytes (blocks_of blocks.old)) }
 {
     let all = &mut blocks[block];
@@ -47,6 +48,8 @@ fn fill_in<S: ReadVolatile>(
     ensures tried { (bytes : List ℕ) × (length bytes ≡ len)
         × FillsAs (S.known_left source.old) (S.source source.old)
         (bytes_at (blocks_of blocks.old) (cells_from block offset len)) result bytes (S.source source.new)
+        × FillsBy S.source S.reads S.known_left source.old
+        (bytes_at (blocks_of blocks.old) (cells_from block offset len)) result bytes source.new
         × (blocks_of blocks.new ≡ written (cells_from block offset len) bytes (blocks_of blocks.old)) }
 {
     let all = &mut blocks[block];
@@ -86,6 +89,7 @@ impl<B> HostMemory<B> {
         ensures tried { (bytes : List ℕ) × (length bytes ≡ window.now.size)
             × ReadsAs (S.source source.old) (bytes_at self.old.blocks (cells_of window.now)) result
             bytes (S.source source.new)
+            × S.reads source.old (bytes_at self.old.blocks (cells_of window.now)) result bytes source.new
             × (self.new ≡ record self.old { blocks = written (cells_of window.now) bytes self.old.blocks }) }
         ensures shape { shape_of self.new ≡ shape_of self.old }
     {
@@ -103,7 +107,7 @@ impl<B> HostMemory<B> {
         B: Bitmap,
         requires { Holds (shape_of self.old) (window_names window.now) }
         ensures count { IfOk result (λ count. count ≤ window.now.size) }
-        ensures lends { LendsWindow S.source B.marks window.now (source.old, self.old) result
+        ensures lends { LendsWindow S.source S.reads B.marks window.now (source.old, self.old) result
             (source.new, self.new) }
         ensures shape { shape_of self.new ≡ shape_of self.old }
     {
@@ -124,7 +128,7 @@ impl<B> HostMemory<B> {
         B: Bitmap,
         requires { Holds (shape_of self.old) (window_names window.now) }
         ensures count { IfOk result (λ count. count ≤ window.now.size) }
-        ensures lends { Again (LendsWindow S.source B.marks window.now) (source.old, self.old) result
+        ensures lends { Again (LendsWindow S.source S.reads B.marks window.now) (source.old, self.old) result
             (source.new, self.new) }
         ensures shape { shape_of self.new ≡ shape_of self.old }
     {
@@ -150,7 +154,7 @@ impl<B> HostMemory<B> {
         B: Bitmap,
         requires { Holds (shape_of self.old) (window_names window.now) }
         ensures count { IfOk result (λ count. count ≤ window.now.size) }
-        ensures lends { LendsRest S.source B.marks window.now (source.old, self.old) result
+        ensures lends { LendsRest S.source S.reads B.marks window.now (source.old, self.old) result
             (source.new, self.new) }
         ensures shape { shape_of self.new ≡ shape_of self.old }
     {
@@ -178,6 +182,8 @@ impl<B> HostMemory<B> {
         ensures tried { (bytes : List ℕ) × (length bytes ≡ window.now.size)
             × FillsAs (S.known_left source.old) (S.source source.old)
             (bytes_at self.old.blocks (cells_of window.now)) result bytes (S.source source.new)
+            × FillsBy S.source S.reads S.known_left source.old (bytes_at self.old.blocks (cells_of window.now))
+            result bytes source.new
             × (self.new ≡ record self.old { blocks = written (cells_of window.now) bytes self.old.blocks }) }
         ensures shape { shape_of self.new ≡ shape_of self.old }
     {
@@ -196,7 +202,7 @@ impl<B> HostMemory<B> {
         B: Bitmap,
         requires { Holds (shape_of self.old) (window_names window.now) }
         ensures count { IfOk result (λ count. count ≡ window.now.size) }
-        ensures lends { LendsWhole S.source S.known_left B.marks window.now (source.old, self.old) result
+        ensures lends { LendsWhole S.source S.reads S.known_left B.marks window.now (source.old, self.old) result
             (source.new, self.new) }
         ensures shape { shape_of self.new ≡ shape_of self.old }
     {
@@ -220,7 +226,7 @@ impl<B> HostMemory<B> {
         B: Bitmap,
         requires { Holds (shape_of self.old) (window_names window.now) }
         ensures count { IfOk result (λ count. count ≤ window.now.size) }
-        ensures fills { Fills S.source S.known_left B.marks (filling until_full) window.now
+        ensures fills { Fills S.source S.reads S.known_left B.marks (filling until_full) window.now
             (source.old, self.old) result (source.new, self.new) }
         ensures shape { shape_of self.new ≡ shape_of self.old }
     {

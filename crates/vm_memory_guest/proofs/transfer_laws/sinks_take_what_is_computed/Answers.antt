@@ -5,6 +5,7 @@ use Rattle.vm_memory_guest.proofs.transfer_laws.sinks_take_what_is_computed.Goal
 
 pub returns : goal.returns
 returns g c fault ws total state before old new blocks answer tells keeps so =
-    let t = taken_is g.S.WriteVolatile.sink g.S.WriteVolatile.taken g.S.WriteVolatile.may_want blocks of_window fault ws
+    let t = taken_is g.S.WriteVolatile.sink g.S.WriteVolatile.taken g.S.WriteVolatile.may_want
+    g.S.WriteVolatile.writes blocks of_window fault ws
     total before old answer new keeps so in
     elim (t.4 (state, total) tells refl) [ inl wanted ↦ inl wanted | inr counts ↦ inr (t.0, counts, t.2) ]

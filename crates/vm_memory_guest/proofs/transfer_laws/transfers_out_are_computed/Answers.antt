@@ -4,4 +4,5 @@ use Rattle.vm_memory_guest.proofs.transfer_laws.transfers_out_are_computed.Goals
 
 pub returns : goal.returns
 returns g c fault ws total state old new blocks answer tells so =
-    given_is g.S.WriteVolatile.sink g.S.WriteVolatile.taken g.S.WriteVolatile.may_want blocks of_window fault ws total state old answer new tells so
+    given_is g.S.WriteVolatile.sink g.S.WriteVolatile.taken g.S.WriteVolatile.may_want
+    g.S.WriteVolatile.writes blocks of_window fault ws total state old answer new tells so

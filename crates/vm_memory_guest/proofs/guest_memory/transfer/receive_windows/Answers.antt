@@ -17,7 +17,7 @@ gives g c =
 pub loop-item-init : goal.loop-item-init
 loop-item-init g c = record {
   moved = rw c.into_iter-item-iterator.ensures.into_iter_gives
-      (moved_first (Fills g.S.ReadVolatile.source g.S.ReadVolatile.known_left g.B.Bitmap.marks
+      (moved_first (Fills g.S.ReadVolatile.source g.S.ReadVolatile.reads g.S.ReadVolatile.known_left g.B.Bitmap.marks
       (filling c.args.until_full)) c.args.walk (c.args.source.now, c.args.host.now));
   shape = refl;
 }

@@ -18,16 +18,19 @@ gives g c =
 
 -- what the sink was sent of the window
 sent : (g : Over) (c : After-write_all_volatile g) → let w = c.in-Ok.window in let call = c.write_all_volatile in
-    Takes g.S.WriteVolatile.sink g.S.WriteVolatile.taken g.S.WriteVolatile.may_want c.args.host.now.blocks UntilWhole w
+    Takes g.S.WriteVolatile.sink g.S.WriteVolatile.taken g.S.WriteVolatile.may_want g.S.WriteVolatile.writes
+    c.args.host.now.blocks UntilWhole w
     c.loop-item.sink (answered (λ all. w.size) call.result) call.new.self
 sent g c =
     let call = c.write_all_volatile in
-    sends_of g.S.WriteVolatile.sink g.S.WriteVolatile.taken g.S.WriteVolatile.may_want c.args.host.now.blocks c.in-Ok.window
+    sends_of g.S.WriteVolatile.sink g.S.WriteVolatile.taken g.S.WriteVolatile.may_want g.S.WriteVolatile.writes
+    c.args.host.now.blocks c.in-Ok.window
     c.loop-item.sink call.new.self c.bytes.result.now call.result c.bytes.ensures call.ensures.sends call.ensures.wants
 
 pub loop-item-init : goal.loop-item-init
 loop-item-init g c = rw c.into_iter-item-iterator.ensures.into_iter_gives
-    (moved_first (Takes g.S.WriteVolatile.sink g.S.WriteVolatile.taken g.S.WriteVolatile.may_want c.args.host.now.blocks UntilWhole) c.args.walk c.args.sink.now)
+    (moved_first (Takes g.S.WriteVolatile.sink g.S.WriteVolatile.taken g.S.WriteVolatile.may_want
+    g.S.WriteVolatile.writes c.args.host.now.blocks UntilWhole) c.args.walk c.args.sink.now)
 
 pub bytes-requires : goal.bytes-requires
 bytes-requires g c =

@@ -11,7 +11,7 @@ invariant-loop-filled g l =
     record {
       shape : shape_of l.self ≡ shape_of l.initial.self;
       within : l.filled ≤ l.window.size;
-      rest : RestLeft (λ filled. Again (LendsWindow g.S.ReadVolatile.source g.B.Bitmap.marks
+      rest : RestLeft (λ filled. Again (LendsWindow g.S.ReadVolatile.source g.S.ReadVolatile.reads g.B.Bitmap.marks
           (part l.window filled (l.window.size - filled)))) l.window.size (l.initial.source, l.initial.self) l.filled
           (l.source, l.self);
     }

@@ -1,3 +1,4 @@
+use Rattle.std.proofs.Common.{ℕ, List, ap}
 use Rattle.vm_memory_guest.specs.Host.{cells_from}
 use Rattle.vm_memory_guest.specs.Inside.{blocks_of}
 use Rattle.vm_memory_guest.proofs.TypedLemmas.{shape-written, sound-written}
@@ -9,7 +10,7 @@ invariant_of-self g c =
     let host = c.self.inside in
     let put = c.fill_in.ensures.tried in
     sound-written (cells_from w.block.0 w.offset w.size) put.0 (blocks_of host.blocks)
-    (blocks_of c.fill_in.new.blocks) put.3
+    (blocks_of c.fill_in.new.blocks) put.4
     host.bitmaps.items host.spaces.items host.tables.items host.shape c.self.invariant
 
 pub returns-clause-shape : goal.returns-clause-shape
@@ -19,5 +20,22 @@ returns-clause-shape g c =
     let put = c.fill_in.ensures.tried in
     rw (← c.self.view_is)
     (shape-written (cells_from w.block.0 w.offset w.size) put.0 (blocks_of host.blocks)
-    (blocks_of c.fill_in.new.blocks) put.3
+    (blocks_of c.fill_in.new.blocks) put.4
     host.bitmaps.items host.spaces.items host.tables.items)
+
+pub returns-clause-tried : goal.returns-clause-tried
+returns-clause-tried g c =
+    let host = c.self.inside in
+    let put = c.fill_in.ensures.tried in
+    rw (← c.self.view_is, ← c.window.view_is) (
+      put.0,
+      put.1,
+      put.2,
+      put.3,
+      ap (λ (bs : List (List ℕ)). record {
+        blocks = bs;
+        bitmaps = host.bitmaps.items;
+        spaces = host.spaces.items;
+        tables = host.tables.items;
+      }) put.4,
+    )

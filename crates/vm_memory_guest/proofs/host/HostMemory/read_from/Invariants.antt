@@ -8,7 +8,7 @@ abbrev pub invariant-loop-left : goal.invariant-loop-left
 invariant-loop-left g l =
     record {
       shape : shape_of l.self ≡ shape_of l.initial.self;
-      tries : AgainLeft (LendsWindow g.S.ReadVolatile.source g.B.Bitmap.marks l.window)
+      tries : AgainLeft (LendsWindow g.S.ReadVolatile.source g.S.ReadVolatile.reads g.B.Bitmap.marks l.window)
           (l.initial.source, l.initial.self) l.left
           (l.source, l.self);
     }

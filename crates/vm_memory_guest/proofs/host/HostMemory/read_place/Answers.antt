@@ -9,7 +9,7 @@ invariant_of-self g c =
     let host = c.self.inside in
     let put = c.read_in.ensures.tried in
     sound-written (cells_from w.block.0 w.offset w.size) put.0 (blocks_of host.blocks)
-    (blocks_of c.read_in.new.blocks) put.3
+    (blocks_of c.read_in.new.blocks) put.4
     host.bitmaps.items host.spaces.items host.tables.items host.shape c.self.invariant
 
 pub returns-clause-shape : goal.returns-clause-shape
@@ -19,5 +19,5 @@ returns-clause-shape g c =
     let put = c.read_in.ensures.tried in
     rw (← c.self.view_is)
     (shape-written (cells_from w.block.0 w.offset w.size) put.0 (blocks_of host.blocks)
-    (blocks_of c.read_in.new.blocks) put.3
+    (blocks_of c.read_in.new.blocks) put.4
     host.bitmaps.items host.spaces.items host.tables.items)

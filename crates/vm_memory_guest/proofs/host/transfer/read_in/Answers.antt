@@ -15,5 +15,7 @@ returns-clause-tried g c =
       c.read_volatile.auto.buf ∙ p.long,
       subst (λ (bytes : List ℕ). ReadsAs (source c.args.source.now) bytes
           c.read_volatile.result new (source c.read_volatile.new.self)) p.lent c.read_volatile.ensures.tells,
+      subst (λ (bytes : List ℕ). g.S.ReadVolatile.reads c.args.source.now bytes c.read_volatile.result new
+          c.read_volatile.new.self) p.lent c.read_volatile.ensures.reads,
       p.put new c.read_volatile.auto.buf,
     )

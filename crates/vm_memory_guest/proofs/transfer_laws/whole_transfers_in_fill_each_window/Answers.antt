@@ -1,0 +1,10 @@
+use Rattle.vm_memory_guest.specs.Error.{of_window}
+use Rattle.vm_memory_guest.specs.Transfer.{Fills, UntilWhole}
+use Rattle.vm_memory_guest.proofs.FilledLaws.{fills_within, whole_if_all}
+use Rattle.vm_memory_guest.proofs.transfer_laws.whole_transfers_in_fill_each_window.Goals as goal
+
+pub returns : goal.returns
+returns g c fault ws n source after old new moved enough =
+    let r = g.S.ReadVolatile in
+    whole_if_all of_window fault (Fills r.source r.reads r.known_left g.B.Bitmap.marks UntilWhole)
+    (fills_within r.source r.reads g.B.Bitmap.marks r.known_left) ws 0 n (source, old) (after, new) moved enough
