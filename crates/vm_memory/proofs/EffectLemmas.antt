@@ -233,8 +233,8 @@ module _ (old : State) (c : Command) (memory : ℕ) (m : Memory) (e : slice_get 
         let n = length bytes in
         let x = for_write n in
         written_to old c told (writes whole m old.host a bytes).0 x.path bytes (answers.wrote old.host m a whole bytes)
-        (λ still. let e = not_moved whole n (access_result x n) _ still refl in
-        reached_none x.path (option_map error_of x.fault) n e.0 e.1) (own n)
+        (λ still. let e = not_moved whole n (access_result x) _ still refl in
+        reached_none x.path (option_map error_of x.fault) e.0 e.1) (own n)
 
     stored : (bytes : List ℕ) (fits : Bool)
         → IsOf old c (leaves (cond fits (stores_bytes m old.host a bytes) (reply.BadRange, old.host)))

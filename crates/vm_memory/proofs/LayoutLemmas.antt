@@ -112,17 +112,17 @@ module _ {R I B : Type 0} (region : R → Region) (number_of : I → ℕ) (pages
   with_layout c = record m { layouts = m.layouts ++ c ∷ [] }
 
   after-is : (c : List R) (xs : List Region) → map region c ≡ xs
-      → (reply.LayoutMade (length m.layouts), state_of region number_of pages (with_layout c))
+      → (reply.Layout (length m.layouts), state_of region number_of pages (with_layout c))
       ≡ apply before (AddsLayout xs)
   after-is c xs same =
-      ap (λ (n : ℕ). (reply.LayoutMade n, state_of region number_of pages (with_layout c)))
+      ap (λ (n : ℕ). (reply.Layout n, state_of region number_of pages (with_layout c)))
       (sym (length-map m.layouts (map region)))
-      ∙ ap (λ (ls : List (List Region)). (reply.LayoutMade (length before.layouts), record before { layouts = ls }))
+      ∙ ap (λ (ls : List (List Region)). (reply.Layout (length before.layouts), record before { layouts = ls }))
       (map-append (map region) m.layouts (c ∷ []) ∙ ap (λ (ys : List Region). before.layouts ++ ys ∷ []) same)
 
   -- a layout was added, or there was no memory for it
   abbrev Added : List R → Reply → Parts R I B → Type 0
-  Added c r new = ((r ≡ reply.LayoutMade (length m.layouts)) × (new ≡ with_layout c)) ⊎ ((r ≡ reply.Memory) × (new ≡ m))
+  Added c r new = ((r ≡ reply.Layout (length m.layouts)) × (new ≡ with_layout c)) ⊎ ((r ≡ reply.Memory) × (new ≡ m))
 
   pub step-added : (cmd : Command) (c : List R) (xs : List Region) (r : Reply) (new : Parts R I B)
       → outcome before cmd ≡ apply before (AddsLayout xs) → MayWant before cmd → map region c ≡ xs → Added c r new
@@ -130,7 +130,7 @@ module _ {R I B : Type 0} (region : R → Region) (number_of : I → ℕ) (pages
   step-added cmd c xs r new is want same added = elim added [
     | inl p ↦
         inl (ap (λ (q : Reply). (q, state_of region number_of pages new)) p.0
-        ∙ ap (λ (n : Parts R I B). (reply.LayoutMade (length m.layouts), state_of region number_of pages n)) p.1
+        ∙ ap (λ (n : Parts R I B). (reply.Layout (length m.layouts), state_of region number_of pages n)) p.1
         ∙ after-is c xs same ∙ sym is)
     | inr q ↦ inr (q.0, want, ap (state_of region number_of pages) q.1)
   ]

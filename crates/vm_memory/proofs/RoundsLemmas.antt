@@ -470,7 +470,7 @@ read_of_image block image old new memory addr n bytes m k x mirrors step there r
       (let xs = (reached_by m old.host.tables addr.0 n permissions.Read).path in
       let told = rw there at (ap (λ (p : Reply × State). p.0) e) in
       let is = read_bytes xs old.host bytes
-      (access_result (reached_by m old.host.tables addr.0 n permissions.Read) n) told in
+      (access_result (reached_by m old.host.tables addr.0 n permissions.Read)) told in
       let cells : slice_get (path_cells xs) k ≡ Some x.cell =
       slice_get-map (λ (y : Reached). y.cell) xs k ∙ ap (option_map (λ (y : Reached). y.cell)) reached in
       let read : slice_get (bytes_read xs old.host) k ≡ Some (byte_at old.host.blocks x.cell) =

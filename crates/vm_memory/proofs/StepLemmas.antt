@@ -1,14 +1,14 @@
 -- Replies that tell of no change, and that none was made then.
-use Rattle.std.proofs.Common.{◌∙◌, ◌≡◌, ℕ, List, [], ◌∷◌, map, length, Bool, true, false, ◌&&◌, ◌==◌, nat_lt, cond, Option, Some, None, Result, Ok, Err, subst, refl, inl, inr, arith}
+use Rattle.std.proofs.Common.{◌∙◌, ◌≡◌, ℕ, List, [], ◌∷◌, map, length, Bool, true, false, ◌==◌, cond, Option, Some, None, Result, Ok, Err, subst, refl, inl, inr, arith}
 use Rattle.std.proofs.lemmas.Bool.{eqb-true, true≢false}
 use Rattle.vm_memory_base.specs.Pages.{PageSet}
 use Rattle.vm_memory_base.specs.Script.{next_of}
 use Rattle.vm_memory_base.specs.declared.io.scripted.SourceStep.{SourceStep}
 use Rattle.vm_memory_guest.specs.Access.{Reached, windows}
-use Rattle.vm_memory_guest.specs.Answer.{counted}
 use Rattle.vm_memory_guest.specs.Dealt.{received}
 use Rattle.vm_memory_guest.specs.Error.{of_window}
 use Rattle.vm_memory_guest.specs.Host.{Host}
+use Rattle.vm_memory_guest.specs.Transfer.{ended}
 use Rattle.vm_memory_guest.specs.Typed.{path_given}
 use Rattle.vm_memory_guest.specs.declared.region.GuestMemoryError.{GuestMemoryError}
 use Rattle.vm_memory_guest.specs.declared.region.GuestMemoryError.TheVariants as errors
@@ -21,7 +21,7 @@ use Rattle.vm_memory.specs.declared.machine.command.Fault.TheVariants as fault
 
 -- replies that tell of no change
 abbrev pub IsStill : Reply → Type 0
-IsStill (reply.LayoutMade n) = ⊥
+IsStill (reply.Layout n) = ⊥
 IsStill (reply.MemoryMade n) = ⊥
 IsStill reply.Done = ⊥
 IsStill (reply.Count n) = ⊥
@@ -46,16 +46,15 @@ not_moved true n (Ok total) r still is = go (total == n) is
     go false is = absurd (subst IsStill is still)
 
 -- an access that is answered by an error reached nothing
-pub reached_none : (xs : List Reached) (fault : Option GuestMemoryError) (n : ℕ) (e : GuestMemoryError)
-    → counted (length xs) fault n ≡ Err e → xs ≡ []
-reached_none [] fault n e is = refl
-reached_none (x ∷ xs) None n e is = absurd (cc)
-reached_none (x ∷ xs) (Some f) n e is = go (nat_lt 0 n) (length (x ∷ xs) == 0) refl is
+pub reached_none : (xs : List Reached) (fault : Option GuestMemoryError) (e : GuestMemoryError)
+    → ended (length xs) fault ≡ Err e → xs ≡ []
+reached_none [] fault e is = refl
+reached_none (x ∷ xs) None e is = absurd (cc)
+reached_none (x ∷ xs) (Some f) e is = go (length (x ∷ xs) == 0) refl is
   where
-    go : (b z : Bool) → (length (x ∷ xs) == 0) ≡ z → cond (b && z) (Err f) (Ok (length (x ∷ xs))) ≡ Err e → x ∷ xs ≡ []
-    go b true h is = absurd (omega (arith, eqb-true (length (x ∷ xs)) 0 h))
-    go true false h is = absurd (cc)
-    go false false h is = absurd (cc)
+    go : (b : Bool) → (length (x ∷ xs) == 0) ≡ b → cond b (Err f) (Ok (length (x ∷ xs))) ≡ Err e → x ∷ xs ≡ []
+    go true h is = absurd (omega (arith, eqb-true (length (x ∷ xs)) 0 h))
+    go false h is = absurd (cc)
 
 -- a store that does not reply that it is done took nothing
 pub not_stored : (t : Result (List Reached) GuestMemoryError) (r : Reply) → IsStill r

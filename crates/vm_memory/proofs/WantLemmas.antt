@@ -17,14 +17,13 @@ use Rattle.vm_memory_base.specs.declared.iotlb.Permissions.{Permissions}
 use Rattle.vm_memory_base.specs.declared.iotlb.Permissions.TheVariants as permissions
 use Rattle.vm_memory_guest.specs.Access as access
 use Rattle.vm_memory_guest.specs.Access.{Access, Reached, windows}
-use Rattle.vm_memory_guest.specs.Answer.{counted}
 use Rattle.vm_memory_guest.specs.Dealt.{received, given_out, sent_whole}
 use Rattle.vm_memory_guest.specs.Dirt.{bytes_read}
 use Rattle.vm_memory_guest.specs.Error.{error_of, of_window}
 use Rattle.vm_memory_guest.specs.Host.{Host}
 use Rattle.vm_memory_guest.specs.Memory.{Memory}
 use Rattle.vm_memory_guest.specs.Region.{Region, last, first_error, neighbours_error, layout_error}
-use Rattle.vm_memory_guest.specs.Transfer.{all_of}
+use Rattle.vm_memory_guest.specs.Transfer.{all_of, ended}
 use Rattle.vm_memory_guest.specs.Typed.{answered, is_uncut, whole_path}
 use Rattle.vm_memory_guest.specs.Window.{Window}
 use Rattle.vm_memory_guest.specs.declared.region.GuestMemoryError.{GuestMemoryError}
@@ -88,9 +87,9 @@ kept reached = option_map error_of reached.fault
 access_fault : (reached : Access) → IfSome (kept reached) IsFault
 access_fault reached = kept_fault reached.fault
 
-counted_fault : (reached n : ℕ) (o : Option GuestMemoryError) → IfSome o IsFault → IfErr (counted reached o n) IsFault
-counted_fault reached n None h = tt
-counted_fault reached n (Some e) h = go (nat_lt 0 n && reached == 0)
+ended_fault : (reached : ℕ) (o : Option GuestMemoryError) → IfSome o IsFault → IfErr (ended reached o) IsFault
+ended_fault reached None h = tt
+ended_fault reached (Some e) h = go (reached == 0)
   where
     go : (b : Bool) → IfErr {T = ℕ} (cond b (Err e) (Ok reached)) IsFault
     go true = h
@@ -188,7 +187,7 @@ given_fault o met ws total state h =
     go P (Err e) (inr fault) = subst (λ (p : Option GuestMemoryError). IfSome p IsFault) fault.0 met
 
 beside_told : (taken : List ℕ) (r : Reply) → IsAnswer r → IsAnswer (beside_taken taken r)
-beside_told taken (reply.LayoutMade n) h = tt
+beside_told taken (reply.Layout n) h = tt
 beside_told taken (reply.MemoryMade n) h = tt
 beside_told taken reply.Done h = tt
 beside_told taken (reply.Count n) h = tt
@@ -232,22 +231,22 @@ moved true n answer fault =
     told_of (λ (done : Unit {0}). reply.Done) (all_of partial n answer) (λ done. tt) (all_fault n answer fault)
 
 module _ (host : Host PageSet) (m : Memory) (a : ℕ) where
-  reached_fault : (n : ℕ) (access : Permissions) → IfErr (access_result (reached_by m host.tables a n access) n) IsFault
+  reached_fault : (n : ℕ) (access : Permissions) → IfErr (access_result (reached_by m host.tables a n access)) IsFault
   reached_fault n access =
       let reached = reached_by m host.tables a n access in
-      counted_fault (length reached.path) n (kept reached) (access_fault reached)
+      ended_fault (length reached.path) (kept reached) (access_fault reached)
 
   pub read : (n : ℕ) → IsAnswer (reads m host a n)
   read n =
       let reached = reached_by m host.tables a n permissions.Read in
-      told_of (λ (count : ℕ). reply.Bytes (bytes_read reached.path host)) (access_result reached n) (λ count. tt)
+      told_of (λ (count : ℕ). reply.Bytes (bytes_read reached.path host)) (access_result reached) (λ count. tt)
       (reached_fault n permissions.Read)
 
   pub read_whole : (n : ℕ) → IsAnswer (reads_whole m host a n)
   read_whole n =
       let reached = reached_by m host.tables a n permissions.Read in
-      told_of (λ (done : Unit {0}). reply.Bytes (bytes_read reached.path host)) (whole_of n (access_result reached n))
-      (λ done. tt) (all_fault n (access_result reached n) (reached_fault n permissions.Read))
+      told_of (λ (done : Unit {0}). reply.Bytes (bytes_read reached.path host)) (whole_of n (access_result reached))
+      (λ done. tt) (all_fault n (access_result reached) (reached_fault n permissions.Read))
 
   pub loaded : (w : int.Width) → IsAnswer (loads m host a w)
   loaded w =
@@ -259,7 +258,7 @@ module _ (host : Host PageSet) (m : Memory) (a : ℕ) where
   pub wrote : (whole : Bool) (bytes : List ℕ) → IsAnswer (writes whole m host a bytes).0
   wrote whole bytes =
       let n = length bytes in
-      moved whole n (access_result (reached_by m host.tables a n permissions.Write) n)
+      moved whole n (access_result (reached_by m host.tables a n permissions.Write))
       (reached_fault n permissions.Write)
 
   pub stored : (bytes : List ℕ) → IsAnswer (stores_bytes m host a bytes).0

@@ -10,7 +10,7 @@ use Rattle.vm_memory.specs.Reply.{reply_of_layout_error}
 use Rattle.vm_memory.specs.State.{State}
 use Rattle.vm_memory.specs.declared.machine.command.Fault.TheVariants.{NoMemoryRegion}
 use Rattle.vm_memory.specs.declared.machine.command.Reply.{Reply}
-use Rattle.vm_memory.specs.declared.machine.command.Reply.TheVariants.{LayoutMade, MemoryMade, Done, Fault, NoSuch}
+use Rattle.vm_memory.specs.declared.machine.command.Reply.TheVariants.{Layout, MemoryMade, Done, Fault, NoSuch}
 
 -- a command replies, and changes nothing. Or it adds a layout or a memory, changes a memory, or leaves another host
 pub data Effect : Type 0 where
@@ -23,7 +23,7 @@ pub data Effect : Type 0 where
 -- the reply, and the state after it: all that is not named stays
 abbrev pub apply : State → Effect → Reply × State
 apply old (Replies r) = (r, old)
-apply old (AddsLayout rs) = (LayoutMade (length old.layouts), record old { layouts = old.layouts ++ rs ∷ [] })
+apply old (AddsLayout rs) = (Layout (length old.layouts), record old { layouts = old.layouts ++ rs ∷ [] })
 apply old (AddsMemory m) = (MemoryMade (length old.memories), record old { memories = old.memories ++ m ∷ [] })
 apply old (SetsMemory number m) = (Done, record old { memories = slice_set old.memories number m })
 apply old (Leaves r host) = (r, record old { host = host })

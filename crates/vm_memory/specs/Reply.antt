@@ -7,11 +7,10 @@ use Rattle.vm_memory_base.specs.declared.iotlb.Permissions.TheVariants as permis
 use Rattle.vm_memory_guest.specs.Host.{Host}
 use Rattle.vm_memory_guest.specs.Memory.{Memory, route}
 use Rattle.vm_memory_guest.specs.Access.{Access, access_of}
-use Rattle.vm_memory_guest.specs.Answer.{counted}
 use Rattle.vm_memory_guest.specs.Dirt.{after_write, bytes_read}
 use Rattle.vm_memory_guest.specs.Error.{error_of}
 use Rattle.vm_memory_guest.specs.Queries.{is_whole}
-use Rattle.vm_memory_guest.specs.Transfer.{all_of}
+use Rattle.vm_memory_guest.specs.Transfer.{all_of, ended}
 use Rattle.vm_memory_guest.specs.declared.region.GuestMemoryError.{GuestMemoryError}
 use Rattle.vm_memory_guest.specs.declared.region.GuestMemoryError.TheVariants as errors
 use Rattle.vm_memory_guest.specs.declared.region.GuestRegionCollectionError.{GuestRegionCollectionError}
@@ -57,9 +56,9 @@ reply_of told (Err e) = reply_of_error e
 abbrev pub reached_by : Memory → List Table → ℕ → ℕ → Permissions → Access
 reached_by m tables a n access = access_of m.regions (route m tables) a n access
 
--- how many of n bytes an access reached, or the error where it reached none
-abbrev pub access_result : Access → ℕ → Result ℕ GuestMemoryError
-access_result reached n = counted (length reached.path) (option_map error_of reached.fault) n
+-- how many bytes an access reached, or the error where it reached none
+abbrev pub access_result : Access → Result ℕ GuestMemoryError
+access_result reached = ended (length reached.path) (option_map error_of reached.fault)
 
 -- where all of n bytes are wanted, fewer are an error
 abbrev pub whole_of : ℕ → Result ℕ GuestMemoryError → Result (Unit {0}) GuestMemoryError
@@ -74,13 +73,13 @@ moved_as true n answer = reply_of (λ done. Done) (whole_of n answer)
 abbrev pub reads : Memory → Host PageSet → ℕ → ℕ → Reply
 reads m host a n =
     let reached = reached_by m host.tables a n permissions.Read in
-    reply_of (λ count. Bytes (bytes_read reached.path host)) (access_result reached n)
+    reply_of (λ count. Bytes (bytes_read reached.path host)) (access_result reached)
 
 -- a read of all bytes replies those of its path, where it reached all
 abbrev pub reads_whole : Memory → Host PageSet → ℕ → ℕ → Reply
 reads_whole m host a n =
     let reached = reached_by m host.tables a n permissions.Read in
-    reply_of (λ done. Bytes (bytes_read reached.path host)) (whole_of n (access_result reached n))
+    reply_of (λ done. Bytes (bytes_read reached.path host)) (whole_of n (access_result reached))
 
 -- a check replies whether an access would reach all of its n bytes
 abbrev pub checks : Memory → Host PageSet → ℕ → ℕ → Permissions → Reply
@@ -92,4 +91,4 @@ abbrev pub writes : Bool → Memory → Host PageSet → ℕ → List ℕ → Re
 writes whole m host a bytes =
     let n = length bytes in
     let reached = reached_by m host.tables a n permissions.Write in
-    (moved_as whole n (access_result reached n), after_write reached.path bytes host)
+    (moved_as whole n (access_result reached), after_write reached.path bytes host)

@@ -8,14 +8,20 @@ pub mod machine_laws;
 pub mod script;
 
 pub use iommu::{Iommu, IommuMemory, TableIommu};
+pub use machine::command::{BlockRange, Command, Ending, Fault, Reply, Width};
+pub use machine::list::{NumberList, PieceList, SinkList, SourceList};
+pub use machine::machine_memory::MachineMemory;
+pub use machine::{Machine, run};
 pub use script::{DriveFault, drive};
+
+// The crates below.
 pub use vm_memory_base::{
-    Address, AddressValue, AddressWord, AtomicAccess, AtomicInteger, Be16, Be32, Be64, BeSize,
+    Address, AddressValue, AddressWord, AtomicAccess, AtomicInteger, BS, Be16, Be32, Be64, BeSize,
     BigEndian, Bitmap, BitmapId, BitmapRef, ByteList, ByteSized, ByteValued, ExactBitmap,
     ExclusiveBitmap, FixedInteger, GuestAddress, GuestUsize, IoError, IommuError, Iotlb,
     IotlbFails, IotlbIterator, IovaRange, IovaRangeList, Items, Le16, Le32, Le64, LeSize,
-    LittleEndian, LookupError, MappedRange, MemoryRegionAddress, NewBitmap, Permissions,
-    ReadExactFault, ReadVolatile, Reason, ScriptSink, ScriptSource, SinkStep, SourceStep,
+    LittleEndian, LookupError, MS, MappedRange, MemoryRegionAddress, NewBitmap, Permissions,
+    RETRIES, ReadExactFault, ReadVolatile, Reason, ScriptSink, ScriptSource, SinkStep, SourceStep,
     VolatileMemoryError, VolatileMemoryResult, WriteVolatile, is_interrupted, offer_again,
 };
 pub use vm_memory_guest::{

@@ -36,7 +36,7 @@ ghost use Rattle.vm_memory.specs.declared.machine.command.Command.TheVariants.{C
 ghost use Rattle.vm_memory.specs.declared.machine.command.Command.TheVariants.{Lookup, ReadFrom, ReadExactFrom};
 ghost use Rattle.vm_memory.specs.declared.machine.command.Command.TheVariants.{Invalidate, WriteTo, WriteAllTo};
 ghost use Rattle.vm_memory.specs.declared.machine.command.Ending.TheVariants as ending;
-ghost use Rattle.vm_memory.specs.declared.machine.command.Reply.TheVariants.{LayoutMade, MemoryMade, Count, Bytes, Pages};
+ghost use Rattle.vm_memory.specs.declared.machine.command.Reply.TheVariants.{Layout, MemoryMade, Count, Bytes, Pages};
 ghost use Rattle.vm_memory.specs.declared.machine.command.Reply.TheVariants.{Fault, NoSuch, Memory, Truth};
 ghost use Rattle.vm_memory.specs.declared.machine.command.Reply.TheVariants.{Done, Value, BadRange, Pieces, Fails, Sent};
 ghost use Rattle.vm_memory.specs.declared.machine.command.Width.TheVariants.{One, Two, Four, Eight};
@@ -47,14 +47,14 @@ ghost use Rattle.vm_memory.specs.declared.machine.command.Fault.TheVariants as f
 /// the IOMMU of the memory that it is made of, and only the IOMMU of the memory that is named is turned on or off.
 pub fn layouts_and_memories_are_made()
     ensures made { outcome machine (FromRegions (1 ∷ 2 ∷ []))
-        ≡ (LayoutMade 1, record machine { layouts = (low ∷ high ∷ []) ∷ (high ∷ unbacked ∷ []) ∷ [] }) }
+        ≡ (Layout 1, record machine { layouts = (low ∷ high ∷ []) ∷ (high ∷ unbacked ∷ []) ∷ [] }) }
     ensures removed { outcome machine (Remove 0 (at 0) 4)
-        ≡ (LayoutMade 1, record machine { layouts = (low ∷ high ∷ []) ∷ (high ∷ []) ∷ [] }) }
+        ≡ (Layout 1, record machine { layouts = (low ∷ high ∷ []) ∷ (high ∷ []) ∷ [] }) }
     ensures other_length { outcome machine (Remove 0 (at 0) 2) ≡ (Fault fault.NoMemoryRegion, machine) }
     ensures none_left { outcome (record machine { layouts = (low ∷ []) ∷ [] }) (Remove 0 (at 0) 4)
-        ≡ (LayoutMade 1, record machine { layouts = (low ∷ []) ∷ [] ∷ [] }) }
+        ≡ (Layout 1, record machine { layouts = (low ∷ []) ∷ [] ∷ [] }) }
     ensures into_none { outcome (record machine { layouts = [] ∷ [] }) (Insert 0 1)
-        ≡ (LayoutMade 1, record machine { layouts = [] ∷ (high ∷ []) ∷ [] }) }
+        ≡ (Layout 1, record machine { layouts = [] ∷ (high ∷ []) ∷ [] }) }
     ensures plain { outcome machine (Plain 0)
         ≡ (MemoryMade 3, record machine { memories = machine.memories ++ plain (low ∷ high ∷ []) ∷ [] }) }
     ensures behind_an_iommu { outcome machine (NewMemory 0 0 0 true)
@@ -235,7 +235,7 @@ pub fn steps_and_runs()
     ensures run { Run
         (record machine { layouts = []; memories = [] })
         (FromRegions (1 ∷ []) ∷ Plain 0 ∷ Write 0 (at 4) (9 ∷ []) ∷ Read 0 (at 4) 2 ∷ [])
-        (LayoutMade 0 ∷ MemoryMade 0 ∷ Count 1 ∷ Bytes (9 ∷ 6 ∷ []) ∷ [])
+        (Layout 0 ∷ MemoryMade 0 ∷ Count 1 ∷ Bytes (9 ∷ 6 ∷ []) ∷ [])
         (record machine {
           layouts = (high ∷ []) ∷ [];
           memories = plain (high ∷ []) ∷ [];

@@ -208,6 +208,12 @@ pub struct BitmapRef {
     pub base: usize,
 }
 
+/// The view of a bitmap, whatever its type.
+pub type BS = BitmapRef;
+
+/// The view of the bitmap of a memory's region, whatever the memory.
+pub type MS = BitmapRef;
+
 impl BitmapRef {
     /// The view that begins `offset` bytes further on, modulo 2^64.
     pub fn slice_at(&self, offset: usize) -> BitmapRef

@@ -1,14 +1,14 @@
 -- Moves between a buffer and the windows of a walk, one after the other, and what they answer.
 use Rattle.std.specs.List.{AllByRecursion}
 use Rattle.std.specs.Prelude.{is_none}
-use Rattle.std.proofs.Common.{MatchResult, ◌≡◌, ◌⊎◌, ℕ, Bool, true, false, ◌+◌, ◌-◌, ◌<◌, ◌≤◌, List, [], ◌∷◌, ◌++◌, map, take, drop, length, All, Option, Some, None, option_map, Result, Ok, Err, OnSome, MatchOption, IfOk, refl, sym, ap, ap₂, subst, ◌∙◌, inl, inr, append_assoc, append-nil, take-append-drop, length-take-le, length-drop, arith}
+use Rattle.std.proofs.Common.{MatchResult, ◌≡◌, ◌⊎◌, ℕ, Bool, true, false, ◌+◌, ◌-◌, ◌<◌, ◌≤◌, List, [], ◌∷◌, ◌++◌, map, take, drop, length, All, Option, Some, None, option_map, Result, Ok, Err, IfOk, refl, sym, ap, ap₂, subst, ◌∙◌, inl, inr, append_assoc, append-nil, take-append-drop, length-take-le, length-drop, arith}
 use Rattle.std.proofs.lemmas.Bool.{cond_both}
 use Rattle.std.proofs.lemmas.Bool.Decides.{nat_tests}
 use borrow.Rule.Slice.PartMut.{put_mid}
 use Rattle.vm_memory_base.specs.Table.{Table}
 use Rattle.vm_memory_base.specs.declared.iotlb.Permissions.{Permissions}
 use Rattle.vm_memory_guest.specs.Access.{AccessFault, Access, path, first_fault, meets, windows, stretches, allowed, refusal, access_of}
-use Rattle.vm_memory_guest.specs.Answer.{Reach, Outcome, counted, filled_buffer, told}
+use Rattle.vm_memory_guest.specs.Answer.{Reach, Outcome, filled_buffer, told}
 use Rattle.vm_memory_guest.specs.Error.{error_of}
 use Rattle.vm_memory_guest.specs.Walk.{error_item, items_of, windows_before, reached, GivesAccess, RefusesAccess, WantsMemory}
 use Rattle.vm_memory_guest.specs.Transfer.{ended}
@@ -19,7 +19,7 @@ use Rattle.vm_memory_guest.specs.Window.{window_names, span, cells, cells_of, Wr
 use Rattle.vm_memory_guest.specs.declared.region.GuestMemoryError.{GuestMemoryError}
 use Rattle.vm_memory_guest.specs.declared.region.GuestMemoryError.TheVariants as errors
 use Rattle.vm_memory_guest.proofs.MarkLaws.{Writes-append, Writes-take, Writes-from_take, shape_of-Writes}
-use Rattle.vm_memory_guest.proofs.PathLaws.{route_names, windows-held, span-windows, length-access, access-ends}
+use Rattle.vm_memory_guest.proofs.PathLaws.{route_names, windows-held, span-windows, length-access}
 use Rattle.vm_memory_guest.proofs.WrittenLaws.{span-append, span-cons, cells-append, cells-one, length-cells, length-cells_from, filled_more}
 use Rattle.vm_memory_guest.proofs.HostLemmas.{span-one}
 use Rattle.vm_memory_guest.proofs.HoldsLemmas.{Holds-parts}
@@ -135,32 +135,17 @@ came-done : {start left : Reach AccessFault} {done : List Window} {total : ℕ} 
 came-done {start} {left} {done} came ends = came.windows ∙ ap (λ (ws : List Window). done ++ ws) ends.windows
     ∙ append-nil done
 
-counted-none : (total n : ℕ) (e : GuestMemoryError) → total ≡ 0 → 0 < n → Err e ≡ counted total (Some e) n
-counted-none total n e none some = grind (arith, nat_tests)
-
-counted-ended : (total n : ℕ) (e : GuestMemoryError) → 0 < n → ended total (Some e) ≡ counted total (Some e) n
-counted-ended total n e some = grind (arith, nat_tests)
-
-pub asked_some : (fault : Option AccessFault) (n : ℕ) (e : GuestMemoryError) → OnSome fault (0 < n)
-    → option_map error_of fault ≡ Some e → 0 < n
-asked_some None n e asked is = absurd (cc)
-asked_some (Some fault) n e asked is = asked
-
 -- the answer at the end: all, or what came before an error, or the error where nothing did
-module _ {start left : Reach AccessFault} {done : List Window} {total : ℕ} (came : Came start left done total)
-    (n : ℕ) where
+module _ {start left : Reach AccessFault} {done : List Window} {total : ℕ} (came : Came start left done total) where
   total_is : {error : Option GuestMemoryError} → Ends left error → total ≡ span start.windows
   total_is ends = came.count ∙ sym (ap span (came-done came ends))
 
-  pub answer-whole : Ends left None → Ok total ≡ counted (span start.windows) (option_map error_of start.fault) n
+  pub answer-whole : Ends left None → Ok total ≡ ended (span start.windows) (option_map error_of start.fault)
   answer-whole ends = rw (came.fault ∙ ends.fault) (ap (λ (k : ℕ). Ok k) (total_is ends))
 
-  pub answer-ends : {e : GuestMemoryError} → Ends left (Some e) → OnSome start.fault (0 < n)
-      → ended total (Some e) ≡ counted (span start.windows) (option_map error_of start.fault) n
-  answer-ends {e} ends asked =
-      let fault_is = came.fault ∙ ends.fault in
-      ap (λ (k : ℕ). ended k (Some e)) (total_is ends)
-      ∙ rw fault_is (counted-ended (span start.windows) n e (asked_some start.fault n e asked fault_is))
+  pub answer-ends : {e : GuestMemoryError} → Ends left (Some e)
+      → ended total (Some e) ≡ ended (span start.windows) (option_map error_of start.fault)
+  answer-ends {e} ends = rw (came.fault ∙ ends.fault) (ap (λ (k : ℕ). ended k (Some e)) (total_is ends))
 
 module _ {B : Type 0} (marks : B → ℕ → ℕ → B → Type 0) where
   -- a write came so far: the windows that are done have their bytes, and are marked
@@ -310,22 +295,8 @@ reached-fits memory tables a n access =
     let most = length-access memory.regions (route memory tables) a n access in
     omega arith
 
--- where something stops an access, it asked for something
-pub reached-asked : (memory : Memory) (tables : List Table) (a n : ℕ) (access : Permissions)
-    → OnSome (reached memory tables a n access).fault (0 < n)
-reached-asked memory tables a n access =
-    go (access_of memory.regions (route memory tables) a n access)
-    (access-ends memory.regions (route memory tables) a n access)
-  where
-    stops : (o : Option AccessFault) (k : ℕ) → MatchOption o (k ≡ n) (λ fault. k < n) → OnSome o (0 < n)
-    stops None k h = tt
-    stops (Some fault) k h = omega arith
-
-    go : (x : Access) → MatchOption x.fault (length x.path ≡ n) (λ fault. length x.path < n) → OnSome x.fault (0 < n)
-    go x h = stops x.fault (length x.path) h
-
 -- a count that is answered is at most what was asked
-counted-at_most : {E : Type 0} (k : ℕ) (fault : Option E) (n : ℕ) (r : Result ℕ E) → r ≡ counted k fault n → k ≤ n
+counted-at_most : {E : Type 0} (k : ℕ) (fault : Option E) (n : ℕ) (r : Result ℕ E) → r ≡ ended k fault → k ≤ n
     → IfOk r (λ count. count ≤ n)
 counted-at_most k fault n (Err e) is most = tt
 counted-at_most k None n (Ok count) is most = let same : count ≡ k = cc in omega arith
@@ -350,24 +321,20 @@ module _ (memory : Memory) (tables : List Table) (a n : ℕ) (access : Permissio
   pub walk-fits : span walk.windows ≤ n
   walk-fits = rw gives.1 (reached-fits memory tables a n access)
 
-  -- a fault comes only where something was asked for
-  pub walk-asked : OnSome walk.fault (0 < n)
-  walk-asked = rw gives.1 (reached-asked memory tables a n access)
-
   -- what it reached is what the access does
   pub outcome-walk : (r : Result ℕ GuestMemoryError) (unchanged : Type 0) (Effect : List Window → Type 0)
-      → r ≡ counted (span walk.windows) (option_map error_of walk.fault) n → Effect walk.windows
+      → r ≡ ended (span walk.windows) (option_map error_of walk.fault) → Effect walk.windows
       → let x = told error_of (reached memory tables a n access) in
-      Outcome errors.Memory (IsOn memory) (counted (span x.windows) x.fault n) unchanged (Effect x.windows) r
+      Outcome errors.Memory (IsOn memory) (ended (span x.windows) x.fault) unchanged (Effect x.windows) r
   outcome-walk r unchanged Effect answer done =
       let x = told error_of (reached memory tables a n access) in
-      outcome errors.Memory (IsOn memory) r (counted (span x.windows) x.fault n) unchanged (Effect x.windows)
-      (subst (λ (y : Reach AccessFault). r ≡ counted (span y.windows) (option_map error_of y.fault) n) gives.1 answer)
+      outcome errors.Memory (IsOn memory) r (ended (span x.windows) x.fault) unchanged (Effect x.windows)
+      (subst (λ (y : Reach AccessFault). r ≡ ended (span y.windows) (option_map error_of y.fault)) gives.1 answer)
       (subst (λ (y : Reach AccessFault). Effect y.windows) gives.1 done)
 
   -- and the count is at most what was asked
   pub at_most-walk : (r : Result ℕ GuestMemoryError)
-      → r ≡ counted (span walk.windows) (option_map error_of walk.fault) n → IfOk r (λ count. count ≤ n)
+      → r ≡ ended (span walk.windows) (option_map error_of walk.fault) → IfOk r (λ count. count ≤ n)
   at_most-walk r answer = counted-at_most (span walk.windows) (option_map error_of walk.fault) n r answer walk-fits
 
 -- the outcome of an access without a walk
@@ -375,18 +342,15 @@ pub outcome-refused : (memory : Memory) (tables : List Table) (a n : ℕ) (acces
     (Effect : List Window → Type 0) (e : GuestMemoryError)
     → (WantsMemory memory e ⊎ RefusesAccess memory tables a n access e) → unchanged → Effect []
     → let x = told error_of (reached memory tables a n access) in
-    Outcome {T = ℕ} errors.Memory (IsOn memory) (counted (span x.windows) x.fault n) unchanged (Effect x.windows)
+    Outcome {T = ℕ} errors.Memory (IsOn memory) (ended (span x.windows) x.fault) unchanged (Effect x.windows)
     (Err e)
 outcome-refused memory tables a n access unchanged Effect e why kept done = elim why [
   | inl wanted ↦ inl (wanted.0, wanted.1, kept)
   | inr refused ↦
       let x = told error_of (reached memory tables a n access) in
       let is = accessed-refused memory tables a n access e refused in
-      let some = asked_some (reached memory tables a n access).fault n e (reached-asked memory tables a n access)
-      (ap (λ (r : Reach GuestMemoryError). r.fault) is) in
       inr (
-        subst (λ (r : Reach GuestMemoryError). Err e ≡ counted (span r.windows) r.fault n) (sym is)
-            (counted-none 0 n e refl some),
+        subst (λ (r : Reach GuestMemoryError). Err e ≡ ended (span r.windows) r.fault) (sym is) refl,
         subst (λ (y : Reach GuestMemoryError). Effect y.windows) (sym is) done,
       )
 ]

@@ -4,7 +4,8 @@ use Rattle.std.specs.Vec.{with_item, with_items}
 use Rattle.std.specs.declared.alloc.Global.{Global}
 use Rattle.vm_memory_base.specs.declared.io.VolatileMemoryError.TheVariants.{PartialBuffer}
 use Rattle.vm_memory_base.specs.Table.{Table}
-use Rattle.vm_memory_guest.specs.Answer.{exactly, window_reach}
+use Rattle.vm_memory_guest.specs.Answer.{window_reach}
+use Rattle.vm_memory_guest.specs.Transfer.{all_of, ended}
 use Rattle.vm_memory_guest.specs.Typed.{answered}
 use Rattle.vm_memory_guest.specs.Host.{Cell, Host, Shape, shape_of, block_at, bytes_at, cells_from, written}
 use Rattle.vm_memory_guest.specs.Inside.{IsSound, blocks_of}
@@ -118,7 +119,7 @@ pub empty-value : {V : Type 0} (value_of : List ℕ → V) (w : Window) (offset 
     → width ≡ 0 → bytes ≡ replicate width 0 → value_of bytes ≡ value
     → let r = window_reach w offset width in
     Ok value ≡ answered (λ done. value_of (bytes_at blocks (cells r.windows)))
-    (exactly PartialBuffer (span r.windows) r.fault width)
+    (all_of PartialBuffer width (ended (span r.windows) r.fault))
 empty-value {V} value_of w offset width blocks value bytes none zeros same =
     let empty : bytes ≡ [] = zeros ∙ ap (λ (n : ℕ). replicate n 0) none in
     rw none (ap (λ (v : V). Ok v) (sym same ∙ ap value_of empty))

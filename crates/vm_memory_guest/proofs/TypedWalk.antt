@@ -7,16 +7,17 @@ use borrow.Rule.Slice.PartMut.{put_mid}
 use Rattle.vm_memory_base.specs.Table.{Table}
 use Rattle.vm_memory_base.specs.declared.iotlb.Permissions.{Permissions}
 use Rattle.vm_memory_guest.specs.Access.{AccessFault, access_of}
-use Rattle.vm_memory_guest.specs.Answer.{Reach, Outcome, counted, exactly, filled_buffer, told}
+use Rattle.vm_memory_guest.specs.Answer.{Reach, Outcome, filled_buffer, told}
 use Rattle.vm_memory_guest.specs.Error.{error_of}
 use Rattle.vm_memory_guest.specs.Host.{Host, bytes_at}
 use Rattle.vm_memory_guest.specs.Memory.{Memory, IsOn, route}
+use Rattle.vm_memory_guest.specs.Transfer.{all_of, ended}
 use Rattle.vm_memory_guest.specs.Typed.{answered, given, first_aligned, place_of}
 use Rattle.vm_memory_guest.specs.Walk.{reached, GivesAccess, RefusesAccess, WantsMemory}
 use Rattle.vm_memory_guest.specs.Window.{Window, Writes, cells, cells_of, span}
 use Rattle.vm_memory_guest.specs.declared.region.GuestMemoryError.{GuestMemoryError}
 use Rattle.vm_memory_guest.specs.declared.region.GuestMemoryError.TheVariants as errors
-use Rattle.vm_memory_guest.proofs.AccessLemmas.{Gave, Wrote, Filled, accessed-refused, asked_some, reached-asked, wrote_more, filled-more}
+use Rattle.vm_memory_guest.proofs.AccessLemmas.{Gave, Wrote, Filled, accessed-refused, wrote_more, filled-more}
 use Rattle.vm_memory_guest.proofs.HostLemmas.{span-one}
 use Rattle.vm_memory_guest.proofs.MarkLaws.{Writes-take}
 use Rattle.vm_memory_guest.proofs.WrittenLaws.{length-cells}
@@ -80,7 +81,7 @@ module _ (memory : Memory) (tables : List Table) (a n : ℕ) (access : Permissio
   pub value-refused : {T : Type 0} (expected : Reach GuestMemoryError → Result T GuestMemoryError) (unchanged : Type 0)
       (Effect : List Window → Type 0) (e : GuestMemoryError)
       → (WantsMemory memory e ⊎ RefusesAccess memory tables a n access e)
-      → (0 < n → expected (record { windows = []; fault = Some e }) ≡ Err e) → unchanged → Effect []
+      → expected (record { windows = []; fault = Some e }) ≡ Err e → unchanged → Effect []
       → let x = told error_of (reached memory tables a n access) in
       Outcome errors.Memory (IsOn memory) (expected x) unchanged (Effect x.windows) (Err e)
   value-refused {T} expected unchanged Effect e why tells kept done = elim why [
@@ -88,21 +89,15 @@ module _ (memory : Memory) (tables : List Table) (a n : ℕ) (access : Permissio
     | inr refused ↦
         let x = told error_of (reached memory tables a n access) in
         let is : x ≡ record { windows = []; fault = Some e } = accessed-refused memory tables a n access e refused in
-        let some : 0 < n = asked_some (reached memory tables a n access).fault n e
-        (reached-asked memory tables a n access) (ap (λ (r : Reach GuestMemoryError). r.fault) is) in
-        inr (sym (ap expected is ∙ tells some), subst (λ (r : Reach GuestMemoryError). Effect r.windows) (sym is) done)
+        inr (sym (ap expected is ∙ tells), subst (λ (r : Reach GuestMemoryError). Effect r.windows) (sym is) done)
   ]
-
--- where nothing of more than nothing is reached, the error is what kept it
-pub exactly-none : (n : ℕ) (e : GuestMemoryError) → 0 < n → exactly errors.PartialBuffer 0 (Some e) n ≡ Err e
-exactly-none n e some = grind (arith, nat_tests)
 
 -- a whole value is reached
 pub record Whole (k : ℕ) (fault : Option GuestMemoryError) (n : ℕ) : Type 0 where
   pub all : k ≡ n
-  pub is : exactly errors.PartialBuffer k fault n ≡ Ok tt
+  pub is : all_of errors.PartialBuffer n (ended k fault) ≡ Ok tt
 
-pub whole-reached : (k : ℕ) (fault : Option GuestMemoryError) (completed n : ℕ) → Ok completed ≡ counted k fault n
+pub whole-reached : (k : ℕ) (fault : Option GuestMemoryError) (completed n : ℕ) → Ok completed ≡ ended k fault
     → completed ≡ n → Whole k fault n
 whole-reached k None completed n is all =
     let same : k ≡ n = let e : completed ≡ k = cc in omega arith in
@@ -123,21 +118,21 @@ filled-whole blocks ws old all =
 pub value-read : {V : Type 0} (memory : Memory) (tables : List Table) (a n : ℕ) (access : Permissions)
     (walk : Reach AccessFault) → GivesAccess memory tables a n access walk
     → (blocks : List (List ℕ)) (value : V) (value_of : List ℕ → V) (old bytes : List ℕ) (completed : ℕ)
-    → Ok completed ≡ counted (span walk.windows) (option_map error_of walk.fault) n → completed ≡ n → length old ≡ n
+    → Ok completed ≡ ended (span walk.windows) (option_map error_of walk.fault) → completed ≡ n → length old ≡ n
     → bytes ≡ filled_buffer blocks (cells walk.windows) old → value_of bytes ≡ value
     → let x = told error_of (reached memory tables a n access) in
     Ok value ≡ answered (λ done. value_of (bytes_at blocks (cells x.windows)))
-    (exactly errors.PartialBuffer (span x.windows) x.fault n)
+    (all_of errors.PartialBuffer n (ended (span x.windows) x.fault))
 value-read {V} memory tables a n access walk gives blocks value value_of old bytes completed is all long put same =
     let whole = whole-reached (span walk.windows) (option_map error_of walk.fault) completed n is all in
     let here : bytes ≡ bytes_at blocks (cells walk.windows) =
     put ∙ filled-whole blocks walk.windows old (whole.all ∙ sym long) in
     let told_is : Ok value ≡ answered (λ (done : Unit {0}). value_of (bytes_at blocks (cells walk.windows)))
-    (exactly errors.PartialBuffer (span walk.windows) (option_map error_of walk.fault) n) =
+    (all_of errors.PartialBuffer n (ended (span walk.windows) (option_map error_of walk.fault))) =
     rw whole.is (ap (λ (v : V). Ok v) (sym same ∙ ap value_of here)) in
     subst (λ (r : Reach AccessFault). Ok value
     ≡ answered (λ (done : Unit {0}). value_of (bytes_at blocks (cells r.windows)))
-    (exactly errors.PartialBuffer (span r.windows) (option_map error_of r.fault) n)) gives.1 told_is
+    (all_of errors.PartialBuffer n (ended (span r.windows) (option_map error_of r.fault)))) gives.1 told_is
 
 -- what was completed is what was expected
 pub completed-whole : (completed expected : ℕ) (u : Unit {0})

@@ -4,11 +4,12 @@ ghost use Rattle.std.specs.Prelude.{◌≡◌, ℕ, ◌<◌, List, [], length, t
 ghost use Rattle.vm_memory_base.specs.Pages.{PageSet};
 ghost use Rattle.vm_memory_base.specs.declared.iotlb.Permissions.{Permissions};
 ghost use Rattle.vm_memory_guest.specs.Access.{AccessFault, Stops, access_of, allowed, meets, windows};
-ghost use Rattle.vm_memory_guest.specs.Answer.{counted, filled_buffer};
+ghost use Rattle.vm_memory_guest.specs.Answer.{filled_buffer};
 ghost use Rattle.vm_memory_guest.specs.Dirt.{after_write, path_cells, with_pages};
 ghost use Rattle.vm_memory_guest.specs.Host.{Host, bytes_at};
 ghost use Rattle.vm_memory_guest.specs.Memory.{Route};
 ghost use Rattle.vm_memory_guest.specs.Region.{Region, IsRegion};
+ghost use Rattle.vm_memory_guest.specs.Transfer.{ended};
 ghost use Rattle.vm_memory_guest.specs.Window.{Writes, cells, span};
 
 use vm_memory_base::ExactBitmap;
@@ -34,11 +35,13 @@ pub fn accesses_are_by_bytes<B: ExactBitmap>()
 }
 
 /// What keeps an allowed access from going on is what its first byte that it does not reach meets. One that
-/// reaches no byte leaves everything, and answers what stopped it.
+/// reaches no byte leaves everything, and answers what stopped it. Nothing stops an empty one.
 pub fn accesses_stop_at_the_first_fault<E>()
     ensures first { (regions : List Region) (route : Route) (a n : ℕ) (access : Permissions) (fault : AccessFault)
         → allowed route a n access ≡ true → (access_of regions route a n access).fault ≡ Some fault
         → meets regions route a (length (access_of regions route a n access).path) ≡ Stops fault }
     ensures unchanged { (bytes : List ℕ) (host : Host PageSet) → after_write [] bytes host ≡ host }
-    ensures error { (e : E) (n : ℕ) → 0 < n → counted 0 (Some e) n ≡ Err e }
+    ensures error { (e : E) → ended 0 (Some e) ≡ Err e }
+    ensures empty { (regions : List Region) (route : Route) (a : ℕ) (access : Permissions)
+        → access_of regions route a 0 access ≡ record { path = []; fault = None } }
 {}

@@ -5,8 +5,8 @@ ghost use Rattle.vm_memory_base.specs.declared.iotlb.Permissions.{Permissions};
 ghost use Rattle.vm_memory_base.specs.declared.iotlb.Permissions.TheVariants.{Read, Write};
 ghost use Rattle.vm_memory_guest.specs.Host.{shape_of, bytes_at, Holds};
 ghost use Rattle.vm_memory_guest.specs.Window.{Window, span, cells, cells_of, Writes};
-ghost use Rattle.vm_memory_guest.specs.Answer.{Reach, Outcome, counted, exactly, filled_buffer};
-ghost use Rattle.vm_memory_guest.specs.Transfer.{Moving, Once, UntilWhole, Fills, Takes, Transfers, all_of, beside};
+ghost use Rattle.vm_memory_guest.specs.Answer.{Reach, Outcome, filled_buffer};
+ghost use Rattle.vm_memory_guest.specs.Transfer.{Moving, Once, UntilWhole, Fills, Takes, Transfers, all_of, beside, ended};
 ghost use Rattle.vm_memory_guest.specs.Typed.{answered, given};
 ghost use Rattle.vm_memory_base.specs.declared.io.VolatileMemoryError.{VolatileMemoryError};
 
@@ -70,7 +70,7 @@ pub trait Bytes<A>: Named {
         requires { Holds (shape_of host.old) (Self.names self.now) }
         ensures answer { let r = reach self.now host.old.tables addr (length buf.now) Write in
             Outcome no_memory (may_want self.now)
-            (counted (span r.windows) r.fault (length buf.now)) (host.new ≡ host.old)
+            (ended (span r.windows) r.fault) (host.new ≡ host.old)
             (Writes B.marks r.windows buf.now host.old host.new) result }
         ensures at_most { IfOk result (λ count. count ≤ length buf.now) }
         ensures shape { shape_of host.new ≡ shape_of host.old };
@@ -85,7 +85,7 @@ pub trait Bytes<A>: Named {
         requires { Holds (shape_of host.now) (Self.names self.now) }
         ensures answer { let r = reach self.now host.now.tables addr (length buf.old) Read in
             Outcome no_memory (may_want self.now)
-            (counted (span r.windows) r.fault (length buf.old)) (buf.new ≡ buf.old)
+            (ended (span r.windows) r.fault) (buf.new ≡ buf.old)
             (buf.new ≡ filled_buffer host.now.blocks (cells r.windows) buf.old) result }
         ensures at_most { IfOk result (λ count. count ≤ length buf.old) };
 
@@ -100,7 +100,7 @@ pub trait Bytes<A>: Named {
         requires { Holds (shape_of host.old) (Self.names self.now) }
         ensures answer { let r = reach self.now host.old.tables addr (length buf.now) Write in
             Outcome no_memory (may_want self.now)
-            (exactly partial (span r.windows) r.fault (length buf.now)) (host.new ≡ host.old)
+            (all_of partial (length buf.now) (ended (span r.windows) r.fault)) (host.new ≡ host.old)
             (Writes B.marks r.windows buf.now host.old host.new) result }
         ensures shape { shape_of host.new ≡ shape_of host.old };
 
@@ -115,7 +115,7 @@ pub trait Bytes<A>: Named {
         requires { Holds (shape_of host.now) (Self.names self.now) }
         ensures answer { let r = reach self.now host.now.tables addr (length buf.old) Read in
             Outcome no_memory (may_want self.now)
-            (exactly partial (span r.windows) r.fault (length buf.old)) (buf.new ≡ buf.old)
+            (all_of partial (length buf.old) (ended (span r.windows) r.fault)) (buf.new ≡ buf.old)
             (buf.new ≡ filled_buffer host.now.blocks (cells r.windows) buf.old) result };
 
     /// Writes a value, as `write_slice` writes its bytes.
@@ -128,7 +128,7 @@ pub trait Bytes<A>: Named {
         requires { Holds (shape_of host.old) (Self.names self.now) }
         ensures answer { T.width < 2 ^ 64 → let r = reach self.now host.old.tables addr T.width Write in
             Outcome no_memory (may_want self.now)
-            (exactly partial (span r.windows) r.fault T.width) (host.new ≡ host.old)
+            (all_of partial T.width (ended (span r.windows) r.fault)) (host.new ≡ host.old)
             (Writes B.marks r.windows (T.bytes val) host.old host.new) result }
         ensures shape { shape_of host.new ≡ shape_of host.old };
 
@@ -142,7 +142,7 @@ pub trait Bytes<A>: Named {
         ensures { T.width < 2 ^ 64 → let r = reach self.now host.now.tables addr T.width Read in
             Outcome no_memory (may_want self.now)
             (answered (λ _. T.value_of (bytes_at host.now.blocks (cells r.windows)))
-            (exactly partial (span r.windows) r.fault T.width))
+            (all_of partial T.width (ended (span r.windows) r.fault)))
             (Unit {0}) (Unit {0}) result };
 
     /// Stores a value as one atomic integer, in one window at a place that is a multiple of the value's

@@ -9,7 +9,7 @@ ghost use Rattle.vm_memory_base.specs.declared.io.VolatileMemoryError.TheVariant
 ghost use Rattle.vm_memory_base.specs.declared.iotlb.Permissions.TheVariants.{Read, Write, ReadWrite};
 ghost use Rattle.vm_memory_base.specs.declared.iotlb.Reason.TheVariants.{MissingMapping, AccessNotAllowed};
 ghost use Rattle.vm_memory_guest.specs.Access.{access_of, windows, NoRegion, NoHostBytes, Refused};
-ghost use Rattle.vm_memory_guest.specs.Answer.{told, counted, exactly, filled_buffer, window_reach};
+ghost use Rattle.vm_memory_guest.specs.Answer.{told, filled_buffer, window_reach};
 ghost use Rattle.vm_memory_guest.specs.Dirt.{after_write, bytes_read, path_cells};
 ghost use Rattle.vm_memory_guest.specs.Error.{error_of};
 ghost use Rattle.vm_memory_guest.specs.examples.Fixtures.{address_of, counted_access, exact_access, cannot_resolve};
@@ -27,6 +27,7 @@ ghost use Rattle.vm_memory_guest.specs.Memory.{Direct, Through, memory_names, ro
 ghost use Rattle.vm_memory_guest.specs.Pieces.{marking, walk_of_pieces};
 ghost use Rattle.vm_memory_guest.specs.Ranges.{HasBlocks, range_error, range_regions};
 ghost use Rattle.vm_memory_guest.specs.Region.{containing_region, last, layout_error, slice_of, IsRegion};
+ghost use Rattle.vm_memory_guest.specs.Transfer.{all_of, ended};
 ghost use Rattle.vm_memory_guest.specs.Walk.{items_of, reach_of, walk_of, GivesAccess, RefusesAccess};
 ghost use Rattle.vm_memory_guest.specs.Window.{cells, span, subslice_of, window_names, Writes};
 ghost use Rattle.vm_memory_guest.specs.declared.mmap.FromRangesError.TheVariants.{MmapRegion, InvalidGuestRegion};
@@ -71,11 +72,11 @@ pub fn windows_of_a_block()
     ensures part_past_the_end { subslice_of (block_window 0 1 3) 2 2 ≡ Err (OutOfBounds 4) }
     ensures no_sum { subslice_of (block_window 0 1 3) (2 ^ 64 - 1) 2 ≡ Err (Overflow (2 ^ 64 - 1) 2) }
     ensures access_in_part { let reached = window_reach (block_window 0 1 3) 1 4 in
-        counted (span reached.windows) reached.fault 4 ≡ Ok 2 }
+        ended (span reached.windows) reached.fault ≡ Ok 2 }
     ensures access_at_the_end { let reached = window_reach (block_window 0 1 3) 3 1 in
-        counted (span reached.windows) reached.fault 1 ≡ Err (OutOfBounds 3) }
+        ended (span reached.windows) reached.fault ≡ Err (OutOfBounds 3) }
     ensures empty_access_past_the_end { let reached = window_reach (block_window 0 1 3) 9 0 in
-        counted (span reached.windows) reached.fault 0 ≡ Ok 0 }
+        ended (span reached.windows) reached.fault ≡ Ok 0 }
     ensures buffer { let reached = window_reach (block_window 0 1 3) 1 4 in
         filled_buffer ((5 ∷ 6 ∷ 7 ∷ 8 ∷ []) ∷ []) (cells reached.windows) (0 ∷ 0 ∷ 0 ∷ 9 ∷ [])
         ≡ 7 ∷ 8 ∷ 0 ∷ 9 ∷ [] }
@@ -139,7 +140,7 @@ pub fn accesses_of_regions()
     ensures over_two_regions { let reached = access_of touching_regions Direct 3 3 Write in
         (path_cells reached.path ≡ cell_of 0 3 ∷ cell_of 1 0 ∷ cell_of 1 1 ∷ [])
         × (windows reached.path ≡ block_window 0 3 1 ∷ block_window 1 0 2 ∷ [])
-        × (counted_access reached 3 ≡ Ok 3)
+        × (counted_access reached ≡ Ok 3)
         × (exact_access reached 3 ≡ Ok tt) }
     ensures left_in_two_regions { let reached = access_of touching_regions Direct 3 3 Write in
         let before = host_of (zeros 4 ∷ zeros 4 ∷ []) (clean_pages 4 1 ∷ clean_pages 4 1 ∷ []) [] [] in
@@ -149,7 +150,7 @@ pub fn accesses_of_regions()
         } }
     ensures into_a_hole { let reached = access_of regions_with_hole Direct 2 4 Write in
         (windows reached.path ≡ block_window 0 2 2 ∷ [])
-        × (counted_access reached 4 ≡ Ok 2)
+        × (counted_access reached ≡ Ok 2)
         × (exact_access reached 4 ≡ Err (PartialBuffer 4 2))
         × (reached.fault ≡ Some (NoRegion 4)) }
     ensures left_before_a_hole { let reached = access_of regions_with_hole Direct 2 4 Write in
@@ -159,19 +160,19 @@ pub fn accesses_of_regions()
           bitmaps = pages_with 2 (false ∷ true ∷ []) ∷ clean_pages 2 2 ∷ [];
         } }
     ensures from_a_hole { let reached = access_of regions_with_hole Direct 4 1 Write in
-        (counted_access reached 1 ≡ Err (NoRegion 4))
+        (counted_access reached ≡ Err (NoRegion 4))
         × (exact_access reached 1 ≡ Err (InvalidGuestAddress (address_of 4))) }
     ensures over_a_hole { let reached = access_of regions_with_hole Direct 2 8 Read in
         path_cells reached.path ≡ cell_of 0 2 ∷ cell_of 0 3 ∷ [] }
     ensures empty_in_a_hole { let reached = access_of regions_with_hole Direct 4 0 Write in
         (windows reached.path ≡ [])
-        × (counted_access reached 0 ≡ Ok 0)
+        × (counted_access reached ≡ Ok 0)
         × (exact_access reached 0 ≡ Ok tt) }
     ensures over_the_greatest { let regions = two_regions 0 (2 ^ 64 - 4) in
         let reached = access_of regions Direct (2 ^ 64 - 1) 2 Read in
         let host = host_of (numbers 1 4 ∷ numbers 5 4 ∷ []) (None ∷ None ∷ []) [] [] in
         (windows reached.path ≡ block_window 1 3 1 ∷ block_window 0 0 1 ∷ [])
-        × (counted_access reached 2 ≡ Ok 2)
+        × (counted_access reached ≡ Ok 2)
         × (bytes_read reached.path host ≡ 8 ∷ 1 ∷ []) }
     ensures hole_at_0 { let regions = backed_region (2 ^ 64 - 4) 4 1 0 ∷ [] in
         let reached = access_of regions Direct (2 ^ 64 - 1) 2 Read in
@@ -180,7 +181,7 @@ pub fn accesses_of_regions()
         let reached = access_of regions Direct 0 5 Write in
         let before = host_of (zeros 4 ∷ []) (clean_pages 4 1 ∷ []) [] [] in
         (windows reached.path ≡ block_window 0 0 4 ∷ block_window 0 0 1 ∷ [])
-        × (counted_access reached 5 ≡ Ok 5)
+        × (counted_access reached ≡ Ok 5)
         × (after_write reached.path (1 ∷ 1 ∷ 1 ∷ 1 ∷ 9 ∷ []) before ≡ record before {
           blocks = (9 ∷ 1 ∷ 1 ∷ 1 ∷ []) ∷ [];
           bitmaps = pages_with 4 (true ∷ []) ∷ [];
@@ -188,13 +189,16 @@ pub fn accesses_of_regions()
     ensures into_no_host_bytes { let regions = backed_region 0 4 0 0 ∷ unbacked_region 4 4 ∷ [] in
         let reached = access_of regions Direct 2 4 Read in
         (windows reached.path ≡ block_window 0 2 2 ∷ [])
-        × (counted_access reached 4 ≡ Ok 2)
+        × (counted_access reached ≡ Ok 2)
         × (reached.fault ≡ Some NoHostBytes)
         × (exact_access reached 4 ≡ Err (PartialBuffer 4 2)) }
     ensures from_no_host_bytes { let regions = backed_region 0 4 0 0 ∷ unbacked_region 4 4 ∷ [] in
         let reached = access_of regions Direct 4 1 Read in
-        (counted_access reached 1 ≡ Err NoHostBytes)
+        (counted_access reached ≡ Err NoHostBytes)
         × (option_map error_of reached.fault ≡ Some HostAddressNotAvailable) }
+    ensures empty_in_no_host_bytes { let reached = access_of (unbacked_region 4 4 ∷ []) Direct 4 0 Read in
+        (counted_access reached ≡ Ok 0)
+        × (exact_access reached 0 ≡ Ok tt) }
 {}
 
 /// With an IOMMU an access that one of its addresses does not permit, or that has no mapping, is refused as a
@@ -206,7 +210,7 @@ pub fn accesses_through_an_iommu()
         let reached = access_of (one_region 8) (Through says 0) 3 2 Write in
         let host = host_of (numbers 1 8 ∷ []) (clean_pages 4 2 ∷ []) (clean_pages 4 2 ∷ []) [] in
         (reached.path ≡ [])
-        × (counted_access reached 2 ≡ Err (Refused 3 2 AccessNotAllowed))
+        × (counted_access reached ≡ Err (Refused 3 2 AccessNotAllowed))
         × (exact_access reached 2 ≡ Err (cannot_resolve 3 2 AccessNotAllowed))
         × (option_map error_of reached.fault ≡ Some (cannot_resolve 3 2 AccessNotAllowed))
         × (after_write reached.path (9 ∷ 9 ∷ []) host ≡ host) }
@@ -214,27 +218,27 @@ pub fn accesses_through_an_iommu()
         let reached = access_of (one_region 8) (Through says 0) 3 2 Read in
         let host = host_of (numbers 1 8 ∷ []) (clean_pages 4 2 ∷ []) (clean_pages 4 2 ∷ []) [] in
         (windows reached.path ≡ window_marking 0 3 1 (Space 0) 3 ∷ window_marking 0 4 1 (Space 0) 4 ∷ [])
-        × (counted_access reached 2 ≡ Ok 2)
+        × (counted_access reached ≡ Ok 2)
         × (bytes_read reached.path host ≡ 4 ∷ 5 ∷ []) }
     ensures not_mapped { let reached = access_of (one_region 8) (Through says_nothing 0) 2 1 Read in
         (reached.path ≡ [])
-        × (counted_access reached 1 ≡ Err (Refused 2 1 MissingMapping)) }
+        × (counted_access reached ≡ Err (Refused 2 1 MissingMapping)) }
     ensures mapped_in_part { let says = new_table_after (Set 0 0 4 ReadWrite ∷ []) in
         let reached = access_of (one_region 8) (Through says 0) 3 2 Read in
-        counted_access reached 2 ≡ Err (Refused 3 2 MissingMapping) }
+        counted_access reached ≡ Err (Refused 3 2 MissingMapping) }
     ensures greatest_address { let says = new_table_after (Set (2 ^ 64 - 1) 0 1 ReadWrite ∷ []) in
         let reached = access_of (one_region 8) (Through says 0) (2 ^ 64 - 1) 1 Read in
-        counted_access reached 1 ≡ Err (Refused (2 ^ 64 - 1) 1 MissingMapping) }
+        counted_access reached ≡ Err (Refused (2 ^ 64 - 1) 1 MissingMapping) }
     ensures empty { let reached = access_of (one_region 8) (Through says_nothing 0) 2 0 Read in
-        counted_access reached 0 ≡ Ok 0 }
+        counted_access reached ≡ Ok 0 }
     ensures to_a_hole { let says = new_table_after (Set 20 6 4 Read ∷ []) in
         let reached = access_of (one_region 8) (Through says 0) 20 4 Read in
-        (counted_access reached 4 ≡ Ok 2)
+        (counted_access reached ≡ Ok 2)
         × (reached.fault ≡ Some (NoRegion 8)) }
     ensures over_the_greatest { let says = new_table_after (Set 20 (2 ^ 64 - 2) 4 Read ∷ []) in
         let reached = access_of (two_regions 0 (2 ^ 64 - 4)) (Through says 0) 20 4 Read in
         (windows reached.path ≡ window_marking 1 2 2 (Space 0) 20 ∷ window_marking 0 0 2 (Space 0) 22 ∷ [])
-        × (counted_access reached 4 ≡ Ok 4) }
+        × (counted_access reached ≡ Ok 4) }
     ensures marks_the_space { let memory = memory_with_iommu (one_region 8) 0 0 in
         let tables = table_of (run_of 20 4 (2 ^ 64 - 20) ReadWrite ∷ []) ∷ [] in
         let reached = access_of memory.regions (route memory tables) 20 1 Write in
@@ -293,8 +297,8 @@ pub fn windows_and_walks()
     ensures answer_at_a_hole { let access = access_of regions_with_hole Direct 2 4 Read in
         let reached = told error_of (reach_of access) in
         let blocks = numbers 1 4 ∷ numbers 5 4 ∷ [] in
-        (counted (span reached.windows) reached.fault 4 ≡ Ok 2)
-        × (exactly PartialBuffer (span reached.windows) reached.fault 4 ≡ Err (PartialBuffer 4 2))
+        (ended (span reached.windows) reached.fault ≡ Ok 2)
+        × (all_of PartialBuffer 4 (ended (span reached.windows) reached.fault) ≡ Err (PartialBuffer 4 2))
         × (filled_buffer blocks (cells reached.windows) (9 ∷ 9 ∷ 9 ∷ 9 ∷ []) ≡ 3 ∷ 4 ∷ 9 ∷ 9 ∷ []) }
     ensures refused { let memory = memory_with_iommu (one_region 8) 0 0 in
         let tables = table_of (run_of 0 4 0 ReadWrite ∷ run_of 4 4 0 Read ∷ []) ∷ [] in

@@ -5,7 +5,7 @@ ghost use Rattle.std.specs.Prelude.{ℕ, MatchResult, map, flat_map, take, slice
 ghost use Rattle.vm_memory_guest.specs.Host as names;
 ghost use Rattle.vm_memory_guest.specs.Host.{Name, shape_of, with_block, Holds, block_at};
 ghost use Rattle.vm_memory_guest.specs.Collection.{regions_of};
-ghost use Rattle.vm_memory_guest.specs.Mmap.{mmap_region};
+ghost use Rattle.vm_memory_guest.specs.Mmap.{mmap_region, whole_window};
 ghost use Rattle.vm_memory_guest.specs.Ranges.{range_error, refusal_of, range_region, range_regions};
 ghost use Rattle.vm_memory_guest.specs.Ranges.{AllFit, HasBlocks, refused_at};
 ghost use Rattle.vm_memory_guest.specs.Region.{slice_from, layout_error, region_names};
@@ -95,6 +95,17 @@ impl MmapRegion {
         self.size
     }
 
+    /// The view of the block's bitmap from the first byte on.
+    #[inline]
+    pub fn bitmap(&self) -> BitmapRef
+        ensures { result ≡ (whole_window self.now).bitmap }
+    {
+        BitmapRef {
+            id: BitmapId::Block(self.block.0),
+            base: 0,
+        }
+    }
+
     // The window of `count` bytes from `offset` on, or `InvalidBackendAddress` where it passes the end.
     #[inline]
     fn window(&self, offset: u64, count: usize) -> GuestMemoryResult<VolatileSlice>
@@ -130,11 +141,7 @@ impl VolatileMemory for MmapRegion {
 
     #[inline]
     fn get_slice(&self, offset: usize, count: usize) -> VolatileMemoryResult<VolatileSlice> {
-        let bitmap = BitmapRef {
-            id: BitmapId::Block(self.block.0),
-            base: 0,
-        };
-        VolatileSlice::new(self.block, 0, self.size, bitmap).subslice(offset, count)
+        VolatileSlice::new(self.block, 0, self.size, self.bitmap()).subslice(offset, count)
     }
 
     ghost gives_all = { λ r. subslice-sized (whole_window r) };
@@ -232,10 +239,7 @@ impl GuestMemoryRegion for GuestRegionMmap {
 
     #[inline]
     fn bitmap(&self) -> BitmapRef {
-        BitmapRef {
-            id: BitmapId::Block(self.mapping.block.0),
-            base: 0,
-        }
+        self.mapping.bitmap()
     }
 
     #[inline]

@@ -41,7 +41,7 @@ pub fn addresses_that_are_asked()
 
 /// A range is whole where each byte of it has a byte of the host and may be accessed so, and an empty one is
 /// everywhere. The error of a walk is told where it comes first, and else ends the windows silently. An access of a
-/// region by offset is that of the window of all its bytes.
+/// region by offset is that of the window of all its bytes, and refused where there is none, also if it is empty.
 pub fn ranges_and_regions()
     ensures inside { is_whole (access_of regions_with_hole Direct 1 3 Read).path 3 ≡ true }
     ensures into_a_hole { is_whole (access_of regions_with_hole Direct 1 4 Read).path 4 ≡ false }
@@ -60,6 +60,9 @@ pub fn ranges_and_regions()
     ensures in_part { (region_reach (backed_region 100 4 0 2) 3 2).windows ≡ block_window 0 5 1 ∷ [] }
     ensures past_the_end { (region_reach (backed_region 100 4 0 2) 4 1).fault ≡ Some InvalidBackendAddress }
     ensures no_host_bytes { (region_reach (unbacked_region 100 4) 0 1).fault ≡ Some HostAddressNotAvailable }
+    ensures empty_in_no_host_bytes { (region_reach (unbacked_region 100 4) 0 0).fault
+        ≡ Some HostAddressNotAvailable }
+    ensures empty_past_the_end { (region_reach (backed_region 100 4 0 2) 9 0).fault ≡ None }
     ensures misaligned { region_place (backed_region 100 4 0 2) 1 2 ≡ Err InvalidBackendAddress }
 {}
 

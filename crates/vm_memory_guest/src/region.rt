@@ -205,7 +205,7 @@ pub enum GuestRegionCollectionError {
 }
 
 /// A layout of guest physical memory: disjoint regions, ascending.
-#[derive(Drop)]
+#[derive(Debug, Drop)]
 pub struct GuestRegionCollection<R: GuestMemoryRegion> {
     regions: Vec<Arc<R>>,
     // Their starts lie side by side, so that a search touches no region but the one that it found.
@@ -491,18 +491,20 @@ fn shared_each<R: Drop>(alloc: Global, regions: Vec<R>) -> Result<Vec<Arc<R>>, A
     Ok(shared)
 }
 
-// Whether two regions may follow one another.
+// Whether two regions may follow one another. The later is asked for its start once, and where they may, the
+// earlier is not asked.
 fn neighbours<R: GuestMemoryRegion>(
     previous: &R,
     next: &R,
 ) -> Result<(), GuestRegionCollectionError>
     ensures { result ≡ neighbours_of (R.region previous.now) (R.region next.now) }
 {
-    if previous.start_addr() > next.start_addr() {
+    let start = next.start_addr();
+    if previous.last_addr() < start {
+        return Ok(());
+    }
+    if previous.start_addr() > start {
         return Err(GuestRegionCollectionError::UnsortedMemoryRegions);
     }
-    if previous.last_addr() >= next.start_addr() {
-        return Err(GuestRegionCollectionError::MemoryRegionOverlap);
-    }
-    Ok(())
+    Err(GuestRegionCollectionError::MemoryRegionOverlap)
 }

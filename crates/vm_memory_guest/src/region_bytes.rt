@@ -17,7 +17,8 @@ use vm_memory_base::{
 };
 
 /// A region whose bytes are accessed by their offsets, as those of the window of all its bytes:
-/// docs/DEFINITIONS.md, "Accesses". A region without host bytes answers `HostAddressNotAvailable`.
+/// docs/DEFINITIONS.md, "Accesses". A region without host bytes answers `HostAddressNotAvailable`, also where no
+/// byte is asked for.
 ///
 /// ```text
 /// region.write_slice(&mut host, &[1, 2, 3], MemoryRegionAddress(0x10))?;
@@ -56,9 +57,6 @@ impl<R: GuestMemoryRegionBytes> Bytes<MemoryRegionAddress> for R {
         buf: &[u8],
         addr: MemoryRegionAddress,
     ) -> GuestMemoryResult<usize> {
-        if buf.is_empty() {
-            return Ok(0);
-        }
         let window = self.as_volatile_slice()?;
         told(window.write(host, buf, addr.0 as usize))
     }
@@ -70,9 +68,6 @@ impl<R: GuestMemoryRegionBytes> Bytes<MemoryRegionAddress> for R {
         buf: &mut [u8],
         addr: MemoryRegionAddress,
     ) -> GuestMemoryResult<usize> {
-        if buf.is_empty() {
-            return Ok(0);
-        }
         let window = self.as_volatile_slice()?;
         told(window.read(host, buf, addr.0 as usize))
     }
@@ -84,9 +79,6 @@ impl<R: GuestMemoryRegionBytes> Bytes<MemoryRegionAddress> for R {
         buf: &[u8],
         addr: MemoryRegionAddress,
     ) -> GuestMemoryResult<()> {
-        if buf.is_empty() {
-            return Ok(());
-        }
         let window = self.as_volatile_slice()?;
         told(window.write_slice(host, buf, addr.0 as usize))
     }
@@ -98,9 +90,6 @@ impl<R: GuestMemoryRegionBytes> Bytes<MemoryRegionAddress> for R {
         buf: &mut [u8],
         addr: MemoryRegionAddress,
     ) -> GuestMemoryResult<()> {
-        if buf.is_empty() {
-            return Ok(());
-        }
         let window = self.as_volatile_slice()?;
         told(window.read_slice(host, buf, addr.0 as usize))
     }
@@ -112,9 +101,6 @@ impl<R: GuestMemoryRegionBytes> Bytes<MemoryRegionAddress> for R {
         val: T,
         addr: MemoryRegionAddress,
     ) -> GuestMemoryResult<()> {
-        if T::size() == 0 {
-            return Ok(());
-        }
         let window = self.as_volatile_slice()?;
         told(window.write_obj(host, val, addr.0 as usize))
     }
@@ -125,11 +111,6 @@ impl<R: GuestMemoryRegionBytes> Bytes<MemoryRegionAddress> for R {
         host: &HostMemory<B>,
         addr: MemoryRegionAddress,
     ) -> GuestMemoryResult<T> {
-        if T::size() == 0 {
-            let value = T::zeroed();
-            value.known();
-            return Ok(value);
-        }
         let window = self.as_volatile_slice()?;
         told(window.read_obj(host, addr.0 as usize))
     }

@@ -1,6 +1,11 @@
-//! Arithmetic on addresses.
+//! Arithmetic on addresses and offsets.
 
-use vm_memory::{Address, AddressValue, AddressWord, GuestAddress, MemoryRegionAddress};
+use crate::support::expect_text;
+use std::test::Fail;
+use vm_memory::{
+    Address, AddressValue, AddressWord, GuestAddress, IovaRange, MemoryRegionAddress,
+    compute_offset,
+};
 
 #[test]
 fn sums_and_differences(rt: HostRuntime) {
@@ -55,4 +60,30 @@ fn unchecked(rt: HostRuntime) {
     assert!(rt; a.unchecked_align_up(16) == a);
     assert!(rt; GuestAddress::new(1).raw_value() == GuestAddress::one());
     assert!(rt; GuestAddress::default() < a);
+}
+
+#[test]
+fn sums_of_offsets(rt: HostRuntime) -> Result<(), Fail> {
+    let cases = [
+        (3, 4, "Ok(7)"),
+        (usize::MAX, 0, "Ok(18446744073709551615)"),
+        (
+            usize::MAX,
+            1,
+            "Err(Overflow { base: 18446744073709551615, offset: 1 })",
+        ),
+    ];
+    for (case, (base, offset, wanted)) in cases.iter().enumerate() {
+        let text = format!(in rt.alloc(); "{:?}", compute_offset(*base, *offset))?;
+        expect_text(case, text.as_str(), wanted)?;
+    }
+    Ok(())
+}
+
+#[test]
+fn a_range_has_a_base_and_a_length(rt: HostRuntime) {
+    for (start, length) in [(0x1000, 0x234), (5, 0), (0, 0xffff_ffff)] {
+        let range = IovaRange::from_range(start..start + length);
+        assert!(rt; range.base == GuestAddress(start) && range.length == length as usize);
+    }
 }

@@ -4,7 +4,10 @@ use std::alloc::AllocError;
 use std::num::NonZeroUsize;
 use std::process::Abort;
 use std::test::Fail;
-use vm_memory::{Bitmap, ExactBitmap, ExclusiveBitmap, NewBitmap};
+use vm_memory::{
+    Bitmap, BitmapId, BitmapRef, ExactBitmap, ExclusiveBitmap, HostMemory, MmapRegion, NewBitmap,
+    VolatileMemory,
+};
 
 #[test]
 fn words_of_marks(rt: HostRuntime) -> Result<(), Fail> {
@@ -65,5 +68,20 @@ fn harvests(rt: HostRuntime) -> Result<(), Fail> {
     assert!(rt; none.harvest(rt.alloc())?.len() == 0);
     assert!(rt; ().dirty_pages(rt.alloc())?.len() == 0);
     assert!(rt; ().harvest(rt.alloc())?.len() == 0);
+    Ok(())
+}
+
+#[test]
+fn a_view_begins_further_on(rt: HostRuntime) -> Result<(), Fail> {
+    let mut host: HostMemory<()> = HostMemory::new(rt.alloc());
+    host.new_block(1)?;
+    let mapping = MmapRegion::new(&mut host, 0x20)?;
+    let whole = mapping.bitmap();
+    let id = BitmapId::Block(1);
+    assert!(rt; whole == BitmapRef { id, base: 0 });
+    for (offset, more, base) in [(0, 0, 0), (0x10, 3, 0x13), (usize::MAX, 2, 1)] {
+        assert!(rt; whole.slice_at(offset).slice_at(more) == BitmapRef { id, base });
+    }
+    assert!(rt; mapping.get_slice(0x10, 4)?.bitmap() == whole.slice_at(0x10));
     Ok(())
 }

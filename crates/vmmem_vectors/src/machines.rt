@@ -10,11 +10,9 @@ use crate::support::{Place, expect_text, regions_of};
 use std::alloc::{AllocError, Global};
 use std::sync::Arc;
 use std::test::Fail;
-use vm_memory::machine::command::{Command, Ending, Fault, Reply};
-use vm_memory::machine::list::{ByteList, NumberList, SinkList, SourceList};
-use vm_memory::machine::{Machine, run};
 use vm_memory::{
-    GuestAddress, HostMemory, IommuError, IovaRange, Reason, SinkStep, SourceStep, TableIommu,
+    ByteList, Command, Ending, Fault, GuestAddress, HostMemory, IommuError, IovaRange, Machine,
+    NumberList, Reason, Reply, SinkList, SinkStep, SourceList, SourceStep, TableIommu, run,
 };
 use vm_memory_guest::host_laws::regions_are_held_one_by_one;
 
@@ -486,7 +484,7 @@ fn some_replies(alloc: Global) -> Result<Vec<Reply>, AllocError> {
     let some = ByteList::from_vec(vec![in alloc; 0u8, 0xa, 0xff]?);
     let none = ByteList::from_vec(Vec::new(alloc));
     Ok(vec![in alloc;
-        Reply::LayoutMade(12),
+        Reply::Layout(12),
         Reply::MemoryMade(3),
         Reply::Count(256),
         Reply::Bytes(some),

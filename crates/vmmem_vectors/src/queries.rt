@@ -3,7 +3,7 @@
 
 use crate::regions::TestRegion;
 use crate::support::{
-    AROUND_A_HOLE, BEFORE_A_BARE_REGION, Place, expect_text, memory_of, regions_of,
+    AROUND_A_HOLE, BEFORE_A_BARE_REGION, Place, expect_accesses, expect_text, memory_of, regions_of,
 };
 use std::alloc::{AllocError, Global};
 use std::sync::atomic::Ordering;
@@ -331,7 +331,7 @@ fn regions_are_listed(rt: HostRuntime) -> Result<(), Fail> {
 
 // A region, an offset and a count: whether there is an address, the offset `count` above, the offset of the
 // guest address 0x1000 + offset, and what a write, a read and a load of two bytes answer.
-const BY_OFFSET: [(Place, u64, usize, &str); 6] = [
+const BY_OFFSET: [(Place, u64, usize, &str); 7] = [
     (
         Place::Block(0x1000, 8),
         6,
@@ -367,6 +367,13 @@ const BY_OFFSET: [(Place, u64, usize, &str); 6] = [
         0,
         1,
         "true Some(1) Some(0) Err(HostAddressNotAvailable) Err(HostAddressNotAvailable) [0] \
+         Err(HostAddressNotAvailable)",
+    ),
+    (
+        Place::Bare(0x1000, 8),
+        8,
+        0,
+        "false None None Err(HostAddressNotAvailable) Err(HostAddressNotAvailable) [] \
          Err(HostAddressNotAvailable)",
     ),
 ];
@@ -406,6 +413,26 @@ fn a_region_is_accessed_by_offset(rt: HostRuntime) -> Result<(), Fail> {
         let region = regions.first().ok_or("there is a region")?;
         let text = offset_text(rt.alloc(), &mut host, &**region, *offset, *count)?;
         expect_text(case, text.as_str(), wanted)?;
+    }
+    Ok(())
+}
+
+#[test]
+fn a_region_without_bytes_refuses_the_empty_access_too(rt: HostRuntime) -> Result<(), Fail> {
+    let mut host = HostMemory::new(rt.alloc());
+    let region = TestRegion::bare(GuestAddress(0x1000), 8).ok_or("the region fits")?;
+    let refused = "Err(HostAddressNotAvailable)";
+    for (case, (offset, count)) in [(0, 0), (8, 0), (u64::MAX, 0), (0, 1)].iter().enumerate() {
+        expect_accesses(
+            rt.alloc(),
+            &mut host,
+            &region,
+            case,
+            MemoryRegionAddress(*offset),
+            *count,
+            refused,
+            refused,
+        )?;
     }
     Ok(())
 }

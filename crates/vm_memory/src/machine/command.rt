@@ -223,7 +223,7 @@ pub enum Ending {
 #[derive(Debug, Drop)]
 pub enum Reply {
     /// The number of the layout that was made.
-    LayoutMade(usize),
+    Layout(usize),
     /// The number of the memory that was made.
     MemoryMade(usize),
     /// The command did all that it asks for, and has nothing to tell.

@@ -69,7 +69,7 @@ impl<R: GuestMemoryRegion, I: Iommu, B: ExactBitmap> Machine<R, I, B> {
     // Makes a layout the next, where its regions are held.
     fn add_layout(&mut self, layout: GuestRegionCollection<R>) -> Reply
         requires { HoldsRegions R.region self.old.host layout }
-        ensures { ((result ≡ reply.LayoutMade (length self.old.layouts))
+        ensures { ((result ≡ reply.Layout (length self.old.layouts))
             × (self.new ≡ record self.old { layouts = self.old.layouts ++ layout ∷ [] }))
             ⊎ ((result ≡ reply.Memory) × (self.new ≡ self.old)) }
     {
@@ -77,7 +77,7 @@ impl<R: GuestMemoryRegion, I: Iommu, B: ExactBitmap> Machine<R, I, B> {
         if self.layouts.push(layout).is_err() {
             return Reply::Memory;
         }
-        Reply::LayoutMade(number)
+        Reply::Layout(number)
     }
 }
 

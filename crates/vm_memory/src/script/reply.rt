@@ -46,7 +46,7 @@ impl fmt::Display for SetupReply {
 impl fmt::Display for Reply {
     fn fmt<W: fmt::Write>(&self, f: &mut fmt::Formatter<W>) -> fmt::Result {
         match self {
-            Reply::LayoutMade(number) => write!(f, "layout {number}"),
+            Reply::Layout(number) => write!(f, "layout {number}"),
             Reply::MemoryMade(number) => write!(f, "memory {number}"),
             Reply::Done => write!(f, "ok"),
             Reply::Count(count) => write!(f, "count {count}"),

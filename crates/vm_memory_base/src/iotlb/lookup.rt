@@ -84,7 +84,7 @@ pub enum LookupError {
 }
 
 /// The pieces of a look-up, in the order of the I/O addresses that lead to them.
-#[derive(Drop)]
+#[derive(Debug, Drop)]
 pub struct IotlbIterator<'a> {
     runs: &'a [MappedRun],
     at: u64,

@@ -11,11 +11,11 @@ use Rattle.vm_memory_base.specs.declared.iotlb.IommuError.TheVariants.{CannotRes
 use Rattle.vm_memory_base.specs.declared.iotlb.Permissions.{Permissions}
 use Rattle.vm_memory_base.specs.declared.iotlb.Reason.{Reason}
 use Rattle.vm_memory_guest.specs.Access.{Access, AccessFault}
-use Rattle.vm_memory_guest.specs.Answer.{counted, exactly}
 use Rattle.vm_memory_guest.specs.Error.{error_of}
 use Rattle.vm_memory_guest.specs.Host.{Host, Shape, Cell}
 use Rattle.vm_memory_guest.specs.Memory.{Memory}
 use Rattle.vm_memory_guest.specs.Region.{Region}
+use Rattle.vm_memory_guest.specs.Transfer.{all_of, ended}
 use Rattle.vm_memory_guest.specs.Window.{Window}
 use Rattle.vm_memory_guest.specs.declared.region.GuestMemoryError.{GuestMemoryError}
 use Rattle.vm_memory_guest.specs.declared.region.GuestMemoryError.TheVariants.{IommuError, PartialBuffer}
@@ -129,13 +129,13 @@ piece base len = record { base = record { 0 = base }; length = len }
 abbrev pub memory_without_iommu : List Region → Memory
 memory_without_iommu regions = record { regions = regions; iommu = None }
 
--- the answer to an access of n bytes: how many it reached, or why none
-abbrev pub counted_access : Access → ℕ → Result ℕ AccessFault
-counted_access access n = counted (length access.path) access.fault n
+-- the answer to an access: how many bytes it reached, or why none
+abbrev pub counted_access : Access → Result ℕ AccessFault
+counted_access access = ended (length access.path) access.fault
 
 -- the answer to an access that wants all n bytes
 abbrev pub exact_access : Access → ℕ → Result (Unit {0}) GuestMemoryError
-exact_access access n = exactly PartialBuffer (length access.path) (option_map error_of access.fault) n
+exact_access access n = all_of PartialBuffer n (ended (length access.path) (option_map error_of access.fault))
 
 -- the error that tells that the translation of len addresses from base on was refused
 abbrev pub cannot_resolve : ℕ → ℕ → Reason → GuestMemoryError

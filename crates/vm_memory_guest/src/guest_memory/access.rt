@@ -1,12 +1,12 @@
 //! Access to bytes of guest memory, by guest address.
-ghost use Rattle.std.specs.Prelude.{◌≡◌, ◌⊎◌, ◌-◌, ◌^◌, ◌<◌, ◌≤◌, min, length, IfOk, MatchResult, OnSome, Ok, Err, option_map, ◌==◌, if◌then◌else◌};
+ghost use Rattle.std.specs.Prelude.{◌≡◌, ◌⊎◌, ◌-◌, ◌^◌, ◌<◌, ◌≤◌, min, length, IfOk, MatchResult, Ok, Err, option_map, ◌==◌, if◌then◌else◌};
 ghost use Rattle.std.specs.List.{AllByRecursion};
 ghost use Rattle.vm_memory_guest.specs.Access.{access_of, windows};
 ghost use Rattle.vm_memory_guest.specs.Host.{shape_of, Holds};
-ghost use Rattle.vm_memory_guest.specs.Answer.{counted, filled_buffer, told};
+ghost use Rattle.vm_memory_guest.specs.Answer.{filled_buffer, told};
 ghost use Rattle.vm_memory_guest.specs.Error.{error_of, of_window};
 ghost use Rattle.vm_memory_guest.specs.Memory.{IsOn, route};
-ghost use Rattle.vm_memory_guest.specs.Transfer.{UntilWhole};
+ghost use Rattle.vm_memory_guest.specs.Transfer.{UntilWhole, ended};
 ghost use Rattle.vm_memory_guest.specs.Typed.{first_aligned, place_of};
 ghost use Rattle.vm_memory_guest.specs.lemmas.TypedFacts.{first-sized};
 ghost use Rattle.vm_memory_guest.specs.Walk.{reached, GivesAccess, RefusesAccess, WantsMemory};
@@ -215,7 +215,6 @@ fn windows_of<'m, M: GuestMemory, B: Bitmap>(
     ensures held { IfOk result
         (λ walk. AllByRecursion (λ w. Holds (shape_of host.now) (window_names w)) walk.windows) }
     ensures fits { IfOk result (λ walk. span walk.windows ≤ count) }
-    ensures asked { IfOk result (λ walk. OnSome walk.fault (0 < count)) }
 {
     memory.get_slices(host, addr, count, access)
 }
@@ -229,9 +228,8 @@ fn write_windows<M: GuestMemoryBackend, B: Bitmap>(
 ) -> GuestMemoryResult<usize>
     requires held { AllByRecursion (λ w. Holds (shape_of host.old) (window_names w)) walk.windows }
     requires fits { span walk.windows ≤ length buf.now }
-    requires asked { OnSome walk.fault (0 < length buf.now) }
     ensures answer { let walk = walk.entry in
-        result ≡ counted (span walk.windows) (option_map error_of walk.fault) (length buf.now) }
+        result ≡ ended (span walk.windows) (option_map error_of walk.fault) }
     ensures bytes { Writes B.marks walk.entry.windows buf.now host.old host.new }
 {
     let mut total = 0;
@@ -257,9 +255,8 @@ fn read_windows<M: GuestMemoryBackend, B: Bitmap>(
 ) -> GuestMemoryResult<usize>
     requires held { AllByRecursion (λ w. Holds (shape_of host.now) (window_names w)) walk.windows }
     requires fits { span walk.windows ≤ length buf.old }
-    requires asked { OnSome walk.fault (0 < length buf.old) }
     ensures answer { let walk = walk.entry in
-        result ≡ counted (span walk.windows) (option_map error_of walk.fault) (length buf.old) }
+        result ≡ ended (span walk.windows) (option_map error_of walk.fault) }
     ensures bytes { buf.new ≡ filled_buffer host.now.blocks (cells walk.entry.windows) buf.old }
 {
     let mut total = 0;
@@ -285,9 +282,8 @@ fn write_value<M: GuestMemoryBackend, V: ByteValued, B: Bitmap>(
 ) -> GuestMemoryResult<usize>
     requires held { AllByRecursion (λ w. Holds (shape_of host.old) (window_names w)) walk.windows }
     requires fits { span walk.windows ≤ min V.width (2 ^ 64 - 1) }
-    requires asked { OnSome walk.fault (0 < V.width) }
     ensures answer { let walk = walk.entry in
-        result ≡ counted (span walk.windows) (option_map error_of walk.fault) V.width }
+        result ≡ ended (span walk.windows) (option_map error_of walk.fault) }
     ensures bytes { Writes B.marks walk.entry.windows (V.bytes value.now) host.old host.new }
 {
     value.known();
@@ -313,9 +309,8 @@ fn read_value<M: GuestMemoryBackend, V: ByteValued, B: Bitmap>(
 ) -> GuestMemoryResult<usize>
     requires held { AllByRecursion (λ w. Holds (shape_of host.now) (window_names w)) walk.windows }
     requires fits { span walk.windows ≤ min V.width (2 ^ 64 - 1) }
-    requires asked { OnSome walk.fault (0 < V.width) }
     ensures answer { let walk = walk.entry in
-        result ≡ counted (span walk.windows) (option_map error_of walk.fault) V.width }
+        result ≡ ended (span walk.windows) (option_map error_of walk.fault) }
     ensures bytes { let cells = cells walk.entry.windows in
         V.bytes value.new ≡ filled_buffer host.now.blocks cells (V.bytes value.old) }
 {

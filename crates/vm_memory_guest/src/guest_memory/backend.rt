@@ -203,7 +203,7 @@ pub trait GuestMemoryBackend: Named + Drop {
 }
 
 /// The walk through a backend: docs/DEFINITIONS.md, "Walks". After its end or an error it stays ended.
-#[derive(Drop)]
+#[derive(Debug, Drop)]
 pub struct GuestMemoryBackendSliceIterator<'a, M: GuestMemoryBackend> {
     mem: &'a M,
     addr: GuestAddress,

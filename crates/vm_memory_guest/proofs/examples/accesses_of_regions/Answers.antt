@@ -17,4 +17,5 @@ returns c = record {
   met_twice = (refl, refl, refl);
   into_no_host_bytes = (refl, refl, refl, refl);
   from_no_host_bytes = (refl, refl);
+  empty_in_no_host_bytes = (refl, refl);
 }

@@ -18,5 +18,7 @@ returns c = record {
   in_part = refl;
   past_the_end = refl;
   no_host_bytes = refl;
+  empty_in_no_host_bytes = refl;
+  empty_past_the_end = refl;
   misaligned = refl;
 }

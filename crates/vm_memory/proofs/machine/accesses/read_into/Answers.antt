@@ -6,7 +6,7 @@ use Rattle.vm_memory_guest.specs.Host.{bytes_at}
 use Rattle.vm_memory_guest.specs.Memory.{route}
 use Rattle.vm_memory_guest.specs.Error.{error_of}
 use Rattle.vm_memory.specs.Reply.{reached_by, access_result, reply_of_error}
-use Rattle.vm_memory.proofs.AccessLemmas.{counted_is}
+use Rattle.vm_memory.proofs.AccessLemmas.{ended_is}
 use Rattle.vm_memory.proofs.machine.accesses.read_into.Goals as goal
 
 pub returns-in-Ok : goal.returns-in-Ok
@@ -20,9 +20,9 @@ returns-in-Ok g c =
     let each = g.met.M.GuestMemory.each_fits c.args.memory.now in
     let reached = reached_by m host.tables c.args.addr.0 n permissions.Read in
     let given = rw c.as_mut_slice.ensures.value at c.in-Ok.ensures.answer in
-    let answer : Ok c.in-Ok.read ≡ access_result reached n =
+    let answer : Ok c.in-Ok.read ≡ access_result reached =
     rw (by_bytes.count m.regions way c.args.addr.0 n permissions.Read) at given.0 in
-    let all = counted_is (length reached.path) (option_map error_of reached.fault) n c.in-Ok.read answer in
+    let all = ended_is (length reached.path) (option_map error_of reached.fault) c.in-Ok.read answer in
     let len : length c.read.new.buf ≡ buffer.len = omega (arith, buffer.ok.0) in
     let bytes : c.from_vec.result ≡ bytes_at host.blocks (path_cells reached.path) =
     rw (c.from_vec.ensures, c.truncate.ensures.items, with_items_is buffer c.read.new.buf len, given.1, all)
@@ -40,7 +40,7 @@ returns-in-Err g c =
     elim given [
       | inl wanted ↦ inr (c.refused.ensures ∙ ap reply_of_error wanted.0, wanted.1)
       | inr answer ↦ (
-          let told : Err c.in-Err.error ≡ access_result (reached_by m host.tables a n permissions.Read) n =
+          let told : Err c.in-Err.error ≡ access_result (reached_by m host.tables a n permissions.Read) =
           rw count at answer.0 in
           inl (rw (← told) c.refused.ensures))
     ]

@@ -1,9 +1,9 @@
-use Rattle.std.proofs.Common.{◌<◌, ◌≤◌, OnSome}
+use Rattle.std.proofs.Common.{◌≤◌}
 use Rattle.std.specs.List.{AllByRecursion}
 use Rattle.vm_memory_guest.specs.Host.{Holds, shape_of}
 use Rattle.vm_memory_guest.specs.Walk.{GivesAccess}
 use Rattle.vm_memory_guest.specs.Window.{span, window_names}
-use Rattle.vm_memory_guest.proofs.AccessLemmas.{of_given, walk-held, walk-fits, walk-asked}
+use Rattle.vm_memory_guest.proofs.AccessLemmas.{of_given, walk-held, walk-fits}
 use Rattle.vm_memory_guest.proofs.guest_memory.access.windows_of.Goals as goal
 
 pub returns-clause-held : goal.returns-clause-held
@@ -25,11 +25,3 @@ returns-clause-fits g c =
     let a = c.args.addr.0 in
     of_given (GivesAccess m tables a c.args.count c.args.access) (λ walk. span walk.windows ≤ c.args.count) _
     c.get_slices.result c.get_slices.ensures.answer (walk-fits m tables a c.args.count c.args.access)
-
-pub returns-clause-asked : goal.returns-clause-asked
-returns-clause-asked g c =
-    let m = g.M.GuestMemory.memory c.args.memory.now in
-    let tables = c.args.host.now.tables in
-    let a = c.args.addr.0 in
-    of_given (GivesAccess m tables a c.args.count c.args.access) (λ walk. OnSome walk.fault (0 < c.args.count)) _
-    c.get_slices.result c.get_slices.ensures.answer (walk-asked m tables a c.args.count c.args.access)

@@ -49,7 +49,7 @@ pub returns-in-Err-clause-answer : goal.returns-in-Err-clause-answer
 returns-in-Err-clause-answer g c =
     let end = ends_in c.loop-item.item-iterator c.in-Some.item c.in-Err.error
     (items_of c.next.new.self) c.in-Some.ensures.steps c.in-Err.is in
-    c.ended.ensures ∙ answer-ends c.loop-item.invariant.came g.V.ByteSized.width end c.requires.asked
+    c.ended.ensures ∙ answer-ends c.loop-item.invariant.came end
 
 pub returns-in-Err-clause-bytes : goal.returns-in-Err-clause-bytes
 returns-in-Err-clause-bytes g c =
@@ -59,8 +59,7 @@ returns-in-Err-clause-bytes g c =
 
 pub returns-clause-answer : goal.returns-clause-answer
 returns-clause-answer g c =
-    answer-whole c.loop-item.invariant.came g.V.ByteSized.width
-    (ends_whole c.loop-item.item-iterator c.in-None.ensures.steps.0)
+    answer-whole c.loop-item.invariant.came (ends_whole c.loop-item.item-iterator c.in-None.ensures.steps.0)
 
 pub returns-clause-bytes : goal.returns-clause-bytes
 returns-clause-bytes g c =

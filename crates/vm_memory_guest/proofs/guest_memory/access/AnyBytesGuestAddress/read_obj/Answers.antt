@@ -1,14 +1,14 @@
-use Rattle.std.proofs.Common.{◌≡◌, ◌⊎◌, [], ◌∙◌, ap, sym, subst, arith, length}
+use Rattle.std.proofs.Common.{◌≡◌, ◌⊎◌, ◌∙◌, refl, ap, sym, subst, arith, length}
 use Rattle.std.proofs.lemmas.Result.{err_from_is_err_and}
 use Rattle.std.proofs.lemmas.List.{length-replicate}
 use Rattle.vm_memory_base.specs.declared.iotlb.Permissions.TheVariants.{Read}
-use Rattle.vm_memory_guest.specs.Answer.{exactly}
 use Rattle.vm_memory_guest.specs.Host.{bytes_at}
+use Rattle.vm_memory_guest.specs.Transfer.{all_of, ended}
 use Rattle.vm_memory_guest.specs.Typed.{answered}
 use Rattle.vm_memory_guest.specs.Walk.{GivesAccess, RefusesAccess, WantsMemory}
 use Rattle.vm_memory_guest.specs.Window.{cells, span}
 use Rattle.vm_memory_guest.specs.declared.region.GuestMemoryError.TheVariants.{PartialBuffer}
-use Rattle.vm_memory_guest.proofs.TypedWalk.{exactly-none, completed-whole, value-read, value-refused}
+use Rattle.vm_memory_guest.proofs.TypedWalk.{completed-whole, value-read, value-refused}
 use Rattle.vm_memory_guest.proofs.guest_memory.access.AnyBytesGuestAddress.read_obj.Goals as goal
 
 pub returns-in_err-walk : goal.returns-in_err-walk
@@ -22,8 +22,8 @@ returns-in_err-walk g c short =
     ⊎ RefusesAccess memory host.tables c.args.addr.0 n Read e) width c.in_err-walk.ensures.answer in
     rw (p.1, p.2) (value-refused memory host.tables c.args.addr.0 g.V.ByteSized.width Read
     (λ r. answered (λ done. g.V.ByteValued.value_of (bytes_at host.blocks (cells r.windows)))
-    (exactly PartialBuffer (span r.windows) r.fault g.V.ByteSized.width)) (Unit {0}) (λ ws. Unit {0}) e why
-    (λ some. ap (answered (λ done. g.V.ByteValued.value_of [])) (exactly-none g.V.ByteSized.width e some)) tt tt)
+    (all_of PartialBuffer g.V.ByteSized.width (ended (span r.windows) r.fault))) (Unit {0}) (λ ws. Unit {0}) e why
+    refl tt tt)
 
 pub returns : goal.returns
 returns g c short =

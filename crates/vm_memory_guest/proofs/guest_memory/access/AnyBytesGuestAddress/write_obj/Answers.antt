@@ -1,12 +1,12 @@
 use Rattle.std.proofs.Common.{◌≡◌, ◌⊎◌, refl, subst, arith}
 use Rattle.std.proofs.lemmas.Result.{err_from_is_err_and}
 use Rattle.vm_memory_base.specs.declared.iotlb.Permissions.TheVariants.{Write}
-use Rattle.vm_memory_guest.specs.Answer.{exactly}
+use Rattle.vm_memory_guest.specs.Transfer.{all_of, ended}
 use Rattle.vm_memory_guest.specs.Walk.{RefusesAccess, WantsMemory}
 use Rattle.vm_memory_guest.specs.Window.{Writes, span}
 use Rattle.vm_memory_guest.specs.declared.region.GuestMemoryError.TheVariants.{PartialBuffer}
 use Rattle.vm_memory_guest.proofs.MarkLaws.{shape_of-Writes}
-use Rattle.vm_memory_guest.proofs.TypedWalk.{exactly-none, value-refused}
+use Rattle.vm_memory_guest.proofs.TypedWalk.{value-refused}
 use Rattle.vm_memory_guest.proofs.guest_memory.access.AnyBytesGuestAddress.write_obj.Goals as goal
 
 pub returns-in_err-walk-clause-answer : goal.returns-in_err-walk-clause-answer
@@ -19,9 +19,9 @@ returns-in_err-walk-clause-answer g c short =
     let why = subst (λ n. WantsMemory memory e
     ⊎ RefusesAccess memory host.tables c.args.addr.0 n Write e) width c.in_err-walk.ensures.answer in
     rw (p.1, p.2) (value-refused memory host.tables c.args.addr.0 g.V.ByteSized.width Write
-    (λ r. exactly PartialBuffer (span r.windows) r.fault g.V.ByteSized.width) (host ≡ host)
+    (λ r. all_of PartialBuffer g.V.ByteSized.width (ended (span r.windows) r.fault)) (host ≡ host)
     (λ ws. Writes g.B.Bitmap.marks ws (g.V.ByteValued.bytes c.args.val) host host) e why
-    (exactly-none g.V.ByteSized.width e) refl refl)
+    refl refl refl)
 
 pub returns-in_err-completed-clause-shape : goal.returns-in_err-completed-clause-shape
 returns-in_err-completed-clause-shape g c =
