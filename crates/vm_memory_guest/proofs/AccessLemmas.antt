@@ -194,8 +194,8 @@ module _ {B : Type 0} (marks : B → ℕ → ℕ → B → Type 0) where
 
   -- at the end all windows are written
   pub wrote-ends : {start left : Reach AccessFault} {buf : List ℕ} {old now : Host B} {total : ℕ}
-    {error : Option GuestMemoryError} → Wrote start left buf old now total → Ends left error → Writes marks
-    start.windows buf old now
+      {error : Option GuestMemoryError} → Wrote start left buf old now total → Ends left error → Writes marks
+      start.windows buf old now
   wrote-ends {start} {left} {buf} {old} {now} wrote ends =
       subst (λ (ws : List Window). Writes marks ws buf old now) (sym (came-done wrote.came ends)) wrote.writes
 

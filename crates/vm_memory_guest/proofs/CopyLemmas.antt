@@ -25,7 +25,7 @@ pub moved : (blocks : Vec (Vec ℕ Global) Global) (items : List (Vec ℕ Global
     → blocks_of (with_items blocks items)
     ≡ written (cells_from target to len) (bytes_at (blocks_of blocks) (cells_from source from len)) (blocks_of blocks)
 moved blocks items source from target to len s t d e old bytes new there here s_is t_is readable writable taken old_is
-  put items_is =
+    put items_is =
     let all = blocks_of blocks in
     let source_is = block-vec blocks source s d there s_is in
     let target_is = block-vec blocks target t e here t_is in

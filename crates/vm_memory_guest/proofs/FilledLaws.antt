@@ -1,5 +1,5 @@
 -- Windows that a source filled whole: what their transfer answered, and that each of their bytes is dirty.
-use Rattle.std.proofs.Common.{◌≡◌, ℕ, zero, suc, ◌+◌, ◌-◌, ◌%◌, ◌^◌, ◌<◌, ◌≤◌, ◌==◌, Bool, true, false, MatchBool, List, [], ◌∷◌, map, Option, Some, Result, Ok, Err, IfOk, Contains, inl, inr, refl, sym, ap, subst, ◌∙◌, arith}
+use Rattle.std.proofs.Common.{◌≡◌, ◌≢◌, ℕ, zero, suc, ◌+◌, ◌-◌, ◌%◌, ◌^◌, ◌<◌, ◌≤◌, ◌==◌, Bool, true, false, MatchBool, List, [], ◌∷◌, map, Option, Some, Result, Ok, Err, IfOk, Contains, inl, inr, refl, sym, ap, subst, ◌∙◌, arith}
 use Rattle.std.proofs.Math.Nat.{mod-eq_of_lt}
 use Rattle.std.proofs.lemmas.Bool.{cases_lt}
 use Rattle.std.proofs.lemmas.Bool.Decides.{nat_tests}
@@ -27,33 +27,39 @@ module _ {X E : Type 0} (failure : VolatileMemoryError → E) (fault : Option E)
       → InOrder failure fault Moves ws total old (Ok n) new → total + span ws ≤ n → AllWhole Moves ws old new
   unfolding InOrder AllWhole
   whole_if_all [] total n old new h enough = h.1
-  whole_if_all (w ∷ ws) total n old new h enough = go h.0 h.2 h.3
+  whole_if_all (w ∷ ws) total n old new h enough =
+      go (λ now rest some. whole_if_all ws now n h.1 new rest some) h.0 h.2 h.3
     where
+      Others : Type 0
+      Others = (now : ℕ) → InOrder failure fault Moves ws now h.1 (Ok n) new → now + span ws ≤ n
+          → AllWhole Moves ws h.1 new
+
       size : span (w ∷ ws) ≡ w.size + span ws
       size = span-cons w ws
 
-      next : (count : ℕ) → Moves w old (Ok count) h.1 → (b : Bool) → (count == w.size) ≡ b
+      next : Others → (count : ℕ) → Moves w old (Ok count) h.1 → (b : Bool) → (count == w.size) ≡ b
           → MatchBool b (InOrder failure fault Moves ws (total + count) h.1 (Ok n) new)
-          ((Ok n ≡ Ok (total + count)) × (new ≡ h.1))
+          ((◌≡◌ {A = Result ℕ E} (Ok n) (Ok (total + count))) × (new ≡ h.1))
           → (mid : X) × Moves w old (Ok w.size) mid × AllWhole Moves ws mid new
-      next count m true is rest =
+      next others count m true is rest =
           let all : count ≡ w.size = grind (arith, nat_tests) in
           let e = size in (
             h.1,
             subst (λ (k : ℕ). Moves w old (Ok k) h.1) all m,
-            whole_if_all ws (total + count) n h.1 new rest (omega arith),
+            others (total + count) rest (omega arith),
           )
-      next count m false is ended =
+      next others count m false is ended =
           let part : count ≢ w.size = grind (arith, nat_tests) in
           let most : count ≤ w.size = within w old h.1 (Ok count) m in
           let e = size in
-          let so : n ≡ total + count = cc in absurd (omega arith)
+          let so : n ≡ total + count = let e : ◌≡◌ {A = Result ℕ E} (Ok n) (Ok (total + count)) = ended.0 in cc in
+          absurd (omega arith)
 
-      go : (moved : Answer) → Moves w old moved h.1
+      go : Others → (moved : Answer) → Moves w old moved h.1
           → Then failure fault Moves w ws total h.1 (Ok n) new moved
           → (mid : X) × Moves w old (Ok w.size) mid × AllWhole Moves ws mid new
-      go (Ok count) m t = next count m (count == w.size) refl t
-      go (Err e) m t = absurd (cc)
+      go others (Ok count) m t = next others count m (count == w.size) refl t
+      go others (Err e) m t = absurd (cc)
 
 -- ---- what tries and turns mark
 

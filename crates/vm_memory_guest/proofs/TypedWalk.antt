@@ -54,9 +54,9 @@ module _ (memory : Memory) (tables : List Table) (a n : ℕ) (access : Permissio
 -- a value is written so far: the bytes behind those that are written come next
 pub wrote_next : {B : Type 0}
     (marks : B → ℕ → ℕ → B → Type 0) {start left next : Reach AccessFault} {w : Window} {bytes : List ℕ}
-      {old mid : Host B} {total : ℕ} → Wrote marks start left bytes old mid total → Gave left next w → (new : Host B)
-      (len : ℕ) → len ≡ w.size → span start.windows ≤ length bytes → Writes marks (w ∷ []) (drop total bytes) mid new
-      → Wrote marks start next bytes old new (total + len)
+    {old mid : Host B} {total : ℕ} → Wrote marks start left bytes old mid total → Gave left next w → (new : Host B)
+    (len : ℕ) → len ≡ w.size → span start.windows ≤ length bytes → Writes marks (w ∷ []) (drop total bytes) mid new
+    → Wrote marks start next bytes old new (total + len)
 wrote_next marks {start} {left} {next} {w} {bytes} {old} {mid} {total} wrote gives new len len_is fits writes =
     let long : span (w ∷ []) ≡ total + len - total = let one = span-one w in omega arith in
     wrote_more marks wrote gives new len len_is fits

@@ -12,19 +12,20 @@ ghost use Rattle.vm_memory_guest.specs.Pieces.{marking, walk_of_pieces};
 ghost use Rattle.vm_memory_guest.specs.Queries.{is_whole};
 ghost use Rattle.vm_memory_guest.specs.Region.{Region, IsRegion, IsLayout, containing_region, region_names, window_at};
 ghost use Rattle.vm_memory_guest.specs.Walk.{reach_of};
-ghost use Rattle.vm_memory_guest.specs.Window.{cells, window_names};
+ghost use Rattle.vm_memory_guest.specs.Window.{cells, span, window_names};
 
 use vm_memory_base::laws::table::{
     allowed_where_each_address_grants, canonical_list_decides_the_table,
 };
 
-/// The windows of a path put together are the path, and so are the marks of their bytes. Inside one region they are
+/// The windows of a path put together are the path, so they have as many bytes, and so are the marks of their bytes. Inside one region they are
 /// one window, and a host that holds the regions and the space holds them.
 pub fn windows_are_the_path()
     ensures bytes { (regions : List Region) (route : Route) (a n : ℕ) → All IsRegion regions
         → let xs = path (meets regions route a) 0 n in cells (windows xs) ≡ path_cells xs }
     ensures marks { (regions : List Region) (route : Route) (a n : ℕ) → All IsRegion regions
         → let xs = path (meets regions route a) 0 n in flat_map window_marks (windows xs) ≡ path_marks xs }
+    ensures span { (xs : List Reached) → span (windows xs) ≡ length xs }
     ensures one { (regions : List Region) (a n : ℕ) (r : Region) (first : Cell) → IsLayout regions
         → containing_region regions a ≡ Some r → r.place ≡ Some first → IsRegion r → 0 < n → a - r.start + n ≤ r.len
         → windows (path (meets regions Direct a) 0 n) ≡ window_at first (a - r.start) n ∷ [] }

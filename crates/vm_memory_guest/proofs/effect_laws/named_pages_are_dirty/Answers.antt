@@ -3,4 +3,4 @@ use Rattle.vm_memory_guest.proofs.effect_laws.named_pages_are_dirty.Goals as goa
 
 pub returns : goal.returns
 returns c = is_dirty_at-after_write c.marked_bytes_are_dirty.ensures.own c.marked_bytes_are_dirty.ensures.before
-  c.mark_keeps_shape.ensures.pages
+    c.mark_keeps_shape.ensures.pages

@@ -1,3 +1,5 @@
+use Rattle.std.proofs.Common.{ℕ, ◌+◌, ◌≤◌, arith}
+use Rattle.vm_memory_guest.specs.Window.{span}
 use Rattle.vm_memory_guest.specs.Error.{of_window}
 use Rattle.vm_memory_guest.specs.Transfer.{Fills, UntilWhole}
 use Rattle.vm_memory_guest.proofs.FilledLaws.{fills_within, whole_if_all}
@@ -6,5 +8,6 @@ use Rattle.vm_memory_guest.proofs.transfer_laws.whole_transfers_in_fill_each_win
 pub returns : goal.returns
 returns g c fault ws n source after old new moved enough =
     let r = g.S.ReadVolatile in
+    let all : 0 + span ws ≤ n = omega (arith, enough) in
     whole_if_all of_window fault (Fills r.source r.reads r.known_left g.B.Bitmap.marks UntilWhole)
-    (fills_within r.source r.reads g.B.Bitmap.marks r.known_left) ws 0 n (source, old) (after, new) moved enough
+    (fills_within r.source r.reads g.B.Bitmap.marks r.known_left) ws 0 n (source, old) (after, new) moved all

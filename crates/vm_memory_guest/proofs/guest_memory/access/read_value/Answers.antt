@@ -49,7 +49,7 @@ loop-item-preserved g c =
     ap length c.bytes.ensures ∙ length-bytes c.args.host.now.blocks c.in-Ok.window in
     filled_next c.loop-item.invariant next
     (g.V.ByteValued.bytes c.set_bytes.new.self) c.bytes.result.now c.len-total.result c.len-total.ensures long
-      c.bytes.ensures c.set_bytes.ensures
+    c.bytes.ensures c.set_bytes.ensures
 
 pub returns-in-Err-clause-answer : goal.returns-in-Err-clause-answer
 returns-in-Err-clause-answer g c =

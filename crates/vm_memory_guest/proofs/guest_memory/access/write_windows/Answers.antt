@@ -34,7 +34,7 @@ pub loop-item-preserved : goal.loop-item-preserved
 loop-item-preserved g c =
     let next = gives g (goal.at.loop-item-preserved g c).In-Ok in
     wrote_more g.B.Bitmap.marks c.loop-item.invariant next c.write.new.self c.len.result c.len.ensures c.requires.fits
-      c.write.ensures.bytes
+    c.write.ensures.bytes
 
 pub returns-in-Err-clause-answer : goal.returns-in-Err-clause-answer
 returns-in-Err-clause-answer g c =

@@ -40,5 +40,5 @@ returns-in_err-walk-in-None g c =
 pub pieces-preserved : goal.pieces-preserved
 pieces-preserved g c =
     let now = left-next c.pieces.walk c.in_ok-walk-in-None.field-0 c.pieces.behind c.next_walk.new.self
-      c.in-None.ensures.steps.0 c.in_ok-walk-in-None.ensures.walk c.in_ok-walk-in-None.ensures.left.0 in
+    c.in-None.ensures.steps.0 c.in_ok-walk-in-None.ensures.walk c.in_ok-walk-in-None.ensures.left.0 in
     (tt, tt, c.pieces.invariant.2 ∙ now)

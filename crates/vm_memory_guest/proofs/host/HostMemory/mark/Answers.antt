@@ -12,7 +12,7 @@ returns-in-Block g c =
         after = c.mark_dirty.new.self;
         was = slice_get_read c.self.inside.bitmaps.items
             (length c.self.inside.bitmaps.items) c.in-Block.block c.index_mut-bitmap.result.now refl there
-              c.index_mut-bitmap.ensures.value;
+            c.index_mut-bitmap.ensures.value;
         marked = c.mark_dirty.ensures;
         is = refl;
       },
@@ -29,7 +29,7 @@ returns-in-Space g c =
         after = c.mark_dirty-in-Space.new.self;
         was = slice_get_read c.self.inside.spaces.items
             (length c.self.inside.spaces.items) c.in-Space.space c.index_mut-bitmap-in-Space.result.now refl there
-              c.index_mut-bitmap-in-Space.ensures.value;
+            c.index_mut-bitmap-in-Space.ensures.value;
         marked = c.mark_dirty-in-Space.ensures;
         is = refl;
       },

@@ -6,10 +6,10 @@ pub invariant_of-self : goal.invariant_of-self
 invariant_of-self g c =
     sound-put c.self.inside.shape (blocks_of c.self.inside.blocks)
     (blocks_of c.put_values_in.new.blocks) c.self.inside.bitmaps.items c.self.inside.spaces.items
-      c.self.inside.tables.items c.put_values_in.ensures.lengths c.self.invariant
+    c.self.inside.tables.items c.put_values_in.ensures.lengths c.self.invariant
 
 pub returns-clause-shape : goal.returns-clause-shape
 returns-clause-shape g c =
     rw (← c.self.view_is) (shape-put (blocks_of c.self.inside.blocks)
     (blocks_of c.put_values_in.new.blocks) c.self.inside.bitmaps.items c.self.inside.spaces.items
-      c.self.inside.tables.items c.put_values_in.ensures.lengths)
+    c.self.inside.tables.items c.put_values_in.ensures.lengths)

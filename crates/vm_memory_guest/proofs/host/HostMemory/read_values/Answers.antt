@@ -13,4 +13,4 @@ value_in-requires g c =
 pub loop-k-preserved : goal.loop-k-preserved
 loop-k-preserved g c short =
     values-put g.T.ByteValued.value_of g.T.ByteSized.width c.loop-k.k c.bytes-bytes.result.now c.loop-k.values
-      c.value_in.result (omega arith) (c.loop-k.invariant short) (c.value_in.ensures short)
+    c.value_in.result (omega arith) (c.loop-k.invariant short) (c.value_in.ensures short)

@@ -22,8 +22,8 @@ returns-then-source-target c =
     ap (λ xs. take (c.args.from + c.args.len - c.args.from) (drop c.args.from xs)) c.as_slice.ensures.value in
     moved blocks (low ++ set high 0
     (with_items t new)) c.args.source c.args.from c.args.target c.args.to c.args.len s t c.index-low-source.result
-      c.index-high-0.result c.as_mut_slice-then-source-target.result.now
-      (take (c.args.from + c.args.len - c.args.from) (drop c.args.from c.as_slice.result.now)) new
+    c.index-high-0.result c.as_mut_slice-then-source-target.result.now
+    (take (c.args.from + c.args.len - c.args.from) (drop c.args.from c.as_slice.result.now)) new
     c.requires.source c.requires.target
     (low-at blocks.items low high split c.args.source c.index-low-source.result inside)
     (high-at blocks.items low high split c.args.target c.index-high-0.result seam)
@@ -49,13 +49,13 @@ returns-then-target-source c =
     (drop c.args.from xs)) c.as_slice-then-target-source.ensures.value in
     moved blocks (set low c.args.target (with_items t new)
     ++ high) c.args.source c.args.from c.args.target c.args.to c.args.len s t c.index-high-0-then-target-source.result
-      c.index-low-target.result c.as_mut_slice-then-target-source-2.result.now
-      (take (c.args.from + c.args.len - c.args.from) (drop c.args.from read)) new
+    c.index-low-target.result c.as_mut_slice-then-target-source-2.result.now
+    (take (c.args.from + c.args.len - c.args.from) (drop c.args.from read)) new
     c.requires.source c.requires.target
     (high-at blocks.items low high split c.args.source c.index-high-0-then-target-source.result seam)
     (low-at blocks.items low high split c.args.target c.index-low-target.result inside)
     c.requires.readable c.requires.writable taken c.as_mut_slice-then-target-source-2.ensures.value
-      c.move_into-then-target-source.ensures
+    c.move_into-then-target-source.ensures
     (set-low blocks.items low high split c.args.target (with_items t new) inside)
 
 pub returns : goal.returns
@@ -67,5 +67,5 @@ returns c =
     let one : c.args.source ≡ c.args.target = omega arith in
     let readable = subst (λ s. c.args.from + c.args.len ≤ length (block_at blocks s)) one c.requires.readable in
     rw one (moved-inside c.args.blocks.now c.args.target c.args.from c.args.to c.args.len all
-      c.as_mut_slice-2.result.now c.copy_inside.new.block there same c.as_mut_slice-2.ensures.value readable
-      c.requires.writable c.copy_inside.ensures)
+    c.as_mut_slice-2.result.now c.copy_inside.new.block there same c.as_mut_slice-2.ensures.value readable
+    c.requires.writable c.copy_inside.ensures)

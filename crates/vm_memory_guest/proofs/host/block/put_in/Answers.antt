@@ -16,4 +16,4 @@ returns c =
     ++ drop (c.args.offset + length c.args.bytes.now) (block_at blocks c.args.block) =
     rw (← same) c.move_into.ensures in
     put-block c.args.blocks.now.items c.args.block c.args.offset all c.args.bytes.now c.move_into.new.block there is
-      c.requires.within moved
+    c.requires.within moved

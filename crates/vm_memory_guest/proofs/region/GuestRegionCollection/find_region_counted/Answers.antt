@@ -28,7 +28,7 @@ module _ (g : Over) (c : After-deref-region g) where
       let value = λ (q : Arc g.row.R.Denot Global). q.value in
       let n = c.first_above-next.result.0 in
       let same = length-starts g.R.GuestMemoryRegion.region g.met.R.GuestMemoryRegion.fits values
-        c.as_slice.result.now indexed in
+      c.as_slice.result.now indexed in
       let long = length-map rs value in
       let within = c.first_above-next.ensures.within in
       let first = some in
@@ -51,7 +51,7 @@ module _ (g : Over) (c : After-deref-region g) where
       ≡ containing_in region ys c.args.addr.0) c.self.view_is
       (containing_in-before region g.met.R.GuestMemoryRegion.fits values c.as_slice.result.now indexed c.args.addr.0
       c.first_above-next.result.0 told.above c.deref-region.result.now some told.within value_at
-        c.first_above-next.result.1
+      c.first_above-next.result.1
       (told.start some) low h)
 
   missed : let r = g.R.GuestMemoryRegion.region c.deref-region.result.now in
@@ -63,7 +63,7 @@ module _ (g : Over) (c : After-deref-region g) where
       subst (λ (ys : List g.row.R.Denot). None ≡ containing_in region ys c.args.addr.0) c.self.view_is
       (containing_in-past region g.met.R.GuestMemoryRegion.fits values c.as_slice.result.now indexed c.args.addr.0
       c.first_above-next.result.0 told.above c.deref-region.result.now some told.within value_at
-        c.first_above-next.result.1
+      c.first_above-next.result.1
       (told.start some) low h)
 
 pub first_above-next-requires : goal.first_above-next-requires

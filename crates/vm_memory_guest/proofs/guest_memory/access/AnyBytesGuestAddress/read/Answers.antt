@@ -10,7 +10,7 @@ returns-in_err-walk-clause-answer g c =
     rw (p.1, p.2) (outcome-refused (g.T.GuestMemory.memory c.args.self.now) c.args.host.now.tables c.args.addr.0
     (length c.args.buf.now) Read (c.args.buf.now ≡ c.args.buf.now)
     (FilledBy c.args.host.now c.args.buf.now c.args.buf.now) c.in_err-walk.field-0.0 c.in_err-walk.ensures.answer refl
-      refl)
+    refl)
 
 pub returns-clause-answer : goal.returns-clause-answer
 returns-clause-answer g c =
@@ -18,10 +18,10 @@ returns-clause-answer g c =
     (length c.args.buf.now) Read c.in_ok-walk.walk c.in_ok-walk.ensures.answer c.read_windows.result
     (c.read_windows.new.buf ≡ c.args.buf.now)
     (FilledBy c.args.host.now c.args.buf.now c.read_windows.new.buf) c.read_windows.ensures.answer
-      c.read_windows.ensures.bytes
+    c.read_windows.ensures.bytes
 
 pub returns-clause-at_most : goal.returns-clause-at_most
 returns-clause-at_most g c =
     at_most-walk (g.T.GuestMemory.memory c.args.self.now) c.args.host.now.tables c.args.addr.0
     (length c.args.buf.now) Read c.in_ok-walk.walk c.in_ok-walk.ensures.answer c.read_windows.result
-      c.read_windows.ensures.answer
+    c.read_windows.ensures.answer

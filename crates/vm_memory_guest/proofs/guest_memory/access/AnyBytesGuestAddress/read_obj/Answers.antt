@@ -32,13 +32,15 @@ returns g c short =
     let walk = c.in_ok-walk.walk in
     let width : c.size.result ≡ g.V.ByteSized.width = omega (arith, c.size.ensures) in
     let gives = subst (λ n. GivesAccess memory host.tables c.args.addr.0 n Read walk) width
-      c.in_ok-walk.ensures.answer in
+    c.in_ok-walk.ensures.answer in
     let all : c.in_ok-completed.completed ≡ g.V.ByteSized.width =
     completed-whole c.in_ok-completed.completed c.size-2.result c.in_ok-whole.field-0 c.in_ok-whole.ensures
     ∙ (c.size-2.ensures ∙ sym c.size.ensures ∙ width) in
     let zeros = ap length c.zeroed-value.ensures ∙ length-replicate g.V.ByteSized.width 0 in
-    let value = g.met.V.ByteValued.laws.from_bytes c.read_value.new.value c.known.ensures in
-    (value-read memory host.tables c.args.addr.0 g.V.ByteSized.width Read walk gives host.blocks
-      c.read_value.new.value g.V.ByteValued.value_of (g.V.ByteValued.bytes c.zeroed-value.result)
-      (g.V.ByteValued.bytes c.read_value.new.value) c.in_ok-completed.completed c.in_ok-completed.ensures.answer all
-      zeros c.in_ok-completed.ensures.bytes value, tt)
+    let value = g.met.V.ByteValued.laws.from_bytes c.read_value.new.value c.known.ensures in (
+      value-read memory host.tables c.args.addr.0 g.V.ByteSized.width Read walk gives host.blocks
+          c.read_value.new.value g.V.ByteValued.value_of (g.V.ByteValued.bytes c.zeroed-value.result)
+          (g.V.ByteValued.bytes c.read_value.new.value) c.in_ok-completed.completed c.in_ok-completed.ensures.answer all
+          zeros c.in_ok-completed.ensures.bytes value,
+      tt,
+    )

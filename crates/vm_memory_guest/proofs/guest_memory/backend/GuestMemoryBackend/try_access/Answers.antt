@@ -72,7 +72,7 @@ loop-region-preserved g c =
     c.in_ok-handled.handled c.in-Some-next.next.0 in
     let behind = rw c.in-Some-next.is at c.in_ok-next.ensures.1 in (
       mut_next g.F.FnMut c.loop-region.f _ c.f.result c.f.new.self c.f.new.self c.f.ensures refl
-        c.loop-region.invariant.0,
+          c.loop-region.invariant.0,
       inl behind.2,
       λ answer last rest. c.loop-region.invariant.2 answer last
           (goes answer last c.in_ok-handled.was behind.0 behind.3 rest),
