@@ -1,5 +1,5 @@
 -- Windows that a source filled whole: what their transfer answered, and that each of their bytes is dirty.
-use Rattle.std.proofs.Common.{◌≡◌, ◌≢◌, ℕ, zero, suc, ◌+◌, ◌-◌, ◌%◌, ◌^◌, ◌<◌, ◌≤◌, ◌==◌, Bool, true, false, MatchBool, List, [], ◌∷◌, map, Option, Some, Result, Ok, Err, IfOk, Contains, inl, inr, refl, sym, ap, subst, ◌∙◌, arith}
+use Rattle.std.proofs.Common.{◌≡◌, ◌≢◌, ℕ, zero, suc, ◌+◌, ◌-◌, ◌%◌, ◌^◌, ◌<◌, ◌≤◌, ◌==◌, Bool, true, false, MatchBool, List, [], ◌∷◌, map, Option, Some, Result, Ok, Err, IfOk, Contains, inl, inr, refl, sym, ap, subst, ◌∙◌, None, arith}
 use Rattle.std.proofs.Math.Nat.{mod-eq_of_lt}
 use Rattle.std.proofs.lemmas.Bool.{cases_lt}
 use Rattle.std.proofs.lemmas.Bool.Decides.{nat_tests}
@@ -10,7 +10,7 @@ use Rattle.vm_memory_guest.specs.Copy.{front}
 use Rattle.vm_memory_guest.specs.Dirt.{marks_pages, pages_at, with_pages}
 use Rattle.vm_memory_guest.specs.Host.{Host, written}
 use Rattle.vm_memory_guest.specs.Lent.{AllWhole, AreDirty, IsDirty}
-use Rattle.vm_memory_guest.specs.Transfer.{Fills, InOrder, LendsWindow, UntilWhole, marked_of}
+use Rattle.vm_memory_guest.specs.Transfer.{Fills, InOrder, LendsWindow, UntilWhole, ended, marked_of}
 use Rattle.vm_memory_guest.specs.Window.{Window, cells_of, part, span}
 use Rattle.vm_memory_guest.specs.lemmas.Orders.{Then}
 use Rattle.vm_memory_guest.proofs.DirtLaws.{EmptyMark, with_pages-MarksWindow}
@@ -23,16 +23,21 @@ use Rattle.vm_memory_guest.proofs.WrittenLaws.{span-cons}
 module _ {X E : Type 0} (failure : VolatileMemoryError → E) (fault : Option E)
     (Moves : Window → X → Answer → X → Type 0)
     (within : (w : Window) (x z : X) (a : Answer) → Moves w x a z → IfOk a (λ count. count ≤ w.size)) where
+  ended_at : (total n : ℕ) (o : Option E) → ◌≡◌ {A = Result ℕ E} (Ok n) (ended total o) → n ≡ total
+  ended_at total n None is = cc
+  ended_at total n (Some e) is = grind (arith, nat_tests)
+
   pub whole_if_all : (ws : List Window) (total n : ℕ) (old new : X)
-      → InOrder failure fault Moves ws total old (Ok n) new → total + span ws ≤ n → AllWhole Moves ws old new
+      → InOrder failure fault Moves ws total old (Ok n) new → total + span ws ≤ n
+      → (n ≡ total + span ws) × AllWhole Moves ws old new
   unfolding InOrder AllWhole
-  whole_if_all [] total n old new h enough = h.1
+  whole_if_all [] total n old new h enough = let e = ended_at total n fault h.0 in (omega arith, h.1)
   whole_if_all (w ∷ ws) total n old new h enough =
       go (λ now rest some. whole_if_all ws now n h.1 new rest some) h.0 h.2 h.3
     where
       Others : Type 0
       Others = (now : ℕ) → InOrder failure fault Moves ws now h.1 (Ok n) new → now + span ws ≤ n
-          → AllWhole Moves ws h.1 new
+          → (n ≡ now + span ws) × AllWhole Moves ws h.1 new
 
       size : span (w ∷ ws) ≡ w.size + span ws
       size = span-cons w ws
@@ -40,14 +45,13 @@ module _ {X E : Type 0} (failure : VolatileMemoryError → E) (fault : Option E)
       next : Others → (count : ℕ) → Moves w old (Ok count) h.1 → (b : Bool) → (count == w.size) ≡ b
           → MatchBool b (InOrder failure fault Moves ws (total + count) h.1 (Ok n) new)
           ((◌≡◌ {A = Result ℕ E} (Ok n) (Ok (total + count))) × (new ≡ h.1))
-          → (mid : X) × Moves w old (Ok w.size) mid × AllWhole Moves ws mid new
+          → (n ≡ total + span (w ∷ ws)) × ((mid : X) × Moves w old (Ok w.size) mid × AllWhole Moves ws mid new)
       next others count m true is rest =
           let all : count ≡ w.size = grind (arith, nat_tests) in
-          let e = size in (
-            h.1,
-            subst (λ (k : ℕ). Moves w old (Ok k) h.1) all m,
-            others (total + count) rest (omega arith),
-          )
+          let e = size in
+          let more = others (total + count) rest (omega arith) in
+          let told : n ≡ total + count + span ws = more.0 in
+          (omega arith, (h.1, subst (λ (k : ℕ). Moves w old (Ok k) h.1) all m, more.1))
       next others count m false is ended =
           let part : count ≢ w.size = grind (arith, nat_tests) in
           let most : count ≤ w.size = within w old h.1 (Ok count) m in
@@ -57,7 +61,7 @@ module _ {X E : Type 0} (failure : VolatileMemoryError → E) (fault : Option E)
 
       go : Others → (moved : Answer) → Moves w old moved h.1
           → Then failure fault Moves w ws total h.1 (Ok n) new moved
-          → (mid : X) × Moves w old (Ok w.size) mid × AllWhole Moves ws mid new
+          → (n ≡ total + span (w ∷ ws)) × ((mid : X) × Moves w old (Ok w.size) mid × AllWhole Moves ws mid new)
       go others (Ok count) m t = next others count m (count == w.size) refl t
       go others (Err e) m t = absurd (cc)
 

@@ -52,13 +52,14 @@ pub fn refused_transfers_in_change_nothing()
         ⊎ ((fault ≡ Some e) × (dealt.host ≡ host)) }
 {}
 
-/// A transfer in that lends each window until it is full, and answers as many bytes as its windows have, filled each
-/// of them whole, one after the other. So it is of any source, whether it tells what it does or not.
+/// A transfer in that lends each window until it is full, and answers no fewer bytes than its windows have, answers as
+/// many, and filled each of them whole, one after the other. So it is of any source, whether it tells what it does or
+/// not.
 pub fn whole_transfers_in_fill_each_window<S: ReadVolatile, B: Bitmap>()
     ensures { (fault : Option GuestMemoryError) (ws : List Window) (n : ℕ) (source after : S) (old new : Host B)
         → let Moves = Fills S.source S.reads S.known_left B.marks UntilWhole in
         InOrder of_window fault Moves ws 0 (beside source old) (Ok n) (beside after new) → span ws ≤ n
-        → AllWhole Moves ws (beside source old) (beside after new) }
+        → (n ≡ span ws) × AllWhole Moves ws (beside source old) (beside after new) }
 {}
 
 /// Each byte of a window that any source filled whole is dirty then, where the bitmaps are exact.

@@ -1,4 +1,4 @@
-use Rattle.std.proofs.Common.{ℕ, ◌+◌, ◌≤◌, arith}
+use Rattle.std.proofs.Common.{ℕ, ◌≡◌, ◌+◌, ◌≤◌, arith}
 use Rattle.vm_memory_guest.specs.Window.{span}
 use Rattle.vm_memory_guest.specs.Error.{of_window}
 use Rattle.vm_memory_guest.specs.Transfer.{Fills, UntilWhole}
@@ -9,5 +9,7 @@ pub returns : goal.returns
 returns g c fault ws n source after old new moved enough =
     let r = g.S.ReadVolatile in
     let all : 0 + span ws ≤ n = omega (arith, enough) in
-    whole_if_all of_window fault (Fills r.source r.reads r.known_left g.B.Bitmap.marks UntilWhole)
-    (fills_within r.source r.reads g.B.Bitmap.marks r.known_left) ws 0 n (source, old) (after, new) moved all
+    let told = whole_if_all of_window fault (Fills r.source r.reads r.known_left g.B.Bitmap.marks UntilWhole)
+    (fills_within r.source r.reads g.B.Bitmap.marks r.known_left) ws 0 n (source, old) (after, new) moved all in
+    let count : n ≡ 0 + span ws = told.0 in
+    (omega (arith, count), told.1)
