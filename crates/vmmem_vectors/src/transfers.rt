@@ -272,8 +272,10 @@ fn a_failure_has_the_text_of_its_error(rt: HostRuntime) -> Result<(), Fail> {
     let of_window = VolatileMemoryError::IOError(IoError::from(error));
     let of_memory = GuestMemoryError::from(VolatileMemoryError::IOError(IoError::from(error)));
     let kind = IoError::of_kind(io::ErrorKind::Interrupted);
-    let text = format!(in rt.alloc(); "{of_window}, {of_memory}, {kind}")?;
-    let wanted = "the guest is gone, Guest memory error: the guest is gone, operation interrupted";
+    let inner = IoError::from(error).into_inner();
+    let text = format!(in rt.alloc(); "{of_window}, {of_memory}, {kind}, {inner}")?;
+    let wanted = "the guest is gone, Guest memory error: the guest is gone, operation interrupted, \
+        the guest is gone";
     expect_text(0, text.as_str(), wanted)
 }
 

@@ -80,6 +80,19 @@ fn long_value_through_io(rt: HostRuntime) -> Result<(), Fail> {
     Ok(())
 }
 
+// A value of just the bytes that a reader has, and a writer that takes them.
+#[test]
+fn whole_streams(rt: HostRuntime) -> Result<(), Fail> {
+    let bytes = [0u8, 0, 0, 0, 1, 1, 1, 1];
+    let mut whole = &bytes[..];
+    let value = <[u32; 2]>::read_exact_from(&mut whole)?;
+    assert!(rt; value == [0, 0x0101_0101]);
+    let mut written = Vec::new(rt.alloc());
+    value.write_all_to(&mut written)?;
+    assert!(rt; written.as_slice() == &bytes[..]);
+    Ok(())
+}
+
 // A reader that ends before the value, and a writer with no room for it.
 #[test]
 fn short_streams(rt: HostRuntime) {
@@ -101,8 +114,10 @@ fn through_atomic<T: AtomicAccess + PartialEq>(rt: &impl Abort, value: T)
 where
     T::A: Drop,
 {
-    let word = T::A::new(T::zeroed().into());
-    assert!(rt; T::from(word.load(Ordering::Relaxed)) == T::zeroed());
+    let word = T::A::new(value.into());
+    assert!(rt; T::from(word.load(Ordering::Relaxed)) == value);
+    word.store(T::zeroed().into(), Ordering::Relaxed);
+    assert!(rt; T::from(word.load(Ordering::SeqCst)) == T::zeroed());
     word.store(value.into(), Ordering::SeqCst);
     assert!(rt; T::from(word.load(Ordering::SeqCst)) == value);
 }
