@@ -55,6 +55,40 @@ fn marks_and_harvests<B: ExactBitmap>(
     Ok(())
 }
 
+// Marks each of 0x10000 pages, and takes them all.
+fn harvests_all<B: ExactBitmap>(
+    rt: &impl Abort,
+    bitmap: &mut B,
+    alloc: std::alloc::Global,
+) -> Result<(), AllocError> {
+    bitmap.mark_dirty(0, 0x1_0000);
+    let told = bitmap.dirty_pages(alloc)?;
+    let taken = bitmap.harvest(alloc)?;
+    assert!(rt; told.len() == 0x1_0000 && taken.as_slice() == told.as_slice());
+    assert!(rt;
+        taken
+            .iter()
+            .enumerate()
+            .all(|(number, page)| *page == number)
+    );
+    let left = bitmap.harvest(alloc)?;
+    assert!(rt; left.len() == 0);
+    Ok(())
+}
+
+#[test]
+fn many_pages_are_harvested(rt: HostRuntime) -> Result<(), Fail> {
+    let mut bitmap = ExclusiveBitmap::new(rt.alloc(), 0x1_0000, NonZeroUsize::MIN)?;
+    harvests_all(&rt, &mut bitmap, rt.alloc())?;
+    bitmap.mark_dirty(0, 0x1_0000);
+    let words = bitmap.get_and_reset(rt.alloc())?;
+    assert!(rt; words.len() == 0x400 && words.iter().all(|word| *word == u64::MAX));
+    harvests_all(&rt, &mut Some(bitmap), rt.alloc())?;
+    let large = ExclusiveBitmap::with_len(rt.alloc(), 0x4000_0000)?;
+    assert!(rt; large.len() == 0x4_0000);
+    Ok(())
+}
+
 #[test]
 fn harvests(rt: HostRuntime) -> Result<(), Fail> {
     let mut bitmap = ExclusiveBitmap::with_len(rt.alloc(), 0x2001)?;

@@ -5,9 +5,11 @@ use std::alloc::Global;
 use std::sync::Arc;
 use std::sync::atomic::Ordering;
 use std::test::Fail;
+use vm_memory::machine::machine_memory::MachineMemory;
 use vm_memory::{
     BitmapId, Bytes, ExactBitmap, ExclusiveBitmap, GuestAddress, GuestMemory, GuestMemoryBackend,
-    GuestMemoryMmap, HostMemory, Iommu, IommuMemory, NewBitmap, Permissions, TableIommu, TlbId,
+    GuestMemoryMmap, GuestMemoryResult, GuestRegionMmap, HostMemory, Iommu, IommuMemory, NewBitmap,
+    Permissions, TableIommu, TlbId,
 };
 
 type Host = HostMemory<ExclusiveBitmap>;
@@ -174,6 +176,20 @@ write_all_volatile_to Err(PartialBuffer { expected: 2, completed: 1 }) [11]
 block [] space [8]",
 ];
 
+// In the same cases the pieces of the IOMMU for a read of 2 bytes, and then the windows of one, each with the
+// bitmap that it marks.
+const WINDOWS: [&str; 6] = [
+    "0xfff+1 0x1000+1; 1 Space(0)+0xfff 1 Space(0)+0x1000",
+    "CannotResolve { iova_range: IovaRange { base: GuestAddress(8191), length: 2 }, reason: MissingMapping }; \
+     IommuError(CannotResolve { iova_range: IovaRange { base: GuestAddress(8191), length: 2 }, reason: \
+     MissingMapping })",
+    "0x0+2; 2 Space(0)+0x5000",
+    "CannotResolve { iova_range: IovaRange { base: GuestAddress(16), length: 2 }, reason: MissingMapping }; \
+     2 Block(0)+0x10",
+    "0x1fff+1 0x0+1; 1 Space(0)+0x2fff 1 Space(0)+0x3000",
+    "0x1fff+2; 1 Space(0)+0x8fff InvalidGuestAddress(GuestAddress(8192))",
+];
+
 // Sets these mappings of a table.
 fn map_all(host: &mut Host, table: TlbId, mappings: &[Mapping]) -> Result<(), Fail> {
     for (iova, to, length, access) in mappings {
@@ -334,6 +350,67 @@ fn transfers_are_translated(rt: HostRuntime) -> Result<(), Fail> {
     Ok(())
 }
 
+// The pieces that an IOMMU gives for a read of 2 bytes.
+fn pieces(alloc: Global, host: &Host, iommu: &TableIommu, addr: u64) -> Result<String, Fail> {
+    if !host.holds(iommu) {
+        return Err(Fail::new("the host holds the table"));
+    }
+    let mut text = String::new(alloc);
+    let table = host.table(iommu.table());
+    match iommu.translate(alloc, table, GuestAddress(addr), 2, Permissions::Read) {
+        Ok(pieces) => {
+            for piece in pieces.as_slice() {
+                write!(text, "{:#x}+{} ", piece.base.0, piece.length)?;
+            }
+        }
+        Err(error) => write!(text, "{error:?}")?,
+    }
+    Ok(text)
+}
+
+// The windows of such a read of a memory.
+fn windows(alloc: Global, host: &Host, memory: &Memory, addr: u64) -> Result<String, Fail> {
+    if !host.holds(memory) {
+        return Err(Fail::new("the host holds the memory"));
+    }
+    let mut text = String::new(alloc);
+    let walk = match memory.get_slices(host, GuestAddress(addr), 2, Permissions::Read) {
+        Ok(walk) => walk,
+        Err(error) => return Ok(format!(in alloc; " {error:?}")?),
+    };
+    for window in walk {
+        match window {
+            Ok(window) => {
+                let marked = window.bitmap();
+                write!(text, " {} {:?}+{:#x}", window.len(), marked.id, marked.base)?;
+            }
+            Err(error) => write!(text, " {error:?}")?,
+        }
+    }
+    Ok(text)
+}
+
+fn expect_windows(alloc: Global, case: usize) -> Result<(), Fail> {
+    let (Some(wanted), Some(told)) = (CASES.get(case), WINDOWS.get(case)) else {
+        return Err(Fail::new("there is such a case"));
+    };
+    let mut host = HostMemory::new(alloc);
+    let mut memory = memory_behind(alloc, &mut host, wanted.mappings)?;
+    memory.set_iommu_enabled(wanted.on);
+    let pieces = pieces(alloc, &host, &**memory.iommu(), wanted.addr)?;
+    let windows = windows(alloc, &host, &memory, wanted.addr)?;
+    let text = format!(in alloc; "{};{windows}", pieces.trim_end())?;
+    expect_text(case, text.as_str(), told)
+}
+
+#[test]
+fn windows_are_translated(rt: HostRuntime) -> Result<(), Fail> {
+    for case in 0..CASES.len() {
+        expect_windows(rt.alloc(), case)?;
+    }
+    Ok(())
+}
+
 // The space and the table of a memory, its last address, whether its IOMMU is on, and whether it is physical.
 fn parts(alloc: Global, memory: &Memory) -> Result<String, Fail> {
     let space = memory.bitmap().0;
@@ -351,6 +428,55 @@ fn expect_copies(alloc: Global, host: &mut Host, memory: &Memory) -> Result<(), 
     let larger = memory.with_replaced_backend(other)?;
     expect_text(2, parts(alloc, &larger)?.as_str(), "0 0 0x3fff true false")?;
     expect_text(3, parts(alloc, &same)?.as_str(), "0 0 0x1fff true false")
+}
+
+#[test]
+fn a_machine_tells_which_memory_is_translated(rt: HostRuntime) -> Result<(), Fail> {
+    let mut host = HostMemory::new(rt.alloc());
+    let layout = GuestMemoryMmap::from_ranges(rt.alloc(), &mut host, &[(GuestAddress(0), 0x10)])?;
+    let plain: MachineMemory<GuestRegionMmap, TableIommu> = MachineMemory::Plain(layout);
+    assert!(rt; plain.translated().is_none());
+    let memory = memory_behind(rt.alloc(), &mut host, &ONE_PAGE)?;
+    let behind = MachineMemory::Translated(memory);
+    let memory = behind.translated().ok_or("the memory is behind an IOMMU")?;
+    expect_text(
+        0,
+        parts(rt.alloc(), memory)?.as_str(),
+        "0 0 0x1fff false true",
+    )
+}
+
+// A value of four pages, each of which the IOMMU leads to another place, comes back.
+fn long_value_comes_back(host: &mut Host, memory: &Memory) -> GuestMemoryResult<bool> {
+    if !host.holds(memory) {
+        return Ok(false);
+    }
+    let mut long = [0u32; 0x400];
+    long[0] = 1;
+    long[0x3ff] = 2;
+    memory.write_obj(host, long, GuestAddress(0x5000))?;
+    let back = memory.read_obj::<[u32; 0x400], ExclusiveBitmap>(host, GuestAddress(0x5000))?;
+    Ok(back == long)
+}
+
+const FOUR_PIECES: [Mapping; 4] = [
+    (0x5000, 0xc00, 0x400, Permissions::ReadWrite),
+    (0x5400, 0x800, 0x400, Permissions::ReadWrite),
+    (0x5800, 0x400, 0x400, Permissions::ReadWrite),
+    (0x5c00, 0, 0x400, Permissions::ReadWrite),
+];
+
+#[test]
+fn a_long_value_is_translated(rt: HostRuntime) -> Result<(), Fail> {
+    let mut host = HostMemory::new(rt.alloc());
+    let mut memory = memory_behind(rt.alloc(), &mut host, &FOUR_PIECES)?;
+    memory.set_iommu_enabled(true);
+    assert!(rt; long_value_comes_back(&mut host, &memory)?);
+    expect_text(
+        0,
+        dirt(rt.alloc(), &host, &memory)?.as_str(),
+        "block [] space [5]",
+    )
 }
 
 #[test]

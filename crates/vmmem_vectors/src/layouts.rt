@@ -7,8 +7,11 @@ use std::sync::Arc;
 use std::test::Fail;
 use vm_memory::{
     BlockId, Bytes, GuestAddress, GuestMemoryBackend, GuestMemoryMmap, GuestMemoryRegion,
-    GuestRegionCollection, GuestRegionMmap, HostMemory, MmapRegion, MmapRegionError,
+    GuestRegionCollection, GuestRegionCollectionError, GuestRegionMmap, HostMemory, MmapRegion,
+    MmapRegionError,
 };
+
+type Layout = GuestRegionCollection<TestRegion>;
 
 // Regions of 0x1000 bytes, by their starts, and for each of these the start of the region that holds it and
 // of the one that holds the address before, or the error.
@@ -36,10 +39,10 @@ fn regions_at(alloc: Global, starts: &[u64]) -> Result<Vec<Arc<TestRegion>>, Fai
 
 fn layout_text(
     alloc: Global,
-    regions: Vec<Arc<TestRegion>>,
+    made: Result<Layout, GuestRegionCollectionError>,
     starts: &[u64],
 ) -> Result<String, AllocError> {
-    match GuestRegionCollection::from_arc_regions(regions) {
+    match made {
         Ok(layout) => homes_text(alloc, &layout, starts),
         Err(error) => format!(in alloc; "{error:?}"),
     }
@@ -69,10 +72,23 @@ fn home_of(layout: &GuestRegionCollection<TestRegion>, addr: u64) -> Option<u64>
 fn regions_make_a_layout_or_an_error(rt: HostRuntime) -> Result<(), Fail> {
     for (case, (starts, wanted)) in LAYOUTS.iter().enumerate() {
         let regions = regions_at(rt.alloc(), starts)?;
-        let text = layout_text(rt.alloc(), regions, starts)?;
+        let own = own_regions(rt.alloc(), regions.as_slice())?;
+        let made = GuestRegionCollection::from_regions(rt.alloc(), own);
+        let text = layout_text(rt.alloc(), made, starts)?;
+        expect_text(case, text.as_str(), wanted)?;
+        let shared = GuestRegionCollection::from_arc_regions(regions);
+        let text = layout_text(rt.alloc(), shared, starts)?;
         expect_text(case, text.as_str(), wanted)?;
     }
     Ok(())
+}
+
+fn own_regions(alloc: Global, regions: &[Arc<TestRegion>]) -> Result<Vec<TestRegion>, AllocError> {
+    let mut all = Vec::new(alloc);
+    for region in regions {
+        all.push(**region)?;
+    }
+    Ok(all)
 }
 
 #[test]
@@ -95,9 +111,11 @@ enum Change {
 
 use Change::{Insert, Remove};
 
-// Changes one after the other, of regions at 0 and 0x100000: the error, if one was refused, and the starts of
-// the regions then.
-const CHANGES: [(Change, &str, &[u64]); 13] = [
+// A change, the error, if it was refused, and the starts of the regions then.
+type Changed = (Change, &'static str, &'static [u64]);
+
+// Changes one after the other, of regions at 0 and 0x100000.
+const CHANGES: [Changed; 13] = [
     (Insert(0x8000), "", &[0, 0x8000, 0x10_0000]),
     (Insert(0x4000), "", &[0, 0x4000, 0x8000, 0x10_0000]),
     (Insert(0xc000), "", &[0, 0x4000, 0x8000, 0xc000, 0x10_0000]),
@@ -133,7 +151,12 @@ const CHANGES: [(Change, &str, &[u64]); 13] = [
     (Remove(0x4000, 0x1000), "", &[]),
 ];
 
-type Layout = GuestRegionCollection<TestRegion>;
+// And of one region at 0x1000.
+const TO_NONE: [Changed; 3] = [
+    (Remove(0x1000, 0x800), "NoMemoryRegion", &[0x1000]),
+    (Remove(0x1000, 0x1000), "", &[]),
+    (Remove(0x1000, 0x1000), "NoMemoryRegion", &[]),
+];
 
 // The layout after a change, or the text of the error.
 fn changed(
@@ -160,28 +183,78 @@ fn changed(
     }
 }
 
-fn has_starts(layout: &Layout, starts: &[u64]) -> bool {
-    layout.num_regions() == starts.len()
-        && starts
-            .iter()
-            .all(|start| home_of(layout, *start) == Some(*start))
+// The start of the region of a number.
+fn start_at(layout: &Layout, number: usize) -> Option<u64> {
+    let region = layout.region_at(number)?;
+    Some(region.start_addr().0)
 }
 
-#[test]
-fn layouts_are_changed(rt: HostRuntime) -> Result<(), Fail> {
-    let mut host = HostMemory::new(rt.alloc());
-    let places = [Place::Block(0, 0x1000), Place::Block(0x10_0000, 0x1000)];
-    let mut layout = memory_of(rt.alloc(), &mut host, &places)?;
-    for (case, (change, error, starts)) in CHANGES.iter().enumerate() {
-        match changed(rt.alloc(), &mut host, &layout, *change)? {
+fn has_starts(layout: &Layout, starts: &[u64]) -> bool {
+    layout.num_regions() == starts.len()
+        && start_at(layout, starts.len()).is_none()
+        && starts.iter().enumerate().all(|(number, start)| home_of(layout, *start) == Some(*start)
+            && start_at(layout, number) == Some(*start))
+}
+
+// Makes changes of a layout one after the other, and fails where one does not leave what it has to.
+fn expect_changes(alloc: Global, places: &[Place], changes: &[Changed]) -> Result<(), Fail> {
+    let mut host = HostMemory::new(alloc);
+    let mut layout = memory_of(alloc, &mut host, places)?;
+    for (case, (change, error, starts)) in changes.iter().enumerate() {
+        match changed(alloc, &mut host, &layout, *change)? {
             Ok(next) => {
                 expect_text(case, "", error)?;
                 layout = next;
             }
             Err(text) => expect_text(case, text.as_str(), error)?,
         }
-        assert!(rt; has_starts(&layout, starts));
+        let last = starts.last().map_or(0, |start| start.wrapping_add(0xfff));
+        if !has_starts(&layout, starts) || layout.last_addr().0 != last {
+            return Err(Fail::new(format_args!("case {case}")));
+        }
     }
+    Ok(())
+}
+
+#[test]
+fn layouts_are_changed(rt: HostRuntime) -> Result<(), Fail> {
+    let places = [Place::Block(0, 0x1000), Place::Block(0x10_0000, 0x1000)];
+    expect_changes(rt.alloc(), &places, &CHANGES)?;
+    expect_changes(rt.alloc(), &[Place::Block(0x1000, 0x1000)], &TO_NONE)
+}
+
+// A thousand regions of 0x1000 addresses without bytes, with as many addresses between any two.
+fn bare_thousand(alloc: Global) -> Result<Vec<TestRegion>, Fail> {
+    let mut regions = Vec::new(alloc);
+    for number in 0..1000u64 {
+        let region = TestRegion::bare(GuestAddress(0x2000 * number), 0x1000);
+        regions.push(region.ok_or("the region fits")?)?;
+    }
+    Ok(regions)
+}
+
+fn has_thousand(layout: &Layout) -> bool {
+    layout.num_regions() == 1000
+        && (0..1000u64).all(|number| home_of(layout, 0x2000 * number + 0xfff)
+            == Some(0x2000 * number))
+}
+
+// A copy of a layout without one of its thousand regions, and with it again.
+fn with_one_again(layout: &Layout) -> Result<Layout, Fail> {
+    let copy = layout.clone()?;
+    let (rest, region) = copy.remove_region(GuestAddress(0x2000 * 500), 0x1000)?;
+    if rest.num_regions() != 999 || home_of(&rest, 0x2000 * 500).is_some() {
+        return Err(Fail::new("the region is taken out"));
+    }
+    Ok(rest.insert_region(region)?)
+}
+
+#[test]
+fn a_layout_of_a_thousand_regions_is_changed(rt: HostRuntime) -> Result<(), Fail> {
+    let regions = bare_thousand(rt.alloc())?;
+    let layout = GuestRegionCollection::from_regions(rt.alloc(), regions)?;
+    let again = with_one_again(&layout)?;
+    assert!(rt; has_thousand(&layout) && has_thousand(&again));
     Ok(())
 }
 
@@ -257,6 +330,7 @@ fn a_block_has_a_size(rt: HostRuntime) -> Result<(), Fail> {
         (0x8000_0000_0000_0000, "invalid size"),
         (usize::MAX, "invalid size"),
         (1, "made"),
+        (0x10_0000, "made"),
     ] {
         let mut host: HostMemory<()> = HostMemory::new(rt.alloc());
         expect_text(size, told(host.new_block(size).err()), wanted)?;
@@ -266,20 +340,21 @@ fn a_block_has_a_size(rt: HostRuntime) -> Result<(), Fail> {
     Ok(())
 }
 
-// The numbers of two new blocks and of a new space.
-fn next_numbers(host: &mut HostMemory<()>) -> Result<(usize, usize, usize), Fail> {
+// The numbers of two new blocks, of a new space and of a new table.
+fn next_numbers(host: &mut HostMemory<()>) -> Result<(usize, usize, usize, usize), Fail> {
     let block = host.new_block(3)?;
     let with_bitmap = host.new_block_with(5, ())?;
     let space = host.new_space(())?;
-    Ok((block.0, with_bitmap.0, space.0))
+    let table = host.new_table()?;
+    Ok((block.0, with_bitmap.0, space.0, table.0))
 }
 
 #[test]
-fn blocks_and_spaces_go_by_number(rt: HostRuntime) -> Result<(), Fail> {
+fn blocks_spaces_and_tables_go_by_number(rt: HostRuntime) -> Result<(), Fail> {
     let mut host: HostMemory<()> = HostMemory::new(rt.alloc());
-    for number in 0..10usize {
+    for number in 0..1000usize {
         let numbers = next_numbers(&mut host)?;
-        assert!(rt; numbers == (2 * number, 2 * number + 1, number));
+        assert!(rt; numbers == (2 * number, 2 * number + 1, number, number));
     }
     assert!(rt; MmapRegion::new(&mut host, 7)?.size() == 7);
     Ok(())
@@ -311,7 +386,7 @@ fn last_of(region: Option<GuestRegionMmap>) -> Option<u64> {
 // Ranges of addresses, the error or the starts of the regions, and the sizes of the host's blocks then.
 type Ranges = (&'static [(u64, usize)], &'static str, &'static [usize]);
 
-const RANGES: [Ranges; 9] = [
+const RANGES: [Ranges; 10] = [
     (&[(0, 0x400), (0x1000, 0x200)], "", &[0x400, 0x200]),
     (&[(7, 1)], "", &[1]),
     (&[], "Collection(NoMemoryRegion)", &[]),
@@ -337,7 +412,58 @@ const RANGES: [Ranges; 9] = [
         &[4],
     ),
     (&[(0xffff_ffff_ffff_fffb, 4)], "", &[4]),
+    (
+        &[(0, 0x10_0000), (0x10_0000, 0x20_0000)],
+        "",
+        &[0x10_0000, 0x20_0000],
+    ),
 ];
+
+// An address and a size: the last address of a region there, or the error, and the sizes of the host's blocks
+// then.
+const SINGLE: [(u64, usize, &str, &[usize]); 7] = [
+    (0x1000, 0x400, "Ok(5119)", &[0x400]),
+    (0, 0x10_0000, "Ok(1048575)", &[0x10_0000]),
+    (0xffff_ffff_ffff_fffb, 4, "Ok(18446744073709551614)", &[4]),
+    (0xffff_ffff_ffff_fffc, 4, "Err(InvalidGuestRegion)", &[]),
+    // The size is tested first.
+    (
+        0xffff_ffff_ffff_ffff,
+        0,
+        "Err(MmapRegion(InvalidSize))",
+        &[],
+    ),
+    (
+        0,
+        0x8000_0000_0000_0000,
+        "Err(MmapRegion(InvalidSize))",
+        &[],
+    ),
+    (0, usize::MAX, "Err(MmapRegion(InvalidSize))", &[]),
+];
+
+// What is told of a region over a new block.
+fn single(
+    alloc: Global,
+    host: &mut HostMemory<()>,
+    start: u64,
+    size: usize,
+) -> Result<String, AllocError> {
+    let region = GuestRegionMmap::from_range(host, GuestAddress(start), size);
+    let last = region.map(|region| region.last_addr().0);
+    format!(in alloc; "{last:?}")
+}
+
+#[test]
+fn a_range_makes_a_region_or_an_error(rt: HostRuntime) -> Result<(), Fail> {
+    for (case, (start, size, wanted, sizes)) in SINGLE.iter().enumerate() {
+        let mut host: HostMemory<()> = HostMemory::new(rt.alloc());
+        let text = single(rt.alloc(), &mut host, *start, *size)?;
+        expect_text(case, text.as_str(), wanted)?;
+        assert!(rt; has_blocks(&host, sizes));
+    }
+    Ok(())
+}
 
 fn ranges_of(
     alloc: Global,
@@ -350,10 +476,19 @@ fn ranges_of(
     Ok(all)
 }
 
+// The length of a block, as the host and its shape tell it, if there is one of this number.
+fn len_of(host: &HostMemory<()>, number: usize) -> Option<usize> {
+    let told = host.shape().block_len(BlockId(number))?;
+    let len = host.block_len(BlockId(number));
+    (len == told).then_some(len)
+}
+
 // Whether a host has blocks of these sizes, and no more.
 fn has_blocks(host: &HostMemory<()>, sizes: &[usize]) -> bool {
-    sizes.iter().enumerate().all(|(number, size)| host.shape().block_len(BlockId(number))
-        == Some(*size))
+    sizes
+        .iter()
+        .enumerate()
+        .all(|(number, size)| len_of(host, number) == Some(*size))
         && host.shape().block_len(BlockId(sizes.len())).is_none()
 }
 
@@ -393,6 +528,17 @@ fn ranges_make_a_memory_or_an_error(rt: HostRuntime) -> Result<(), Fail> {
     Ok(())
 }
 
+#[test]
+fn many_ranges_make_a_memory(rt: HostRuntime) -> Result<(), Fail> {
+    let mut host: HostMemory<()> = HostMemory::new(rt.alloc());
+    let mut ranges = Vec::new(rt.alloc());
+    for number in 0..500u64 {
+        ranges.push((0x20 * number, 0x10))?;
+    }
+    let text = error_of(rt.alloc(), &mut host, ranges.as_slice())?;
+    expect_text(0, text.as_str(), "")
+}
+
 // The bytes at 0x1000, once 0x1001 bytes were written from 0 on, of which the last is 9.
 fn written_over(
     alloc: Global,
@@ -404,7 +550,10 @@ fn written_over(
     }
     let mut bytes = vec![in alloc; 1u8; 0x1000]?;
     bytes.push(9)?;
-    memory.write_slice(host, bytes.as_slice(), GuestAddress(0))?;
+    let count = memory.write(host, bytes.as_slice(), GuestAddress(0))?;
+    if count != 0x1001 {
+        return Err(Fail::new("each byte is written"));
+    }
     bytes.truncate(0x1000);
     memory.read_slice(host, bytes.as_mut_slice(), GuestAddress(0x1000))?;
     Ok(bytes)

@@ -5,6 +5,7 @@
 mod addresses;
 #[cfg(test)]
 mod bitmaps;
+pub mod cells;
 #[cfg(test)]
 mod endian;
 #[cfg(test)]
@@ -32,6 +33,8 @@ mod support;
 mod tables;
 #[cfg(test)]
 mod texts;
+#[cfg(test)]
+mod thousands;
 #[cfg(test)]
 mod transfers;
 #[cfg(test)]

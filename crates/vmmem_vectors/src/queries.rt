@@ -10,12 +10,15 @@ use std::sync::atomic::Ordering;
 use std::test::Fail;
 use vm_memory::{
     Bytes, GuestAddress, GuestMemory, GuestMemoryBackend, GuestMemoryError, GuestMemoryRegion,
-    GuestMemorySliceIterator, GuestRegionCollection, HostMemory, MemoryRegionAddress, Permissions,
+    GuestMemorySliceIterator, GuestRegionCollection, HostMemory, IommuMemorySliceIterator,
+    MappedRange, MemoryRegionAddress, Permissions, SpaceId,
 };
 
 type Layout = GuestRegionCollection<TestRegion>;
 
 const ONE: [Place; 1] = [Place::Block(0, 0x1000)];
+
+const TWO_PAGES: [Place; 2] = [Place::Block(0, 0x1000), Place::Block(0x1000, 0x1000)];
 
 const WITH_TWO_THAT_TOUCH: [Place; 3] = [
     Place::Block(0, 0x400),
@@ -115,7 +118,8 @@ fn addresses_are_answered(rt: HostRuntime) -> Result<(), Fail> {
 
 // Regions, an address and a count: the address so far above, whether the range is whole, and the lengths of the
 // windows of a walk whose error is told where it comes first.
-const AT_RANGES: [(&[Place], u64, usize, &str); 14] = [
+const AT_RANGES: [(&[Place], u64, usize, &str); 15] = [
+    (&TWO_PAGES, 0xffc, 5, "Some(GuestAddress(4097)) true Ok 4 1"),
     (&ONE, 0, 0xfff, "Some(GuestAddress(4095)) true Ok 4095"),
     (&ONE, 0, 0x1000, "None true Ok 4096"),
     (&ONE, 1, 0x1000, "None false Ok 4095"),
@@ -212,6 +216,87 @@ fn ranges_are_answered(rt: HostRuntime) -> Result<(), Fail> {
     Ok(())
 }
 
+// Regions, pieces of them and an I/O address: the length of each window, the space and the address that it marks,
+// and the error.
+const AT_PIECES: [(&[Place], &[(u64, usize)], u64, &str); 6] = [
+    (&AROUND_A_HOLE, &[], 7, ""),
+    (
+        &AROUND_A_HOLE,
+        &[(0x1000, 4), (0x3fe, 2), (0, 0), (0x3fe, 1)],
+        0x10,
+        "4 Space(3)+0x10;2 Space(3)+0x14;1 Space(3)+0x16;",
+    ),
+    // A piece that goes past its region is the last.
+    (
+        &AROUND_A_HOLE,
+        &[(0x3fe, 4), (0, 1)],
+        0x10,
+        "2 Space(3)+0x10;InvalidGuestAddress(GuestAddress(1024))",
+    ),
+    (
+        &BEFORE_A_BARE_REGION,
+        &[(0xfff, 1), (0x1000, 1)],
+        0,
+        "1 Space(3)+0x0;HostAddressNotAvailable",
+    ),
+    // One piece may lie in two regions, and 0 is marked after the greatest address.
+    (
+        &WITH_TWO_THAT_TOUCH,
+        &[(0xbff, 2)],
+        u64::MAX,
+        "1 Space(3)+0xffffffffffffffff;1 Space(3)+0x0;",
+    ),
+    // After the greatest address of a piece comes 0.
+    (
+        &AT_BOTH_ENDS,
+        &[(u64::MAX, 3), (5, 1)],
+        8,
+        "1 Space(3)+0x8;2 Space(3)+0x9;1 Space(3)+0xb;",
+    ),
+];
+
+fn pieces_of(alloc: Global, pieces: &[(u64, usize)]) -> Result<Vec<MappedRange>, AllocError> {
+    let mut all = Vec::new(alloc);
+    for (base, length) in pieces {
+        all.push(MappedRange {
+            base: GuestAddress(*base),
+            length: *length,
+        })?;
+    }
+    Ok(all)
+}
+
+fn pieces_text(
+    alloc: Global,
+    layout: &Layout,
+    pieces: Vec<MappedRange>,
+    iova: GuestAddress,
+) -> Result<String, AllocError> {
+    let mut text = String::new(alloc);
+    for window in IommuMemorySliceIterator::of_pieces(layout, pieces, iova, SpaceId(3)) {
+        match window {
+            Ok(window) => {
+                let marked = window.bitmap();
+                write!(text, "{} {:?}+{:#x};", window.len(), marked.id, marked.base)?;
+            }
+            Err(error) => write!(text, "{error:?}")?,
+        }
+    }
+    Ok(text)
+}
+
+#[test]
+fn pieces_are_windows(rt: HostRuntime) -> Result<(), Fail> {
+    for (case, (places, pieces, iova, wanted)) in AT_PIECES.iter().enumerate() {
+        let mut host = HostMemory::new(rt.alloc());
+        let layout = memory_of(rt.alloc(), &mut host, places)?;
+        let pieces = pieces_of(rt.alloc(), pieces)?;
+        let text = pieces_text(rt.alloc(), &layout, pieces, GuestAddress(*iova))?;
+        expect_text(case, text.as_str(), wanted)?;
+    }
+    Ok(())
+}
+
 // Regions, a count, an address and a number that the callback answers in place of the length that it gets: the
 // total, the length, the offset and the region's start of each call, and the answer.
 const BY_CALLBACK: [(&[Place], usize, u64, Option<usize>, &str); 9] = [
@@ -299,13 +384,17 @@ fn a_callback_is_called_by_its_rule(rt: HostRuntime) -> Result<(), Fail> {
     Ok(())
 }
 
-// Regions, and their number, starts and last address.
-const LAYOUTS: [(&[Place], &str); 3] = [
-    (&ONE, "1 0; 4095"),
-    (&AROUND_A_HOLE, "2 0; 4096; 5119"),
+// Regions, and their number, starts and last address, and the lengths of the first three.
+const LAYOUTS: [(&[Place], &str); 4] = [
+    (&ONE, "1 0; 4095 Some(4096) None None"),
+    (&AROUND_A_HOLE, "2 0; 4096; 5119 Some(1024) Some(1024) None"),
+    (
+        &WITH_TWO_THAT_TOUCH,
+        "3 0; 2048; 3072; 4095 Some(1024) Some(1024) Some(1024)",
+    ),
     (
         &AT_BOTH_ENDS,
-        "2 0; 18446744073709547520; 18446744073709551615",
+        "2 0; 18446744073709547520; 18446744073709551615 Some(4096) Some(4096) None",
     ),
 ];
 
@@ -315,6 +404,11 @@ fn listed(alloc: Global, layout: &Layout) -> Result<String, Fail> {
         write!(text, "{}; ", region.start_addr().0)?;
     }
     write!(text, "{}", layout.last_addr().0)?;
+    for number in 0..3 {
+        let region = GuestMemoryBackend::region_at(layout, number);
+        let len = region.map(|region| region.len());
+        write!(text, " {len:?}")?;
+    }
     Ok(text)
 }
 

@@ -8,7 +8,7 @@ use vm_memory::machine::list::{ByteList, NumberList};
 use vm_memory::machine::{Machine, run};
 use vm_memory::{
     BitmapId, BlockId, Bytes, ExactBitmap, ExclusiveBitmap, GuestAddress, GuestMemoryRegion,
-    GuestRegionMmap, HostMemory, MemoryRegionAddress, MmapRegion, TableIommu,
+    GuestRegionMmap, HostMemory, MemoryRegionAddress, MmapRegion, TableIommu, VolatileMemory,
 };
 
 type TestMachine = Machine<GuestRegionMmap, TableIommu, ExclusiveBitmap>;
@@ -137,7 +137,46 @@ fn follow(
 fn an_image_follows_its_block(rt: HostRuntime) -> Result<(), Fail> {
     let mut machine = machine_of(rt.alloc(), 5, 2)?;
     make_memory(&mut machine, rt.alloc())?;
-    follow(&mut machine, rt.alloc(), &mut [0u8; 5], &STEPS)
+    follow(&mut machine, rt.alloc(), &mut [0u8; 5], &STEPS)?;
+    expect_block(&machine.into_host(), &[1, 2, 6, 8, 6])
+}
+
+// Fails where the first block of a host has other bytes.
+fn expect_block(host: &HostMemory<ExclusiveBitmap>, bytes: &[u8]) -> Result<(), Fail> {
+    if host.shape().block_len(BlockId(0)).is_none() {
+        return Err(Fail::new("the host has the block"));
+    }
+    let window = MmapRegion::of_block(host, BlockId(0)).as_volatile_slice();
+    if !host.holds(&window) || host.bytes(&window) != bytes {
+        return Err(Fail::new("the bytes of the block"));
+    }
+    Ok(())
+}
+
+// Writes a whole block of 0x10000 bytes, each of them a page, and brings an image of it up to date.
+fn follow_whole(machine: &mut TestMachine, alloc: Global, image: &mut [u8]) -> Result<bool, Fail> {
+    let bytes = ByteList::from_vec(vec![in alloc; 7u8; 0x1_0000]?);
+    let addr = GuestAddress(0);
+    let _ = run_one(
+        machine,
+        alloc,
+        Command::Write {
+            memory: 0,
+            addr,
+            bytes,
+        },
+    )?;
+    let _ = is_as_wanted(machine, alloc, image, Step::Sync(&[]))?;
+    Ok(image.iter().all(|byte| *byte == 7))
+}
+
+#[test]
+fn an_image_of_many_pages_follows_its_block(rt: HostRuntime) -> Result<(), Fail> {
+    let mut machine = machine_of(rt.alloc(), 0x1_0000, 1)?;
+    make_memory(&mut machine, rt.alloc())?;
+    let mut image = vec![in rt.alloc(); 0u8; 0x1_0000]?;
+    assert!(rt; follow_whole(&mut machine, rt.alloc(), image.as_mut_slice())?);
+    Ok(())
 }
 
 const LEFT_BY_A_HARVEST: [Step; 3] = [

@@ -8,7 +8,7 @@ use std::test::Fail;
 use vm_memory::{DriveFault, drive};
 
 // Scripts, and what they tell: their replies, and then the status and the text of a fault.
-const SCRIPTS: [(&[u8], &str); 35] = [
+const SCRIPTS: [(&[u8], &str); 41] = [
     (b"", ""),
     (b"\n\n# nothing\n#\xff\x00\r  \n", ""),
     (
@@ -289,6 +289,49 @@ const SCRIPTS: [(&[u8], &str); 35] = [
          sent error G8 I1 0x28+0x1 access taken -\nsent error G8 I1 0x1f+0x2 missing taken -\n\
          error G2 Other\npages 8 10\npages -\nok\nbytes 050607080a0b0c04\ncount 4\npages 3\n\
          pages 8 10\n",
+    ),
+    // A write that goes on in the next region marks a page of each block.
+    (
+        b"block 0x1000 0x1000\nblock 0x1000 0x1000\nregion 0 0\nregion 1 0x1000\nlayout 0 1\nplain 0\n\
+          write 0 0xffc 0102030405\nread 0 0xffc 5\ndirty block 0\ndirty block 1\n",
+        "block 0\nblock 1\nregion 0\nregion 1\nlayout 0\nmemory 0\ncount 5\nbytes 0102030405\npages 0\n\
+         pages 0\n",
+    ),
+    // A write that one of two mappings forbids changes nothing, and a read crosses both.
+    (
+        b"block 0x2000 0x1000\nregion 0 0\nspace 0x10000 0x1000\ntable\ntranslator 0\nlayout 0\n\
+          memory 0 0 0 on\nplain 0\nwrite 1 0xfff 0708\nharvest block 0\nset 0 0 0 0x1000 rw\n\
+          set 0 0x1000 0x1000 0x1000 r\nwrite 0 0xfff 0102\nread 0 0xfff 2\ndirty block 0\ndirty space 0\n",
+        "block 0\nregion 0\nspace 0\ntable 0\ntranslator 0\nlayout 0\nmemory 0\nmemory 1\ncount 2\n\
+         pages 0 1\nok\nok\nerror G8 I1 0xfff+0x2 access\nbytes 0708\npages -\npages -\n",
+    ),
+    // With the IOMMU on a write marks the space and leaves the block clean. With it off the block is marked.
+    (
+        b"block 0x2000 0x1000\nregion 0 0\nspace 0x10000 0x1000\ntable\ntranslator 0\nlayout 0\n\
+          memory 0 0 0 on\nset 0 0x5000 0 0x1000 rw\nwrite 0 0x5000 07\ndirty block 0\ndirty space 0\n\
+          enable 0 off\nread 0 0 1\nwrite 0 0x10 08\nread 0 0x10 1\ndirty block 0\ndirty space 0\n",
+        "block 0\nregion 0\nspace 0\ntable 0\ntranslator 0\nlayout 0\nmemory 0\nok\ncount 1\npages -\n\
+         pages 5\nok\nbytes 07\ncount 1\nbytes 08\npages 0\npages 5\n",
+    ),
+    // A source that fails in the second of two regions has marked both.
+    (
+        b"block 4 1\nblock 4 1\nregion 0 0\nregion 1 4\nlayout 0 1\nplain 0\nfrom 0 0 8 g:01020304,f:09\n\
+          read 0 0 8\ndirty block 0\ndirty block 1\n",
+        "block 0\nblock 1\nregion 0\nregion 1\nlayout 0\nmemory 0\nerror G2 Other\n\
+         bytes 0102030409000000\npages 0 1 2 3\npages 0 1 2 3\n",
+    ),
+    // The last region is taken out by its whole length alone.
+    (
+        b"block 0x1000 0x1000\nregion 0 0x1000\nlayout 0\nremove 0 0x1000 0x800\nremove 0 0x1000 0x1000\n\
+          plain 1\ncheck 0 0 1 no\ncheck 0 0 0 no\n",
+        "block 0\nregion 0\nlayout 0\nerror C1\nlayout 1\nmemory 0\nfalse\ntrue\n",
+    ),
+    // A value in no region is neither loaded nor stored.
+    (
+        b"block 0x1000 0x1000\nregion 0 0x1000\nlayout 0\nplain 0\nstore 0 8 0x1ff8 0x1122334455667788\n\
+          load 0 8 0x1ff8\nload 0 4 0x1ffc\nload 0 8 0x2000\nstore 0 8 0x2000 1\nload 0 1 0xfff\nload 0 1 0x1000\n",
+        "block 0\nregion 0\nlayout 0\nmemory 0\nok\nvalue 1234605616436508552\nvalue 287454020\n\
+         error G1 0x2000\nerror G1 0x2000\nerror G1 0xfff\nvalue 0\n",
     ),
     (
         b"block 1 1\ntable\nplain 0\ntranslator 0\n",

@@ -29,6 +29,21 @@ fn permissions(number: u64) -> Permissions {
     }
 }
 
+// Each is a set of the two bits of its number.
+#[test]
+fn permissions_are_sets(rt: HostRuntime) {
+    for number in 0..4u64 {
+        let one = permissions(number);
+        assert!(rt; one.has_write() == (number >= 2));
+        for asked in 0..4u64 {
+            let other = permissions(asked);
+            assert!(rt; one & other == permissions(number & asked));
+            assert!(rt; one | other == permissions(number | asked));
+            assert!(rt; one.allow(other) == (number & asked == asked));
+        }
+    }
+}
+
 // A range of the plain table: its first address and its length.
 fn range(state: &mut u64) -> (usize, usize) {
     let start = (next(state) % 48) as usize;

@@ -3,11 +3,12 @@
 use crate::regions::TestRegion;
 use crate::support::{Place, expect_text, memory_of};
 use std::alloc::Global;
+use std::io::ErrorKind;
 use std::num::NonZeroUsize;
 use std::sync::atomic::Ordering;
 use std::test::Fail;
 use vm_memory::{
-    ByteValued, Bytes, ExactBitmap, ExclusiveBitmap, GuestAddress, GuestMemoryRegion,
+    BitmapRef, ByteValued, Bytes, ExactBitmap, ExclusiveBitmap, GuestAddress, GuestMemoryRegion,
     GuestMemoryResult, GuestRegionCollection, GuestRegionMmap, HostMemory, MemoryRegionAddress,
     MmapRegion, VolatileSlice,
 };
@@ -85,7 +86,13 @@ fn a_copy_moves_whole_values(rt: HostRuntime) -> Result<(), Fail> {
 const TWO_BLOCKS: [Place; 2] = [Place::Block(0, 0x400), Place::Block(0x400, 0x400)];
 
 // An address, what a store and a load of 0x01020304 there answer, and then the 12 bytes from 0x3fc on.
-const STORES: [(u64, &str, [u8; 12]); 3] = [
+const STORES: [(u64, &str, [u8; 12]); 4] = [
+    // No region has a byte there.
+    (
+        0x800,
+        "Err(InvalidGuestAddress(GuestAddress(2048))) Err(InvalidGuestAddress(GuestAddress(2048)))",
+        [9; 12],
+    ),
     (
         0x3fe,
         "Err(InvalidBackendAddress) Err(InvalidBackendAddress)",
@@ -132,6 +139,51 @@ fn a_store_takes_one_window(rt: HostRuntime) -> Result<(), Fail> {
     let memory = memory_of(rt.alloc(), &mut host, &TWO_BLOCKS)?;
     for case in 0..STORES.len() {
         expect_store(rt.alloc(), &mut host, &memory, case)?;
+    }
+    Ok(())
+}
+
+// What is told of a value written and read at an address.
+const AT_ADDRESSES: [(u64, &str); 4] = [
+    (0x7c0, "Ok(()) Ok(12273903644374837845)"),
+    (
+        0x7fc,
+        "Err(PartialBuffer { expected: 8, completed: 4 }) Err(PartialBuffer { expected: 8, completed: 4 })",
+    ),
+    (
+        0x800,
+        "Err(InvalidGuestAddress(GuestAddress(2048))) Err(InvalidGuestAddress(GuestAddress(2048)))",
+    ),
+    (
+        0x801,
+        "Err(InvalidGuestAddress(GuestAddress(2049))) Err(InvalidGuestAddress(GuestAddress(2049)))",
+    ),
+];
+
+fn value_text(
+    alloc: Global,
+    host: &mut HostMemory<()>,
+    memory: &GuestRegionCollection<TestRegion>,
+    addr: u64,
+) -> Result<String, Fail> {
+    if !host.holds(memory) {
+        return Err(Fail::new("the host holds the memory"));
+    }
+    let at = GuestAddress(addr);
+    let wrote = memory.write_obj(host, 0xaa55_aa55_aa55_aa55u64, at);
+    let had = memory.read_obj::<u64, ()>(host, at);
+    Ok(format!(in alloc; "{wrote:?} {had:?}")?)
+}
+
+#[test]
+fn a_value_is_written_and_read_by_address(rt: HostRuntime) -> Result<(), Fail> {
+    let mut host = HostMemory::new(rt.alloc());
+    let memory = memory_of(rt.alloc(), &mut host, &TWO_BLOCKS)?;
+    for (case, (addr, wanted)) in AT_ADDRESSES.iter().enumerate() {
+        let text = value_text(rt.alloc(), &mut host, &memory, *addr)?;
+        expect_text(case, text.as_str(), wanted)?;
+        // A value without a byte is there at any address.
+        assert!(rt; comes_back(&mut host, &memory, [0u32; 0], *addr)?);
     }
     Ok(())
 }
@@ -254,6 +306,68 @@ fn a_pair_in_a_window(rt: HostRuntime) -> Result<(), Fail> {
     assert!(rt; [pair.len(), pairs.element_size(), count] == [4, 4, 2]);
     assert!(rt; values == [[0x1201, 0x1413], [0x2524, 0x2726], [9, 9]]);
     Ok(())
+}
+
+#[test]
+fn a_pair_has_the_bytes_that_it_is_given(rt: HostRuntime) -> Result<(), Fail> {
+    let bytes = [0, 0, 0, 0, 1, 1, 1, 1];
+    let mut pair = <[u32; 2]>::zeroed();
+    pair.set_bytes(0, &bytes);
+    assert!(rt; pair == [0, 0x0101_0101]);
+    assert!(rt; <[u32; 2]>::from_slice(&bytes) == Some(pair));
+    let mut short: &[u8] = &bytes[1..];
+    let refused = <[u32; 2]>::read_exact_from(&mut short);
+    assert!(rt; matches!(refused, Err(error) if error.kind() == ErrorKind::UnexpectedEof));
+    let mut host: HostMemory<()> = HostMemory::new(rt.alloc());
+    let window = window_of(&mut host, &bytes)?;
+    let value: VolatileRef<[u32; 2]> = window.get_ref(0)?;
+    assert!(rt; host.holds(&value));
+    assert!(rt; value.load(&host) == pair);
+    Ok(())
+}
+
+// A window of a view, and what its view of a bitmap and its emptiness are told to be: its bytes, and the same.
+fn seen(
+    alloc: Global,
+    host: &HostMemory<()>,
+    window: VolatileSlice,
+    empty: bool,
+    bitmap: BitmapRef,
+) -> Result<String, Fail> {
+    if !host.holds(&window) {
+        return Err(Fail::new("the host holds the window"));
+    }
+    if bitmap != window.bitmap() || empty != VolatileMemory::is_empty(&window) {
+        return Err(Fail::new("a view is told as its window is"));
+    }
+    let mut bytes = [9; 6];
+    let count = window.read(host, &mut bytes, 0);
+    let empty = window.is_empty();
+    Ok(format!(in alloc;
+        "{empty} {:?}+{} {count:?} {bytes:?}\n",
+        bitmap.id, bitmap.base
+    )?)
+}
+
+// Of a window of 8 bytes at 0x10: of a value, of an array, and of an array of none.
+const SEEN: &str = "false Block(0)+19 Ok(4) [4, 5, 6, 7, 9, 9]
+false Block(0)+17 Ok(6) [2, 3, 4, 5, 6, 7]
+true Block(0)+24 Err(OutOfBounds { addr: 0 }) [9, 9, 9, 9, 9, 9]
+";
+
+#[test]
+fn a_view_has_the_window_of_its_bytes(rt: HostRuntime) -> Result<(), Fail> {
+    let mut host: HostMemory<()> = HostMemory::new(rt.alloc());
+    let window = window_of(&mut host, &[1, 2, 3, 4, 5, 6, 7, 8])?;
+    let value = window.get_ref::<u32>(3)?;
+    let mut text = seen(rt.alloc(), &host, value.to_slice(), false, value.bitmap())?;
+    for (at, count) in [(1, 3), (8, 0)] {
+        let array = window.get_array_ref::<u16>(at, count)?;
+        let part = array.to_slice();
+        let told = seen(rt.alloc(), &host, part, array.is_empty(), array.bitmap())?;
+        text.push_str(told.as_str())?;
+    }
+    expect_text(0, text.as_str(), SEEN)
 }
 
 // Of a window of 8 bytes at 0x10, by an offset and a number: how long a u32 there is, how many of so many

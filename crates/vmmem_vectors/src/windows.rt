@@ -1,5 +1,6 @@
 //! Windows: parts of them, and access to their bytes.
 
+use crate::cells::Cells;
 use crate::support::{expect_accesses, expect_text};
 use std::alloc::Global;
 use std::test::Fail;
@@ -106,6 +107,54 @@ fn an_access_reaches_to_the_end_of_its_window(rt: HostRuntime) -> Result<(), Fai
             any,
             all,
         )?;
+    }
+    Ok(())
+}
+
+// Of the cells of such a window, by a number.
+const CELLS: [(u16, usize, &str, &str); 4] = [
+    (0, 8, "Ok(8)", "Ok(())"),
+    (1, 4, "Ok(4)", "Ok(())"),
+    (
+        1,
+        5,
+        "Ok(4)",
+        "Err(PartialBuffer { expected: 5, completed: 4 })",
+    ),
+    (
+        2,
+        1,
+        "Err(OutOfBounds { addr: 8 })",
+        "Err(OutOfBounds { addr: 8 })",
+    ),
+];
+
+// A value in the second cell of a window, one that goes past the last cell, and one behind it.
+fn cell_values(alloc: Global, host: &mut HostMemory<()>, cells: Cells) -> Result<String, Fail> {
+    if !host.holds(&cells) {
+        return Err(Fail::new("the host holds the cells"));
+    }
+    let wrote = cells.write_obj(host, 0x1122_3344u32, 1);
+    let whole = cells.read_obj::<u64, ()>(host, 0);
+    let past = cells.write_obj(host, u64::MAX, 1);
+    let behind = cells.read_obj::<u64, ()>(host, 2);
+    Ok(format!(in alloc; "{wrote:?} {whole:?} {past:?} {behind:?}")?)
+}
+
+const CELL_VALUES: &str =
+    "Ok(()) Ok(1234605615003729920) Err(PartialBuffer { expected: 8, completed: 4 }) \
+                           Err(OutOfBounds { addr: 8 })";
+
+#[test]
+fn a_type_of_its_own_gives_access_to_bytes(rt: HostRuntime) -> Result<(), Fail> {
+    let alloc = rt.alloc();
+    let mut host: HostMemory<()> = HostMemory::new(alloc);
+    let (window, _) = windows_of(&mut host, 0x10, 8)?;
+    let cells = Cells { window };
+    let text = cell_values(alloc, &mut host, cells)?;
+    expect_text(0, text.as_str(), CELL_VALUES)?;
+    for (case, (cell, count, any, all)) in CELLS.iter().enumerate() {
+        expect_accesses(alloc, &mut host, &cells, case, *cell, *count, any, all)?;
     }
     Ok(())
 }
