@@ -1,5 +1,5 @@
 -- Bitmaps of a host by their names.
-use Rattle.std.proofs.Common.{◌≡◌, ℕ, List, set, map, slice_get, Some, None, option_map, Result, Ok, Err, OnOk, refl, sym, ap, ◌∙◌, inl, inr}
+use Rattle.std.proofs.Common.{◌≡◌, ◌≢◌, ℕ, List, [], set, map, slice_get, Some, None, option_map, Result, Ok, Err, OnOk, refl, sym, ap, ◌∙◌, inl, inr}
 use Rattle.std.proofs.lemmas.List.{map-set, set-get_or}
 use Rattle.std.proofs.lemmas.Option.{slice_get-map, get_or_from_slice_get}
 use Rattle.vm_memory_base.specs.Pages.{PageSet, dirty_pages, cleaned}
@@ -65,9 +65,9 @@ module _ {R I B : Type 0} (region : R → Region) (number_of : I → ℕ) (pages
     harvest_is_step dirty after listed clean =
         rw (seen, with_pages-with_bitmap pages m.host id after, listed, clean) (inl refl)
 
-    pub refusal_is_step : Step (state_of region number_of pages m) (command.Harvest id) reply.Memory
+    pub refusal_is_step : dirty_pages (pages b) ≢ [] → Step (state_of region number_of pages m) (command.Harvest id) reply.Memory
         (state_of region number_of pages (record m { host = with_bitmap m.host id b }))
-    refusal_is_step = rw (seen, with_bitmap-same m.host id b there) (inr (refl, refl, refl))
+    refusal_is_step some = rw (seen, with_bitmap-same m.host id b there) (inr (refl, some, refl))
 
 -- ---- a sync
 

@@ -1,5 +1,5 @@
 -- Memory behind an IOMMU: what a host holds of it, and its accesses.
-use Rattle.std.proofs.Common.{◌≡◌, ℕ, ◌↔◌, Bool, true, List, [], ◌∷◌, ◌++◌, map, slice_get, Option, Some, IsSome, refl, sym, ap, subst, inl, inr, ◌⊎◌, ◌∙◌}
+use Rattle.std.proofs.Common.{◌≡◌, ◌<◌, ℕ, ◌↔◌, Bool, true, List, [], ◌∷◌, ◌++◌, map, slice_get, Option, Some, IsSome, refl, sym, ap, subst, inl, inr, ◌⊎◌, ◌∙◌}
 use Rattle.vm_memory_base.specs.Lookup.{mapped_ranges}
 use Rattle.vm_memory_base.specs.Table.{Table, Says, says, is_allowed, pieces}
 use Rattle.vm_memory_base.specs.declared.iotlb.IommuError.{IommuError}
@@ -63,16 +63,17 @@ module _ {R : Type 0} (region : R → Region) (rs : List R) (table space : ℕ) 
     ap of_translation refused.1 ∙ sym (ap (λ (w : Route). error_of (refusal w a n)) route-on),
   )
 
-  wants-on : (e : IommuError) → e ≡ iommu.Memory
-      → WantsMemory (behind (map region rs) table space on) (of_translation e)
-  wants-on e is = (
+  wants-on : (e : IommuError) → (e ≡ iommu.Memory) × (0 < n)
+      → WantsMemory (behind (map region rs) table space on) n (of_translation e)
+  wants-on e (is, some) = (
     ap of_translation is,
     subst (λ (b : Bool). IsSome (behind_if b (record { table = table; space = space }))) (sym is_on) refl,
+    some,
   )
 
-  pub fails-on : (e : IommuError) → ((e ≡ iommu.Memory) ⊎ RefusesTranslation (says t) a n access e)
+  pub fails-on : (e : IommuError) → (((e ≡ iommu.Memory) × (0 < n)) ⊎ RefusesTranslation (says t) a n access e)
       → (d : GuestMemoryError) → d ≡ of_translation e
-      → WantsMemory (behind (map region rs) table space on) d
+      → WantsMemory (behind (map region rs) table space on) n d
       ⊎ RefusesAccess (behind (map region rs) table space on) tables a n access d
   fails-on e why d is = rw is (elim why [
     | inl wanted ↦ inl (wants-on e wanted)

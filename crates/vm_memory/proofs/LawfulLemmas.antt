@@ -1,15 +1,19 @@
 -- Lawful states, and layouts without one of their regions.
 use Rattle.std.proofs.Common.{◌≡◌, ◌↔◌, ◌<◌, ℕ, List, [], ◌∷◌, ◌++◌, length, true, false, cond, Some, None, All}
-use Rattle.std.proofs.Common.{arith, slice_get, slice_set}
-use Rattle.std.proofs.lemmas.List.Elements.{All-head, All-tail, All-push, All-set, All-weaker, All-contains}
+use Rattle.std.proofs.Common.{arith, map, slice_get, slice_set}
+use Rattle.std.proofs.lemmas.List.Elements.{All-head, All-tail, All-push, All-set, All-map, All-weaker, All-contains}
 use Rattle.std.specs.Prelude.{Contains}
 use Rattle.vm_memory_base.specs.Pages.{PageSet}
+use Rattle.vm_memory_guest.specs.Collection.{each_is_region}
 use Rattle.vm_memory_guest.specs.Host.{Host}
 use Rattle.vm_memory_guest.specs.Layout.{is_exactly, behind_first, removed}
 use Rattle.vm_memory_guest.specs.Memory.{Memory}
 use Rattle.vm_memory_guest.specs.Region.{Region, IsRegion, IsLayout, last, layout_error}
 use Rattle.vm_memory.specs.Lawful.{IsLaidOut, IsLawful}
+use Rattle.vm_memory.specs.Memories.{memory_meant, each_fits}
+use Rattle.vm_memory.specs.Parts.{Parts, AreHeld, state_of}
 use Rattle.vm_memory.specs.State.{State, named}
+use Rattle.vm_memory.specs.declared.machine.machine_memory.MachineMemory.{MachineMemory}
 use Rattle.vm_memory.proofs.LayoutLemmas.{OfLeft, OfLeft-behind}
 use Rattle.vm_memory.proofs.ListLemmas.{All-slice_get}
 use Rattle.vm_memory.proofs.NamedLemmas.{named-among}
@@ -102,3 +106,17 @@ module _ (s : State) (h : IsLawful s) where
 
   pub with_other_host : (host : Host PageSet) → IsLawful (record s { host = host })
   with_other_host host = record { regions = h.regions; layouts = h.layouts; memories = h.memories }
+
+-- what a machine stands for is lawful
+pub machine_is_lawful : {R I B : Type 0} (region : R → Region) → ((r : R) → IsRegion (region r)) → (number : I → ℕ)
+    → (pages : B → PageSet) (m : Parts R I B) → AreHeld region number m → IsLawful (state_of region number pages m)
+machine_is_lawful {R} {I} region fits number pages m held = record {
+  regions = each_is_region region fits m.regions;
+  layouts = All-map IsLaidOut (map region) m.layouts
+      (All-weaker (λ (rs : List R). IsLayout (map region rs)) (λ (rs : List R). IsLaidOut (map region rs))
+      (λ rs laid. (each_is_region region fits rs, laid)) m.layouts held.laid_out);
+  memories = All-map (λ (q : Memory). IsLaidOut q.regions) (memory_meant region number) m.memories
+      (All-weaker (λ (x : MachineMemory R I). IsLayout (memory_meant region number x).regions)
+      (λ (x : MachineMemory R I). IsLaidOut (memory_meant region number x).regions)
+      (λ x laid. (each_fits region fits number x, laid)) m.memories held.memories_laid_out);
+}

@@ -2,14 +2,14 @@
 use Rattle.std.proofs.Common.{◌≡◌, ◌↔◌, Bool, ℕ, zero, suc, ◌+◌, ◌*◌, ◌/◌, ◌^◌, ◌<◌, ◌==◌, ◌≢◌, true, false, cond, List, [], ◌∷◌, map, length, get_or, Option, Some, None, option_map, Result, Ok, Err, IsSome, All, Contains, refl, sym, ap, subst, ◌∙◌, inl, inr, arith, zero-add}
 use Rattle.std.proofs.lemmas.Bool.{eqb-true, eqb-false, cases_Bool, true≢false, cond-true, cond-false}
 use Rattle.std.proofs.lemmas.Cmp.{nat_eq_equiv}
-use Rattle.std.proofs.lemmas.List.{length-map, get_or-map, get_or-set_same, get_or-set_other, ext_get_or}
+use Rattle.std.proofs.lemmas.List.{length-map, set-get_or, get_or-map, get_or-set_same, get_or-set_other, ext_get_or}
 use Rattle.std.proofs.lemmas.List.Elements.{All-nil, All-cons, All-head, All-tail, All-map, All-contains}
 use Rattle.std.proofs.lemmas.List.FromFn.{length-range_with_len, get_or-range_with_len}
 use Rattle.std.proofs.lemmas.Map.Views.{list_any-from_Contains, Contains-from_any}
 use Rattle.std.proofs.lemmas.Nat.{div_below}
 use Rattle.std.proofs.lemmas.Option.{slice_get_cases, slice_get_within, slice_get-map, get_or_from_slice_get}
 use Rattle.std.specs.Cmp.{both_ways}
-use Rattle.std.specs.List.{list_any, range_with_len, slice_get}
+use Rattle.std.specs.List.{list_any, range_with_len, slice_get, slice_set}
 use Rattle.vm_memory_base.specs.Address.{numbers}
 use Rattle.vm_memory_base.specs.Pages.{Pages, PageSet, shape, is_dirty_at, dirty_pages, cleaned}
 use Rattle.vm_memory_base.specs.Table.{Table}
@@ -32,10 +32,11 @@ use Rattle.vm_memory_guest.specs.Typed.{path_given, whole_path}
 use Rattle.vm_memory_guest.specs.Window.{Window, with_bitmap}
 use Rattle.vm_memory_guest.specs.declared.region.GuestMemoryError.{GuestMemoryError}
 use Rattle.vm_memory_guest.specs.declared.region.GuestMemoryError.TheVariants as errors
-use Rattle.vm_memory.specs.Machine.{Step}
+use Rattle.vm_memory.specs.Machine.{Step, outcome}
 use Rattle.vm_memory.specs.Reply.{reached_by, access_result, reply_of}
-use Rattle.vm_memory.specs.Rounds.{patched, patched_by, patched_with, bytes_of_block, pages_of_block, image_now, image_after, MirrorsBlock, Cover, IsTracked}
+use Rattle.vm_memory.specs.Rounds.{patched, patched_by, patched_with, bytes_of_block, pages_of_block, image_now, image_after, MirrorsBlock, RepliesAsImage, Cover, IsTracked}
 use Rattle.vm_memory.specs.State.{State}
+use Rattle.vm_memory.specs.declared.machine.command.Command.{Command}
 use Rattle.vm_memory.specs.declared.machine.command.Command.TheVariants as command
 use Rattle.vm_memory.specs.declared.machine.command.Reply.{Reply}
 use Rattle.vm_memory.specs.declared.machine.command.Reply.TheVariants as reply
@@ -478,3 +479,10 @@ read_of_image block image old new memory addr n bytes m k x mirrors step there r
       rw (is, mirrors) (read ∙ ap (λ (b : ℕ). Some (get_or (block_at old.host.blocks b) x.cell.offset 0)) here))
   | inr want ↦ absurd (let e : reply.Bytes bytes ≡ reply.Memory = want.0 in cc)
 ]
+
+-- where an image mirrors a block, it may stand in its place
+pub replies_as_image : (block : ℕ) (image : List ℕ) (old : State) (c : Command) → MirrorsBlock block old.host image
+    → RepliesAsImage block image old c
+replies_as_image block image old c mirrors =
+    ap (λ (bs : List (List ℕ)). (outcome (record old { host = record old.host { blocks = bs } }) c).0)
+    (ap (λ (b : List ℕ). slice_set old.host.blocks block b) mirrors ∙ set-get_or old.host.blocks block [])

@@ -7,7 +7,7 @@ use Rattle.vm_memory_base.specs.declared.bitmap.BitmapId.TheVariants.{Block}
 use Rattle.vm_memory_guest.specs.Host.{Host}
 use Rattle.vm_memory.specs.Effect.{Effect, Replies, AddsLayout, AddsMemory, SetsMemory, Leaves, apply}
 use Rattle.vm_memory.specs.Commands.{table_call}
-use Rattle.vm_memory.specs.History.{table_calls}
+use Rattle.vm_memory.specs.History.{table_calls, AtEachState}
 use Rattle.vm_memory.specs.Lawful.{IsLawful}
 use Rattle.vm_memory.specs.Commands.{MayWant, effect}
 use Rattle.vm_memory.specs.Machine.{Step, Run}
@@ -20,7 +20,7 @@ use Rattle.vm_memory.specs.declared.machine.command.Reply.TheVariants as reply
 use Rattle.vm_memory.proofs.CallLemmas.{AreLeftBy, HistoryLaws, same, one_after_the_other}
 use Rattle.vm_memory.proofs.EffectLemmas.{IsOf, IsSilent, ImageLaws, quiet_is_silent, command_has_effect}
 use Rattle.vm_memory.proofs.LawfulLemmas.{PassesLaw, with_layout, with_memory, with_memory_at, with_other_host}
-use Rattle.vm_memory.proofs.RoundsLemmas.{KeepsBlock, mirrors_from_clean}
+use Rattle.vm_memory.proofs.RoundsLemmas.{KeepsBlock, mirrors_from_clean, replies_as_image}
 use Rattle.vm_memory.proofs.StepLemmas.{IsStill}
 use Rattle.vm_memory.proofs.TransferLemmas.{RefusedLaw}
 use Rattle.vm_memory.proofs.WantLemmas.{IsAnswer}
@@ -32,6 +32,19 @@ Run-step old [] [] mid c r new ran step = (new, subst (λ (s : State). Step s c 
 Run-step old [] (q ∷ rs) mid c r new ran step = absurd ran
 Run-step old (d ∷ cs) [] mid c r new ran step = absurd ran
 Run-step old (d ∷ cs) (q ∷ rs) mid c r new ran step = (ran.0, ran.1, Run-step ran.0 cs rs mid c r new ran.2 step)
+
+-- what holds of whatever a run reaches holds at each of its states
+pub at_each_state : (P : List Command → List Reply → State → Type 0) (old : State) (cs : List Command) (rs : List Reply)
+    (new : State) (run : Run old cs rs new)
+    → ((ds : List Command) (qs : List Reply) (s : State) → Run old ds qs s → P ds qs s) → AtEachState P old cs rs new run
+at_each_state P old [] [] new run all = all [] [] new run
+at_each_state P old [] (r ∷ rs) new run all = absurd run
+at_each_state P old (c ∷ cs) [] new run all = absurd run
+at_each_state P old (c ∷ cs) (r ∷ rs) new run all = (
+  all [] [] old refl,
+  at_each_state (λ ds qs s. P (c ∷ ds) (r ∷ qs) s) run.0 cs rs new run.2
+      (λ ds qs s ran. all (c ∷ ds) (r ∷ qs) s (run.0, run.1, ran)),
+)
 
 -- ---- refusals
 
@@ -186,9 +199,11 @@ module _ (laws : ImageLaws) (block : ℕ) where
   run_keeps image old [] (r ∷ rs) new run kept direct = absurd run
   run_keeps image old (c ∷ cs) [] new run kept direct = absurd run
   run_keeps image old (c ∷ cs) (r ∷ rs) new run kept direct =
-      let next = step_keeps image old run.0 kept c r direct.0 run.1 in (
-        mirrors_from_clean laws.are_listed (pages_of_block block old.host)
-            (bytes_of_block block old.host) image kept.clean,
+      let next = step_keeps image old run.0 kept c r direct.0 run.1 in
+      let mirrors = mirrors_from_clean laws.are_listed (pages_of_block block old.host)
+      (bytes_of_block block old.host) image kept.clean in (
+        mirrors,
+        replies_as_image block image old c mirrors,
         run_keeps (image_after block old.host c r image) run.0 cs rs new run.2 next direct.1,
       )
 

@@ -1,18 +1,20 @@
 -- What is told of each command: what it does, where it may want memory, and which memory or table it is on.
-use Rattle.std.specs.Prelude.{◌≡◌, ◌⊎◌, ◌<◌, ◌==◌, if◌then◌else◌, ℕ, true, false, IsTrue, List, [], ◌∷◌, slice_get}
+use Rattle.std.specs.Prelude.{◌≡◌, ◌≢◌, ◌<◌, ◌==◌, if◌then◌else◌, ℕ, true, false, IsTrue, List, [], ◌∷◌, length, slice_get}
 use Rattle.std.specs.Prelude.{Option, Some, None, IsSome, IsSomeAnd}
+use Rattle.std.specs.Int.{byte_len}
 use Rattle.vm_memory_base.specs.Pages.{dirty_pages, cleaned}
 use Rattle.vm_memory_base.specs.Table as table
 use Rattle.vm_memory_base.specs.Table.{TableCall, says, overruns}
+use Rattle.vm_memory_base.specs.declared.bitmap.BitmapId.{BitmapId}
 use Rattle.vm_memory_guest.specs.Layout.{inserted, removed}
-use Rattle.vm_memory_guest.specs.Memory.{IsOn}
+use Rattle.vm_memory_guest.specs.Memory.{NeedsTranslation}
 use Rattle.vm_memory_guest.specs.Region.{layout_error}
 use Rattle.vm_memory_guest.specs.Window.{bitmap_of, with_bitmap}
 use Rattle.vm_memory.specs.Iommu.{behind}
 use Rattle.vm_memory.specs.State.{State, plain, named}
 use Rattle.vm_memory.specs.Copy.{copies}
-use Rattle.vm_memory.specs.Effect.{Effect, Replies, AddsMemory, Leaves}
-use Rattle.vm_memory.specs.Effect.{if_there, laid_out, without, turned, leaves, asks, changes_by}
+use Rattle.vm_memory.specs.Effect.{Effect, Replies, AddsMemory, SetsMemory, Leaves}
+use Rattle.vm_memory.specs.Effect.{if_there, laid_out, without, leaves, asks, changes_by}
 use Rattle.vm_memory.specs.Reply.{reads, reads_whole, writes, checks}
 use Rattle.vm_memory.specs.Tables.{changes, looks_up}
 use Rattle.vm_memory.specs.Transfers.{receives, sends}
@@ -50,7 +52,8 @@ effect old (ReplaceBackend memory layout) =
     (λ s. if_there (slice_get old.layouts layout)
     (λ rs. AddsMemory (record { regions = rs; iommu = Some s }))))
 effect old (Enable memory on) =
-    if_there (slice_get old.memories memory) (λ m. if_there m.iommu (λ s. turned memory m s on))
+    if_there (slice_get old.memories memory)
+    (λ m. if_there m.iommu (λ s. SetsMemory memory (record m { iommu = Some (record s { on = on }) })))
 effect old (Read memory addr count) = asks old memory (λ m host. reads m host addr.0 count)
 effect old (Write memory addr bytes) = changes_by old memory (λ m host. writes false m host addr.0 bytes)
 effect old (ReadSlice memory addr count) = asks old memory (λ m host. reads_whole m host addr.0 count)
@@ -76,8 +79,16 @@ effect old (InvalidateAll number) = leaves (changes old.host number 0 0 table.In
 effect old (Lookup number iova len access) =
     if_there (slice_get old.host.tables number) (λ t. Replies (looks_up (says t) iova.0 len access))
 
+-- an access of n bytes of a memory that is there goes through a translation
+abbrev pub MayTranslate : State → ℕ → ℕ → Type 0
+MayTranslate old memory n = IsSomeAnd (slice_get old.memories memory) (λ m. NeedsTranslation m n)
+
+-- a bitmap that is there has a dirty page
+abbrev pub HasDirtyPage : State → BitmapId → Type 0
+HasDirtyPage old id = IsSomeAnd (bitmap_of old.host id) (λ set. dirty_pages set ≢ [])
+
 -- where memory may be wanting: for what is made, for a range that is mapped or no longer is, for the bytes, the pages
--- and the ranges that a reply lists, for the room of a sink, and for a translation
+-- and the ranges that a reply lists, for the room of a sink, and for a translation. For nothing it is not wanting
 abbrev pub MayWant : State → Command → Type 0
 MayWant old (FromRegions numbers) = IsSome (named old.regions numbers)
 MayWant old (Insert layout region) =
@@ -90,27 +101,27 @@ MayWant old (NewMemory layout translator space on) = IsSome (slice_get old.layou
 MayWant old (ReplaceBackend memory layout) =
     IsSomeAnd (slice_get old.memories memory) (λ m. IsSome m.iommu) × IsSome (slice_get old.layouts layout)
 MayWant old (Enable memory on) = ⊥
-MayWant old (Read memory addr n) = IsSomeAnd (slice_get old.memories memory) (λ m. IsOn m ⊎ (0 < n))
-MayWant old (Write memory addr bytes) = IsSomeAnd (slice_get old.memories memory) IsOn
-MayWant old (ReadSlice memory addr n) = IsSomeAnd (slice_get old.memories memory) (λ m. IsOn m ⊎ (0 < n))
-MayWant old (WriteSlice memory addr bytes) = IsSomeAnd (slice_get old.memories memory) IsOn
+MayWant old (Read memory addr n) = IsSome (slice_get old.memories memory) × (0 < n)
+MayWant old (Write memory addr bytes) = MayTranslate old memory (length bytes)
+MayWant old (ReadSlice memory addr n) = IsSome (slice_get old.memories memory) × (0 < n)
+MayWant old (WriteSlice memory addr bytes) = MayTranslate old memory (length bytes)
 MayWant old (Store memory width addr value) =
-    IsSomeAnd (slice_get old.memories memory) (λ m. IsOn m × IsTrue (fits_width (integer_of width) value))
-MayWant old (Load memory width addr) = IsSomeAnd (slice_get old.memories memory) IsOn
-MayWant old (ReadFrom memory addr n source) = IsSomeAnd (slice_get old.memories memory) IsOn
-MayWant old (ReadExactFrom memory addr n source) = IsSomeAnd (slice_get old.memories memory) IsOn
-MayWant old (WriteTo memory addr n sink) = IsSomeAnd (slice_get old.memories memory) (λ m. IsOn m ⊎ (0 < n))
-MayWant old (WriteAllTo memory addr n sink) = IsSomeAnd (slice_get old.memories memory) (λ m. IsOn m ⊎ (0 < n))
-MayWant old (CheckRange memory addr count access) = IsSomeAnd (slice_get old.memories memory) IsOn
-MayWant old (Dirty id) = IsSome (bitmap_of old.host id)
-MayWant old (Harvest id) = IsSome (bitmap_of old.host id)
+    MayTranslate old memory (byte_len (integer_of width)) × IsTrue (fits_width (integer_of width) value)
+MayWant old (Load memory width addr) = MayTranslate old memory (byte_len (integer_of width))
+MayWant old (ReadFrom memory addr n source) = MayTranslate old memory n
+MayWant old (ReadExactFrom memory addr n source) = MayTranslate old memory n
+MayWant old (WriteTo memory addr n sink) = IsSome (slice_get old.memories memory) × (0 < n)
+MayWant old (WriteAllTo memory addr n sink) = IsSome (slice_get old.memories memory) × (0 < n)
+MayWant old (CheckRange memory addr n access) = MayTranslate old memory n
+MayWant old (Dirty id) = HasDirtyPage old id
+MayWant old (Harvest id) = HasDirtyPage old id
 MayWant old (Copy from to) = ⊥
 MayWant old (Set number iova to len perm) =
-    IsSome (slice_get old.host.tables number) × (overruns iova.0 len ≡ false)
+    IsSome (slice_get old.host.tables number) × (overruns iova.0 len ≡ false) × (0 < len)
 MayWant old (Invalidate number iova len) =
-    IsSome (slice_get old.host.tables number) × (overruns iova.0 len ≡ false)
+    IsSome (slice_get old.host.tables number) × (overruns iova.0 len ≡ false) × (0 < len)
 MayWant old (InvalidateAll number) = ⊥
-MayWant old (Lookup number iova len access) = IsSome (slice_get old.host.tables number)
+MayWant old (Lookup number iova len access) = IsSome (slice_get old.host.tables number) × (0 < len)
 
 -- the memory that a command accesses, if it is an access
 abbrev pub accessed_memory : Command → Option ℕ

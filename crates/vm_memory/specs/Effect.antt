@@ -1,9 +1,8 @@
 -- What commands do, in few kinds: what each replies, and what it changes.
-use Rattle.std.specs.Prelude.{ℕ, Bool, List, [], ◌∷◌, ◌++◌, length, slice_get, slice_set, Option, Some, None}
+use Rattle.std.specs.Prelude.{ℕ, List, [], ◌∷◌, ◌++◌, length, slice_get, slice_set, Option, Some, None}
 use Rattle.vm_memory_base.specs.Pages.{PageSet}
 use Rattle.vm_memory_guest.specs.Host.{Host}
 use Rattle.vm_memory_guest.specs.Memory as guest
-use Rattle.vm_memory_guest.specs.Memory.{Switched}
 use Rattle.vm_memory_guest.specs.Region.{Region}
 use Rattle.vm_memory_guest.specs.declared.region.GuestRegionCollectionError.{GuestRegionCollectionError}
 use Rattle.vm_memory.specs.Reply.{reply_of_layout_error}
@@ -42,10 +41,6 @@ laid_out rs (Some e) = Replies (reply_of_layout_error e)
 abbrev pub without : Option (List Region × Region) → Effect
 without None = Replies (Fault NoMemoryRegion)
 without (Some p) = AddsLayout p.0
-
--- the IOMMU of a memory is turned on or off, and nothing else of it changes
-abbrev pub turned : ℕ → guest.Memory → Switched → Bool → Effect
-turned memory m s on = SetsMemory memory (record m { iommu = Some (record s { on = on }) })
 
 -- the reply and the host that a call leaves
 abbrev pub leaves : Reply × Host PageSet → Effect

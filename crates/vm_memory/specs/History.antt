@@ -1,12 +1,16 @@
 -- What the commands of a run made of I/O tables, and how an access goes through one.
-use Rattle.std.specs.Prelude.{◌≡◌, ℕ, true, false, List, [], ◌∷◌, ◌++◌, All, Option, Some}
+use Rattle.std.specs.Prelude.{◌≡◌, ℕ, ◌+◌, ◌<◌, true, false, List, [], ◌∷◌, ◌++◌, All, Option, Some}
+use Rattle.std.specs.Prelude.{length, slice_get, slice_index_or}
 use Rattle.vm_memory_base.specs.Permissions.{allow}
-use Rattle.vm_memory_base.specs.Table.{TableCall, covers, Mapping, target}
+use Rattle.vm_memory_base.specs.Table.{Table, TableCall, says, says_after_all, covers, Mapping, target}
 use Rattle.vm_memory_base.specs.declared.iotlb.Permissions.{Permissions}
 use Rattle.vm_memory_guest.specs.Access.{Reached}
-use Rattle.vm_memory_guest.specs.Region.{Region, Backed, cell}
+use Rattle.vm_memory_guest.specs.Memory.{Memory, Translation, behind_of}
+use Rattle.vm_memory_guest.specs.Region.{Region, Backed, cell, has_address}
 use Rattle.vm_memory.specs.Commands.{table_call}
+use Rattle.vm_memory.specs.Lawful.{IsLawful}
 use Rattle.vm_memory.specs.Machine.{Step, Run}
+use Rattle.vm_memory.specs.Reply.{reached_by}
 use Rattle.vm_memory.specs.State.{State}
 use Rattle.vm_memory.specs.declared.machine.command.Command.{Command}
 use Rattle.vm_memory.specs.declared.machine.command.Reply.{Reply}
@@ -38,6 +42,13 @@ pub record IsLast (address : ℕ) (calls : List TableCall) (call : TableCall) : 
   pub covers_it : covers call address ≡ true
   pub none_later : All (λ other. covers other address ≡ false) later
 
+-- at every state of a run this holds of the commands before it, of their replies, and of it
+abbrev pub AtEachState : (List Command → List Reply → State → Type 0) → (old : State) (cs : List Command)
+    (rs : List Reply) (new : State) → Run old cs rs new → Type 0
+AtEachState P old (c ∷ cs) (r ∷ rs) new run =
+    P [] [] old × AtEachState (λ ds qs s. P (c ∷ ds) (r ∷ qs) s) run.0 cs rs new run.2
+AtEachState P old cs rs new run = P [] [] new
+
 -- a byte that an access reaches at an address, of which this is said: it is mapped, with the permissions that the
 -- access needs, and the byte is what lies at its target
 pub record GoesThrough (regions : List Region) (address : ℕ) (said : Option Mapping) (access : Permissions)
@@ -47,3 +58,16 @@ pub record GoesThrough (regions : List Region) (address : ℕ) (said : Option Ma
   pub is_taken : x.mapping ≡ Some mapping
   pub permits : allow mapping.permissions access ≡ true
   pub lies_there : cell regions (target address mapping) ≡ Backed x.region x.cell
+
+-- a state that commands with these replies left: its layouts are layouts, at most one region of a memory has an
+-- address, and behind an IOMMU that is on each byte is reached through the mapping that was set last for its address
+-- and not invalidated since
+pub record ReachesAsTold (old : State) (cs : List Command) (rs : List Reply) (now : State) : Type 0 where
+  pub lawful : IsLawful now
+  pub one_region : (m : Memory) (memory a i j : ℕ) (d : Region) → slice_get now.memories memory ≡ Some m
+      → i < length m.regions → j < length m.regions → has_address (slice_index_or m.regions i d) a ≡ true
+      → has_address (slice_index_or m.regions j d) a ≡ true → i ≡ j
+  pub set_last : (m : Memory) (b : Translation) (t : Table) (a n i : ℕ) (access : Permissions) (x : Reached)
+      → behind_of m.iommu ≡ Some b → slice_get old.host.tables b.table ≡ Some t
+      → slice_get (reached_by m now.host.tables a n access).path i ≡ Some x
+      → GoesThrough m.regions (a + i) (says_after_all (table_calls b.table cs rs) (a + i) (says t (a + i))) access x

@@ -3,7 +3,7 @@ use Rattle.std.specs.Prelude.{ℕ, List, map, flat_map, All}
 use Rattle.vm_memory_base.specs.Pages.{PageSet}
 use Rattle.vm_memory_guest.specs.Host.{Host, Tlb, shape_of, Holds, IsHeld}
 use Rattle.vm_memory_guest.specs.Memory.{memory_names}
-use Rattle.vm_memory_guest.specs.Region.{Region, region_names}
+use Rattle.vm_memory_guest.specs.Region.{Region, IsLayout, region_names}
 use Rattle.vm_memory_guest.specs.Dirt.{with_pages}
 use Rattle.vm_memory_base.specs.declared.bitmap.BitmapId.TheVariants.{Block}
 use Rattle.vm_memory_guest.specs.Window.{Window}
@@ -34,12 +34,14 @@ module _ {R I B : Type 0} (region : R → Region) (number : I → ℕ) where
   HoldsMemory host m = Holds (shape_of host) (memory_names (memory_meant region number m))
 
   -- the host holds the bytes of each region of the pool and of each layout, the tables of the translators, and
-  -- what each memory names
+  -- what each memory names. The regions of each layout and of each memory are a layout
   pub record AreHeld (m : Parts R I B) : Type 0 where
     pub pool : HoldsRegions region m.host m.regions
     pub tables : HoldsTables number m.host m.translators
     pub layouts : All (HoldsRegions region m.host) m.layouts
     pub memories : All (HoldsMemory m.host) m.memories
+    pub laid_out : All (λ (rs : List R). IsLayout (map region rs)) m.layouts
+    pub memories_laid_out : All (λ (x : MachineMemory R I). IsLayout (memory_meant region number x).regions) m.memories
 
   -- the state of the model: regions by what they mean, translators by their tables, bitmaps by their pages
   abbrev pub state_of : (B → PageSet) → Parts R I B → State

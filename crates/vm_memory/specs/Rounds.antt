@@ -1,7 +1,7 @@
 -- An image of a block that is kept in rounds: each harvest of the block's bitmap patches it with the pages
 -- that the harvest takes.
 use Rattle.std.specs.Prelude.{◌≡◌, ℕ, ◌*◌, ◌/◌, ◌≤◌, ◌==◌, if◌then◌else◌, List, ◌∷◌, length, map}
-use Rattle.std.specs.Prelude.{slice_get, slice_index, Option, Some, None, IfSome, option_and_then}
+use Rattle.std.specs.Prelude.{slice_get, slice_set, slice_index, Option, Some, None, IfSome, option_and_then}
 use Rattle.std.specs.List.{list_any}
 use Rattle.vm_memory_base.specs.Address.{numbers}
 use Rattle.vm_memory_base.specs.Pages.{PageSet, shape, dirty_pages, cleaned}
@@ -11,7 +11,7 @@ use Rattle.vm_memory_guest.specs.Host.{Host, block_at}
 use Rattle.vm_memory_guest.specs.Memory.{IsOn}
 use Rattle.vm_memory_guest.specs.Window.{with_bitmap}
 use Rattle.vm_memory.specs.Commands.{written_memory}
-use Rattle.vm_memory.specs.Machine.{Run}
+use Rattle.vm_memory.specs.Machine.{Run, outcome}
 use Rattle.vm_memory.specs.State.{State}
 use Rattle.vm_memory.specs.declared.machine.command.Command.{Command}
 use Rattle.vm_memory.specs.declared.machine.command.Command.TheVariants.{Harvest}
@@ -74,10 +74,18 @@ abbrev pub RunsDirectly : (old : State) (cs : List Command) (rs : List Reply) (n
 RunsDirectly old (c ∷ cs) (r ∷ rs) new run = IsDirect old c × RunsDirectly run.0 cs rs new run.2
 RunsDirectly old cs rs new run = Unit {0}
 
--- at every state of a run the image, patched by the harvests before it, mirrors the block
+-- a command replies as if the block had the bytes of the image, patched with the pages that are dirty now: so what a
+-- read of any kind reaches of the block, it gives of the image
+abbrev pub RepliesAsImage : ℕ → List ℕ → State → Command → Type 0
+RepliesAsImage block image old c =
+    let blocks = slice_set old.host.blocks block (image_now block old.host image) in
+    (outcome (record old { host = record old.host { blocks = blocks } }) c).0 ≡ (outcome old c).0
+
+-- at every state of a run the image, patched by the harvests before it, mirrors the block, and what is read is of it
 abbrev pub KeepsImage : ℕ → List ℕ → (old : State) (cs : List Command) (rs : List Reply) (new : State)
     → Run old cs rs new → Type 0
 KeepsImage block image old (c ∷ cs) (r ∷ rs) new run = MirrorsBlock block old.host image
+    × RepliesAsImage block image old c
     × KeepsImage block (image_after block old.host c r image) run.0 cs rs new run.2
 KeepsImage block image old cs rs new run = MirrorsBlock block new.host image
 

@@ -1,5 +1,5 @@
 //! Guest memory behind an IOMMU.
-ghost use Rattle.std.specs.Prelude.{◌≡◌, ◌⊎◌, ◌∷◌, ◌++◌, [], ℕ, IfOk, MatchResult, map};
+ghost use Rattle.std.specs.Prelude.{◌≡◌, ◌⊎◌, ◌<◌, ◌∷◌, ◌++◌, [], ℕ, IfOk, MatchResult, map};
 ghost use Rattle.vm_memory_base.specs.Lookup.{mapped_ranges};
 ghost use Rattle.vm_memory_base.specs.Table.{says};
 ghost use Rattle.vm_memory_guest.specs.Host as names;
@@ -38,7 +38,7 @@ pub trait Iommu: Named + Drop {
     /// Where `length` addresses from `iova` on lead, as pieces in order, for an access: those of a look-up in
     /// the table. `CannotResolve` where the table does not allow it, with the whole range: `MissingMapping`
     /// where an address is not mapped, else `AccessNotAllowed`. `Memory` where there is no memory for the
-    /// answer. No other error comes.
+    /// answer: for no address it takes none. No other error comes.
     fn translate(
         &self,
         alloc: Global,
@@ -49,7 +49,7 @@ pub trait Iommu: Named + Drop {
     ) -> Result<Vec<MappedRange>, IommuError>
         ensures { MatchResult result
             (λ found. Translates (says table.now) iova.0 length access found.items)
-            (λ e. (e ≡ IommuError.Memory) ⊎ RefusesTranslation (says table.now) iova.0 length access e) };
+            (λ e. ((e ≡ IommuError.Memory) × (0 < length)) ⊎ RefusesTranslation (says table.now) iova.0 length access e) };
 
     /// It names its table.
     ghost names_table: { (iommu : Self) → Self.names iommu ≡ names.Tlb (number iommu) ∷ [] };
@@ -107,6 +107,7 @@ impl Iommu for TableIommu {
     ) -> Result<Vec<MappedRange>, IommuError> {
         reason_of_a_refusal();
         match table.lookup(iova, length, access) {
+            Ok(_) if length == 0 => Ok(Vec::new(alloc)),
             Ok(found) => pieces_of(alloc, found),
             Err(LookupError::Fails(fails)) => Err(IommuError::CannotResolve {
                 iova_range: IovaRange { base: iova, length },

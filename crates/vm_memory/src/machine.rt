@@ -2,8 +2,9 @@
 //! list of commands.
 ghost use Rattle.std.specs.Prelude.{◌≡◌, ℕ, List, ◌++◌, [], OnOk, OnErr};
 ghost use Rattle.vm_memory_guest.specs.Collection.{regions_of};
+ghost use Rattle.vm_memory.specs.History.{AtEachState, ReachesAsTold};
 ghost use Rattle.vm_memory.specs.Machine.{Step, Run};
-ghost use Rattle.vm_memory.specs.Parts.{HoldsRegions, HoldsTables, state_of};
+ghost use Rattle.vm_memory.specs.Parts.{HoldsRegions, HoldsTables, AreHeld, state_of};
 ghost use Rattle.vm_memory.specs.Rounds.{IsTracked, RunsDirectly, KeepsImage, bytes_of_block};
 
 mod accesses;
@@ -21,7 +22,9 @@ mod transfers;
 mod typed;
 
 use crate::iommu::Iommu;
-use crate::machine_laws::runs_keep_images;
+use crate::machine_laws::{
+    accesses_go_through_what_was_set_last, runs_keep_images, runs_keep_layouts,
+};
 use command::{Command, Reply};
 use copies::copy_in;
 use machine_memory::MachineMemory;
@@ -84,9 +87,11 @@ impl<R: GuestMemoryRegion, I: Iommu, B> Machine<R, I, B> {
         }
     }
 
-    /// Lends the host, with what the commands so far left in it.
+    /// Lends the host, with what the commands so far left in it. It holds what the machine names, and each layout
+    /// of the machine is one.
     pub fn host(&self) -> &HostMemory<B>
-        ensures { result.now ≡ self.now.host }
+        ensures host { result.now ≡ self.now.host }
+        ensures held { AreHeld R.region I.number self.now }
     {
         &self.host
     }
@@ -144,6 +149,9 @@ impl<R: GuestMemoryRegion, I: Iommu, B: ExactBitmap> Machine<R, I, B> {
 /// Runs commands in order, and appends a reply for each. Room for the replies is reserved first: refused,
 /// nothing ran and nothing was appended.
 ///
+/// At every moment of the run each layout is one, and behind an IOMMU that is on a byte is reached through the
+/// mapping that was set last for its address and not invalidated since: docs/DEFINITIONS.md, "History".
+///
 /// A copy of a block that its bitmap covers, patched with the pages of each harvest and with those that are
 /// dirty, is the block at every moment of the run: docs/DEFINITIONS.md, "Images kept in rounds".
 pub fn run<R: GuestMemoryRegion, I: Iommu, B: ExactBitmap>(
@@ -155,12 +163,15 @@ pub fn run<R: GuestMemoryRegion, I: Iommu, B: ExactBitmap>(
         let after = state_of R.region I.number B.pages machine.new in
         OnOk result ((new : List Reply) × (replies.new.items ≡ replies.old.items ++ new)
         × (run : Run before commands.now new after)
+        × AtEachState (ReachesAsTold before) before commands.now new after run
         × ((block : ℕ) → IsTracked block before.host → RunsDirectly before commands.now new after run
         → KeepsImage block (bytes_of_block block before.host) before commands.now new after run)) }
     ensures refused { OnErr result ((machine.new ≡ machine.old) × (replies.new.items ≡ replies.old.items)) }
 {
     blocks_are_short(&machine.host);
     runs_keep_images();
+    runs_keep_layouts();
+    accesses_go_through_what_was_set_last();
     replies.reserve(commands.len())?;
     for command in commands {
         let reply = machine.step(command);

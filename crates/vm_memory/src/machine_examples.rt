@@ -202,15 +202,18 @@ pub fn images_that_mirror_a_block()
     ensures no_memory { IsDirect machine (Write 3 (at 0) (9 ∷ [])) }
 {}
 
-/// Memory may be wanting for what is made, for the bytes and the pages that are replied, and for a translation.
+/// Memory may be wanting for what is made, for the bytes and the pages that are replied, for ranges of a table, and
+/// for a translation. Where there is nothing of these it is not.
 pub fn who_may_want_memory()
     ensures layout { MayWant machine (FromRegions (0 ∷ [])) }
     ensures memory { MayWant machine (Plain 0) }
     ensures read { MayWant machine (Read 0 (at 0) 1) }
     ensures read_of_nothing { MayWant machine (Read 0 (at 0) 0) → ⊥ }
+    ensures translated_read_of_nothing { MayWant machine (Read 1 (at 0) 0) → ⊥ }
     ensures write { MayWant machine (Write 0 (at 0) (9 ∷ [])) → ⊥ }
     ensures transfer_out_of_nothing { MayWant machine (WriteTo 0 (at 0) 0 []) → ⊥ }
     ensures translated_write { MayWant machine (Write 1 (at 0) (9 ∷ [])) }
+    ensures translated_write_of_nothing { MayWant machine (Write 1 (at 0) []) → ⊥ }
     ensures write_that_is_off { MayWant machine (Write 2 (at 0) (9 ∷ [])) → ⊥ }
     ensures translated_store { MayWant machine (Store 1 One (at 0) 9) }
     ensures store_too_great { MayWant machine (Store 1 One (at 0) 256) → ⊥ }
@@ -218,8 +221,14 @@ pub fn who_may_want_memory()
     ensures no_region { MayWant machine (FromRegions (0 ∷ 3 ∷ [])) → ⊥ }
     ensures no_layout { MayWant machine (Plain 1) → ⊥ }
     ensures no_remove { MayWant machine (Remove 0 (at 0) 2) → ⊥ }
-    ensures dirty { MayWant machine (Dirty (Block 0)) }
+    ensures dirty { MayWant marked_machine (Dirty (Block 0)) }
+    ensures clean { MayWant machine (Harvest (Block 0)) → ⊥ }
+    ensures untracked { MayWant (record machine { host = record host { bitmaps = None ∷ [] } }) (Harvest (Block 0)) → ⊥ }
     ensures no_bitmap { MayWant machine (Harvest (Block 2)) → ⊥ }
+    ensures set { MayWant machine (Set 0 (at 16) (at 2) 4 permissions.Read) }
+    ensures set_of_nothing { MayWant machine (Set 0 (at 16) (at 2) 0 permissions.Read) → ⊥ }
+    ensures invalidate_of_nothing { MayWant machine (Invalidate 0 (at 16) 0) → ⊥ }
+    ensures look_up_of_nothing { MayWant machine (Lookup 0 (at 16) 0 permissions.Read) → ⊥ }
 {}
 
 /// A step has its one answer, and no other but want of memory, which leaves the machine. A run answers each command

@@ -1,11 +1,11 @@
 -- The flags and words of a bitmap.
-use Rattle.std.proofs.Common.{◌≡◌, ℕ, zero, suc, ◌+◌, ◌-◌, ◌*◌, ◌/◌, ◌%◌, ◌^◌, ◌<◌, ◌≤◌, Bool, true, false, not, ◌&&◌, ◌||◌, cond, ltb, leb, Vec, List, [], ◌∷◌, ◌++◌, length, get_or, take, drop, replicate, Option, Some, None, min, refl, subst, sym, ap, inl, inr, ◌∙◌, arith, add-zero, zero-add, mul-div_cancel, length-append, length-drop}
+use Rattle.std.proofs.Common.{◌≡◌, ◌≢◌, ℕ, zero, suc, ◌+◌, ◌-◌, ◌*◌, ◌/◌, ◌%◌, ◌^◌, ◌<◌, ◌≤◌, Bool, true, false, not, ◌&&◌, ◌||◌, cond, ltb, leb, Vec, List, [], ◌∷◌, ◌++◌, length, get_or, take, drop, replicate, Option, Some, None, min, refl, subst, sym, ap, inl, inr, ◌∙◌, arith, add-zero, zero-add, mul-div_cancel, length-append, length-drop}
 use Rattle.std.specs.Int.{div_ceil}
 use Rattle.std.specs.declared.alloc.Global.{Global}
 use Rattle.std.specs.List.{All, Contains}
 use Rattle.std.proofs.Math.Nat.{pow-suc, pow-succ', div-div-eq-div-mul, zero-div, zero-mul, mul-zero, suc-mul}
 use Rattle.std.proofs.Math.Pow.{pow_mono}
-use Rattle.std.proofs.lemmas.Bool.{lt-ltb, le-leb, le-ltb, lt-leb, cases_lt}
+use Rattle.std.proofs.lemmas.Bool.{lt-ltb, le-leb, le-ltb, lt-leb, cases_lt, true≢false}
 use Rattle.std.proofs.lemmas.Grind.{div_ceil_times}
 use Rattle.std.proofs.lemmas.Nat.{div_below}
 use Rattle.std.proofs.lemmas.List.Elements.{All-head}
@@ -159,6 +159,17 @@ dirty_from-more flags page inside =
 pub nothing_dirty : (set : PageSet) → shape set ≡ None → dirty_pages set ≡ []
 nothing_dirty None is = refl
 nothing_dirty (Some p) is = absurd (none-some (p.page_size, length p.flags) (sym is))
+
+-- where a byte is dirty, a page is
+pub dirty_from-some : (page k : ℕ) (flags : List Bool) → get_or flags k false ≡ true → dirty_from page flags ≢ []
+dirty_from-some page k [] at = absurd (true≢false (sym at))
+dirty_from-some page k (true ∷ flags) at = λ none. absurd (cc)
+dirty_from-some page zero (false ∷ flags) at = absurd (true≢false (sym at))
+dirty_from-some page (suc k) (false ∷ flags) at = dirty_from-some (page + 1) k flags at
+
+pub dirty_pages-some : (set : PageSet) (offset : ℕ) → is_dirty_at set offset ≡ true → dirty_pages set ≢ []
+dirty_pages-some None offset at = absurd (true≢false (sym at))
+dirty_pages-some (Some p) offset at = dirty_from-some 0 (offset / p.page_size) p.flags at
 
 -- the dirty ones of the first pages
 abbrev pub dirty_below : PageSet → ℕ → List ℕ

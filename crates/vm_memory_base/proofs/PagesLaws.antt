@@ -443,7 +443,7 @@ pub Contains-dirty_pages : (p : Pages) (page : ℕ) → Contains (dirty_pages (S
 Contains-dirty_pages p page = (
   (λ h. let w : (i : ℕ) × (page ≡ 0 + i)
       × (get_or p.flags i false ≡ true) = listed_is_dirty 0 p.flags page h in let e : page ≡ w.0 = omega arith in rw e
-        w.2),
+      w.2),
   (λ e. let f : 0 + page ≡ page = zero-add page in rw f at (listed 0 p.flags page e)),
 )
 

@@ -1,5 +1,5 @@
 //! Dirty tracking: which pages of a block or a space were written.
-ghost use Rattle.std.specs.Prelude.{◌≡◌, ℕ, Bool, IfOk, OnOk, OnErr};
+ghost use Rattle.std.specs.Prelude.{◌≡◌, ◌≢◌, [], ℕ, Bool, IfOk, OnOk, OnErr};
 ghost use Rattle.vm_memory_base.specs.Pages.{PageSet, IsPageSet, IsCleanFor, in_view};
 ghost use Rattle.vm_memory_base.specs.Pages as page_set;
 
@@ -44,9 +44,11 @@ pub trait ExactBitmap: Bitmap {
     fn shape(&self) -> Option<(usize, usize)>
         ensures { result ≡ page_set.shape (pages self.now) };
 
-    /// The numbers of the dirty pages, ascending. `AllocError` where there is no memory for the list.
+    /// The numbers of the dirty pages, ascending. `AllocError` where there is no memory for the list: where no
+    /// page is dirty it takes none.
     fn dirty_pages(&self, alloc: Global) -> Result<Vec<usize>, AllocError>
-        ensures { IfOk result (λ dirty. dirty.items ≡ page_set.dirty_pages (pages self.now)) }
+        ensures dirty { IfOk result (λ dirty. dirty.items ≡ page_set.dirty_pages (pages self.now)) }
+        ensures refused { OnErr result (page_set.dirty_pages (pages self.now) ≢ []) }
     {
         let mut dirty = Vec::new(alloc);
         if let Some((page_size, count)) = self.shape() {
@@ -60,11 +62,11 @@ pub trait ExactBitmap: Bitmap {
     }
 
     /// Takes the dirty pages: gives their numbers, ascending, and makes them clean. `AllocError` where
-    /// there is no memory for the list, and then nothing is changed.
+    /// there is no memory for the list, and then nothing is changed: where no page is dirty it takes none.
     fn harvest(&mut self, alloc: Global) -> Result<Vec<usize>, AllocError>
         ensures dirty { IfOk result (λ dirty. dirty.items ≡ page_set.dirty_pages (pages self.old)) }
         ensures clean { OnOk result (pages self.new ≡ page_set.cleaned (pages self.old)) }
-        ensures refused { OnErr result (self.new ≡ self.old) };
+        ensures refused { OnErr result ((self.new ≡ self.old) × (page_set.dirty_pages (pages self.old) ≢ [])) };
 
     /// Pages have a size, and every page begins at an offset of 64 bits.
     ghost fits: { (b : Self) → IsPageSet (pages b) };

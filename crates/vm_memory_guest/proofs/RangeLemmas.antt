@@ -1,5 +1,5 @@
 -- Blocks that are made for ranges, one after another.
-use Rattle.std.proofs.Common.{◌≡◌, ◌⊎◌, ℕ, ◌+◌, ◌<◌, ◌≤◌, List, [], ◌∷◌, ◌++◌, length, get_or, slice_get, take, map, flat_map, Some, None}
+use Rattle.std.proofs.Common.{◌≡◌, ◌⊎◌, ℕ, ◌+◌, ◌^◌, ◌<◌, ◌≤◌, ◌==◌, ◌||◌, nat_le, cond, Bool, true, false, unwrap_or, List, [], ◌∷◌, ◌++◌, length, get_or, slice_get, take, map, flat_map, Some, None}
 use Rattle.std.proofs.Common.{refl, sym, ap, subst, ◌∙◌, inl, inr, length-append, replicate, arith}
 use Rattle.std.proofs.lemmas.List.{take_more, get_or_default, map-append}
 use Rattle.std.proofs.lemmas.List.Elements.{All-push}
@@ -25,6 +25,17 @@ refusal_of-either (Collection layout.UnsortedMemoryRegions) = inr refl
 refusal_of-either (MmapRegion block.Memory) = inl refl
 refusal_of-either (MmapRegion block.InvalidSize) = inr refl
 refusal_of-either InvalidGuestRegion = inr refl
+
+-- the error of a range tells its refusal, and want of memory where it has none
+pub range_told : (addr : GuestAddress) (size : ℕ) (e : FromRangesError)
+    → e ≡ unwrap_or (range_error addr size) (MmapRegion block.Memory) → range_error addr size ≡ refusal_of e
+range_told addr size e is = rw is (go (size == 0 || nat_le (2 ^ 63) size) (nat_le (2 ^ 64) (addr.0 + size)))
+  where
+    go : (b z : Bool) → let told = cond b (Some (MmapRegion block.InvalidSize)) (cond z (Some InvalidGuestRegion) None) in
+        told ≡ refusal_of (unwrap_or told (MmapRegion block.Memory))
+    go true z = refl
+    go false true = refl
+    go false false = refl
 
 -- one range more
 pub AllFit-more : (rs : RangeList) (r : GuestAddress × ℕ) → AllFit rs → range_error r.0 r.1 ≡ None

@@ -5,7 +5,7 @@ use Rattle.vm_memory_base.specs.declared.iotlb.Permissions.{Permissions}
 use Rattle.vm_memory_guest.specs.Access.{AccessFault, Access, windows, path, first_fault, meets, access_of, allowed, refusal}
 use Rattle.vm_memory_guest.specs.Answer.{Reach}
 use Rattle.vm_memory_guest.specs.Error.{error_of}
-use Rattle.vm_memory_guest.specs.Memory.{Memory, IsOn, Direct, route}
+use Rattle.vm_memory_guest.specs.Memory.{Memory, NeedsTranslation, Direct, route}
 use Rattle.vm_memory_guest.specs.Region.{Region}
 use Rattle.vm_memory_guest.specs.Window.{Window}
 use Rattle.vm_memory_guest.specs.declared.region.GuestMemoryError.{GuestMemoryError}
@@ -54,6 +54,6 @@ abbrev pub RefusesAccess : Memory → List Table → ℕ → ℕ → Permissions
 RefusesAccess memory tables a n access e =
     (allowed (route memory tables) a n access ≡ false) × (e ≡ error_of (refusal (route memory tables) a n))
 
--- there was no memory for the translation: an IOMMU is on
-abbrev pub WantsMemory : Memory → GuestMemoryError → Type 0
-WantsMemory memory e = (e ≡ errors.Memory) × IsOn memory
+-- there was no memory for the translation of an access of n bytes
+abbrev pub WantsMemory : Memory → ℕ → GuestMemoryError → Type 0
+WantsMemory memory n e = (e ≡ errors.Memory) × NeedsTranslation memory n

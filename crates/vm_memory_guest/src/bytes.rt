@@ -41,8 +41,8 @@ pub trait Bytes<A>: Named {
     /// The error that says that there was no memory. Then nothing changed.
     ghost no_memory: { Self.E };
 
-    /// When a call may want memory.
-    ghost may_want: { Self → Type 0 };
+    /// When a call for so many bytes may want memory.
+    ghost may_want: { Self → ℕ → Type 0 };
 
     /// The windows that a transfer of at most so many bytes at an address moves, in a host with these tables,
     /// and what keeps it from moving more.
@@ -69,7 +69,7 @@ pub trait Bytes<A>: Named {
     ) -> Result<usize, Self::E>
         requires { Holds (shape_of host.old) (Self.names self.now) }
         ensures answer { let r = reach self.now host.old.tables addr (length buf.now) Write in
-            Outcome no_memory (may_want self.now)
+            Outcome no_memory (may_want self.now (length buf.now))
             (ended (span r.windows) r.fault) (host.new ≡ host.old)
             (Writes B.marks r.windows buf.now host.old host.new) result }
         ensures at_most { IfOk result (λ count. count ≤ length buf.now) }
@@ -84,7 +84,7 @@ pub trait Bytes<A>: Named {
     ) -> Result<usize, Self::E>
         requires { Holds (shape_of host.now) (Self.names self.now) }
         ensures answer { let r = reach self.now host.now.tables addr (length buf.old) Read in
-            Outcome no_memory (may_want self.now)
+            Outcome no_memory (may_want self.now (length buf.old))
             (ended (span r.windows) r.fault) (buf.new ≡ buf.old)
             (buf.new ≡ filled_buffer host.now.blocks (cells r.windows) buf.old) result }
         ensures at_most { IfOk result (λ count. count ≤ length buf.old) };
@@ -99,7 +99,7 @@ pub trait Bytes<A>: Named {
     ) -> Result<(), Self::E>
         requires { Holds (shape_of host.old) (Self.names self.now) }
         ensures answer { let r = reach self.now host.old.tables addr (length buf.now) Write in
-            Outcome no_memory (may_want self.now)
+            Outcome no_memory (may_want self.now (length buf.now))
             (all_of partial (length buf.now) (ended (span r.windows) r.fault)) (host.new ≡ host.old)
             (Writes B.marks r.windows buf.now host.old host.new) result }
         ensures shape { shape_of host.new ≡ shape_of host.old };
@@ -114,7 +114,7 @@ pub trait Bytes<A>: Named {
     ) -> Result<(), Self::E>
         requires { Holds (shape_of host.now) (Self.names self.now) }
         ensures answer { let r = reach self.now host.now.tables addr (length buf.old) Read in
-            Outcome no_memory (may_want self.now)
+            Outcome no_memory (may_want self.now (length buf.old))
             (all_of partial (length buf.old) (ended (span r.windows) r.fault)) (buf.new ≡ buf.old)
             (buf.new ≡ filled_buffer host.now.blocks (cells r.windows) buf.old) result };
 
@@ -127,7 +127,7 @@ pub trait Bytes<A>: Named {
     ) -> Result<(), Self::E>
         requires { Holds (shape_of host.old) (Self.names self.now) }
         ensures answer { T.width < 2 ^ 64 → let r = reach self.now host.old.tables addr T.width Write in
-            Outcome no_memory (may_want self.now)
+            Outcome no_memory (may_want self.now T.width)
             (all_of partial T.width (ended (span r.windows) r.fault)) (host.new ≡ host.old)
             (Writes B.marks r.windows (T.bytes val) host.old host.new) result }
         ensures shape { shape_of host.new ≡ shape_of host.old };
@@ -140,7 +140,7 @@ pub trait Bytes<A>: Named {
     ) -> Result<T, Self::E>
         requires { Holds (shape_of host.now) (Self.names self.now) }
         ensures { T.width < 2 ^ 64 → let r = reach self.now host.now.tables addr T.width Read in
-            Outcome no_memory (may_want self.now)
+            Outcome no_memory (may_want self.now T.width)
             (answered (λ _. T.value_of (bytes_at host.now.blocks (cells r.windows)))
             (all_of partial T.width (ended (span r.windows) r.fault)))
             (Unit {0}) (Unit {0}) result };
@@ -156,7 +156,7 @@ pub trait Bytes<A>: Named {
     ) -> Result<(), Self::E>
         requires { Holds (shape_of host.old) (Self.names self.now) }
         ensures answer { let w = place self.now host.old.tables addr T.width Write in
-            Outcome no_memory (may_want self.now) (answered (λ _. tt) w) (host.new ≡ host.old)
+            Outcome no_memory (may_want self.now T.width) (answered (λ _. tt) w) (host.new ≡ host.old)
             (Writes B.marks (given w) (T.bytes val) host.old host.new) result }
         ensures shape { shape_of host.new ≡ shape_of host.old };
 
@@ -170,7 +170,7 @@ pub trait Bytes<A>: Named {
     ) -> Result<T, Self::E>
         requires { Holds (shape_of host.now) (Self.names self.now) }
         ensures { let w = place self.now host.now.tables addr T.width Read in
-            Outcome no_memory (may_want self.now)
+            Outcome no_memory (may_want self.now T.width)
             (answered (λ v. T.value_of (bytes_at host.now.blocks (cells_of v))) w)
             (Unit {0}) (Unit {0}) result };
 
@@ -187,7 +187,7 @@ pub trait Bytes<A>: Named {
     ) -> Result<usize, Self::E>
         requires { Holds (shape_of host.old) (Self.names self.now) }
         ensures answer { let r = moved self.now host.old.tables addr count Write in
-            Transfers no_memory (may_want self.now) failure r (Fills F.source F.reads F.known_left B.marks Once)
+            Transfers no_memory (may_want self.now count) failure r (Fills F.source F.reads F.known_left B.marks Once)
             (λ total. total) (beside src.old host.old) result (beside src.new host.new) }
         ensures at_most { IfOk result (λ total. total ≤ count) }
         ensures shape { shape_of host.new ≡ shape_of host.old };
@@ -203,7 +203,7 @@ pub trait Bytes<A>: Named {
     ) -> Result<(), Self::E>
         requires { Holds (shape_of host.old) (Self.names self.now) }
         ensures answer { let r = moved_whole self.now host.old.tables addr count Write in
-            Transfers no_memory (may_want self.now) failure r (Fills F.source F.reads F.known_left B.marks filling)
+            Transfers no_memory (may_want self.now count) failure r (Fills F.source F.reads F.known_left B.marks filling)
             (all_of partial count) (beside src.old host.old) result (beside src.new host.new) }
         ensures shape { shape_of host.new ≡ shape_of host.old };
 
@@ -219,7 +219,7 @@ pub trait Bytes<A>: Named {
     ) -> Result<usize, Self::E>
         requires { Holds (shape_of host.now) (Self.names self.now) }
         ensures answer { let r = moved self.now host.now.tables addr count Read in
-            Transfers no_memory (may_want self.now) failure r
+            Transfers no_memory (may_want self.now count) failure r
             (Takes F.sink F.taken F.may_want F.writes host.now.blocks sending) (λ total. total) dst.old result dst.new }
         ensures at_most { IfOk result (λ total. total ≤ count) };
 
@@ -234,7 +234,7 @@ pub trait Bytes<A>: Named {
     ) -> Result<(), Self::E>
         requires { Holds (shape_of host.now) (Self.names self.now) }
         ensures answer { let r = moved_whole self.now host.now.tables addr count Read in
-            Transfers no_memory (may_want self.now) failure r
+            Transfers no_memory (may_want self.now count) failure r
             (Takes F.sink F.taken F.may_want F.writes host.now.blocks UntilWhole) (all_of partial count)
             dst.old result dst.new };
 

@@ -108,7 +108,7 @@ pub trait GuestMemory: Named {
 
     /// The windows of `count` bytes from an address on, and then the error of the first that is not there. An
     /// access that the translation does not allow is refused at once. `Memory` comes only with an IOMMU that
-    /// is on.
+    /// is on, and for no access of no byte.
     fn get_slices<B: Bitmap>(
         &self,
         host: &HostMemory<B>,
@@ -119,12 +119,12 @@ pub trait GuestMemory: Named {
         requires { Holds (shape_of host.now) (Self.names self.now) }
         ensures answer { MatchResult result
             (GivesAccess (memory self.now) host.now.tables addr.0 count access)
-            (λ e. WantsMemory (memory self.now) e
+            (λ e. WantsMemory (memory self.now) count e
             ⊎ RefusesAccess (memory self.now) host.now.tables addr.0 count access e) }
         ensures layout { IsLayout (memory self.now).regions };
 
     /// Whether each of `count` bytes from an address on may be accessed so, and has a byte of the host. Of no
-    /// byte it is so. `Memory` comes only with an IOMMU that is on, and no other error comes.
+    /// byte it is so. `Memory` comes as from `get_slices`, and no other error comes.
     #[inline]
     fn check_range<B: Bitmap>(
         &self,
@@ -136,7 +136,7 @@ pub trait GuestMemory: Named {
         requires { Holds (shape_of host.now) (Self.names self.now) }
         ensures { let m = memory self.now in
             let reached = access_of m.regions (route m host.now.tables) addr.0 count access in
-            MatchResult result (λ all. all ≡ is_whole reached.path count) (WantsMemory m) }
+            MatchResult result (λ all. all ≡ is_whole reached.path count) (WantsMemory m count) }
     {
         match self.get_slices(host, addr, count, access) {
             Ok(walk) => Ok(ends_well(walk)),

@@ -1,7 +1,7 @@
 //! Regions over whole blocks of a host.
 ghost use Rattle.std.specs.Prelude.{◌≡◌, ◌+◌, ◌^◌, ◌<◌, ◌≤◌, ◌↔◌, ◌⊎◌, List, [], ◌∷◌, ◌++◌, length};
 ghost use Rattle.std.specs.Prelude.{Some, None, IsSome, IfSome, IfOk, IfErr, OnOk, OnErr, IsErrOf};
-ghost use Rattle.std.specs.Prelude.{ℕ, MatchResult, map, flat_map, take, slice_get};
+ghost use Rattle.std.specs.Prelude.{ℕ, MatchResult, map, flat_map, take, slice_get, unwrap_or};
 ghost use Rattle.vm_memory_guest.specs.Host as names;
 ghost use Rattle.vm_memory_guest.specs.Host.{Name, shape_of, with_block, Holds, block_at};
 ghost use Rattle.vm_memory_guest.specs.Collection.{regions_of};
@@ -285,7 +285,7 @@ impl From<MmapRegionError> for FromRangesError {
 impl GuestRegionMmap {
     /// Makes a block of `size` zeroed bytes in the host, at a guest address. The size is tested first, as in
     /// `MmapRegion::new`, and then that the address plus the size fits: `InvalidGuestRegion` where it does not.
-    /// A refusal, for want of memory too, adds no block.
+    /// Want of memory is that of the mapping, `MmapRegion`. A refusal, for want of memory too, adds no block.
     pub fn from_range<B: NewBitmap + Drop>(
         host: &mut HostMemory<B>,
         addr: GuestAddress,
@@ -294,7 +294,7 @@ impl GuestRegionMmap {
         ensures region { MatchResult result
             (λ r. (range_error addr size ≡ None)
             × (mmap_region r ≡ range_region (length host.old.blocks) addr size))
-            (λ e. range_error addr size ≡ refusal_of e) }
+            (λ e. e ≡ unwrap_or (range_error addr size) (FromRangesError.MmapRegion MmapRegionError.Memory)) }
         ensures ok { OnOk result ((bitmap : B) × B.made size bitmap
             × (host.new ≡ with_block host.old size bitmap)) }
         ensures err { OnErr result (host.new ≡ host.old) }

@@ -36,7 +36,7 @@ impl<R: GuestMemoryRegionBytes> Bytes<MemoryRegionAddress> for R {
 
     ghost no_memory = { errors.Memory };
 
-    ghost may_want = { λ r. ⊥ };
+    ghost may_want = { λ r n. ⊥ };
 
     ghost moved = { λ r tables addr n access. moved_in (slice_of (R.region r) 0 (R.region r).len)
         (λ w. cut_of w addr.0 n) };

@@ -2,7 +2,7 @@
 ghost use Rattle.std.specs.Prelude.{◌≡◌, ◌⊎◌, true, false, length, IsOk, IfOk, Some};
 ghost use Rattle.vm_memory_guest.specs.Dirt.{with_pages};
 ghost use Rattle.vm_memory_guest.specs.Host.{shape_of, Holds};
-ghost use Rattle.vm_memory_guest.specs.Memory.{IsOn};
+ghost use Rattle.vm_memory_guest.specs.Memory.{NeedsTranslation};
 ghost use Rattle.vm_memory.specs.Commands.{accessed_memory};
 ghost use Rattle.vm_memory.specs.Machine.{Step};
 ghost use Rattle.vm_memory.specs.Parts.{state_of};
@@ -130,7 +130,8 @@ fn read_into<M: GuestMemory, B: ExactBitmap>(
 ) -> Reply
     requires { Holds (shape_of host.now) (M.names memory.now) }
     ensures { let m = M.memory memory.now in let before = with_pages B.pages host.now in
-        (result ≡ reads m before addr.0 (length buffer.items)) ⊎ ((result ≡ Reply.Memory) × IsOn m) }
+        (result ≡ reads m before addr.0 (length buffer.items))
+        ⊎ ((result ≡ Reply.Memory) × NeedsTranslation m (length buffer.items)) }
 {
     accesses_are_by_bytes::<B>();
     match memory.read(host, buffer.as_mut_slice(), addr) {
@@ -153,7 +154,7 @@ fn write_from<M: GuestMemory, B: ExactBitmap>(
     ensures written { let m = M.memory memory.now in let before = with_pages B.pages host.old in
         let after = with_pages B.pages host.new in
         ((result, after) ≡ writes false m before addr.0 bytes.now)
-        ⊎ ((result ≡ Reply.Memory) × IsOn m × (after ≡ before)) }
+        ⊎ ((result ≡ Reply.Memory) × NeedsTranslation m (length bytes.now) × (after ≡ before)) }
     ensures shape { shape_of host.new ≡ shape_of host.old }
 {
     accesses_are_by_bytes::<B>();
@@ -173,7 +174,7 @@ fn fill<M: GuestMemory, B: ExactBitmap>(
     requires { Holds (shape_of host.now) (M.names memory.now) }
     ensures { let m = M.memory memory.now in let before = with_pages B.pages host.now in
         (result ≡ reads_whole m before addr.0 (length buffer.items))
-        ⊎ ((result ≡ Reply.Memory) × IsOn m) }
+        ⊎ ((result ≡ Reply.Memory) × NeedsTranslation m (length buffer.items)) }
 {
     accesses_are_by_bytes::<B>();
     match memory.read_slice(host, buffer.as_mut_slice(), addr) {
@@ -193,7 +194,7 @@ fn write_whole<M: GuestMemory, B: ExactBitmap>(
     ensures written { let m = M.memory memory.now in let before = with_pages B.pages host.old in
         let after = with_pages B.pages host.new in
         ((result, after) ≡ writes true m before addr.0 bytes.now)
-        ⊎ ((result ≡ Reply.Memory) × IsOn m × (after ≡ before)) }
+        ⊎ ((result ≡ Reply.Memory) × NeedsTranslation m (length bytes.now) × (after ≡ before)) }
     ensures shape { shape_of host.new ≡ shape_of host.old }
 {
     accesses_are_by_bytes::<B>();
@@ -210,7 +211,8 @@ fn check_in<M: GuestMemory, B: ExactBitmap>(
 ) -> Reply
     requires { Holds (shape_of host.now) (M.names memory.now) }
     ensures { let m = M.memory memory.now in let before = with_pages B.pages host.now in
-        (result ≡ checks m before addr.0 count access) ⊎ ((result ≡ Reply.Memory) × IsOn m) }
+        (result ≡ checks m before addr.0 count access)
+        ⊎ ((result ≡ Reply.Memory) × NeedsTranslation m count) }
 {
     match memory.check_range(host, addr, count, access) {
         Ok(all) => Reply::Truth(all),

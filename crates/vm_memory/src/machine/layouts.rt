@@ -73,6 +73,8 @@ impl<R: GuestMemoryRegion, I: Iommu, B: ExactBitmap> Machine<R, I, B> {
             × (self.new ≡ record self.old { layouts = self.old.layouts ++ layout ∷ [] }))
             ⊎ ((result ≡ reply.Memory) × (self.new ≡ self.old)) }
     {
+        // That the regions are a layout is what this call tells.
+        let _ = layout.num_regions();
         let number = self.layouts.len();
         if self.layouts.push(layout).is_err() {
             return Reply::Memory;

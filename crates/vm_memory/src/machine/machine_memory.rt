@@ -3,6 +3,7 @@ ghost use Rattle.std.specs.Prelude.{◌≡◌, None, MatchOption};
 ghost use Rattle.vm_memory.specs.Memories.{memory_meant};
 ghost use Rattle.vm_memory.specs.declared.machine.machine_memory.MachineMemory.TheVariants.{Translated};
 ghost use Rattle.vm_memory_guest.specs.Memory.{memory_names};
+ghost use Rattle.vm_memory_guest.specs.Region.{IsLayout};
 
 use crate::iommu::{Iommu, IommuMemory};
 use vm_memory_base::{Bitmap, GuestAddress, Permissions};
@@ -31,6 +32,17 @@ impl<R: GuestMemoryRegion, I: Iommu> MachineMemory<R, I> {
             MachineMemory::Plain(_) => None,
             MachineMemory::Translated(memory) => Some(memory),
         }
+    }
+
+    // Does nothing, and tells that the regions are a layout.
+    pub(super) fn tells_layout(&self)
+        ensures { IsLayout (memory_meant R.region I.number self.now).regions }
+    {
+        let layout = match self {
+            MachineMemory::Plain(layout) => layout,
+            MachineMemory::Translated(memory) => memory.get_backend(),
+        };
+        let _ = layout.num_regions();
     }
 }
 

@@ -97,6 +97,7 @@ impl<R: GuestMemoryRegion, I: Iommu, B: ExactBitmap> Machine<R, I, B> {
             × (self.new ≡ record self.old { memories = self.old.memories ++ memory ∷ [] }))
             ⊎ ((result ≡ reply.Memory) × (self.new ≡ self.old)) }
     {
+        memory.tells_layout();
         let number = self.memories.len();
         if self.memories.push(memory).is_err() {
             return Reply::Memory;

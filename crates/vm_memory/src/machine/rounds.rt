@@ -1,6 +1,6 @@
 //! The image of a block that is brought up to date in rounds.
-ghost use Rattle.std.specs.Prelude.{◌≡◌, ◌-◌, ◌<◌, ◌≤◌, [], ◌∷◌, ◌++◌, take, drop, length, OnOk, OnErr};
-ghost use Rattle.vm_memory_base.specs.Pages.{cleaned};
+ghost use Rattle.std.specs.Prelude.{◌≡◌, ◌≢◌, ◌-◌, ◌<◌, ◌≤◌, [], ◌∷◌, ◌++◌, take, drop, length, OnOk, OnErr};
+ghost use Rattle.vm_memory_base.specs.Pages.{cleaned, dirty_pages};
 ghost use Rattle.vm_memory_base.specs.declared.bitmap.BitmapId.TheVariants.{Block};
 ghost use Rattle.vm_memory_guest.specs.Dirt.{with_pages};
 ghost use Rattle.vm_memory_guest.specs.Host as names;
@@ -18,7 +18,7 @@ use vm_memory_guest::{BlockId, GuestMemoryRegion, HostMemory, MmapRegion, Volati
 impl<R: GuestMemoryRegion, I: Iommu, B: ExactBitmap> Machine<R, I, B> {
     /// Brings an image of a block up to date: takes the dirty pages of the block's bitmap, so that none is
     /// dirty, and copies the bytes of these pages from the block. `AllocError` where there is no memory for
-    /// the list of pages: then nothing is changed.
+    /// the list of pages: then nothing is changed. Where no page is dirty it takes none.
     ///
     /// An image that was a copy of the block at some time, and was patched with the pages of each harvest
     /// since, is the block then: docs/DEFINITIONS.md, "Images kept in rounds".
@@ -30,7 +30,9 @@ impl<R: GuestMemoryRegion, I: Iommu, B: ExactBitmap> Machine<R, I, B> {
         ensures clean { let before = with_pages B.pages self.old.host in
             OnOk result ((after : B) × (B.pages after ≡ cleaned (pages_of_block block.0 before))
             × (self.new ≡ record self.old { host = with_bitmap self.old.host (Block block.0) after })) }
-        ensures refused { OnErr result ((self.new ≡ self.old) × (image.new ≡ image.old)) }
+        ensures refused { let before = with_pages B.pages self.old.host in
+            OnErr result ((self.new ≡ self.old) × (image.new ≡ image.old)
+            × (dirty_pages (pages_of_block block.0 before) ≢ [])) }
     {
         sync_in(self.alloc, &mut self.host, block, image)
     }
@@ -50,7 +52,9 @@ fn sync_in<B: ExactBitmap>(
     ensures clean { let before = with_pages B.pages host.old in
         OnOk result ((after : B) × (B.pages after ≡ cleaned (pages_of_block block.0 before))
         × (host.new ≡ with_bitmap host.old (Block block.0) after)) }
-    ensures refused { OnErr result ((host.new ≡ host.old) × (image.new ≡ image.old)) }
+    ensures refused { let before = with_pages B.pages host.old in
+        OnErr result ((host.new ≡ host.old) × (image.new ≡ image.old)
+        × (dirty_pages (pages_of_block block.0 before) ≢ [])) }
 {
     let bitmap = host.bitmap_mut(BitmapId::Block(block.0));
     let Some((page_size, _)) = bitmap.shape() else {

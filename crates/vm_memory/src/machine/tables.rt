@@ -64,7 +64,7 @@ fn set_in<B>(
     ensures answer { ((result, host.new)
         ≡ changes host.old table iova.0 len (tables.Set iova.0 map_to.0 len perm))
         ⊎ ((result ≡ reply.Memory) × IsSome (slice_get host.old.tables table) × (overruns iova.0 len ≡ false)
-        × (host.new ≡ host.old)) }
+        × (0 < len) × (host.new ≡ host.old)) }
     ensures shape { shape_of host.new ≡ shape_of host.old }
 {
     if iova.0.checked_add(len as u64).is_none() {
@@ -85,7 +85,7 @@ fn invalidate_in<B>(host: &mut HostMemory<B>, table: usize, iova: GuestAddress, 
     ensures answer { ((result, host.new)
         ≡ changes host.old table iova.0 len (tables.Invalidate iova.0 len))
         ⊎ ((result ≡ reply.Memory) × IsSome (slice_get host.old.tables table) × (overruns iova.0 len ≡ false)
-        × (host.new ≡ host.old)) }
+        × (0 < len) × (host.new ≡ host.old)) }
     ensures shape { shape_of host.new ≡ shape_of host.old }
 {
     if iova.0.checked_add(len as u64).is_none() {
@@ -119,9 +119,10 @@ fn look_up_in<B>(
 ) -> Reply
     requires { table < length host.now.tables }
     ensures { (t : tables.Table) × (slice_get host.now.tables table ≡ Some t)
-        × ((result ≡ looks_up (tables.says t) iova.0 len access) ⊎ (result ≡ reply.Memory)) }
+        × ((result ≡ looks_up (tables.says t) iova.0 len access) ⊎ ((result ≡ reply.Memory) × (0 < len))) }
 {
     match host.table(TlbId(table)).lookup(iova, len, access) {
+        Ok(_) if len == 0 => Reply::Pieces(PieceList::from_vec(Vec::new(alloc))),
         Ok(pieces) => match listed(alloc, pieces) {
             Ok(pieces) => Reply::Pieces(pieces),
             Err(_) => Reply::Memory,

@@ -2,7 +2,7 @@
 ghost use Rattle.std.specs.Prelude.{◌≡◌, ◌⊎◌, ◌<◌};
 ghost use Rattle.vm_memory_guest.specs.Dirt.{with_pages};
 ghost use Rattle.vm_memory_guest.specs.Host.{shape_of, Holds};
-ghost use Rattle.vm_memory_guest.specs.Memory.{IsOn};
+ghost use Rattle.vm_memory_guest.specs.Memory.{NeedsTranslation};
 ghost use Rattle.vm_memory.specs.Reply.{reply_of};
 ghost use Rattle.vm_memory.specs.Transfers.{beside_taken, receives, sends};
 
@@ -30,7 +30,7 @@ pub(super) fn receive<M: GuestMemory, B: ExactBitmap>(
     ensures received { let m = M.memory memory.now in let before = with_pages B.pages host.old in
         let after = with_pages B.pages host.new in
         ((result, after) ≡ receives whole m before addr.0 count steps.now)
-        ⊎ ((result ≡ Reply.Memory) × IsOn m × (after ≡ before)) }
+        ⊎ ((result ≡ Reply.Memory) × NeedsTranslation m count × (after ≡ before)) }
     ensures shape { shape_of host.new ≡ shape_of host.old }
 {
     transfers_in_are_computed::<ScriptSource, B>();
@@ -54,7 +54,7 @@ pub(super) fn send<M: GuestMemory, B: ExactBitmap>(
     requires { Holds (shape_of host.now) (M.names memory.now) }
     ensures { let m = M.memory memory.now in let before = with_pages B.pages host.now in
         (result ≡ sends whole m before addr.0 count steps.now)
-        ⊎ ((result ≡ Reply.Memory) × (IsOn m ⊎ (0 < count))) }
+        ⊎ ((result ≡ Reply.Memory) × (0 < count)) }
 {
     let Ok(mut sink) = ScriptSink::new(alloc, steps, count) else {
         return Reply::Memory;

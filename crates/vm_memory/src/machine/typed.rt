@@ -5,7 +5,7 @@ ghost use Rattle.vm_memory_base.specs.declared.iotlb.Permissions.TheVariants as 
 ghost use Rattle.vm_memory_guest.specs.Answer.{Outcome};
 ghost use Rattle.vm_memory_guest.specs.Dirt.{bytes_read, with_pages};
 ghost use Rattle.vm_memory_guest.specs.Host.{shape_of, Holds};
-ghost use Rattle.vm_memory_guest.specs.Memory.{IsOn};
+ghost use Rattle.vm_memory_guest.specs.Memory.{NeedsTranslation};
 ghost use Rattle.vm_memory_guest.specs.Typed.{answered};
 ghost use Rattle.vm_memory_guest.specs.declared.region.GuestMemoryError.TheVariants as errors;
 ghost use Rattle.vm_memory.specs.Typed.{fits_width, integer_of, loads, stores, stores_bytes, taken_by};
@@ -29,7 +29,8 @@ pub(super) fn store_word<M: GuestMemory, B: ExactBitmap>(
     ensures stored { let m = M.memory memory.now in let before = with_pages B.pages host.old in
         let after = with_pages B.pages host.new in let w = integer_of width in
         ((result, after) ≡ stores m before addr.0 w value)
-        ⊎ ((result ≡ Reply.Memory) × (IsOn m × IsTrue (fits_width w value)) × (after ≡ before)) }
+        ⊎ ((result ≡ Reply.Memory) × (NeedsTranslation m (byte_len w) × IsTrue (fits_width w value))
+        × (after ≡ before)) }
     ensures shape { shape_of host.new ≡ shape_of host.old }
 {
     if !width.fits(value) {
@@ -54,7 +55,7 @@ fn store_value<T: AtomicAccess, M: GuestMemory, B: ExactBitmap>(
     ensures stored { let m = M.memory memory.now in let before = with_pages B.pages host.old in
         let after = with_pages B.pages host.new in
         ((result, after) ≡ stores_bytes m before addr.0 (T.bytes value))
-        ⊎ ((result ≡ Reply.Memory) × IsOn m × (after ≡ before)) }
+        ⊎ ((result ≡ Reply.Memory) × NeedsTranslation m T.width × (after ≡ before)) }
     ensures shape { shape_of host.new ≡ shape_of host.old }
 {
     loads_and_stores_are_by_bytes::<B>();
@@ -71,7 +72,8 @@ pub(super) fn load_from<M: GuestMemory, B: ExactBitmap>(
 ) -> Reply
     requires { Holds (shape_of host.now) (M.names memory.now) }
     ensures { let m = M.memory memory.now in let before = with_pages B.pages host.now in
-        (result ≡ loads m before addr.0 (integer_of width)) ⊎ ((result ≡ Reply.Memory) × IsOn m) }
+        let w = integer_of width in
+        (result ≡ loads m before addr.0 w) ⊎ ((result ≡ Reply.Memory) × NeedsTranslation m (byte_len w)) }
 {
     match load_word(memory, host, width, addr) {
         Ok(value) => Reply::Value(value),
@@ -88,7 +90,7 @@ fn load_word<M: GuestMemory, B: ExactBitmap>(
 ) -> GuestMemoryResult<u64>
     requires { Holds (shape_of host.now) (M.names memory.now) }
     ensures { let m = M.memory memory.now in let before = with_pages B.pages host.now in let w = integer_of width in
-        Outcome errors.Memory (IsOn m) (answered (λ xs. from_le_bytes w (bytes_read xs before))
+        Outcome errors.Memory (NeedsTranslation m (byte_len w)) (answered (λ xs. from_le_bytes w (bytes_read xs before))
         (taken_by m before.tables addr.0 (byte_len w) permissions.Read)) (Unit {0}) (Unit {0}) result }
 {
     Ok(match width {
@@ -107,7 +109,7 @@ fn load_value<T: AtomicAccess, M: GuestMemory, B: ExactBitmap>(
 ) -> GuestMemoryResult<T>
     requires { Holds (shape_of host.now) (M.names memory.now) }
     ensures { let m = M.memory memory.now in let before = with_pages B.pages host.now in
-        Outcome errors.Memory (IsOn m) (answered (λ xs. T.value_of (bytes_read xs before))
+        Outcome errors.Memory (NeedsTranslation m T.width) (answered (λ xs. T.value_of (bytes_read xs before))
         (taken_by m before.tables addr.0 T.width permissions.Read)) (Unit {0}) (Unit {0}) result }
 {
     loads_and_stores_are_by_bytes::<B>();

@@ -1,5 +1,5 @@
 //! A bitmap that one owner marks and harvests.
-ghost use Rattle.std.specs.Prelude.{◌≡◌, ℕ, ◌-◌, ◌<◌, ◌≤◌, ◌&&◌, nat_le, nat_lt, ◌++◌, length, take, drop, replicate, Some, IfOk, OnOk, OnErr};
+ghost use Rattle.std.specs.Prelude.{◌≡◌, ◌≢◌, [], ℕ, ◌-◌, ◌<◌, ◌≤◌, ◌&&◌, nat_le, nat_lt, ◌++◌, length, take, drop, replicate, Some, IfOk, OnOk, OnErr};
 ghost use Rattle.std.specs.NonZero.{non_zero_usize_get};
 ghost use Rattle.std.specs.Int.{div_ceil};
 ghost use Rattle.vm_memory_base.specs.Pages as page_set;
@@ -210,7 +210,8 @@ impl ExactBitmap for ExclusiveBitmap {
     fn harvest(&mut self, alloc: Global) -> Result<Vec<usize>, AllocError>
         ensures dirty { IfOk result (λ dirty. dirty.items ≡ page_set.dirty_pages (Some (pages_of self.old))) }
         ensures clean { OnOk result (Some (pages_of self.new) ≡ page_set.cleaned (Some (pages_of self.old))) }
-        ensures refused { OnErr result (self.new ≡ self.old) }
+        ensures refused { OnErr result ((self.new ≡ self.old)
+            × (page_set.dirty_pages (Some (pages_of self.old)) ≢ [])) }
         ensures bytes { bytes_of self.new ≡ bytes_of self.old }
     {
         let dirty = self.dirty_pages(alloc)?;

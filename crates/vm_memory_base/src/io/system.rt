@@ -12,28 +12,46 @@ use std::os::unix::net::UnixStream;
 pub trait SystemSource: Read {}
 
 impl SystemSource for File {}
+
 impl SystemSource for &File {}
+
 impl SystemSource for &mut File {}
+
 impl SystemSource for TcpStream {}
+
 impl SystemSource for &TcpStream {}
+
 impl SystemSource for &mut TcpStream {}
+
 impl SystemSource for UnixStream {}
+
 impl SystemSource for &UnixStream {}
+
 impl SystemSource for &mut UnixStream {}
 
 /// A writer of the system, which is a sink.
 pub trait SystemSink: Write {}
 
 impl SystemSink for File {}
+
 impl SystemSink for &File {}
+
 impl SystemSink for &mut File {}
+
 impl SystemSink for TcpStream {}
+
 impl SystemSink for &TcpStream {}
+
 impl SystemSink for &mut TcpStream {}
+
 impl SystemSink for UnixStream {}
+
 impl SystemSink for &UnixStream {}
+
 impl SystemSink for &mut UnixStream {}
+
 impl SystemSink for Stdout {}
+
 impl SystemSink for &Stdout {}
 
 // Tells the answer of the system: its count, or its error by kind.

@@ -57,8 +57,8 @@ impl Iotlb {
     }
 
     /// Lets `length` addresses from `iova` on lead to as many from `map_to` on, modulo 2^64, for these
-    /// accesses, whatever was said of them before. A length of 0 changes nothing. The sum of `iova` and
-    /// `length` has to be an address.
+    /// accesses, whatever was said of them before. A length of 0 changes nothing and takes no memory. The sum of
+    /// `iova` and `length` has to be an address.
     ///
     /// `Memory` where there is no memory for it, and then nothing is changed.
     pub fn set_mapping(
@@ -74,7 +74,7 @@ impl Iotlb {
             → says self.new x ≡ says_after (Set iova.0 map_to.0 length perm) x (says self.old x)) }
         ensures growth { range_count self.new ≤ range_count self.old + 2 }
         ensures none { length ≡ 0 → self.new ≡ self.old }
-        ensures err { IfErr result (λ e. (e ≡ IommuError.Memory) × (self.new ≡ self.old)) }
+        ensures err { IfErr result (λ e. (e ≡ IommuError.Memory) × (0 < length) × (self.new ≡ self.old)) }
     {
         let ranges = &mut self.ranges;
         if length == 0 {
@@ -86,8 +86,8 @@ impl Iotlb {
         set_run(ranges, run).map_err(|_| IommuError::Memory)
     }
 
-    /// Lets `length` addresses from `iova` on lead nowhere. A length of 0 changes nothing. The sum of `iova`
-    /// and `length` has to be an address.
+    /// Lets `length` addresses from `iova` on lead nowhere. A length of 0 changes nothing and takes no memory. The
+    /// sum of `iova` and `length` has to be an address.
     ///
     /// `Memory` where there is no memory for it, and then nothing is changed.
     pub fn invalidate_mapping(
@@ -101,7 +101,7 @@ impl Iotlb {
             → says self.new x ≡ says_after (Invalidate iova.0 length) x (says self.old x)) }
         ensures growth { range_count self.new ≤ range_count self.old + 2 }
         ensures none { length ≡ 0 → self.new ≡ self.old }
-        ensures err { IfErr result (λ e. (e ≡ IommuError.Memory) × (self.new ≡ self.old)) }
+        ensures err { IfErr result (λ e. (e ≡ IommuError.Memory) × (0 < length) × (self.new ≡ self.old)) }
     {
         let ranges = &mut self.ranges;
         if length == 0 {

@@ -5,7 +5,7 @@ ghost use Rattle.vm_memory_guest.specs.Access.{access_of, windows};
 ghost use Rattle.vm_memory_guest.specs.Host.{shape_of, Holds};
 ghost use Rattle.vm_memory_guest.specs.Answer.{filled_buffer, told};
 ghost use Rattle.vm_memory_guest.specs.Error.{error_of, of_window};
-ghost use Rattle.vm_memory_guest.specs.Memory.{IsOn, route};
+ghost use Rattle.vm_memory_guest.specs.Memory.{NeedsTranslation, route};
 ghost use Rattle.vm_memory_guest.specs.Transfer.{UntilWhole, ended};
 ghost use Rattle.vm_memory_guest.specs.Typed.{first_aligned, place_of};
 ghost use Rattle.vm_memory_guest.specs.lemmas.TypedFacts.{first-sized};
@@ -37,7 +37,7 @@ impl<T: GuestMemory> Bytes<GuestAddress> for T {
 
     ghost no_memory = { errors.Memory };
 
-    ghost may_want = { λ m. IsOn (T.memory m) };
+    ghost may_want = { λ m n. NeedsTranslation (T.memory m) n };
 
     ghost moved = { λ m tables addr n access. told error_of (reached (T.memory m) tables addr.0 n access) };
 
@@ -211,7 +211,7 @@ fn windows_of<'m, M: GuestMemory, B: Bitmap>(
     requires { Holds (shape_of host.now) (M.names memory.now) }
     ensures answer { let m = M.memory memory.now in MatchResult result
         (GivesAccess m host.now.tables addr.0 count access)
-        (λ e. WantsMemory m e ⊎ RefusesAccess m host.now.tables addr.0 count access e) }
+        (λ e. WantsMemory m count e ⊎ RefusesAccess m host.now.tables addr.0 count access e) }
     ensures held { IfOk result
         (λ walk. AllByRecursion (λ w. Holds (shape_of host.now) (window_names w)) walk.windows) }
     ensures fits { IfOk result (λ walk. span walk.windows ≤ count) }

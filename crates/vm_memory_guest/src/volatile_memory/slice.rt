@@ -250,7 +250,7 @@ impl Bytes<usize> for VolatileSlice {
 
     ghost no_memory = { Memory };
 
-    ghost may_want = { λ w. ⊥ };
+    ghost may_want = { λ w n. ⊥ };
 
     ghost moved = { λ w tables offset count access. cut_of w offset count };
 

@@ -16,6 +16,6 @@ returns g c =
           (harvest_is_step region g.I.Iommu.number pages parts c.args.bitmap bitmap there w.in-Ok.pages.items c.harvest-taken.new.self
           w.in-Ok.ensures.dirty w.in-Ok.ensures.clean)
       | in-Err w ↦
-          rw (w.result-is, w.in-Err.ensures.refused, ← c.self.view_is)
-          (refusal_is_step region g.I.Iommu.number pages parts c.args.bitmap bitmap there)
+          rw (w.result-is, w.in-Err.ensures.refused.0, ← c.self.view_is)
+          (refusal_is_step region g.I.Iommu.number pages parts c.args.bitmap bitmap there w.in-Err.ensures.refused.1)
     ]

@@ -8,4 +8,4 @@ returns-in-Lookup g c =
     let asked : Some c.in-Lookup.table ≡ Some c.args.table = rw c.in-Lookup.is at c.requires in
     let same = same_Some c.in-Lookup.table c.args.table asked in
     rw (← c.self.view_is, c.in-Lookup.is, same, found.1)
-    (elim found.2 [ inl told ↦ rw told (inl refl) | inr want ↦ rw want (inr (refl, refl, refl)) ])
+    (elim found.2 [ inl told ↦ rw told (inl refl) | inr want ↦ rw want.0 (inr (refl, (refl, want.1), refl)) ])

@@ -1,4 +1,4 @@
-use Rattle.std.proofs.Common.{◌≡◌, refl, sym, ap, ◌∙◌}
+use Rattle.std.proofs.Common.{◌≡◌, ◌≢◌, [], refl, subst, sym, ap, ◌∙◌}
 use Rattle.std.proofs.lemmas.Result.{err_from_is_err_and}
 use Rattle.vm_memory_base.specs.Pages.{cleaned, dirty_pages}
 use Rattle.vm_memory_base.specs.declared.bitmap.BitmapId.TheVariants.{Block}
@@ -13,7 +13,10 @@ returns-in_err-pages-clause-refused g c =
     let there = c.bitmap_mut-bitmap.ensures.value in
     let same = with_bitmap-same c.args.host.now (Block c.args.block.0) c.bitmap_mut-bitmap.result.now there in
     let p = err_from_is_err_and c.from_residual.result c.from_residual.ensures.1 in
-    rw (p.1, c.in_err-pages.ensures.refused) (same, refl)
+    let bitmap = c.bitmap_mut-bitmap.result.now in
+    let set = pages_of_block-with_pages g.B.ExactBitmap.pages c.args.host.now c.args.block.0 bitmap there in
+    let dirty = subst (λ s. dirty_pages s ≢ []) (sym set) c.in_err-pages.ensures.refused.1 in
+    rw (p.1, c.in_err-pages.ensures.refused.0) (same, refl, dirty)
 
 pub copy_pages-requires-clause-len : goal.copy_pages-requires-clause-len
 copy_pages-requires-clause-len g c = rw c.whole_block.ensures c.requires.len

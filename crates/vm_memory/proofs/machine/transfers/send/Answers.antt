@@ -39,7 +39,7 @@ returns-then-whole g c =
           inr (
             c.with_taken.ensures
                 ∙ ap (beside_taken c.into_taken.result.items) (c.done-reply.ensures ∙ ap told wanted.0),
-            inl wanted.1,
+            wanted.1.1,
           )
       | inr so ↦
           (let sent_so = sent_is c.windows_are_the_path.ensures.bytes m before a n each c.args.steps.now _ so.0 sent.taken
@@ -73,7 +73,7 @@ returns g c =
             c.with_taken-2.ensures
                 ∙ ap (beside_taken c.into_taken-2.result.items)
                 (c.counted-reply.ensures ∙ ap (reply_of reply.Count) wanted.0),
-            inl wanted.1,
+            wanted.1.1,
           )
       | inr so ↦
           (let sent_so = sent_is c.windows_are_the_path.ensures.bytes m before a n each c.args.steps.now _ so.0 sent.taken

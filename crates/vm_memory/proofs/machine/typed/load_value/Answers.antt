@@ -4,7 +4,7 @@ use Rattle.vm_memory_guest.specs.Access.{access_of}
 use Rattle.vm_memory_guest.specs.Answer.{Outcome}
 use Rattle.vm_memory_guest.specs.Dirt.{path_cells}
 use Rattle.vm_memory_guest.specs.Host.{bytes_at}
-use Rattle.vm_memory_guest.specs.Memory.{IsOn, route}
+use Rattle.vm_memory_guest.specs.Memory.{NeedsTranslation, route}
 use Rattle.vm_memory_guest.specs.Typed.{answered, place_of, typed_path}
 use Rattle.vm_memory_guest.specs.Window.{cells_of}
 use Rattle.vm_memory_guest.specs.declared.region.GuestMemoryError.TheVariants as errors
@@ -26,4 +26,4 @@ returns g c =
     answered_then (λ w. bytes_at host.blocks (cells_of w)) value (place_of n access)
     ∙ ap (answered value) bytes
     ∙ sym (answered_then (λ xs. bytes_at host.blocks (path_cells xs)) value (typed_path n access)) in
-    subst (λ r. Outcome errors.Memory (IsOn m) r (Unit {0}) (Unit {0}) c.load.result) same c.load.ensures
+    subst (λ r. Outcome errors.Memory (NeedsTranslation m n) r (Unit {0}) (Unit {0}) c.load.result) same c.load.ensures

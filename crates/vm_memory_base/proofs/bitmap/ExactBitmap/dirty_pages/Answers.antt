@@ -1,6 +1,7 @@
-use Rattle.std.proofs.Common.{◌≡◌, ◌*◌, sym, append-nil}
+use Rattle.std.proofs.Common.{◌≡◌, ◌*◌, sym, ◌∙◌, append-nil}
+use Rattle.std.proofs.lemmas.Result.{err_from_is_err_and}
 use Rattle.vm_memory_base.specs.Pages.{is_dirty_at}
-use Rattle.vm_memory_base.proofs.BitmapLemmas.{nothing_dirty, dirty_below-more, dirty_below-all}
+use Rattle.vm_memory_base.proofs.BitmapLemmas.{nothing_dirty, dirty_pages-some, dirty_below-more, dirty_below-all}
 use Rattle.vm_memory_base.proofs.bitmap.ExactBitmap.dirty_pages.Goals as goal
 use Rattle.vm_memory_base.proofs.bitmap.ExactBitmap.dirty_pages.Goals.{then-dirty_at+in_ok-push, else-dirty_at, in-Some+else-loop-page-test, in_default}
 
@@ -22,8 +23,16 @@ loop-page-preserved g c =
           rw (w.dirty-is, more, ← told, w.if-dirty_at.false, append-nil) c.loop-page.invariant
     ]
 
-pub returns : goal.returns
-returns g c =
+pub returns-in_err-push-clause-refused : goal.returns-in_err-push-clause-refused
+returns-in_err-push-clause-refused g c =
+    let p = err_from_is_err_and c.from_residual.result c.from_residual.ensures.1 in
+    let bitmap = c.args.self.now in
+    let offset = c.loop-page.page * c.in-Some.page_size in
+    let told = g.met.Self.ExactBitmap.tells_pages bitmap offset c.dirty_at.result c.dirty_at.ensures in
+    rw p.1 (dirty_pages-some (g.Self.ExactBitmap.pages bitmap) offset (sym told ∙ c.if-dirty_at.true))
+
+pub returns-clause-dirty : goal.returns-clause-dirty
+returns-clause-dirty g c =
     let set = g.Self.ExactBitmap.pages c.args.self.now in
     elim c.match-shape.branch [
       | in-Some+else-loop-page-test w ↦

@@ -7,5 +7,5 @@ loop-done-preserved g c = record {
   within = omega (arith, c.min-count.ensures);
   written = appends_next _ _ _
       (g.Self.ByteValued.bytes c.args.self.now) c.loop-done.done c.min-count.result c.loop-done.invariant.written
-        c.in_ok-write_piece.ensures;
+      c.in_ok-write_piece.ensures;
 }

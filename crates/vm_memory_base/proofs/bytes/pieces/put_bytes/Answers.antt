@@ -11,6 +11,6 @@ loop-i-preserved g c =
       count = grind (arith, common_steps);
       before = grind (arith, common_steps);
       put = take-more_set _ _ c.args.data.now c.args.from c.loop-i.i inside c.loop-i-test.true c.loop-i.invariant.put
-        c.set_byte.ensures;
+          c.set_byte.ensures;
       after = drop-more_set _ _ _ c.args.from c.loop-i.i _ c.loop-i.invariant.after c.set_byte.ensures;
     }

@@ -6,4 +6,4 @@ returns-then-size-gt-PIECE g c =
     let bytes = g.T.ByteValued.bytes in
     piece_put (bytes c.args.value.now)
     (bytes c.put_bytes.new.value) c.args.data.now c.args.from c.put_bytes.ensures.before c.put_bytes.ensures.put
-      c.put_bytes.ensures.after
+    c.put_bytes.ensures.after

@@ -48,7 +48,7 @@ module _ (rs in_front behind : List (AddressRun Mapping)) (p : in_front ≡ rs) 
 
 told : (c : After-back-after) → let rs = c.args.runs.now.items in
     let put = put_for rs c.front-first.result.0 c.back-after.result.0 c.front-first.result.1 None
-      c.back-after.result.1 in
+    c.back-after.result.1 in
     (c.front-first.result.0 ≤ c.back-after.result.0)
     × ((new : List (AddressRun Mapping)) → new ≡ put → IsKept new
     × (new ≡ canonical_list (without_range c.args.start (c.args.end - c.args.start) rs)))
@@ -57,7 +57,7 @@ told c =
     let front = c.front-first.ensures in
     let behind = c.back-after.ensures in
     facts c.args.runs.now.items c.deref.result.now c.deref-2.result.now c.deref.ensures.value c.deref-2.ensures.value
-      c.requires.kept
+    c.requires.kept
     c.args.start c.args.end c.requires.some
     (omega arith) c.front-first.result.0 c.back-after.result.0 c.front-first.result.1 c.back-after.result.1
     front.within front.parts front.apart front.there behind.within behind.parts behind.apart

@@ -73,12 +73,12 @@ told c =
     let front = c.front-first.ensures in
     let behind = c.back-after.ensures in
     facts c.args.runs.now.items c.deref.result.now c.deref-2.result.now c.deref.ensures.value c.deref-2.ensures.value
-      c.requires.kept c.args.run
+    c.requires.kept c.args.run
     c.start.result c.end.result c.start.ensures c.end.ensures.value c.requires.some c.requires.fits
-      c.front-first.result.0 c.back-after.result.0 c.front-first.result.1 c.back-after.result.1
+    c.front-first.result.0 c.back-after.result.0 c.front-first.result.1 c.back-after.result.1
     front.within front.parts front.apart front.reaches front.there behind.within behind.parts behind.apart
     c.joined-joined.result.0 c.joined-joined.result.1 c.joined-joined.ensures c.joined_to-begun.result.0
-      c.joined_to-begun.result.1 c.joined_to-begun.ensures
+    c.joined_to-begun.result.1 c.joined_to-begun.ensures
 
 pub replace-requires-clause-ordered : goal.replace-requires-clause-ordered
 replace-requires-clause-ordered c = (told (goal.at.replace-requires-clause-ordered c).After-joined_to-begun).0

@@ -1,8 +1,9 @@
-use Rattle.std.proofs.Common.{◌≡◌, ℕ, ◌-◌, ◌^◌, ◌<◌, ◌≤◌, None, Err, refl, ap, ◌∙◌, inl, inr, arith, rules}
+use Rattle.std.proofs.Common.{◌≡◌, ℕ, ◌-◌, ◌^◌, ◌<◌, ◌≤◌, Option, None, unwrap_or, Err, refl, sym, ap, ◌∙◌, inl, inr, arith, rules}
 use Rattle.std.proofs.lemmas.Bool.Decides.{nat_tests}
 use Rattle.std.proofs.lemmas.Result.{err_from_is_err_and}
 use Rattle.vm_memory_base.specs.declared.address.GuestAddress.{GuestAddress}
-use Rattle.vm_memory_guest.specs.Ranges.{range_error, refusal_of}
+use Rattle.vm_memory_guest.specs.Ranges.{range_error}
+use Rattle.vm_memory_guest.specs.declared.mmap.FromRangesError.{FromRangesError}
 use Rattle.vm_memory_guest.specs.declared.mmap.FromRangesError.TheVariants.{MmapRegion}
 use Rattle.vm_memory_guest.specs.declared.host.MmapRegionError.{MmapRegionError}
 use Rattle.vm_memory_guest.specs.declared.host.MmapRegionError.TheVariants as block
@@ -10,9 +11,10 @@ use Rattle.vm_memory_guest.proofs.mmap.GuestRegionMmap.from_range.Goals as goal
 
 -- of a range that makes a region only memory can be wanting
 told : (addr : GuestAddress) (size : ℕ) (e : MmapRegionError) → (e ≡ block.InvalidSize → ⊥)
-    → range_error addr size ≡ None → range_error addr size ≡ refusal_of (MmapRegion e)
+    → range_error addr size ≡ None → MmapRegion e ≡ unwrap_or (range_error addr size) (MmapRegion block.Memory)
 told addr size block.InvalidSize other none = absurd (other refl)
-told addr size block.Memory other none = none
+told addr size block.Memory other none =
+    ap (λ (o : Option FromRangesError). unwrap_or o (MmapRegion block.Memory)) (sym none)
 
 fits : (addr : GuestAddress) (size : ℕ) → 0 < size → size < 2 ^ 63 → size ≤ 18446744073709551615 - addr.0
     → range_error addr size ≡ None

@@ -1,7 +1,8 @@
 use Rattle.std.proofs.Common.{◌∙◌, ap, append-nil}
 use Rattle.std.proofs.lemmas.List.{take_all}
+use Rattle.std.proofs.lemmas.Result.{err_from_is_err_and}
 use Rattle.vm_memory_base.specs.Pages.{dirty_from}
-use Rattle.vm_memory_base.proofs.BitmapLemmas.{dirty_from-more}
+use Rattle.vm_memory_base.proofs.BitmapLemmas.{dirty_from-more, dirty_from-some}
 use Rattle.vm_memory_base.proofs.bitmap.exclusive.ExclusiveBitmapExactBitmap.dirty_pages.Goals as goal
 use Rattle.vm_memory_base.proofs.bitmap.exclusive.ExclusiveBitmapExactBitmap.dirty_pages.Goals.{then-dirty+in_ok-push, else-dirty}
 
@@ -14,8 +15,14 @@ loop-page-preserved c =
       | else-dirty w ↦ rw (w.dirty_pages-is, more, w.if-dirty.false, append-nil) c.loop-page.invariant
     ]
 
-pub returns : goal.returns
-returns c =
+pub returns-in_err-push-clause-refused : goal.returns-in_err-push-clause-refused
+returns-in_err-push-clause-refused c =
+    let p = err_from_is_err_and c.from_residual.result c.from_residual.ensures.1 in
+    rw (p.1, ← c.deref-dirty-items.ensures.value)
+    (dirty_from-some 0 c.loop-page.page c.deref-dirty-items.result.now c.if-dirty.true)
+
+pub returns-clause-dirty : goal.returns-clause-dirty
+returns-clause-dirty c =
     c.loop-page.invariant
     ∙ ap (dirty_from 0) (take_all c.loop-page.page c.deref-dirty-items.result.now c.loop-page-test.false
     ∙ c.deref-dirty-items.ensures.value)

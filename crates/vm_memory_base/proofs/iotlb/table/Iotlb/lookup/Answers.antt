@@ -14,16 +14,16 @@ returns-then-length-eq0-clause-found c =
 pub new-requires-then-are_granted : goal.new-requires-then-are_granted
 new-requires-then-are_granted c =
     (looked_up c.self.inside.ranges.items c.as_slice-ranges.result.now c.as_slice-ranges.ensures.value
-      c.self.invariant c.args.iova.0 c.args.length c.in-Some.end c.ends_below.result c.in-Some.ensures.1 (omega arith)
-      c.in-Some.ensures.0 c.args.access c.ends_below.ensures.below c.ends_below.ensures.from
-      (sym c.are_granted.ensures ∙ c.if-are_granted.true)).1
+    c.self.invariant c.args.iova.0 c.args.length c.in-Some.end c.ends_below.result c.in-Some.ensures.1 (omega arith)
+    c.in-Some.ensures.0 c.args.access c.ends_below.ensures.below c.ends_below.ensures.from
+    (sym c.are_granted.ensures ∙ c.if-are_granted.true)).1
 
 pub returns-then-are_granted-clause-found : goal.returns-then-are_granted-clause-found
 returns-then-are_granted-clause-found c =
     let told = looked_up c.self.inside.ranges.items c.as_slice-ranges.result.now c.as_slice-ranges.ensures.value
-      c.self.invariant c.args.iova.0 c.args.length c.in-Some.end c.ends_below.result c.in-Some.ensures.1 (omega arith)
-      c.in-Some.ensures.0 c.args.access c.ends_below.ensures.below c.ends_below.ensures.from
-      (sym c.are_granted.ensures ∙ c.if-are_granted.true) in
+    c.self.invariant c.args.iova.0 c.args.length c.in-Some.end c.ends_below.result c.in-Some.ensures.1 (omega arith)
+    c.in-Some.ensures.0 c.args.access c.ends_below.ensures.below c.ends_below.ensures.from
+    (sym c.are_granted.ensures ∙ c.if-are_granted.true) in
     subst (λ (t : Table). (is_allowed (says t) c.args.iova.0 c.args.length c.args.access ≡ true)
     × (c.new-then-are_granted.result ≡ pieces (says t) c.args.iova.0 c.args.length))
     c.self.view_is (told.0, c.new-then-are_granted.ensures ∙ told.2)
@@ -31,8 +31,8 @@ returns-then-are_granted-clause-found c =
 pub refusal-requires-clause-canonical : goal.refusal-requires-clause-canonical
 refusal-requires-clause-canonical c =
     canonical_asked c.self.inside.ranges.items c.as_slice-ranges.result.now c.as_slice-ranges.ensures.value
-      c.self.invariant c.args.iova.0 c.args.length c.in-Some.end c.ends_below.result c.in-Some.ensures.1 (omega arith)
-      c.in-Some.ensures.0 c.args.access c.ends_below.ensures.below c.ends_below.ensures.from
+    c.self.invariant c.args.iova.0 c.args.length c.in-Some.end c.ends_below.result c.in-Some.ensures.1 (omega arith)
+    c.in-Some.ensures.0 c.args.access c.ends_below.ensures.below c.ends_below.ensures.from
 
 -- the same answer of lists that are the same
 same_fails : (e : LookupError) (m m' f f' : List Range) → m ≡ m' → f ≡ f' → (e ≡ Memory)
@@ -44,9 +44,9 @@ same_fails e m m' f f' p q (inr s) = inr (cc)
 pub returns-clause-refused : goal.returns-clause-refused
 returns-clause-refused c =
     let told = looked_up_in_vain c.self.inside.ranges.items c.as_slice-ranges.result.now
-      c.as_slice-ranges.ensures.value c.self.invariant c.args.iova.0 c.args.length c.in-Some.end c.ends_below.result
-      c.in-Some.ensures.1 (omega arith) c.in-Some.ensures.0 c.args.access c.ends_below.ensures.below
-      c.ends_below.ensures.from (sym c.are_granted.ensures ∙ c.if-are_granted.false) in
+    c.as_slice-ranges.ensures.value c.self.invariant c.args.iova.0 c.args.length c.in-Some.end c.ends_below.result
+    c.in-Some.ensures.1 (omega arith) c.in-Some.ensures.0 c.args.access c.ends_below.ensures.below
+    c.ends_below.ensures.from (sym c.are_granted.ensures ∙ c.if-are_granted.false) in
     subst (λ (t : Table). (is_allowed (says t) c.args.iova.0 c.args.length c.args.access ≡ false)
     × ((c.refusal.result ≡ Memory)
     ⊎ (c.refusal.result ≡ Fails
