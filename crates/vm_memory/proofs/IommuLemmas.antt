@@ -67,8 +67,7 @@ module _ {R : Type 0} (region : R → Region) (rs : List R) (table space : ℕ) 
       → WantsMemory (behind (map region rs) table space on) n (of_translation e)
   wants-on e (is, some) = (
     ap of_translation is,
-    subst (λ (b : Bool). IsSome (behind_if b (record { table = table; space = space }))) (sym is_on) refl,
-    some,
+    (subst (λ (b : Bool). IsSome (behind_if b (record { table = table; space = space }))) (sym is_on) refl, some),
   )
 
   pub fails-on : (e : IommuError) → (((e ≡ iommu.Memory) × (0 < n)) ⊎ RefusesTranslation (says t) a n access e)
