@@ -9,6 +9,7 @@ ghost use Rattle.vm_memory.specs.Rounds.{IsTracked, RunsDirectly, KeepsImage, by
 mod accesses;
 pub mod command;
 mod copies;
+pub mod journal;
 mod layouts;
 pub mod list;
 pub mod machine_memory;
@@ -16,6 +17,7 @@ mod memories;
 mod pages;
 mod parts;
 mod rounds;
+pub mod shared;
 mod tables;
 mod transfers;
 mod typed;
