@@ -14,13 +14,14 @@ pub use vm_memory_base::{
     BigEndian, Bitmap, BitmapId, BitmapRef, ByteList, ByteSized, ByteValued, ExactBitmap,
     ExclusiveBitmap, FixedInteger, GuestAddress, GuestUsize, IoError, IommuError, Iotlb,
     IotlbFails, IotlbIterator, IovaRange, IovaRangeList, Items, Le16, Le32, Le64, LeSize,
-    LittleEndian, LookupError, MappedRange, MemoryRegionAddress, NewBitmap, Permissions,
+    Lends, LittleEndian, LookupError, MappedRange, MemoryRegionAddress, NewBitmap, Permissions,
     ReadExactFault, ReadVolatile, Reason, ScriptSink, ScriptSource, SinkStep, SourceStep,
     VolatileMemoryError, VolatileMemoryResult, WriteVolatile, is_interrupted, offer_again,
 };
 pub use vm_memory_guest::{
-    BlockId, Bytes, FromRangesError, GuestMemory, GuestMemoryBackend,
-    GuestMemoryBackendSliceIterator, GuestMemoryError, GuestMemoryMmap, GuestMemoryRegion,
+    BlockId, Bytes, FromRangesError, GuestAddressSpace, GuestMemory, GuestMemoryAtomic,
+    GuestMemoryBackend,
+    GuestMemoryBackendSliceIterator, GuestMemoryError, GuestMemoryExclusiveGuard, GuestMemoryLoadGuard, GuestMemoryMmap, GuestMemoryRegion,
     GuestMemoryRegionBytes, GuestMemoryResult, GuestMemorySliceIterator, GuestRegionCollection,
     GuestRegionCollectionError, GuestRegionMmap, HostAddress, HostMemory, HostShape,
     IommuMemorySliceIterator, MmapRegion, MmapRegionError, Named, RegionIter, SpaceId, StopOnError,
