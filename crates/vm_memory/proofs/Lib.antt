@@ -6,6 +6,7 @@ pub mod CallLemmas
 pub mod CopyLemmas
 pub mod EffectLemmas
 pub mod HistoryLemmas
+pub mod JournalLemmas
 pub mod LawfulLemmas
 pub mod LayoutLemmas
 pub mod TableLemmas

@@ -7,6 +7,7 @@ pub mod examples
 pub mod History
 pub mod Inside
 pub mod Iommu
+pub mod Journal
 pub mod Lawful
 pub mod Machine
 pub mod Memories

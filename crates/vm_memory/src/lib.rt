@@ -9,8 +9,10 @@ pub mod script;
 
 pub use iommu::{Iommu, IommuMemory, TableIommu};
 pub use machine::command::{BlockRange, Command, Ending, Fault, Reply, Width};
+pub use machine::journal::{CallError, Journal};
 pub use machine::list::{NumberList, PieceList, SinkList, SourceList};
 pub use machine::machine_memory::MachineMemory;
+pub use machine::shared::SharedMachine;
 pub use machine::{Machine, run};
 pub use script::{DriveFault, drive};
 
@@ -19,14 +21,15 @@ pub use vm_memory_base::{
     Address, AddressValue, AddressWord, AtomicAccess, AtomicInteger, BS, Be16, Be32, Be64, BeSize,
     BigEndian, Bitmap, BitmapId, BitmapRef, ByteList, ByteSized, ByteValued, ExactBitmap,
     ExclusiveBitmap, FixedInteger, GuestAddress, GuestUsize, IoError, IommuError, Iotlb,
-    IotlbFails, IotlbIterator, IovaRange, IovaRangeList, Items, Le16, Le32, Le64, LeSize,
+    IotlbFails, IotlbIterator, IovaRange, IovaRangeList, Items, Le16, Le32, Le64, LeSize, Lends,
     LittleEndian, LookupError, MS, MappedRange, MemoryRegionAddress, NewBitmap, Permissions,
     RETRIES, ReadExactFault, ReadVolatile, Reason, ScriptSink, ScriptSource, SinkStep, SourceStep,
     VolatileMemoryError, VolatileMemoryResult, WriteVolatile, is_interrupted, offer_again,
 };
 pub use vm_memory_guest::{
-    BlockId, Bytes, FromRangesError, GuestMemory, GuestMemoryBackend,
-    GuestMemoryBackendSliceIterator, GuestMemoryError, GuestMemoryMmap, GuestMemoryRegion,
+    BlockId, Bytes, FromRangesError, GuestAddressSpace, GuestMemory, GuestMemoryAtomic,
+    GuestMemoryBackend, GuestMemoryBackendSliceIterator, GuestMemoryError,
+    GuestMemoryExclusiveGuard, GuestMemoryLoadGuard, GuestMemoryMmap, GuestMemoryRegion,
     GuestMemoryRegionBytes, GuestMemoryResult, GuestMemorySliceIterator, GuestRegionCollection,
     GuestRegionCollectionError, GuestRegionMmap, HostAddress, HostMemory, HostShape,
     IommuMemorySliceIterator, MmapRegion, MmapRegionError, Named, RegionIter, SpaceId, StopOnError,

@@ -10,6 +10,7 @@ ghost use Rattle.vm_memory.specs.Rounds.{IsTracked, RunsDirectly, KeepsImage, by
 mod accesses;
 pub mod command;
 mod copies;
+pub mod journal;
 mod layouts;
 pub mod list;
 pub mod machine_memory;
@@ -17,6 +18,7 @@ mod memories;
 mod pages;
 mod parts;
 mod rounds;
+pub mod shared;
 mod tables;
 mod transfers;
 mod typed;

@@ -130,6 +130,14 @@ pub fn runs_go_on()
         → Run old (before ++ c ∷ after) rs new → AnsweredIn old before c after rs new }
 {}
 
+/// A run of the same commands from the same state gives the same replies and leaves the same state, where neither
+/// wants memory.
+pub fn ample_runs_agree()
+    ensures { (old new again : State) (cs : List Command) (rs qs : List Reply) → Run old cs rs new
+        → Run old cs qs again → All (λ (r : Reply). r ≢ Memory) rs → All (λ (r : Reply). r ≢ Memory) qs
+        → (qs ≡ rs) × (again ≡ new) }
+{}
+
 /// After a run a table says of each address what the last call that covers it made of it, and, where no call
 /// covers it, what the table said before the run. No table is made or taken away.
 pub fn tables_say_what_was_set_last()

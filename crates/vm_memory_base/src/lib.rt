@@ -9,6 +9,7 @@ mod endian;
 mod io;
 mod iotlb;
 pub mod laws;
+mod lends;
 mod list;
 
 pub use address::{
@@ -26,4 +27,5 @@ pub use iotlb::{
     IommuError, Iotlb, IotlbFails, IotlbIterator, IovaRange, IovaRangeList, LookupError,
     MappedRange, Permissions, Reason,
 };
+pub use lends::Lends;
 pub use list::{ByteList, Items};

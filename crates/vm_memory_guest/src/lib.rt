@@ -2,6 +2,8 @@
 #![tactic(auto)]
 
 pub mod access_laws;
+mod address_space;
+mod atomic;
 mod bytes;
 mod collection;
 pub mod effect_laws;
@@ -21,6 +23,8 @@ pub mod typed_examples;
 pub mod typed_laws;
 mod volatile_memory;
 
+pub use address_space::GuestAddressSpace;
+pub use atomic::{GuestMemoryAtomic, GuestMemoryExclusiveGuard, GuestMemoryLoadGuard};
 pub use bytes::Bytes;
 pub use guest_memory::backend::{GuestMemoryBackend, GuestMemoryBackendSliceIterator};
 pub use guest_memory::iter::RegionIter;

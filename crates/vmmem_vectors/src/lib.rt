@@ -4,6 +4,8 @@
 #[cfg(test)]
 mod addresses;
 #[cfg(test)]
+mod atomic;
+#[cfg(test)]
 mod bitmaps;
 pub mod cells;
 #[cfg(test)]

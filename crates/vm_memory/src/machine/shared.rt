@@ -1,0 +1,51 @@
+//! A machine that threads share.
+ghost use Rattle.std.specs.Prelude.{IfOk, IfSome};
+ghost use Rattle.vm_memory.specs.Journal.{IsEntry};
+
+use super::command::{Command, Reply};
+use super::journal::{CallError, Journal};
+use crate::iommu::Iommu;
+use std::alloc::AllocError;
+use std::sync::{Mutex, Wait};
+use vm_memory_base::ExactBitmap;
+use vm_memory_guest::GuestMemoryRegion;
+
+/// A machine that threads share, one command at a time, with its journal.
+///
+/// Whenever the lock is free, what it keeps is a `Journal`: the commands of all threads and the replies to them are
+/// a run of the model. No clause names the journal at that moment, so what a call did to it is told by the tests.
+#[derive(Drop)]
+pub struct SharedMachine<R: GuestMemoryRegion, I: Iommu, B: ExactBitmap> {
+    journal: Mutex<Journal<R, I, B>>,
+}
+
+impl<R: GuestMemoryRegion, I: Iommu, B: ExactBitmap> SharedMachine<R, I, B> {
+    /// Shares the machine of a journal.
+    pub fn new(journal: Journal<R, I, B>) -> SharedMachine<R, I, B> {
+        SharedMachine {
+            journal: Mutex::new(journal),
+        }
+    }
+
+    /// Serves a command, and tells the number of its entry and a copy of its reply. `Memory` where there is none for
+    /// the entry: then nothing ran. `Ran` where there is none for the copy: then the command ran, and `fetch` tells
+    /// the reply. It waits while another thread calls.
+    pub fn call(&self, rt: &impl Wait, command: Command) -> Result<(usize, Reply), CallError>
+        ensures { IfOk result (λ a. IsEntry a.0 command a.1) }
+    {
+        self.journal.lock(rt).call(command)
+    }
+
+    /// A copy of the reply of an entry, if there is one of this number. It waits while another thread calls.
+    pub fn fetch(&self, rt: &impl Wait, number: usize) -> Result<Option<Reply>, AllocError>
+        ensures { IfOk result (λ o. IfSome o (λ reply. (command : Command) × IsEntry number command reply)) }
+    {
+        self.journal.lock(rt).copied_reply(number)
+    }
+
+    /// Gives the journal back.
+    pub fn into_journal(self) -> Journal<R, I, B> {
+        let SharedMachine { journal } = self;
+        journal.into_inner()
+    }
+}
