@@ -148,7 +148,7 @@ fn copy_of(alloc: Global, reply: &Reply) -> Result<Reply, AllocError>
     ensures { IfOk result (λ copy. copy ≡ reply.now) }
 {
     Ok(match reply {
-        Reply::LayoutMade(number) => Reply::LayoutMade(*number),
+        Reply::Layout(number) => Reply::Layout(*number),
         Reply::MemoryMade(number) => Reply::MemoryMade(*number),
         Reply::Done => Reply::Done,
         Reply::Count(count) => Reply::Count(*count),
