@@ -14,7 +14,7 @@ use vm_memory::machine::list::{ByteList, NumberList};
 use vm_memory::machine::shared::SharedMachine;
 use vm_memory::{
     GuestAddress, GuestAddressSpace, GuestMemoryAtomic, GuestMemoryBackend, GuestMemoryMmap,
-    GuestRegionMmap, HostMemory, Lends, TableIommu,
+    GuestRegionCollectionError, GuestRegionMmap, HostMemory, Lends, TableIommu,
 };
 
 // Two pages, at guest addresses 0 and 0x100000.
@@ -34,8 +34,39 @@ fn with_page(
     Ok(memory.insert_region(Arc::new(alloc, region)?)?)
 }
 
-// Replaces the memory by one with a page more at each of these addresses.
+// Replaces the memory by one that has a region more.
 fn plug_in<R: Wait>(
+    rt: &R,
+    alloc: Global,
+    space: &GuestMemoryAtomic<GuestMemoryMmap>,
+    region: Arc<GuestRegionMmap>,
+) -> Result<(), Fail> {
+    let turn = space.lock(rt);
+    let layout = space.memory(rt, alloc)?.lend().insert_region(region)?;
+    Ok(turn.replace(rt, alloc, layout)?)
+}
+
+#[test]
+fn a_device_keeps_its_snapshot_while_a_region_is_plugged_in(rt: HostRuntime) -> Result<(), Fail> {
+    let alloc = rt.alloc();
+    let mut host = HostMemory::new(alloc);
+    let space = GuestMemoryAtomic::new(alloc, two_pages(alloc, &mut host)?)?;
+    let region = GuestRegionMmap::from_range(&mut host, GuestAddress(0x8000), 0x1000)?;
+    let page = Arc::new(alloc, region)?;
+    let kept = space.memory(&rt, alloc)?;
+    let (seen, plugged) = thread::join(
+        &rt,
+        || kept.num_regions(),
+        || plug_in(&rt, alloc, &space, page),
+    );
+    plugged?;
+    assert!(rt; seen == 2 && kept.num_regions() == 2);
+    assert!(rt; space.memory(&rt, alloc)?.num_regions() == 3);
+    Ok(())
+}
+
+// Replaces the memory by one with a page more at each of these addresses.
+fn plug_all<R: Wait>(
     rt: &R,
     alloc: Global,
     host: &mut HostMemory<()>,
@@ -56,7 +87,7 @@ fn a_snapshot_stays_when_its_memory_is_replaced(rt: HostRuntime) -> Result<(), F
     let space = GuestMemoryAtomic::new(rt.alloc(), two_pages(rt.alloc(), &mut host)?)?;
     let other = space.clone()?;
     let old = space.memory(&rt, rt.alloc())?;
-    plug_in(
+    plug_all(
         &rt,
         rt.alloc(),
         &mut host,
@@ -66,7 +97,9 @@ fn a_snapshot_stays_when_its_memory_is_replaced(rt: HostRuntime) -> Result<(), F
     let new = space.memory(&rt, rt.alloc())?;
     assert!(rt; old.num_regions() == 2 && old.clone()?.num_regions() == 2);
     assert!(rt; new.num_regions() == 5 && new.lend().num_regions() == 5);
-    assert!(rt; with_page(rt.alloc(), &mut host, new.lend(), 0x8000).is_err());
+    let region = GuestRegionMmap::from_range(&mut host, GuestAddress(0x8000), 0x1000)?;
+    let over = new.lend().insert_region(Arc::new(rt.alloc(), region)?);
+    assert!(rt; matches!(over, Err(GuestRegionCollectionError::MemoryRegionOverlap)));
     let owner = new.into_inner();
     assert!(rt;
         GuestMemoryAtomic::from_arc(rt.alloc(), owner)?
@@ -82,7 +115,10 @@ fn regions_seen<R: Wait, S: GuestAddressSpace<M = GuestMemoryMmap>>(
     rt: &R,
     alloc: Global,
     space: &S,
-) -> Result<usize, AllocError> {
+) -> Result<usize, AllocError>
+where
+    S::T: Drop,
+{
     Ok(space.memory(rt, alloc)?.lend().num_regions())
 }
 
