@@ -1,16 +1,19 @@
 -- Windows that a source filled whole: what their transfer answered, and that each of their bytes is dirty.
-use Rattle.std.proofs.Common.{◌≡◌, ◌≢◌, ℕ, zero, suc, ◌+◌, ◌-◌, ◌%◌, ◌^◌, ◌<◌, ◌≤◌, ◌==◌, Bool, true, false, MatchBool, List, [], ◌∷◌, map, Option, Some, Result, Ok, Err, IfOk, Contains, inl, inr, refl, sym, ap, subst, ◌∙◌, None, arith}
+use Rattle.std.proofs.Common.{◌≡◌, ◌≢◌, ℕ, zero, suc, ◌+◌, ◌-◌, ◌%◌, ◌^◌, ◌<◌, ◌≤◌, ◌==◌, Bool, true, false, MatchBool, List, [], ◌∷◌, map, Option, Some, Result, Ok, Err, IfOk, IfErr, Contains, ◌⊎◌, if◌then◌else◌, inl, inr, refl, sym, ap, subst, ◌∙◌, None, arith}
 use Rattle.std.proofs.Math.Nat.{mod-eq_of_lt}
 use Rattle.std.proofs.lemmas.Bool.{cases_lt}
 use Rattle.std.proofs.lemmas.Bool.Decides.{nat_tests}
 use Rattle.vm_memory_base.specs.Pages.{PageSet, is_dirty_at, in_view, marked}
-use Rattle.vm_memory_base.specs.Transfer.{Answer, Next, Stop, Whole, Dry, Failed, counted_as, Again, AgainUpto, Last, Done, Retry, RestOf, AllMoved, NoneMoved, TurnFailed, SomeMoved}
+use Rattle.vm_memory_base.specs.Transfer.{Answer, Next, Sink, Stop, Whole, Dry, Failed, counted_as, sent_as, Again, AgainUpto, Last, Done, Retry, RestOf, AllMoved, NoneMoved, TurnFailed, SomeMoved}
+use Rattle.std.specs.declared.io.ErrorKind.TheVariants.{WriteZero}
 use Rattle.vm_memory_base.specs.declared.io.VolatileMemoryError.{VolatileMemoryError}
+use Rattle.vm_memory_base.specs.declared.io.VolatileMemoryError.TheVariants.{IOError}
 use Rattle.vm_memory_guest.specs.Copy.{front}
 use Rattle.vm_memory_guest.specs.Dirt.{marks_pages, pages_at, with_pages}
 use Rattle.vm_memory_guest.specs.Host.{Host, written}
 use Rattle.vm_memory_guest.specs.Lent.{AllWhole, AreDirty, IsDirty}
-use Rattle.vm_memory_guest.specs.Transfer.{Fills, InOrder, LendsWindow, UntilWhole, ended, marked_of}
+use Rattle.vm_memory_guest.specs.Transfer.{Fills, InOrder, LendsWindow, Takes, UntilWhole, ended, filling, marked_of}
+use Rattle.vm_memory_guest.specs.Typed.{answered}
 use Rattle.vm_memory_guest.specs.Window.{Window, cells_of, part, span}
 use Rattle.vm_memory_guest.specs.lemmas.Orders.{Then}
 use Rattle.vm_memory_guest.proofs.DirtLaws.{EmptyMark, with_pages-MarksWindow}
@@ -64,6 +67,93 @@ module _ {X E : Type 0} (failure : VolatileMemoryError → E) (fault : Option E)
           → (n ≡ total + span (w ∷ ws)) × ((mid : X) × Moves w old (Ok w.size) mid × AllWhole Moves ws mid new)
       go others (Ok count) m t = next others count m (count == w.size) refl t
       go others (Err e) m t = absurd (cc)
+
+-- ---- a transfer that fails
+
+module _ (test : VolatileMemoryError → Bool) where
+  -- an answer is no error, or one that passes
+  abbrev Told : Answer → Type 0
+  Told a = IfErr a (λ e. test e ≡ true)
+
+  module _ {X : Type 0} where
+    again_told : {Try : X → Answer → X → Type 0} → ((x z : X) (a : Answer) → Try x a z → Told a)
+        → {more : ℕ} {x z : X} {answer : Answer} → AgainUpto Try more x answer z → Told answer
+    again_told each (Last t) = each _ _ _ t
+    again_told each (Done t is) = each _ _ _ t
+    again_told each (Retry t is rest) = again_told each rest
+
+    rest_told : {Turn : ℕ → X → Answer → X → Type 0} {n : ℕ}
+        → ((done : ℕ) (x z : X) (a : Answer) → Turn done x a z → Told a)
+        → {done total : ℕ} {x z : X} {stop : Stop} → RestOf Turn n done x total stop z → Told (counted_as total stop)
+    rest_told each (AllMoved full) = tt
+    rest_told each (NoneMoved some t) = tt
+    rest_told each (TurnFailed some t) = each _ _ _ _ t
+    rest_told each (SomeMoved some t moved rest) = rest_told each rest
+
+  module _ {S B : Type 0} (source : S → Option (List Next)) (reads : S → List ℕ → Answer → List ℕ → S → Type 0)
+      (marks : B → ℕ → ℕ → B → Type 0)
+      (each : (s t : S) (old new : List ℕ) (a : Answer) → reads s old a new t → Told a) where
+    tries_told : (w : Window) (x z : S × Host B) (a : Answer) → Again (LendsWindow source reads marks w) x a z → Told a
+    tries_told w x z a = again_told (λ x z a t. each x.0 z.0 _ t.bytes a t.read)
+
+    -- how a window is filled fails as the reads do
+    pub fills_told : (known : S → Option ℕ) (until_full : Bool) (w : Window) (x z : S × Host B) (a : Answer)
+        → Fills source reads known marks (filling until_full) w x a z → Told a
+    fills_told known false w x z a l = tries_told w x z a l
+    fills_told known true w x z a l = subst Told (sym l.told)
+        (rest_told (λ done x z a. tries_told (part w done (w.size - done)) x z a) l.tried)
+
+  module _ {S : Type 0} (sink : S → Option Sink) (taken : S → Option (List ℕ)) (wants : S → Type 0)
+      (writes : S → List ℕ → Answer → S → Type 0) (blocks : List (List ℕ)) (zero_told : Told (Err (IOError WriteZero)))
+      (each : (s t : S) (bytes : List ℕ) (a : Answer) → writes s bytes a t → Told a) where
+    sent_told : (size count : ℕ) (stop : Stop) → Told (counted_as count stop)
+        → Told (answered (λ all. size) (sent_as stop))
+    sent_told size count Whole h = tt
+    sent_told size count Dry h = zero_told
+    sent_told size count (Failed e) h = h
+
+    -- and how one is sent as the writes do
+    pub sends_told : (w : Window) (x z : S) (a : Answer) → Takes sink taken wants writes blocks UntilWhole w x a z
+        → Told a
+    sends_told w x z a l =
+        let turns = rest_told (λ done x z a t. again_told (λ x z a u. each x z _ a u) t) l.written_by.1 in
+        subst Told (sym (l.told ∙ ap (answered (λ all. w.size)) l.written_by.2))
+        (sent_told w.size l.count l.written_by.0 turns)
+
+  module _ {X E : Type 0} (failure : VolatileMemoryError → E) (fault : Option E)
+      (Moves : Window → X → Answer → X → Type 0)
+      (each : (w : Window) (x z : X) (a : Answer) → Moves w x a z → Told a) where
+    -- an error that passes, or what ended the walk
+    abbrev pub Why : E → Type 0
+    Why e = ((v : VolatileMemoryError) × (test v ≡ true) × (e ≡ failure v)) ⊎ (fault ≡ Some e)
+
+    ended_why : (total : ℕ) (o : Option E) (e : E) → fault ≡ o → ◌≡◌ {A = Result ℕ E} (Err e) (ended total o) → Why e
+    ended_why total None e is h = absurd (cc)
+    ended_why total (Some f) e is h = go (total == 0) h
+      where
+        go : (b : Bool) → ◌≡◌ {A = Result ℕ E} (Err e) (if b then Err f else Ok total) → Why e
+        go true k = inr (is ∙ ap (λ (x : E). Some x) (let same : f ≡ e = cc in same))
+        go false k = absurd (cc)
+
+    pub fails_as_moves : (ws : List Window) (total : ℕ) (old new : X) (e : E)
+        → InOrder failure fault Moves ws total old (Err e) new → Why e
+    unfolding InOrder
+    fails_as_moves [] total old new e h = ended_why total fault e refl h.0
+    fails_as_moves (w ∷ ws) total old new e h =
+        go (λ now rest. fails_as_moves ws now h.1 new e rest) h.0 h.2 h.3
+      where
+        next : ((now : ℕ) → InOrder failure fault Moves ws now h.1 (Err e) new → Why e) → (count : ℕ) → (b : Bool)
+            → MatchBool b (InOrder failure fault Moves ws (total + count) h.1 (Err e) new)
+            ((◌≡◌ {A = Result ℕ E} (Err e) (Ok (total + count))) × (new ≡ h.1)) → Why e
+        next others count true rest = others (total + count) rest
+        next others count false over = absurd (let no = over.0 in cc)
+
+        go : ((now : ℕ) → InOrder failure fault Moves ws now h.1 (Err e) new → Why e) → (moved : Answer)
+            → Moves w old moved h.1 → Then failure fault Moves w ws total h.1 (Err e) new moved → Why e
+        go others (Ok count) m t = next others count (count == w.size) t
+        go others (Err v) m t =
+            let is : ◌≡◌ {A = Result ℕ E} (Err e) (Err (failure v)) = t.0 in
+            inl (v, each w old h.1 (Err v) m, cc)
 
 -- ---- what tries and turns mark
 

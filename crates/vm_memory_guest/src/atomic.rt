@@ -70,7 +70,11 @@ impl<M: GuestMemory + Drop> GuestAddressSpace for GuestMemoryAtomic<M> {
 
     ghost may_be = { λ _ _. ⊤ };
 
-    fn memory(&self, rt: &impl Wait, _alloc: Global) -> Result<GuestMemoryLoadGuard<M>, AllocError> {
+    fn memory(
+        &self,
+        rt: &impl Wait,
+        _alloc: Global,
+    ) -> Result<GuestMemoryLoadGuard<M>, AllocError> {
         let memory = Arc::try_clone(&*self.current.memory.read(rt))?;
         Ok(GuestMemoryLoadGuard { memory })
     }

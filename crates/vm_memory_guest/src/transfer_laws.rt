@@ -1,6 +1,6 @@
 //! What a transfer of guest memory is, where the source or the sink tells what it does: each function here is a
 //! theorem, and does nothing. It calls the theorems that it follows from.
-ghost use Rattle.std.specs.Prelude.{◌≡◌, ◌⊎◌, ℕ, ◌+◌, ◌++◌, ◌≤◌, Bool, true, All, List, Option, Some, Result, Ok, Err, IfOk, take};
+ghost use Rattle.std.specs.Prelude.{◌≡◌, ◌⊎◌, ℕ, ◌+◌, ◌++◌, ◌≤◌, Bool, true, All, List, Option, Some, Result, Ok, Err, IfOk, IfErr, take};
 ghost use Rattle.vm_memory_base.specs.Pages.{PageSet};
 ghost use Rattle.vm_memory_base.specs.Transfer.{Next, Sink};
 ghost use Rattle.vm_memory_base.specs.declared.io.VolatileMemoryError.{VolatileMemoryError};
@@ -14,8 +14,9 @@ ghost use Rattle.vm_memory_guest.specs.Transfer.{Fills, InOrder, Takes, UntilWho
 ghost use Rattle.vm_memory_guest.specs.Window.{Window, cells, span};
 ghost use Rattle.vm_memory_guest.specs.declared.region.GuestMemoryError.{GuestMemoryError};
 
+use std::io::ErrorKind;
 use vm_memory_base::laws::pages::{mark_is_by_bytes, mark_keeps_shape, marked_bytes_are_dirty};
-use vm_memory_base::{Bitmap, ExactBitmap, ReadVolatile, WriteVolatile};
+use vm_memory_base::{Bitmap, ExactBitmap, ReadVolatile, VolatileMemoryError, WriteVolatile};
 
 /// A transfer in from a source that tells what it does, into a host with exact bitmaps: its answer, what the
 /// source does next, and the bytes and the pages of the host are computed from what the source was to do.
@@ -60,6 +61,29 @@ pub fn whole_transfers_in_fill_each_window<S: ReadVolatile, B: Bitmap>()
         → let Moves = Fills S.source S.reads S.known_left B.marks UntilWhole in
         InOrder of_window fault Moves ws 0 (beside source old) (Ok n) (beside after new) → span ws ≤ n
         → (n ≡ span ws) × AllWhole Moves ws (beside source old) (beside after new) }
+{}
+
+/// A transfer in fails as its source does: where each error of a read passes a test, an error of the transfer is told
+/// of one that passes, or is what ended the walk. So over a file, whose errors are I/O errors, it never wants memory.
+pub fn transfers_in_fail_as_reads_do<S: ReadVolatile, B: Bitmap>()
+    ensures { (test : VolatileMemoryError → Bool) (fault : Option GuestMemoryError) (until_full : Bool)
+        (ws : List Window) (source after : S) (old new : Host B) (e : GuestMemoryError)
+        → ((s t : S) (lent left : List ℕ) (a : Result ℕ VolatileMemoryError) → S.reads s lent a left t
+        → IfErr a (λ v. test v ≡ true))
+        → InOrder of_window fault (Fills S.source S.reads S.known_left B.marks (filling until_full)) ws 0
+        (beside source old) (Err e) (beside after new)
+        → ((v : VolatileMemoryError) × (test v ≡ true) × (e ≡ of_window v)) ⊎ (fault ≡ Some e) }
+{}
+
+/// A transfer out fails as its sink does, likewise. A sink that takes nothing of bytes that are left is `WriteZero`.
+pub fn transfers_out_fail_as_writes_do<S: WriteVolatile>()
+    ensures { (test : VolatileMemoryError → Bool) (fault : Option GuestMemoryError) (ws : List Window) (old new : S)
+        (blocks : List (List ℕ)) (e : GuestMemoryError)
+        → test (VolatileMemoryError.IOError ErrorKind.WriteZero) ≡ true
+        → ((s t : S) (bytes : List ℕ) (a : Result ℕ VolatileMemoryError) → S.writes s bytes a t
+        → IfErr a (λ v. test v ≡ true))
+        → InOrder of_window fault (Takes S.sink S.taken S.may_want S.writes blocks UntilWhole) ws 0 old (Err e) new
+        → ((v : VolatileMemoryError) × (test v ≡ true) × (e ≡ of_window v)) ⊎ (fault ≡ Some e) }
 {}
 
 /// Each byte of a window that any source filled whole is dirty then, where the bitmaps are exact.
