@@ -28,6 +28,8 @@ mod rounds;
 #[cfg(test)]
 mod scripts;
 #[cfg(test)]
+mod shared;
+#[cfg(test)]
 mod streams;
 #[cfg(test)]
 mod support;

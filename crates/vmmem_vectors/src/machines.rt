@@ -16,7 +16,7 @@ use vm_memory::{
 };
 use vm_memory_guest::host_laws::regions_are_held_one_by_one;
 
-type TestMachine = Machine<TestRegion, TableIommu, ()>;
+pub type TestMachine = Machine<TestRegion, TableIommu, ()>;
 
 // Whether a host holds each region.
 fn are_held(host: &HostMemory<()>, regions: &Vec<Arc<TestRegion>>) -> bool
@@ -28,7 +28,7 @@ fn are_held(host: &HostMemory<()>, regions: &Vec<Arc<TestRegion>>) -> bool
 }
 
 // A machine of these regions, and nothing made yet.
-fn machine_of(alloc: Global, places: &[Place]) -> Result<TestMachine, Fail> {
+pub fn machine_of(alloc: Global, places: &[Place]) -> Result<TestMachine, Fail> {
     let mut host = HostMemory::new(alloc);
     let regions = regions_of(alloc, &mut host, places)?;
     if !are_held(&host, &regions) {
@@ -71,12 +71,12 @@ fn lines_of(alloc: Global, replies: &[Reply]) -> Result<String, AllocError> {
     Ok(text)
 }
 
-fn layout_of(alloc: Global, numbers: &[usize]) -> Result<Command, AllocError> {
+pub fn layout_of(alloc: Global, numbers: &[usize]) -> Result<Command, AllocError> {
     let numbers = Vec::from_slice(alloc, numbers)?;
     Ok(Command::FromRegions(NumberList::from_vec(numbers)))
 }
 
-fn write_of(alloc: Global, memory: usize, addr: u64, bytes: &[u8]) -> Result<Command, AllocError> {
+pub fn write_of(alloc: Global, memory: usize, addr: u64, bytes: &[u8]) -> Result<Command, AllocError> {
     let bytes = Vec::from_slice(alloc, bytes)?;
     Ok(Command::Write {
         memory,
@@ -85,7 +85,7 @@ fn write_of(alloc: Global, memory: usize, addr: u64, bytes: &[u8]) -> Result<Com
     })
 }
 
-fn read_of(memory: usize, addr: u64, count: usize) -> Command {
+pub fn read_of(memory: usize, addr: u64, count: usize) -> Command {
     Command::Read {
         memory,
         addr: GuestAddress(addr),
