@@ -1,7 +1,6 @@
 -- The flags and words of a bitmap.
-use Rattle.std.proofs.Common.{◌≡◌, ◌≢◌, ℕ, zero, suc, ◌+◌, ◌-◌, ◌*◌, ◌/◌, ◌%◌, ◌^◌, ◌<◌, ◌≤◌, Bool, true, false, not, ◌&&◌, ◌||◌, cond, ltb, leb, Vec, List, [], ◌∷◌, ◌++◌, length, get_or, take, drop, replicate, Option, Some, None, min, refl, subst, sym, ap, inl, inr, ◌∙◌, arith, add-zero, zero-add, mul-div_cancel, length-append, length-drop}
+use Rattle.std.proofs.Common.{◌≡◌, ◌≢◌, ℕ, zero, suc, ◌+◌, ◌-◌, ◌*◌, ◌/◌, ◌%◌, ◌^◌, ◌<◌, ◌≤◌, Bool, true, false, not, ◌&&◌, ◌||◌, cond, ltb, leb, List, [], ◌∷◌, ◌++◌, length, get_or, take, drop, replicate, Option, Some, None, min, refl, subst, sym, ap, inl, inr, ◌∙◌, arith, add-zero, zero-add, mul-div_cancel, length-append, length-drop}
 use Rattle.std.specs.Int.{div_ceil}
-use Rattle.std.specs.declared.alloc.Global.{Global}
 use Rattle.std.specs.List.{All, Contains}
 use Rattle.std.proofs.Math.Nat.{pow-suc, pow-succ', div-div-eq-div-mul, zero-div, zero-mul, mul-zero, suc-mul}
 use Rattle.std.proofs.Math.Pow.{pow_mono}
@@ -9,61 +8,63 @@ use Rattle.std.proofs.lemmas.Bool.{lt-ltb, le-leb, le-ltb, lt-leb, cases_lt, tru
 use Rattle.std.proofs.lemmas.Grind.{div_ceil_times}
 use Rattle.std.proofs.lemmas.Nat.{div_below}
 use Rattle.std.proofs.lemmas.List.Elements.{All-head}
-use Rattle.std.proofs.lemmas.List.{get_or-take, get_or-drop, get_or-replicate, get_or_append_left, get_or-append_right, length-take, length-take-le, length-replicate, ext_get_or, take_more, take_all, drop-drop, drop_all}
+use Rattle.std.proofs.lemmas.List.{get_or-take, get_or-drop, get_or-replicate, get_or_append_left, get_or-append_right, length-take, length-take-le, length-replicate, take_more, take_all, drop-drop, drop_all}
 use Rattle.std.proofs.lemmas.Option.{none-some, same_Some}
 use Rattle.vm_memory_base.specs.Pages.{Pages, PageSet, shape, is_dirty_at, dirty_from, dirty_pages, dirty_words, takes, flags_after, flags_without, marked, unmarked, new_pages, all_clean, word_of, words_of, IsPageSet, IsCleanFor, pages_with}
-use Rattle.vm_memory_base.proofs.PagesLaws.{length-flags_after, get_or-flags_after, from_page, Contains-dirty_pages}
+use Rattle.vm_memory_base.proofs.PagesLaws.{from_page, Contains-dirty_pages}
 
--- ---- the flags from one page up to another
+-- ---- pages from one up to another
 
--- these flags with the ones from page a up to b all alike
-abbrev pub made_alike : ℕ → ℕ → Bool → List Bool → List Bool
-made_alike a b d flags = take a flags ++ (replicate (b - a) d ++ drop b flags)
+pub within : (a b i : ℕ) → a ≤ i → i < b → (leb a i && ltb i b) ≡ true
+within a b i h k = rw (le-leb a i h, lt-ltb i b k) refl
 
-pub length-made_alike : (a b : ℕ) (d : Bool) (flags : List Bool) → a ≤ b → b ≤ length flags
-    → length (made_alike a b d flags) ≡ length flags
-length-made_alike a b d flags h k =
+pub before : (a b i : ℕ) → i < a → (leb a i && ltb i b) ≡ false
+before a b i h = rw (lt-leb a i h) refl
+
+pub behind : (a b i : ℕ) → a ≤ i → b ≤ i → (leb a i && ltb i b) ≡ false
+behind a b i h k = rw (le-leb a i h, le-ltb i b k) refl
+
+-- ---- words, those from one up to another alike
+
+-- these words with the ones from word a up to b all alike
+abbrev pub made_alike : ℕ → ℕ → ℕ → List ℕ → List ℕ
+made_alike a b d words = take a words ++ (replicate (b - a) d ++ drop b words)
+
+pub length-made_alike : (a b : ℕ) (d : ℕ) (words : List ℕ) → a ≤ b → b ≤ length words
+    → length (made_alike a b d words) ≡ length words
+length-made_alike a b d words h k =
     omega (
       arith,
-      length-append (take a flags) (replicate (b - a) d ++ drop b flags),
-      length-append (replicate (b - a) d) (drop b flags),
-      length-take-le a flags (omega arith),
-      length-drop b flags,
-      length-replicate {A = Bool} (b - a) d,
+      length-append (take a words) (replicate (b - a) d ++ drop b words),
+      length-append (replicate (b - a) d) (drop b words),
+      length-take-le a words (omega arith),
+      length-drop b words,
+      length-replicate {A = ℕ} (b - a) d,
     )
 
-inside : (a b i : ℕ) → a ≤ i → i < b → (leb a i && ltb i b) ≡ true
-inside a b i h k = rw (le-leb a i h, lt-ltb i b k) refl
-
-below : (a b i : ℕ) → i < a → (leb a i && ltb i b) ≡ false
-below a b i h = rw (lt-leb a i h) refl
-
-above : (a b i : ℕ) → a ≤ i → b ≤ i → (leb a i && ltb i b) ≡ false
-above a b i h k = rw (le-leb a i h, le-ltb i b k) refl
-
-pub get_or-made_alike : (a b : ℕ) (d : Bool) (flags : List Bool) (i : ℕ) → a ≤ b → b ≤ length flags
-    → get_or (made_alike a b d flags) i false ≡ cond (leb a i && ltb i b) d (get_or flags i false)
-get_or-made_alike a b d flags i h k =
-    let front : length (take a flags) ≡ a = length-take-le a flags (omega arith) in
-    let mid : length (replicate (b - a) d) ≡ b - a = length-replicate {A = Bool} (b - a) d in
+pub get_or-made_alike : (a b : ℕ) (d : ℕ) (words : List ℕ) (i : ℕ) → a ≤ b → b ≤ length words
+    → get_or (made_alike a b d words) i 0 ≡ cond (leb a i && ltb i b) d (get_or words i 0)
+get_or-made_alike a b d words i h k =
+    let front : length (take a words) ≡ a = length-take-le a words (omega arith) in
+    let mid : length (replicate (b - a) d) ≡ b - a = length-replicate {A = ℕ} (b - a) d in
     elim (cases_lt i a) [
       | inl l ↦
-          let e : get_or (made_alike a b d flags) i false ≡ get_or (take a flags) i false =
-          get_or_append_left (take a flags) (replicate (b - a) d ++ drop b flags) false i (omega arith) in
-          e ∙ get_or-take a flags i false l ∙ rw (below a b i l) refl
+          let e : get_or (made_alike a b d words) i 0 ≡ get_or (take a words) i 0 =
+          get_or_append_left (take a words) (replicate (b - a) d ++ drop b words) 0 i (omega arith) in
+          e ∙ get_or-take a words i 0 l ∙ rw (before a b i l) refl
       | inr l ↦
-          let e : get_or (made_alike a b d flags) i false ≡ get_or (replicate (b - a) d ++ drop b flags) (i - a) false =
-          get_or-append_right (take a flags) (replicate (b - a) d ++ drop b flags) a i false front l in
+          let e : get_or (made_alike a b d words) i 0 ≡ get_or (replicate (b - a) d ++ drop b words) (i - a) 0 =
+          get_or-append_right (take a words) (replicate (b - a) d ++ drop b words) a i 0 front l in
           elim (cases_lt i b) [
             | inl m ↦
-                e ∙ get_or_append_left (replicate (b - a) d) (drop b flags) false (i - a) (omega arith)
-                ∙ get_or-replicate (b - a) (i - a) d false (omega arith)
-                ∙ rw (inside a b i l m) refl
+                e ∙ get_or_append_left (replicate (b - a) d) (drop b words) 0 (i - a) (omega arith)
+                ∙ get_or-replicate (b - a) (i - a) d 0 (omega arith)
+                ∙ rw (within a b i l m) refl
             | inr m ↦
                 let f : b + (i - a - (b - a)) ≡ i = omega arith in
-                e ∙ get_or-append_right (replicate (b - a) d) (drop b flags) (b - a) (i - a) false mid (omega arith)
-                ∙ get_or-drop b flags (i - a - (b - a)) false
-                ∙ rw (f, above a b i l m) refl
+                e ∙ get_or-append_right (replicate (b - a) d) (drop b words) (b - a) (i - a) 0 mid (omega arith)
+                ∙ get_or-drop b words (i - a - (b - a)) 0
+                ∙ rw (f, behind a b i l m) refl
           ]
     ]
 
@@ -80,53 +81,17 @@ pub length-flags_without : (test : ℕ → Bool) (k : ℕ) (flags : List Bool)
 length-flags_without test k [] = refl
 length-flags_without test k (dirty ∷ flags) = ap suc (length-flags_without test (k + 1) flags)
 
-set_if : (t g : Bool) → cond t true g ≡ (g || t)
+pub set_if : (t g : Bool) → cond t true g ≡ (g || t)
 set_if true true = refl
 set_if true false = refl
 set_if false true = refl
 set_if false false = refl
 
-cleared_if : (t g : Bool) → cond t false g ≡ (g && not t)
+pub cleared_if : (t g : Bool) → cond t false g ≡ (g && not t)
 cleared_if true true = refl
 cleared_if true false = refl
 cleared_if false true = refl
 cleared_if false false = refl
-
--- of the flags of a vector, those from one page up to another are made alike
-module _ (flags : Vec Bool Global) (a b : ℕ) (ordered : a ≤ b) (inside : b ≤ length flags.items) (test : ℕ → Bool)
-    (taken : (page : ℕ) → page < length flags.items → test page ≡ (leb a page && ltb page b)) where
-  alike : (d : Bool) (after : List Bool) → length after ≡ length flags.items
-      → ((i : ℕ) → i < length flags.items → get_or after i false ≡ cond (test i) d (get_or flags.items i false))
-      → (lent new : List Bool) → lent ≡ flags.items → new ≡ made_alike a b d lent
-      → (length new ≡ flags.len) × (new ≡ after)
-  alike d after long each lent new is set =
-      let same = length-made_alike a b d flags.items ordered inside in
-      let all = set ∙ ap (made_alike a b d) is
-      ∙ ext_get_or false (made_alike a b d flags.items) after (same ∙ sym long)
-      (λ i l.
-      let within : i < length flags.items = omega (arith, same) in
-      get_or-made_alike a b d flags.items i ordered inside
-      ∙ sym (each i within ∙ ap (λ (t : Bool). cond t d (get_or flags.items i false)) (taken i within))) in
-      (ap length all ∙ long ∙ sym flags.ok.0, all)
-
-  -- the pages that a test takes become dirty
-  pub set_is : (lent new : List Bool) → lent ≡ flags.items → new ≡ made_alike a b true lent
-      → (length new ≡ flags.len) × (new ≡ flags_after test 0 flags.items)
-  set_is =
-      alike true (flags_after test 0 flags.items) (length-flags_after test 0 flags.items)
-      (λ i l.
-      let e : 0 + i ≡ i = zero-add i in
-      get_or-flags_after test 0 flags.items i
-      ∙ rw (e, lt-ltb i (length flags.items) l) (sym (set_if (test i) (get_or flags.items i false))))
-
-  -- or clean
-  pub cleared_is : (lent new : List Bool) → lent ≡ flags.items → new ≡ made_alike a b false lent
-      → (length new ≡ flags.len) × (new ≡ flags_without test 0 flags.items)
-  cleared_is =
-      alike false (flags_without test 0 flags.items) (length-flags_without test 0 flags.items)
-      (λ i l.
-      let e : 0 + i ≡ i = zero-add i in
-      get_or-flags_without test 0 flags.items i ∙ rw e (sym (cleared_if (test i) (get_or flags.items i false))))
 
 pub replicate-all_clean : (flags : List Bool) → replicate (length flags) false ≡ all_clean flags
 replicate-all_clean [] = refl

@@ -1,15 +1,17 @@
 //! A bitmap that one owner marks and harvests.
-ghost use Rattle.std.specs.Prelude.{◌≡◌, ◌≢◌, [], ℕ, ◌-◌, ◌<◌, ◌≤◌, ◌&&◌, nat_le, nat_lt, ◌++◌, length, take, drop, replicate, Some, IfOk, OnOk, OnErr};
+ghost use Rattle.std.specs.Prelude.{◌≡◌, ◌≢◌, [], ℕ, Bool, false, ◌+◌, ◌-◌, ◌*◌, ◌^◌, ◌<◌, ◌≤◌, ◌&&◌, if◌then◌else◌, nat_le, nat_lt, ◌++◌, length, slice_index, take, drop, replicate, Some, IfOk, OnOk, OnErr};
 ghost use Rattle.std.specs.NonZero.{non_zero_usize_get};
-ghost use Rattle.std.specs.Int.{div_ceil};
+ghost use Rattle.std.specs.Int.{div_ceil, bit_at};
+ghost use Rattle.vm_memory_base.specs.Flags.{flag, flags_of, dirty_among, Gets};
 ghost use Rattle.vm_memory_base.specs.Pages as page_set;
 ghost use Rattle.vm_memory_base.specs.Pages.{IsPageSet, pages_with};
 
 use super::{Bitmap, ExactBitmap, NewBitmap};
 use std::alloc::{AllocError, Global};
+use std::mem;
 use std::num::NonZeroUsize;
 
-/// Tracks the pages of a number of bytes, from offset 0 on, one truth value each.
+/// Tracks the pages of a number of bytes, from offset 0 on, one bit each.
 ///
 /// ```rust
 /// use std::num::NonZeroUsize;
@@ -23,10 +25,13 @@ use std::num::NonZeroUsize;
 /// ```
 #[derive(Debug, Drop)]
 pub struct ExclusiveBitmap {
-    flags: Vec<bool>,
+    words: Vec<u64>,
+    len: usize,
     byte_size: usize,
     page_size: NonZeroUsize,
-    ghost fits: { IsPageSet (pages_with (non_zero_usize_get page_size) flags.items) },
+    ghost fits: { IsPageSet (pages_with (non_zero_usize_get page_size) (flags_of words.items len)) },
+    ghost whole: { length words.items ≡ div_ceil len 64 },
+    ghost clear: { (page : ℕ) → len ≤ page → flag words.items page ≡ false },
 }
 
 impl ExclusiveBitmap {
@@ -39,10 +44,11 @@ impl ExclusiveBitmap {
             ≡ page_set.new_pages (non_zero_usize_get page_size) byte_size) }
         ensures bytes { IfOk result (λ b. bytes_of b ≡ byte_size) }
     {
-        let count = byte_size.div_ceil(page_size.get());
-        let flags = vec![in alloc; false; count]?;
+        let len = byte_size.div_ceil(page_size.get());
+        let words = vec![in alloc; 0u64; len.div_ceil(64)]?;
         Ok(ExclusiveBitmap {
-            flags,
+            words,
+            len,
             byte_size,
             page_size,
         })
@@ -53,7 +59,7 @@ impl ExclusiveBitmap {
     pub fn len(&self) -> usize
         ensures { result ≡ length (pages_of self.now).flags }
     {
-        self.flags.len()
+        self.len
     }
 
     /// The number of bytes that it was made for.
@@ -64,12 +70,19 @@ impl ExclusiveBitmap {
         self.byte_size
     }
 
+    #[inline]
+    fn count(&self) -> usize
+        ensures { result ≡ self.now.len }
+    {
+        self.len
+    }
+
     // The pages that a mark takes, among those that there are: from one page up to another.
     #[inline]
     fn taken(&self, start: usize, len: usize) -> (usize, usize)
         ensures ordered { result.0 ≤ result.1 }
-        ensures inside { result.1 ≤ length (pages_of self.now).flags }
-        ensures taken { (page : ℕ) → page < length (pages_of self.now).flags
+        ensures inside { result.1 ≤ self.now.len }
+        ensures taken { (page : ℕ) → page < self.now.len
             → page_set.takes (pages_of self.now).page_size start len page
             ≡ (nat_le result.0 page && nat_lt page result.1) }
     {
@@ -77,7 +90,7 @@ impl ExclusiveBitmap {
             return (0, 0);
         }
         let last = start.saturating_add(len - 1) / self.page_size.get();
-        let count = self.flags.len();
+        let count = self.count();
         let end = if last < count { last + 1 } else { count };
         (end.min(start / self.page_size.get()), end)
     }
@@ -88,7 +101,7 @@ impl ExclusiveBitmap {
         ensures bytes { bytes_of self.new ≡ bytes_of self.old }
     {
         let (first, end) = self.taken(start, len);
-        set_flags(&mut self.flags, first, end, false);
+        set_flags(&mut self.words, first, end, false);
     }
 
     /// Makes every page clean.
@@ -96,7 +109,7 @@ impl ExclusiveBitmap {
         ensures pages { Some (pages_of self.new) ≡ page_set.cleaned (Some (pages_of self.old)) }
         ensures bytes { bytes_of self.new ≡ bytes_of self.old }
     {
-        self.flags.fill(false);
+        self.words.fill(0);
     }
 
     /// Takes the dirty pages as bits of words, page `n` as bit `n % 64` of word `n / 64`, and makes them
@@ -107,48 +120,101 @@ impl ExclusiveBitmap {
         ensures refused { OnErr result (pages_of self.new ≡ pages_of self.old) }
         ensures bytes { bytes_of self.new ≡ bytes_of self.old }
     {
-        let words = words(alloc, &self.flags)?;
-        self.reset();
-        Ok(words)
+        let clean = vec![in alloc; 0u64; self.words.len()]?;
+        fit(&self.words);
+        Ok(mem::replace(&mut self.words, clean))
     }
+}
+
+// Words are numbers of 64 bits.
+#[inline(always)]
+fn fit(_words: &[u64])
+    ensures { (k : ℕ) → slice_index _words.now k < 2 ^ 64 }
+{}
+
+// The bits of a word from one up to another.
+#[inline(always)]
+fn mask(first: usize, end: usize) -> u64
+    requires ordered { first < end }
+    requires inside { end ≤ 64 }
+    ensures { (bit : ℕ) → bit < 64 → bit_at result bit ≡ (if nat_le first bit && nat_lt bit end then 1 else 0) }
+{
+    (u64::MAX << first) & (u64::MAX >> (64 - end))
+}
+
+// Gives the bits of word k from one up to another this value.
+#[inline(always)]
+fn set_in_word(words: &mut [u64], k: usize, first: usize, end: usize, dirty: bool)
+    requires here { k < length words.old }
+    requires ordered { first < end }
+    requires inside { end ≤ 64 }
+    ensures len { length words.new ≡ length words.old }
+    ensures flags { Gets words.old words.new (64 * k + first) (64 * k + end) dirty }
+{
+    let mask = mask(first, end);
+    if dirty {
+        words[k] |= mask;
+    } else {
+        words[k] &= !mask;
+    }
+}
+
+// Gives all bits of the words from one up to another this value.
+#[inline(always)]
+fn set_words(words: &mut [u64], first: usize, end: usize, dirty: bool)
+    requires ordered { first ≤ end }
+    requires inside { end ≤ length words.old }
+    ensures len { length words.new ≡ length words.old }
+    ensures flags { Gets words.old words.new (64 * first) (64 * end) dirty }
+{
+    fill_words(words, first, end, if dirty { u64::MAX } else { 0 });
+}
+
+// Makes the words from one up to another this number.
+#[inline(always)]
+fn fill_words(words: &mut [u64], first: usize, end: usize, all: u64)
+    requires ordered { first ≤ end }
+    requires inside { end ≤ length words.old }
+    ensures { words.new ≡ take first words.old ++ (replicate (end - first) all ++ drop end words.old) }
+{
+    words[first..end].fill(all);
 }
 
 // Gives the pages from one up to another this flag.
 #[inline]
-fn set_flags(flags: &mut [bool], first: usize, end: usize, dirty: bool)
+fn set_flags(words: &mut [u64], first: usize, end: usize, dirty: bool)
     requires ordered { first ≤ end }
-    requires inside { end ≤ length flags.old }
-    ensures { flags.new ≡ take first flags.old ++ (replicate (end - first) dirty ++ drop end flags.old) }
+    requires inside { end ≤ 64 * length words.old }
+    ensures len { length words.new ≡ length words.old }
+    ensures flags { Gets words.old words.new first end dirty }
 {
-    flags[first..end].fill(dirty);
+    if first == end {
+        return;
+    }
+    let (low, high) = (first / 64, (end - 1) / 64);
+    if low == high {
+        set_in_word(words, low, first % 64, (end - 1) % 64 + 1, dirty);
+    } else {
+        set_in_word(words, low, first % 64, 64, dirty);
+        set_words(words, low + 1, high, dirty);
+        set_in_word(words, high, 0, (end - 1) % 64 + 1, dirty);
+    }
 }
 
-// The number whose bits are these flags, the lowest first.
-fn word(flags: &[bool]) -> u64
-    requires { length flags.now ≤ 64 }
-    ensures { result ≡ page_set.word_of flags.now }
+// Adds the numbers of the dirty pages of a word, whose lowest bit is that of page `first`.
+#[inline]
+fn add_pages(pages: &mut Vec<usize>, first: usize, word: u64) -> Result<(), AllocError>
+    requires { first + 64 ≤ 2 ^ 64 }
+    ensures added { OnOk result (pages.new.items ≡ pages.old.items ++ dirty_among word first) }
+    ensures refused { OnErr result (dirty_among word first ≢ []) }
 {
-    let mut word = 0;
-    for (bit, dirty) in flags.iter().enumerate() {
-        if *dirty {
-            word += 1 << bit;
-        }
+    let mut left = word;
+    'bits: while left != 0 {
+        let bit = left.trailing_zeros();
+        pages.push(first + bit as usize)?;
+        left &= !(1u64 << bit);
     }
-    word
-}
-
-// The flags as bits of words.
-fn words(alloc: Global, flags: &[bool]) -> Result<Vec<u64>, AllocError>
-    ensures { IfOk result (λ words. words.items
-        ≡ page_set.words_of (div_ceil (length flags.now) 64) flags.now) }
-{
-    let count = flags.len().div_ceil(64);
-    let mut words = Vec::with_capacity(alloc, count)?;
-    for k in 0..count {
-        let end = flags.len().min(64 * (k + 1));
-        words.push(word(&flags[64 * k..end]))?;
-    }
-    Ok(words)
+    Ok(())
 }
 
 impl Bitmap for ExclusiveBitmap {
@@ -165,13 +231,13 @@ impl Bitmap for ExclusiveBitmap {
     #[inline]
     fn mark_dirty(&mut self, offset: usize, len: usize) {
         let (first, end) = self.taken(offset, len);
-        set_flags(&mut self.flags, first, end, true);
+        set_flags(&mut self.words, first, end, true);
     }
 
     #[inline]
     fn dirty_at(&self, offset: usize) -> bool {
         let page = offset / self.page_size.get();
-        self.flags.get(page).copied().unwrap_or(false)
+        page < self.len && (self.words[page / 64] >> (page % 64)) & 1 == 1
     }
 }
 
@@ -194,17 +260,15 @@ impl ExactBitmap for ExclusiveBitmap {
 
     #[inline]
     fn shape(&self) -> Option<(usize, usize)> {
-        Some((self.page_size.get(), self.flags.len()))
+        Some((self.page_size.get(), self.len))
     }
 
     fn dirty_pages(&self, alloc: Global) -> Result<Vec<usize>, AllocError> {
-        let mut dirty_pages = Vec::new(alloc);
-        for (page, dirty) in self.flags.iter().enumerate() {
-            if *dirty {
-                dirty_pages.push(page)?;
-            }
+        let mut pages = Vec::new(alloc);
+        for k in 0..self.words.len() {
+            add_pages(&mut pages, 64 * k, self.words[k])?;
         }
-        Ok(dirty_pages)
+        Ok(pages)
     }
 
     fn harvest(&mut self, alloc: Global) -> Result<Vec<usize>, AllocError>

@@ -1,15 +1,39 @@
-use Rattle.std.proofs.Common.{ap, ◌∙◌, refl}
+use Rattle.std.proofs.Common.{ap, length, sym, true, ◌∙◌, refl}
 use Rattle.std.proofs.lemmas.List.{with_items_is}
 use Rattle.std.specs.NonZero.{non_zero_usize_get}
 use Rattle.vm_memory_base.specs.Pages.{takes, pages_with}
-use Rattle.vm_memory_base.proofs.BitmapLemmas.{set_is}
+use Rattle.vm_memory_base.proofs.FlagsLemmas.{inside_words, length-flags_of, flags_of-marked, clear_after}
 use Rattle.vm_memory_base.proofs.bitmap.exclusive.ExclusiveBitmapBitmap.mark_dirty.Goals as goal
+
+pub set_flags-requires-clause-inside : goal.set_flags-requires-clause-inside
+set_flags-requires-clause-inside c =
+    let old = c.args.self.now in
+    rw c.deref_mut.ensures.value (inside_words old.words.items old.len c.taken-first.result.1 old.whole c.taken-first.ensures.inside)
+
+pub invariant_of-self : goal.invariant_of-self
+invariant_of-self c =
+    let old = c.args.self.now in
+    let new = c.set_flags.new.words in
+    let same = c.set_flags.ensures.len ∙ ap length c.deref_mut.ensures.value in
+    let kept = with_items_is old.words new (same ∙ sym old.words.ok.0) in
+    let gets = rw c.deref_mut.ensures.value at c.set_flags.ensures.flags in
+    rw kept
+    (record {
+      fits = rw (length-flags_of new old.len) (rw (length-flags_of old.words.items old.len) at old.fits);
+      whole = same ∙ old.whole;
+      clear = clear_after old.words.items new old.len _ _ true c.taken-first.ensures.inside old.clear gets;
+    })
 
 pub returns : goal.returns
 returns c =
-    let size = non_zero_usize_get c.args.self.now.page_size in
-    let taken = c.taken-first.ensures in
-    let new = set_is c.args.self.now.flags c.taken-first.result.0 c.taken-first.result.1 taken.ordered taken.inside
-    (takes size c.args.offset c.args.len) taken.taken c.deref_mut.result.now c.set_flags.new.flags
-    c.deref_mut.ensures.value c.set_flags.ensures in
-    (ap (pages_with size) (with_items_is c.args.self.now.flags c.set_flags.new.flags new.0 ∙ new.1), refl)
+    let old = c.args.self.now in
+    let size = non_zero_usize_get old.page_size in
+    let new = c.set_flags.new.words in
+    let same = c.set_flags.ensures.len ∙ ap length c.deref_mut.ensures.value in
+    let kept = with_items_is old.words new (same ∙ sym old.words.ok.0) in
+    let gets = rw c.deref_mut.ensures.value at c.set_flags.ensures.flags in (
+      ap (pages_with size)
+          (rw kept
+          (flags_of-marked old.words.items new old.len _ _ (takes size c.args.offset c.args.len) c.taken-first.ensures.taken gets)),
+      refl,
+    )

@@ -1,28 +1,32 @@
-use Rattle.std.proofs.Common.{◌∙◌, ap, append-nil}
-use Rattle.std.proofs.lemmas.List.{take_all}
+use Rattle.std.proofs.Common.{ℕ, List, ◌++◌, ◌*◌, get_or, ◌∙◌, sym, ap, arith}
+use Rattle.std.proofs.lemmas.Grind.{div_ceil_times}
+use Rattle.std.proofs.lemmas.List.{get_or_read}
 use Rattle.std.proofs.lemmas.Result.{err_from_is_err_and}
-use Rattle.vm_memory_base.specs.Pages.{dirty_from}
-use Rattle.vm_memory_base.proofs.BitmapLemmas.{dirty_from-more, dirty_from-some}
+use Rattle.vm_memory_base.specs.Flags.{dirty_among}
+use Rattle.vm_memory_base.proofs.FlagsLemmas.{dirty_of_word, dirty_of_words, some_dirty}
 use Rattle.vm_memory_base.proofs.bitmap.exclusive.ExclusiveBitmapExactBitmap.dirty_pages.Goals as goal
-use Rattle.vm_memory_base.proofs.bitmap.exclusive.ExclusiveBitmapExactBitmap.dirty_pages.Goals.{then-dirty+in_ok-push, else-dirty}
 
-pub loop-page-preserved : goal.loop-page-preserved
-loop-page-preserved c =
-    let more = dirty_from-more c.deref-dirty-items.result.now c.loop-page.page c.loop-page-test.true in
-    elim c.if-dirty.branch [
-      | then-dirty+in_ok-push w ↦
-          rw (w.dirty_pages-is, w.in_ok-push.ensures.items, c.loop-page.invariant, more, w.if-dirty.true)
-      | else-dirty w ↦ rw (w.dirty_pages-is, more, w.if-dirty.false, append-nil) c.loop-page.invariant
-    ]
-
-pub returns-in_err-push-clause-refused : goal.returns-in_err-push-clause-refused
-returns-in_err-push-clause-refused c =
+pub returns-in_err-add_pages-clause-refused : goal.returns-in_err-add_pages-clause-refused
+returns-in_err-add_pages-clause-refused c =
+    let b = c.args.self.now in
+    let k = c.loop-k.k in
+    let word = get_or_read b.words.items k c.index.result.now (omega arith) c.index.ensures 0 in
     let p = err_from_is_err_and c.from_residual.result c.from_residual.ensures.1 in
-    rw (p.1, ← c.deref-dirty-items.ensures.value)
-    (dirty_from-some 0 c.loop-page.page c.deref-dirty-items.result.now c.if-dirty.true)
+    rw p.1
+    (some_dirty b.words.items b.len k b.whole (omega arith) b.clear (rw word at c.in_err-add_pages.ensures.refused))
+
+pub loop-k-preserved : goal.loop-k-preserved
+loop-k-preserved c =
+    let b = c.args.self.now in
+    let k = c.loop-k.k in
+    let word = get_or_read b.words.items k c.index.result.now (omega arith) c.index.ensures 0 in
+    c.in_ok-add_pages.ensures.added
+    ∙ ap (λ (n : ℕ). c.loop-k.pages.items ++ dirty_among n (64 * k)) word
+    ∙ ap (λ (ps : List ℕ). ps ++ dirty_among (get_or b.words.items k 0) (64 * k)) c.loop-k.invariant
+    ∙ sym (dirty_of_word b.words.items k)
 
 pub returns-clause-dirty : goal.returns-clause-dirty
 returns-clause-dirty c =
-    c.loop-page.invariant
-    ∙ ap (dirty_from 0) (take_all c.loop-page.page c.deref-dirty-items.result.now c.loop-page-test.false
-    ∙ c.deref-dirty-items.ensures.value)
+    let b = c.args.self.now in
+    let enough = div_ceil_times b.len 64 (omega arith) in
+    c.loop-k.invariant ∙ dirty_of_words b.words.items b.len (64 * c.loop-k.k) (omega (arith, enough.0, b.whole)) b.clear

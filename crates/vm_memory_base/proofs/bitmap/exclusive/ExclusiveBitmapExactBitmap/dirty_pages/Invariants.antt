@@ -1,6 +1,7 @@
-use Rattle.std.proofs.Common.{◌≡◌, take}
-use Rattle.vm_memory_base.specs.Pages.{dirty_from}
+use Rattle.std.proofs.Common.{◌≡◌, ◌*◌}
+use Rattle.vm_memory_base.specs.Flags.{flag}
+use Rattle.vm_memory_base.proofs.FlagsLemmas.{dirty_by}
 use Rattle.vm_memory_base.proofs.bitmap.exclusive.ExclusiveBitmapExactBitmap.dirty_pages.Given as goal
 
-abbrev pub invariant-loop-page : goal.invariant-loop-page
-invariant-loop-page l = l.dirty_pages.items ≡ dirty_from 0 (take l.page l.dirty-items)
+abbrev pub invariant-loop-k : goal.invariant-loop-k
+invariant-loop-k l = l.pages.items ≡ dirty_by (flag l.fn.self.words.items) 0 (64 * l.k)
