@@ -22,6 +22,8 @@ mod machines;
 mod memories;
 #[cfg(test)]
 mod queries;
+#[cfg(test)]
+mod references;
 pub mod regions;
 #[cfg(test)]
 mod rounds;

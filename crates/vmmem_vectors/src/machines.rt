@@ -76,7 +76,12 @@ pub fn layout_of(alloc: Global, numbers: &[usize]) -> Result<Command, AllocError
     Ok(Command::FromRegions(NumberList::from_vec(numbers)))
 }
 
-pub fn write_of(alloc: Global, memory: usize, addr: u64, bytes: &[u8]) -> Result<Command, AllocError> {
+pub fn write_of(
+    alloc: Global,
+    memory: usize,
+    addr: u64,
+    bytes: &[u8],
+) -> Result<Command, AllocError> {
     let bytes = Vec::from_slice(alloc, bytes)?;
     Ok(Command::Write {
         memory,
