@@ -8,5 +8,6 @@ pub mod KnownBytesJoined
 pub mod ByteLemmas
 pub mod ArrayLemmas
 pub mod BitmapLemmas
+pub mod WordLemmas
 pub mod PieceLemmas
 pub mod TransferLemmas

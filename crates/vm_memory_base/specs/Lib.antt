@@ -1,6 +1,8 @@
 pub mod Address
 pub mod Pages
 pub mod Exclusive
+pub mod Shared
+pub mod Words
 pub mod OptionalBitmap
 pub mod Permissions
 pub mod Runs

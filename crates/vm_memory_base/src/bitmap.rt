@@ -3,8 +3,10 @@ ghost use Rattle.std.specs.Prelude.{◌≡◌, ◌≢◌, [], ℕ, Bool, IfOk, O
 ghost use Rattle.vm_memory_base.specs.Pages.{PageSet, IsPageSet, IsCleanFor, in_view};
 ghost use Rattle.vm_memory_base.specs.Pages as page_set;
 
+mod atomic;
 mod exclusive;
 
+pub use self::atomic::{AtomicBitmap, SharedBitmap};
 pub use self::exclusive::ExclusiveBitmap;
 use std::alloc::{AllocError, Global};
 
