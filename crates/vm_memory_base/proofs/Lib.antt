@@ -1,4 +1,5 @@
 pub mod PagesLaws
+pub mod EventLaws
 pub mod RunsLaws
 pub mod TableLaws
 pub mod ChangeLemmas

@@ -3,6 +3,8 @@ pub mod Pages
 pub mod Exclusive
 pub mod Shared
 pub mod Words
+pub mod Slices
+pub mod Events
 pub mod OptionalBitmap
 pub mod Permissions
 pub mod Runs

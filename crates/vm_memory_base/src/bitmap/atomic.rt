@@ -237,6 +237,21 @@ impl Bitmap for AtomicBitmap {
     }
 }
 
+/// Tracks nothing.
+impl SharedBitmap for () {
+    fn mark_shared(&self, _offset: usize, _len: usize) {}
+}
+
+/// Tracks what the bitmap that it holds tracks, and nothing where it holds none.
+impl<B: SharedBitmap> SharedBitmap for Option<B> {
+    #[inline]
+    fn mark_shared(&self, offset: usize, len: usize) {
+        if let Some(bitmap) = self {
+            bitmap.mark_shared(offset, len);
+        }
+    }
+}
+
 impl SharedBitmap for AtomicBitmap {
     #[inline]
     fn mark_shared(&self, offset: usize, len: usize) {
