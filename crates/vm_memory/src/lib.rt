@@ -18,13 +18,14 @@ pub use script::{DriveFault, drive};
 
 // The crates below.
 pub use vm_memory_base::{
-    Address, AddressValue, AddressWord, AtomicAccess, AtomicInteger, BS, Be16, Be32, Be64, BeSize,
-    BigEndian, Bitmap, BitmapId, BitmapRef, ByteList, ByteSized, ByteValued, ExactBitmap,
-    ExclusiveBitmap, FixedInteger, GuestAddress, GuestUsize, IoError, IommuError, Iotlb,
-    IotlbFails, IotlbIterator, IovaRange, IovaRangeList, Items, Le16, Le32, Le64, LeSize, Lends,
-    LittleEndian, LookupError, MS, MappedRange, MemoryRegionAddress, NewBitmap, Permissions,
-    RETRIES, ReadExactFault, ReadVolatile, Reason, ScriptSink, ScriptSource, SinkStep, SourceStep,
-    VolatileMemoryError, VolatileMemoryResult, WriteVolatile, is_interrupted, offer_again,
+    Address, AddressValue, AddressWord, ArcSlice, AtomicAccess, AtomicBitmap, AtomicInteger, BS,
+    BaseSlice, Be16, Be32, Be64, BeSize, BigEndian, Bitmap, BitmapId, BitmapRef, ByteList,
+    ByteSized, ByteValued, ExactBitmap, ExclusiveBitmap, FixedInteger, GuestAddress, GuestUsize,
+    IoError, IommuError, Iotlb, IotlbFails, IotlbIterator, IovaRange, IovaRangeList, Items, Le16,
+    Le32, Le64, LeSize, Lends, LittleEndian, LookupError, MS, MappedRange, MemoryRegionAddress,
+    NewBitmap, Permissions, RETRIES, ReadExactFault, ReadVolatile, Reason, RefSlice, ScriptSink,
+    ScriptSource, SharedBitmap, SinkStep, SourceStep, VolatileMemoryError, VolatileMemoryResult,
+    WriteVolatile, event_law, is_interrupted, offer_again,
 };
 pub use vm_memory_guest::{
     BlockId, Bytes, FromRangesError, GuestAddressSpace, GuestMemory, GuestMemoryAtomic,

@@ -1,4 +1,5 @@
 pub mod PagesLaws
+pub mod EventLaws
 pub mod RunsLaws
 pub mod TableLaws
 pub mod ChangeLemmas
@@ -9,5 +10,6 @@ pub mod ByteLemmas
 pub mod ArrayLemmas
 pub mod BitmapLemmas
 pub mod FlagsLemmas
+pub mod WordLemmas
 pub mod PieceLemmas
 pub mod TransferLemmas

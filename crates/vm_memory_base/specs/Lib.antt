@@ -2,6 +2,10 @@ pub mod Address
 pub mod Pages
 pub mod Flags
 pub mod Exclusive
+pub mod Shared
+pub mod Words
+pub mod Slices
+pub mod Events
 pub mod OptionalBitmap
 pub mod Permissions
 pub mod Runs

@@ -3,9 +3,13 @@ ghost use Rattle.std.specs.Prelude.{◌≡◌, ◌≢◌, [], ℕ, Bool, IfOk, O
 ghost use Rattle.vm_memory_base.specs.Pages.{PageSet, IsPageSet, IsCleanFor, in_view};
 ghost use Rattle.vm_memory_base.specs.Pages as page_set;
 
+mod atomic;
 mod exclusive;
+mod slice;
 
+pub use self::atomic::{AtomicBitmap, SharedBitmap};
 pub use self::exclusive::ExclusiveBitmap;
+pub use self::slice::{ArcSlice, BaseSlice, RefSlice};
 use std::alloc::{AllocError, Global};
 
 /// Tracks which parts of a range of bytes were written.

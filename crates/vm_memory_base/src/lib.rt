@@ -16,7 +16,10 @@ pub use address::{
     Address, AddressValue, AddressWord, GuestAddress, GuestUsize, MemoryRegionAddress,
 };
 pub use atomic_integer::AtomicInteger;
-pub use bitmap::{BS, Bitmap, BitmapId, BitmapRef, ExactBitmap, ExclusiveBitmap, MS, NewBitmap};
+pub use bitmap::{
+    ArcSlice, AtomicBitmap, BS, BaseSlice, Bitmap, BitmapId, BitmapRef, ExactBitmap,
+    ExclusiveBitmap, MS, NewBitmap, RefSlice, SharedBitmap,
+};
 pub use bytes::{AtomicAccess, ByteSized, ByteValued, FixedInteger};
 pub use endian::{Be16, Be32, Be64, BeSize, BigEndian, Le16, Le32, Le64, LeSize, LittleEndian};
 pub use io::{
@@ -27,5 +30,6 @@ pub use iotlb::{
     IommuError, Iotlb, IotlbFails, IotlbIterator, IovaRange, IovaRangeList, LookupError,
     MappedRange, Permissions, Reason,
 };
+pub use laws::events::event_law;
 pub use lends::Lends;
 pub use list::{ByteList, Items};

@@ -6,6 +6,8 @@ mod addresses;
 #[cfg(test)]
 mod atomic;
 #[cfg(test)]
+mod atomic_bitmaps;
+#[cfg(test)]
 mod bitmaps;
 pub mod cells;
 #[cfg(test)]

@@ -1,0 +1,267 @@
+//! A bitmap that is marked through a shared reference, by any number of threads.
+ghost use Rattle.std.specs.Prelude.{◌≡◌, ℕ, ◌+◌, ◌*◌, ◌/◌, ◌^◌, ◌<◌, ◌≤◌, false, length, IfOk, OnOk, OnErr, IsOk};
+ghost use Rattle.std.specs.NonZero.{non_zero_usize_get};
+ghost use Rattle.std.specs.Int.{div_ceil};
+ghost use Rattle.vm_memory_base.specs.Words.{IsWithin, AreWithin};
+
+use super::{Bitmap, NewBitmap};
+use std::alloc::{AllocError, Global};
+use std::num::NonZeroUsize;
+use std::sync::atomic::{AtomicU64, Ordering};
+
+/// A bitmap that can be marked through a shared reference.
+pub trait SharedBitmap: Bitmap {
+    /// Marks `len` bytes from `offset` on as written.
+    fn mark_shared(&self, offset: usize, len: usize)
+        ensures { Self.marks self.now offset len self.now };
+}
+
+/// Tracks the pages of a number of bytes, from offset 0 on, one bit each: page `n` is bit `n % 64` of word
+/// `n / 64`. Threads share it by reference. A mark sets each of its pages in a step of its own, and a reset of a
+/// range clears each in one, so that nothing of other pages is lost.
+///
+/// ```rust
+/// use std::num::NonZeroUsize;
+/// use vm_memory_base::AtomicBitmap;
+///
+/// let page_size = NonZeroUsize::new(128).unwrap();
+/// let bitmap = AtomicBitmap::new(rt.alloc(), 1024, page_size)?;
+/// bitmap.set_addr_range(128, 129);
+/// assert!(rt; bitmap.get_and_reset(rt.alloc())?.as_slice() == [0b110].as_slice());
+/// assert!(rt; !bitmap.is_addr_set(128));
+/// ```
+#[derive(Drop)]
+pub struct AtomicBitmap {
+    map: Vec<AtomicU64>,
+    size: usize,
+    byte_size: usize,
+    page_size: NonZeroUsize,
+    ghost pages: { size ≡ div_ceil byte_size (non_zero_usize_get page_size) },
+    ghost words: { length map.items ≡ div_ceil size 64 },
+}
+
+impl AtomicBitmap {
+    ghost use Rattle.vm_memory_base.specs.Shared.{bytes_of, page_size_of, len_of};
+
+    /// A clean bitmap for `byte_size` bytes in pages of `page_size` bytes, the last of which may be cut.
+    /// `AllocError` where there is no memory for it.
+    pub fn new(alloc: Global, byte_size: usize, page_size: NonZeroUsize) -> Result<Self, AllocError>
+        ensures bytes { IfOk result (λ b. bytes_of b ≡ byte_size) }
+        ensures page_size { IfOk result (λ b. page_size_of b ≡ non_zero_usize_get page_size) }
+    {
+        let size = byte_size.div_ceil(page_size.get());
+        let mut map = Vec::new(alloc);
+        map.resize_with(size.div_ceil(64), || AtomicU64::new(0))?;
+        Ok(AtomicBitmap {
+            map,
+            size,
+            byte_size,
+            page_size,
+        })
+    }
+
+    /// Tracks `additional_size` bytes more, whose pages are clean: those that the last page had room for are of
+    /// that page. `AllocError` where there is no memory for them, and then nothing is changed.
+    pub fn enlarge(&mut self, additional_size: usize) -> Result<(), AllocError>
+        requires { bytes_of self.old + additional_size < 2 ^ 64 }
+        ensures bytes { OnOk result (bytes_of self.new ≡ bytes_of self.old + additional_size) }
+        ensures refused { OnErr result (bytes_of self.new ≡ bytes_of self.old) }
+        ensures page_size { page_size_of self.new ≡ page_size_of self.old }
+    {
+        let byte_size = self.byte_size + additional_size;
+        let size = byte_size.div_ceil(self.page_size.get());
+        self.map
+            .resize_with(size.div_ceil(64), || AtomicU64::new(0))?;
+        self.byte_size = byte_size;
+        self.size = size;
+        Ok(())
+    }
+
+    /// The number of pages.
+    #[inline]
+    pub fn len(&self) -> usize
+        ensures { result ≡ len_of self.now }
+    {
+        self.size
+    }
+
+    /// The number of bytes that it tracks.
+    #[inline]
+    pub fn byte_size(&self) -> usize
+        ensures { result ≡ bytes_of self.now }
+    {
+        self.byte_size
+    }
+
+    /// Whether page `index` is dirty. A page at or past the number of pages is not.
+    #[inline]
+    pub fn is_bit_set(&self, index: usize) -> bool
+        ensures { len_of self.now ≤ index → result ≡ false }
+    {
+        index < self.size && self.map[index / 64].load(Ordering::SeqCst) & (1 << (index % 64)) != 0
+    }
+
+    /// Whether the page of the byte at `addr` is dirty.
+    #[inline]
+    pub fn is_addr_set(&self, addr: usize) -> bool
+        ensures { len_of self.now ≤ addr / page_size_of self.now → result ≡ false }
+    {
+        self.is_bit_set(addr / self.page_size.get())
+    }
+
+    // The pages of `len` bytes from `start` on, among those that there are: from one page up to another.
+    #[inline]
+    fn taken(&self, start: usize, len: usize) -> (usize, usize)
+        ensures { result.1 ≤ len_of self.now }
+    {
+        if len == 0 {
+            return (0, 0);
+        }
+        let last = start.saturating_add(len - 1) / self.page_size.get();
+        let end = if last < self.size {
+            last + 1
+        } else {
+            self.size
+        };
+        (start / self.page_size.get(), end)
+    }
+
+    /// Makes the pages of `len` bytes from `start` on dirty, one after another. Pages past the last are no pages.
+    pub fn set_addr_range(&self, start: usize, len: usize) {
+        let (first, end) = self.taken(start, len);
+        for page in first..end {
+            self.map[page / 64].fetch_or(1 << (page % 64), Ordering::SeqCst);
+        }
+    }
+
+    /// Makes the pages clean, one after another, that a mark of `len` bytes from `start` on would make dirty.
+    pub fn reset_addr_range(&self, start: usize, len: usize) {
+        let (first, end) = self.taken(start, len);
+        for page in first..end {
+            self.map[page / 64].fetch_and(!(1 << (page % 64)), Ordering::SeqCst);
+        }
+    }
+
+    /// Makes page `index` dirty, if there is one.
+    #[inline]
+    pub fn set_bit(&self, index: usize) {
+        if index < self.size {
+            self.map[index / 64].fetch_or(1 << (index % 64), Ordering::SeqCst);
+        }
+    }
+
+    /// Makes page `index` clean, if there is one.
+    #[inline]
+    pub fn reset_bit(&self, index: usize) {
+        if index < self.size {
+            self.map[index / 64].fetch_and(!(1 << (index % 64)), Ordering::SeqCst);
+        }
+    }
+
+    // What a word, which has this number, says of the pages that there are.
+    #[inline]
+    fn within(&self, k: usize, word: u64) -> u64
+        requires { k < div_ceil (len_of self.now) 64 }
+        ensures { IsWithin (len_of self.now) k result }
+    {
+        let pages = self.size - 64 * k;
+        if pages < 64 {
+            word & ((1 << pages) - 1)
+        } else {
+            word
+        }
+    }
+
+    /// Takes the dirty pages as words, and makes them clean: each word in a step of its own, in order. No word has
+    /// a bit at or past the number of pages. `AllocError` where there is no memory for the words, and then nothing
+    /// is changed.
+    pub fn get_and_reset(&self, alloc: Global) -> Result<Vec<u64>, AllocError>
+        ensures words { IfOk result (λ words. length words.items ≡ div_ceil (len_of self.now) 64) }
+        ensures within { IfOk result (λ words. AreWithin (len_of self.now) words.items) }
+    {
+        let mut words = Vec::with_capacity(alloc, self.map.len())?;
+        for k in 0..self.map.len() {
+            let word = self.map[k].fetch_and(0, Ordering::SeqCst);
+            words.push_reserved(self.within(k, word));
+        }
+        Ok(words)
+    }
+
+    /// Makes every page clean, a word at a time.
+    pub fn reset(&self) {
+        for word in self.map.iter() {
+            word.store(0, Ordering::SeqCst);
+        }
+    }
+}
+
+/// Tracks as many bytes in pages of the same size, of which those are dirty that were found dirty.
+impl Clone for AtomicBitmap {
+    ghost use Rattle.vm_memory_base.specs.Shared.{bytes_of, page_size_of};
+
+    ghost is_clone = { λ b c. (bytes_of c ≡ bytes_of b) × (page_size_of c ≡ page_size_of b) };
+
+    fn clone(&self) -> Result<Self, AllocError> {
+        let mut map = Vec::with_capacity(*self.map.allocator(), self.map.len())?;
+        for k in 0..self.map.len() {
+            map.push_reserved(AtomicU64::new(self.map[k].load(Ordering::SeqCst)));
+        }
+        Ok(AtomicBitmap {
+            map,
+            size: self.size,
+            byte_size: self.byte_size,
+            page_size: self.page_size,
+        })
+    }
+}
+
+/// Which of its pages are dirty is not told, since any thread may change it, but for pages at or past the number
+/// of pages.
+impl Bitmap for AtomicBitmap {
+    ghost use Rattle.vm_memory_base.specs.Shared.{bytes_of, page_size_of, len_of};
+
+    ghost marks = { λ old offset len new. new ≡ old };
+
+    ghost tells = { λ b offset told. len_of b ≤ offset / page_size_of b → told ≡ false };
+
+    ghost made = { λ len b. (bytes_of b ≡ len) × (page_size_of b ≡ 0x1000) };
+
+    #[inline]
+    fn mark_dirty(&mut self, offset: usize, len: usize) {
+        self.set_addr_range(offset, len);
+    }
+
+    #[inline]
+    fn dirty_at(&self, offset: usize) -> bool {
+        self.is_addr_set(offset)
+    }
+}
+
+/// Tracks nothing.
+impl SharedBitmap for () {
+    fn mark_shared(&self, _offset: usize, _len: usize) {}
+}
+
+/// Tracks what the bitmap that it holds tracks, and nothing where it holds none.
+impl<B: SharedBitmap> SharedBitmap for Option<B> {
+    #[inline]
+    fn mark_shared(&self, offset: usize, len: usize) {
+        if let Some(bitmap) = self {
+            bitmap.mark_shared(offset, len);
+        }
+    }
+}
+
+impl SharedBitmap for AtomicBitmap {
+    #[inline]
+    fn mark_shared(&self, offset: usize, len: usize) {
+        self.set_addr_range(offset, len);
+    }
+}
+
+/// Its pages have 0x1000 bytes.
+impl NewBitmap for AtomicBitmap {
+    fn with_len(alloc: Global, len: usize) -> Result<Self, AllocError> {
+        AtomicBitmap::new(alloc, len, NonZeroUsize::new(0x1000).unwrap())
+    }
+}
