@@ -2,6 +2,7 @@ pub mod PagesLaws
 pub mod RunsLaws
 pub mod TableLaws
 pub mod ChangeLemmas
+pub mod StoredLemmas
 pub mod LookupLemmas
 pub mod AlignUp
 pub mod KnownBytesJoined
