@@ -1,7 +1,7 @@
 -- Look-ups in the runs of a table.
-use Rattle.std.proofs.Common.{◌≡◌, ℕ, zero, suc, ◌+◌, ◌-◌, ◌^◌, ◌<◌, ◌≤◌, min, max, Bool, true, false, cond, ◌&&◌, ◌||◌, ltb, leb, List, [], ◌∷◌, ◌++◌, length, map, get_or, take, drop, Some, None, refl, sym, ap, subst, inl, inr, ◌⊎◌, ◌∙◌, arith}
+use Rattle.std.proofs.Common.{◌≡◌, ℕ, ◌+◌, ◌-◌, ◌^◌, ◌<◌, ◌≤◌, min, max, Bool, true, false, cond, ◌&&◌, ◌||◌, ltb, leb, List, [], ◌∷◌, ◌++◌, length, map, Some, None, refl, sym, ap, subst, inl, inr, ◌⊎◌, ◌∙◌, arith}
 use Rattle.std.proofs.lemmas.Bool.{lt-ltb, le-ltb, leb-true, and_parts, cases_lt, cases_Bool, or_cases}
-use Rattle.std.proofs.lemmas.List.{append-nil, take-append-drop, take_rest}
+use Rattle.std.proofs.lemmas.List.{append-nil}
 use Rattle.std.specs.Iterator.{MakesProgress, item_count}
 use Rattle.std.specs.List.{filter}
 use Rattle.vm_memory_base.specs.Address.{is_within}
@@ -12,7 +12,7 @@ use Rattle.vm_memory_base.specs.Table.{Mapping, same_mapping, Says, pieces, piec
 use Rattle.vm_memory_base.specs.Walk.{HeadEndsAfter, IsWalk, pieces_left}
 use Rattle.vm_memory_base.specs.declared.iotlb.Permissions.{Permissions}
 use Rattle.vm_memory_base.specs.declared.iotlb.Permissions.TheVariants.{No}
-use Rattle.vm_memory_base.proofs.ChangeLemmas.{StartFrom-weaker, tail_starts, canonical_drop, canonical_gap, cut_to-append, cut_to-before, cut_to-behind}
+use Rattle.vm_memory_base.proofs.ChangeLemmas.{StartFrom-weaker, tail_starts, canonical_gap, cut_to-append, cut_to-before, cut_to-behind}
 use Rattle.vm_memory_base.proofs.RunsLaws.{run, canonical_pos, canonical_tail, within_or_not, is_within-in, is_within-below, is_within-above, none_below, value_at_in, value_at_past, same_from_values, canonical_runs, value_at-runs, runs-of_list}
 use Rattle.vm_memory_base.proofs.StoredLemmas.{canonical_prefix, canonical_suffix}
 use Rattle.vm_memory_base.proofs.TableLaws.{same_mapping_tests_equality, is_allowed-each, failures-runs, pieces-kept}

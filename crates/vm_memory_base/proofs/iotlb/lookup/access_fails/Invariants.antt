@@ -1,6 +1,5 @@
 use Rattle.std.proofs.Common.{◌≡◌, ◌-◌, ◌++◌, map}
 use Rattle.std.specs.List.{filter}
-use Rattle.vm_memory_base.specs.Change.{granted, gaps}
 use Rattle.vm_memory_base.specs.Lookup.{range_in}
 use Rattle.vm_memory_base.specs.Runs.{cut_to}
 use Rattle.vm_memory_base.specs.Table.{range_of, forbids}

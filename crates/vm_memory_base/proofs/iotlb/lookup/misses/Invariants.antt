@@ -1,9 +1,7 @@
-use Rattle.std.proofs.Common.{◌≡◌, ◌-◌, ◌++◌, map}
-use Rattle.std.specs.List.{filter}
-use Rattle.vm_memory_base.specs.Change.{granted, gaps}
+use Rattle.std.proofs.Common.{◌≡◌, ◌++◌, map}
+use Rattle.vm_memory_base.specs.Change.{gaps}
 use Rattle.vm_memory_base.specs.Lookup.{range_in}
-use Rattle.vm_memory_base.specs.Runs.{cut_to}
-use Rattle.vm_memory_base.specs.Table.{range_of, forbids}
+use Rattle.vm_memory_base.specs.Table.{range_of}
 use Rattle.vm_memory_base.proofs.iotlb.lookup.misses.Given as goal
 
 -- what was found, and then the gaps that the other runs leave

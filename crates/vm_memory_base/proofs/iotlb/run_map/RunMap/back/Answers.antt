@@ -1,8 +1,7 @@
-use Rattle.std.proofs.Common.{◌≡◌, ◌+◌, ◌-◌, ◌^◌, ◌<◌, ◌++◌, ◌∷◌, [], eqb, false, true, arith}
+use Rattle.std.proofs.Common.{◌+◌, ◌-◌, ◌^◌, arith}
 use Rattle.std.proofs.lemmas.Bool.{eqb-true}
-use Rattle.vm_memory_base.specs.Change.{EndBelow, runs_below, runs_from}
-use Rattle.vm_memory_base.specs.Runs.{AddressRun, cut_to}
-use Rattle.vm_memory_base.specs.Table.{Mapping, same_mapping}
+use Rattle.vm_memory_base.specs.Change.{EndBelow, runs_below}
+use Rattle.vm_memory_base.specs.Table.{same_mapping}
 use Rattle.vm_memory_base.proofs.ChangeLemmas.{EndBelow-weaker}
 use Rattle.vm_memory_base.proofs.StoredLemmas.{all_end, starts_limit, back_apart, back_cut, from_next, from_absent, from_here, StartsBelow}
 use Rattle.vm_memory_base.proofs.iotlb.run_map.RunMap.back.Goals as goal

@@ -1,7 +1,6 @@
-use Rattle.std.proofs.Common.{ℕ, ◌≡◌, ◌+◌, ◌-◌, ◌^◌, ◌<◌, ◌≤◌, ◌++◌, ◌∷◌, [], true, false, List, Option, Some, None, length, IfSome, IsSome, refl, sym, ap, subst, ◌∙◌, arith, rules}
-use Rattle.vm_memory_base.specs.Change.{EndBelow, StartFrom, AreAscending, IsKept, if_any, runs_below, runs_from, with_reset, start_or, with_run, without_range}
-use Rattle.vm_memory_base.specs.Runs.{AddressRun, IsCanonical, cut_to}
-use Rattle.vm_memory_base.specs.Stored.{run_in, runs_in, runs_in_if_any}
+use Rattle.std.proofs.Common.{◌≡◌, ◌+◌, ◌-◌, ◌^◌, ◌<◌, ◌≤◌, ◌++◌, [], List, Option, length, sym, ap, subst, arith}
+use Rattle.vm_memory_base.specs.Change.{IsKept, if_any, runs_below, runs_from, start_or, without_range}
+use Rattle.vm_memory_base.specs.Runs.{AddressRun, cut_to}
 use Rattle.vm_memory_base.specs.Table.{Mapping, same_mapping, canonical_list}
 use Rattle.vm_memory_base.proofs.StoredLemmas.{ascending_canonical, parts_length, front_length, length_four}
 use Rattle.vm_memory_base.proofs.ChangeLemmas.{on_ok, either_way, range_is_clear, if_any_one}

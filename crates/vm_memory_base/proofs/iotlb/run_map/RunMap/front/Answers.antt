@@ -1,7 +1,6 @@
-use Rattle.std.proofs.Common.{◌≡◌, ◌+◌, ◌-◌, ◌++◌, ◌∷◌, [], arith}
+use Rattle.std.proofs.Common.{◌≡◌, ◌+◌, ◌-◌, [], arith}
 use Rattle.vm_memory_base.specs.Change.{EndBelow, runs_below}
-use Rattle.vm_memory_base.specs.Runs.{AddressRun, cut_to}
-use Rattle.vm_memory_base.specs.Table.{Mapping, same_mapping}
+use Rattle.vm_memory_base.specs.Table.{same_mapping}
 use Rattle.vm_memory_base.proofs.ChangeLemmas.{EndBelow-weaker, StartFrom-zero}
 use Rattle.vm_memory_base.proofs.StoredLemmas.{all_end, ends_before_last, starts_limit, front_apart, front_cut, below-none}
 use Rattle.vm_memory_base.proofs.iotlb.run_map.RunMap.front.Goals as goal

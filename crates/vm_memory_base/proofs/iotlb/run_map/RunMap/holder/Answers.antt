@@ -1,5 +1,5 @@
-use Rattle.std.proofs.Common.{◌≡◌, ◌+◌, ◌<◌, arith}
-use Rattle.vm_memory_base.specs.Change.{EndBelow, runs_below}
+use Rattle.std.proofs.Common.{◌+◌, arith}
+use Rattle.vm_memory_base.specs.Change.{runs_below}
 use Rattle.vm_memory_base.specs.Table.{same_mapping}
 use Rattle.vm_memory_base.proofs.ChangeLemmas.{EndBelow-weaker}
 use Rattle.vm_memory_base.proofs.StoredLemmas.{all_end, ends_before_last, starts_limit}

@@ -1,6 +1,5 @@
 use Rattle.vm_memory_base.specs.declared.iotlb.mapped_run.RunTail.{RunTail}
-use Rattle.std.proofs.Common.{ℕ, ◌≡◌, ◌+◌, ◌++◌, ◌∷◌, [], List, None, sym, ap, subst, ◌∙◌}
-use Rattle.std.specs.Option.{IfNone}
+use Rattle.std.proofs.Common.{ℕ, ◌≡◌, ◌+◌, ◌++◌, ◌∷◌, [], List, sym, ap, subst, ◌∙◌}
 use Rattle.vm_memory_base.specs.Change.{runs_below}
 use Rattle.vm_memory_base.specs.Stored.{run_in, runs_in}
 use Rattle.vm_memory_base.specs.Runs.{AddressRun}

@@ -1,8 +1,4 @@
-use Rattle.std.proofs.Common.{ℕ, ◌≡◌, ◌+◌, ◌-◌, ◌^◌, ◌<◌, ◌≤◌, ◌++◌, ◌∷◌, [], true, false, List, Option, Some, None, length, IfSome, IsSome, refl, sym, ap, subst, ◌∙◌, arith, rules}
-use Rattle.vm_memory_base.specs.Change.{EndBelow, StartFrom, AreAscending, IsKept, if_any, runs_below, runs_from, with_reset, start_or, with_run, without_range}
-use Rattle.vm_memory_base.specs.Runs.{AddressRun, IsCanonical, cut_to}
-use Rattle.vm_memory_base.specs.Stored.{run_in, runs_in, runs_in_if_any}
-use Rattle.vm_memory_base.specs.Table.{Mapping, same_mapping, canonical_list}
+use Rattle.std.proofs.Common.{◌≡◌, ◌+◌, arith}
 use Rattle.vm_memory_base.proofs.StoredLemmas.{put_one}
 use Rattle.vm_memory_base.proofs.iotlb.run_map.RunMap.put_alone.Goals as goal
 

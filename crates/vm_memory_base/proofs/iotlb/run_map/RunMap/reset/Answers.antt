@@ -1,11 +1,11 @@
 use Rattle.vm_memory_base.specs.declared.iotlb.mapped_run.RunTail.{RunTail}
 use Rattle.std.specs.BTreeMap.{is_at}
 use Rattle.std.specs.Map.{lookup}
-use Rattle.std.proofs.Common.{nat_cmp, BTreeMap, ℕ, ◌≡◌, ◌+◌, ◌-◌, ◌^◌, ◌<◌, ◌≤◌, ◌++◌, ◌∷◌, [], true, false, List, Option, Some, None, length, IfSome, IsSome, refl, sym, ap, subst, ◌∙◌, arith, rules}
-use Rattle.vm_memory_base.specs.Change.{EndBelow, StartFrom, AreAscending, IsKept, if_any, runs_below, runs_from, with_reset, start_or, with_run, without_range}
-use Rattle.vm_memory_base.specs.Runs.{AddressRun, IsCanonical, cut_to}
-use Rattle.vm_memory_base.specs.Stored.{run_in, runs_in, runs_in_if_any}
-use Rattle.vm_memory_base.specs.Table.{Mapping, same_mapping, canonical_list}
+use Rattle.std.proofs.Common.{nat_cmp, BTreeMap, ℕ, ◌≡◌, List, None, sym, ap, subst, ◌∙◌}
+use Rattle.vm_memory_base.specs.Change.{AreAscending, with_reset}
+use Rattle.vm_memory_base.specs.Runs.{AddressRun}
+use Rattle.vm_memory_base.specs.Stored.{run_in, runs_in}
+use Rattle.vm_memory_base.specs.Table.{Mapping}
 use Rattle.vm_memory_base.proofs.StoredLemmas.{is_reset, ascending_reset, reset_absent}
 use Rattle.vm_memory_base.proofs.iotlb.run_map.RunMap.reset.Goals as goal
 use Rattle.vm_memory_base.proofs.iotlb.run_map.RunMap.reset.Goals.{After-self-2-1}

@@ -1,5 +1,5 @@
-use Rattle.std.proofs.Common.{◌≡◌, List, true, false, map, inl, inr, ◌⊎◌, sym, ap, subst, ◌∙◌, arith}
-use Rattle.vm_memory_base.specs.Table.{Table, Range, says, is_allowed, pieces, piece_of, misses, failures}
+use Rattle.std.proofs.Common.{◌≡◌, List, true, false, inl, inr, ◌⊎◌, sym, ap, subst, ◌∙◌, arith}
+use Rattle.vm_memory_base.specs.Table.{Table, Range, says, is_allowed, pieces, misses, failures}
 use Rattle.vm_memory_base.specs.declared.iotlb.lookup.LookupError.{LookupError}
 use Rattle.vm_memory_base.specs.declared.iotlb.lookup.LookupError.TheVariants.{Fails, Memory}
 use Rattle.vm_memory_base.proofs.LookupLemmas.{looked_up, looked_up_in_vain, no_pieces}
