@@ -1,7 +1,7 @@
 -- Runs before an address and behind it, and the runs of a table after a change.
-use Rattle.std.proofs.Common.{◌≡◌, ℕ, zero, suc, ◌+◌, ◌-◌, ◌^◌, ◌<◌, ◌≤◌, min, max, Bool, true, false, cond, ◌&&◌, ltb, eqb, List, [], ◌∷◌, ◌++◌, length, get_or, take, drop, Option, Some, None, Result, Ok, Err, OnOk, OnErr, IfSome, IsSome, refl, sym, ap, subst, inl, inr, ◌∙◌, arith}
+use Rattle.std.proofs.Common.{◌≡◌, ℕ, zero, suc, ◌+◌, ◌-◌, ◌^◌, ◌<◌, ◌≤◌, min, max, Bool, true, false, cond, ◌&&◌, ltb, eqb, List, [], ◌∷◌, ◌++◌, length, get_or, take, drop, Option, Some, None, Result, Ok, Err, OnOk, OnErr, IfSome, refl, sym, ap, subst, inl, inr, ◌∙◌, arith}
 use Rattle.std.proofs.lemmas.Bool.{lt-ltb, le-ltb, eqb-true, and_parts, and_cases, cases_lt, cases_Bool, eq-eqb}
-use Rattle.std.proofs.lemmas.List.{append-nil, append_assoc, take-append-drop, drop_more, length-append, length-take-le, length-drop}
+use Rattle.std.proofs.lemmas.List.{append-nil, append_assoc}
 use Rattle.vm_memory_base.specs.Address.{is_within}
 use Rattle.vm_memory_base.specs.Change.{EndBelow, StartFrom, IsKept, if_any, prepended, prepended_if_any, with_run, without_range}
 use Rattle.vm_memory_base.specs.Runs.{AddressRun, IsCanonical, value_at, cut_to}
@@ -185,95 +185,6 @@ starts-cut_to a n (r ∷ rs) =
       | inl t ↦ rw t (omega arith, rest)
       | inr t ↦ rw t rest
     ]
-
--- ---- the runs before an address, and those behind one
-
-parts : {K : Type 0} (a n m : ℕ) (rs : List (AddressRun K))
-    → cut_to a n rs ≡ cut_to a n (take m rs) ++ cut_to a n (drop m rs)
-parts a n m rs = ap (cut_to a n) (sym (take-append-drop m rs)) ∙ cut_to-append a n (take m rs) (drop m rs)
-
-kept_before : {K : Type 0} (same : K → K → Bool) (a m : ℕ) (rs : List (AddressRun K)) → IsCanonical same rs
-    → EndBelow a (take m rs) → cut_to 0 a (take m rs) ≡ take m rs
-kept_before same a m rs h e =
-    cut_to-inside same 0 a (take m rs) (canonical_take same m rs h) (StartFrom-zero (take m rs))
-    (EndBelow-weaker a (0 + a + 1) (take m rs) (omega arith) e)
-
--- where the next run, if there is one, begins at the address or after it
-pub front_none : {K : Type 0} (same : K → K → Bool) (a m : ℕ) (rs : List (AddressRun K)) → IsCanonical same rs
-    → EndBelow a (take m rs) → StartFrom a (drop m rs) → take m rs ++ [] ≡ cut_to 0 a rs
-front_none same a m rs h e s =
-    let p = parts 0 a m rs in
-    let q = kept_before same a m rs h e in
-    let t = cut_to-behind 0 a (drop m rs) (StartFrom-weaker (0 + a) a (drop m rs) (omega arith) s) in
-    sym (rw (p, q, t))
-
--- where it begins before the address, and ends at it or after it
-pub front_some : {K : Type 0} (same : K → K → Bool) (a m : ℕ) (rs : List (AddressRun K)) (r : AddressRun K)
-    → IsCanonical same rs → EndBelow a (take m rs) → m < length rs → get_or rs m r ≡ r → r.start < a
-    → a ≤ r.start + r.len → take m rs ++ run r.start (a - r.start) r.value ∷ [] ≡ cut_to 0 a rs
-front_some same a m rs r h e l g s u =
-    let p = parts 0 a m rs in
-    let q = kept_before same a m rs h e in
-    let d = drop_more rs m r l ∙ ap (λ (x : AddressRun _). x ∷ drop (m + 1) rs) g in
-    let c : IsCanonical same (r ∷ drop (m + 1) rs) = subst (IsCanonical same) d (canonical_drop same m rs h) in
-    let t = cut_to-behind 0 a (drop (m + 1) rs)
-    (StartFrom-weaker (0 + a) (r.start + r.len) (drop (m + 1) rs) (omega arith)
-    (tail_starts same r (drop (m + 1) rs) c)) in
-    let from : max 0 r.start ≡ r.start = omega arith in
-    let to : min (0 + a) (r.start + r.len) ≡ a = omega arith in
-    let below : ltb r.start a ≡ true = lt-ltb r.start a s in
-    let last : cut_to 0 a (drop m rs) ≡ run r.start (a - r.start) r.value ∷ [] = rw (d, from, to, below, t) in
-    sym (rw (p, q, last))
-
-kept_behind : {K : Type 0} (same : K → K → Bool) (e n m : ℕ) (rs : List (AddressRun K)) → IsCanonical same rs
-    → EndBelow (e + n + 1) rs → StartFrom (e + 1) (drop m rs) → cut_to e n (drop m rs) ≡ drop m rs
-kept_behind same e n m rs h b s =
-    cut_to-inside same e n (drop m rs) (canonical_drop same m rs h)
-    (StartFrom-weaker e (e + 1) (drop m rs) (omega arith) s) (EndBelow-drop (e + n + 1) m rs b)
-
--- where no run begins at the address or before it
-pub back_zero : {K : Type 0} (same : K → K → Bool) (e n : ℕ) (rs : List (AddressRun K)) → IsCanonical same rs
-    → EndBelow (e + n + 1) rs → StartFrom (e + 1) rs → rs ≡ cut_to e n rs
-back_zero same e n rs h b s = sym (kept_behind same e n 0 rs h b s)
-
--- the runs before the last one that does end by the address
-before_last : {K : Type 0} (same : K → K → Bool) (e n m : ℕ) (rs : List (AddressRun K)) (r : AddressRun K)
-    → IsCanonical same rs → m < length rs → get_or rs m r ≡ r → r.start ≤ e → cut_to e n (take m rs) ≡ []
-before_last same e n m rs r h l g s =
-    let b : EndBelow (r.start + 1) (take m rs) =
-    subst (λ (x : AddressRun _). EndBelow (x.start + 1) (take m rs)) g (ends_before same rs m r h l) in
-    cut_to-before e n (take m rs) (EndBelow-weaker (r.start + 1) (e + 1) (take m rs) (omega arith) b)
-
-pub back_none : {K : Type 0} (same : K → K → Bool) (e n m : ℕ) (rs : List (AddressRun K)) (r : AddressRun K)
-    → IsCanonical same rs → EndBelow (e + n + 1) rs → m < length rs → get_or rs m r ≡ r → r.start ≤ e
-    → r.start + r.len ≤ e → StartFrom (e + 1) (drop (m + 1) rs) → drop (m + 1) rs ≡ cut_to e n rs
-back_none same e n m rs r h b l g s u f =
-    let p = parts e n m rs in
-    let q = before_last same e n m rs r h l g s in
-    let d = drop_more rs m r l ∙ ap (λ (x : AddressRun _). x ∷ drop (m + 1) rs) g in
-    let t = kept_behind same e n (m + 1) rs h b f in
-    let none : ltb (max e r.start) (min (e + n) (r.start + r.len)) ≡ false =
-    le-ltb (max e r.start) (min (e + n) (r.start + r.len)) (omega arith) in
-    let rest : cut_to e n (drop m rs) ≡ drop (m + 1) rs = rw (d, none) t in
-    sym (rw (p, q) rest)
-
-pub back_some : {K : Type 0} (same : K → K → Bool) (e n m : ℕ) (rs : List (AddressRun K)) (r : AddressRun K)
-    → IsCanonical same rs → EndBelow (e + n + 1) rs → m < length rs → get_or rs m r ≡ r → r.start ≤ e
-    → e < r.start + r.len → StartFrom (e + 1) (drop (m + 1) rs)
-    → run e (r.start + r.len - e) r.value ∷ drop (m + 1) rs ≡ cut_to e n rs
-back_some same e n m rs r h b l g s u f =
-    let p = parts e n m rs in
-    let q = before_last same e n m rs r h l g s in
-    let d = drop_more rs m r l ∙ ap (λ (x : AddressRun _). x ∷ drop (m + 1) rs) g in
-    let t = kept_behind same e n (m + 1) rs h b f in
-    let all : EndBelow (e + n + 1) (r ∷ drop (m + 1) rs) =
-    subst (EndBelow (e + n + 1)) d (EndBelow-drop (e + n + 1) m rs b) in
-    let from : max e r.start ≡ e = omega arith in
-    let to : min (e + n) (r.start + r.len) ≡ r.start + r.len = omega arith in
-    let below : ltb e (r.start + r.len) ≡ true = lt-ltb e (r.start + r.len) u in
-    let rest : cut_to e n (drop m rs) ≡ run e (r.start + r.len - e) r.value ∷ drop (m + 1) rs =
-    rw (d, from, to, below, t) in
-    sym (rw (p, q) rest)
 
 -- ---- lists one after the other
 
@@ -577,26 +488,6 @@ kept_after f old new k s none =
           ∙ canonical_list-agree (value_at new) f (λ x l. s.values x),
     )
 
--- ---- where the runs before a range and those behind it meet
-
-pub first_upto_after : (a e m n : ℕ) (rs : List (AddressRun Mapping)) → IsCanonical same_mapping rs
-    → EndBelow a (take m rs) → StartFrom (e + 1) (drop n rs) → a ≤ e → m ≤ length rs → m ≤ n
-first_upto_after a e zero n rs h b s l w = omega arith
-first_upto_after a e (suc m) n [] h b s l w = omega arith
-first_upto_after a e (suc m) zero (r ∷ rs) h b s l w = absurd (omega arith)
-first_upto_after a e (suc m) (suc n) (r ∷ rs) h b s l w =
-    let rest = first_upto_after a e m n rs (canonical_tail same_mapping r rs h) b.1 s l (omega arith) in omega arith
-
-pub first_before_after : (a e m n : ℕ) (rs : List (AddressRun Mapping)) (d : AddressRun Mapping)
-    → StartFrom (e + 1) (drop n rs) → m < length rs → (get_or rs m d).start < a → a ≤ e → m < n
-first_before_after a e m n [] d s w g l = absurd (omega arith)
-first_before_after a e zero zero (r ∷ rs) d s w g l = absurd (omega arith)
-first_before_after a e zero (suc n) (r ∷ rs) d s w g l = omega arith
-first_before_after a e (suc m) zero (r ∷ rs) d s w g l =
-    let later = StartFrom-get_or (e + 1) rs m d s.1 (omega arith) in absurd (omega arith)
-first_before_after a e (suc m) (suc n) (r ∷ rs) d s w g l =
-    let rest = first_before_after a e m n rs d s (omega arith) g l in omega arith
-
 -- ---- what `set` and `invalidate` make of a list
 
 past_none : (old : List (AddressRun Mapping)) (a n x : ℕ) (v w : Option Mapping) → a + n < 2 ^ 64 → 2 ^ 64 ≤ x + 1
@@ -606,91 +497,67 @@ past_none old a n x v w fits l e = rw (is_within-above a n x (omega arith)) e
 -- the list that is put together of what lies before a run, of what joins it and of what lies behind it
 module _ (rs : List (AddressRun Mapping)) (k : IsKept rs) (r : AddressRun Mapping) (some : 0 < r.len)
     (fits : r.start + r.len < 2 ^ 64)
-    (first after : ℕ) (right : Option (AddressRun Mapping))
-    (apart : EndBelow r.start (take first rs))
-    (back : if_any right ++ drop after rs ≡ cut_to (r.start + r.len) (2 ^ 64 - (r.start + r.len)) rs)
-    (far : StartFrom (r.start + r.len + 1) (drop after rs))
+    (before after : List (AddressRun Mapping)) (right : Option (AddressRun Mapping))
+    (apart : EndBelow r.start before)
+    (back : if_any right ++ after ≡ cut_to (r.start + r.len) (2 ^ 64 - (r.start + r.len)) rs)
+    (far : StartFrom (r.start + r.len + 1) after)
     (joined : AddressRun Mapping) (behind : Option (AddressRun Mapping))
     (is : joined ∷ if_any behind ≡ prepended r (if_any right)) where
-  put_behind : joined ∷ if_any behind ++ drop after rs ≡ prepended r (if_any right ++ drop after rs)
-  put_behind = ap (λ (ys : List (AddressRun Mapping)). ys ++ drop after rs) is
-      ∙ prepended_before r right (drop after rs) far
+  put_behind : joined ∷ if_any behind ++ after ≡ prepended r (if_any right ++ after)
+  put_behind = ap (λ (ys : List (AddressRun Mapping)). ys ++ after) is ∙ prepended_before r right after far
 
-  put_together : (left : Option (AddressRun Mapping)) (begun : AddressRun Mapping) (next : Option (AddressRun Mapping))
-      → begun ∷ if_any next ≡ prepended_if_any left (joined ∷ [])
-      → if_any (Some begun) ++ if_any next ++ if_any behind ++ drop after rs
-      ≡ prepended_if_any left (prepended r (if_any right ++ drop after rs))
-  put_together None begun next e = ap (λ (ys : List (AddressRun Mapping)). ys ++ if_any behind ++ drop after rs) e
-      ∙ put_behind
-  put_together (Some l) begun next e =
-      ap (λ (ys : List (AddressRun Mapping)). ys ++ if_any behind ++ drop after rs) e
-      ∙ append_assoc (prepended l (joined ∷ [])) (if_any behind) (drop after rs)
-      ∙ prepended-append l joined [] (if_any behind ++ drop after rs) ∙ ap (prepended l) put_behind
+  put_left : (left : Option (AddressRun Mapping))
+      → prepended_if_any left (joined ∷ []) ++ (if_any behind ++ after)
+      ≡ prepended_if_any left (prepended r (if_any right ++ after))
+  put_left None = put_behind
+  put_left (Some l) = prepended-append l joined [] (if_any behind ++ after) ∙ ap (prepended l) put_behind
 
-  pub run_is_set : (left : Option (AddressRun Mapping)) → take first rs ++ if_any left ≡ cut_to 0 r.start rs
-      → ((l : AddressRun Mapping) → left ≡ Some l → (0 < l.len) × (l.start + l.len ≡ r.start))
-      → (begun : AddressRun Mapping) (next : Option (AddressRun Mapping))
-      → begun ∷ if_any next ≡ prepended_if_any left (joined ∷ [])
+  put_together : (left begun next : Option (AddressRun Mapping))
+      → if_any begun ++ if_any next ≡ prepended_if_any left (joined ∷ [])
+      → if_any begun ++ (if_any next ++ (if_any behind ++ after))
+      ≡ prepended_if_any left (prepended r (if_any right ++ after))
+  put_together left begun next e =
+      sym (append_assoc (if_any begun) (if_any next) (if_any behind ++ after))
+      ∙ ap (λ (ys : List (AddressRun Mapping)). ys ++ (if_any behind ++ after)) e ∙ put_left left
+
+  pub run_is_set : (left : Option (AddressRun Mapping)) → before ++ if_any left ≡ cut_to 0 r.start rs
+      → IfSome left (λ l. (0 < l.len) × (l.start + l.len ≡ r.start))
+      → (begun next : Option (AddressRun Mapping))
+      → if_any begun ++ if_any next ≡ prepended_if_any left (joined ∷ [])
       → (new : List (AddressRun Mapping))
-      → new ≡ take first rs ++ (if_any (Some begun) ++ if_any next ++ if_any behind ++ drop after rs)
+      → new ≡ before ++ (if_any begun ++ (if_any next ++ (if_any behind ++ after)))
       → IsKept new × (new ≡ canonical_list (with_run r rs))
   run_is_set left front reaches begun next e new is_new =
       kept_after (with_run r rs) rs new k
       (subst (SaysThen (with_run r rs))
-      (sym (is_new ∙ ap (λ (ys : List (AddressRun Mapping)). take first rs ++ ys) (put_together left begun next e)))
+      (sym (is_new ∙ ap (λ (ys : List (AddressRun Mapping)). before ++ ys) (put_together left begun next e)))
       (says left front reaches))
       (λ x l w. past_none rs r.start r.len x (Some r.value) (value_at rs x) fits l w)
     where
-      says : (left : Option (AddressRun Mapping)) → take first rs ++ if_any left ≡ cut_to 0 r.start rs
-          → ((l : AddressRun Mapping) → left ≡ Some l → (0 < l.len) × (l.start + l.len ≡ r.start))
+      says : (left : Option (AddressRun Mapping)) → before ++ if_any left ≡ cut_to 0 r.start rs
+          → IfSome left (λ l. (0 < l.len) × (l.start + l.len ≡ r.start))
           → SaysThen (with_run r rs)
-          (take first rs ++ prepended_if_any left (prepended r (if_any right ++ drop after rs)))
+          (before ++ prepended_if_any left (prepended r (if_any right ++ after)))
       says None front reaches =
-          range_set rs (take first rs) (if_any right ++ drop after rs) r k some fits
-          (sym (append-nil (take first rs)) ∙ front) apart back
+          range_set rs before (if_any right ++ after) r k some fits (sym (append-nil before) ∙ front) apart back
       says (Some l) front reaches =
-          let told = reaches l refl in
-          range_joined rs (take first rs) (if_any right ++ drop after rs) l r k told.0 some fits front told.1 back
-
-  -- a run more before it only where there was one that reached it
-  pub one_more_next : (left : Option (AddressRun Mapping)) (begun : AddressRun Mapping)
-      (next : Option (AddressRun Mapping)) → begun ∷ if_any next ≡ prepended_if_any left (joined ∷ [])
-      → length (if_any next) ≤ length (if_any left)
-  one_more_next None begun next e = let l : length (begun ∷ if_any next) ≡ 1 = ap length e in omega arith
-  one_more_next (Some l) begun None e = omega arith
-  one_more_next (Some l) begun (Some n) e = omega arith
+          range_joined rs before (if_any right ++ after) l r k reaches.0 some fits front reaches.1 back
 
 pub if_any_one : {X : Type 0} (o : Option X) → length (if_any o) ≤ 1
 if_any_one None = omega arith
 if_any_one (Some x) = omega arith
 
-pub length_put : (rs new : List (AddressRun Mapping)) (first after : ℕ) (a b c : Option (AddressRun Mapping))
-    → first ≤ after → after ≤ length rs → new ≡ take first rs ++ (if_any a ++ if_any b ++ if_any c ++ drop after rs)
-    → length new + (after - first) ≡ length rs + (length (if_any a) + length (if_any b) + length (if_any c))
-length_put rs new first after a b c l w e =
-    let all = ap length e in
-    let p = length-append (take first rs) (if_any a ++ if_any b ++ if_any c ++ drop after rs) in
-    let q = length-append (if_any a ++ if_any b ++ if_any c) (drop after rs) in
-    let r = length-append (if_any a ++ if_any b) (if_any c) in
-    let s = length-append (if_any a) (if_any b) in
-    let t = length-take-le first rs (omega arith) in
-    let u = length-drop after rs in
-    omega arith
-
-pub range_is_clear : (rs : List (AddressRun Mapping)) (a n first after : ℕ) (left right : Option (AddressRun Mapping))
-    → IsKept rs → 0 < n → a + n < 2 ^ 64
-    → take first rs ++ if_any left ≡ cut_to 0 a rs
-    → if_any right ++ drop after rs ≡ cut_to (a + n) (2 ^ 64 - (a + n)) rs
-    → (new : List (AddressRun Mapping))
-    → new ≡ take first rs ++ (if_any left ++ if_any None ++ if_any right ++ drop after rs)
+pub range_is_clear : (rs before after : List (AddressRun Mapping)) (a n : ℕ) (left right : Option (AddressRun Mapping))
+    → IsKept rs → 0 < n → a + n < 2 ^ 64 → before ++ if_any left ≡ cut_to 0 a rs
+    → if_any right ++ after ≡ cut_to (a + n) (2 ^ 64 - (a + n)) rs → (new : List (AddressRun Mapping))
+    → new ≡ before ++ (if_any left ++ (if_any right ++ after))
     → IsKept new × (new ≡ canonical_list (without_range a n rs))
-range_is_clear rs a n first after left right k some fits front back new is_new =
-    let e : new ≡ (take first rs ++ if_any left) ++ (if_any right ++ drop after rs) =
-    is_new ∙ rw (append-nil (if_any left), append_assoc (if_any left) (if_any right) (drop after rs))
-    (sym (append_assoc (take first rs) (if_any left) (if_any right ++ drop after rs))) in
+range_is_clear rs before after a n left right k some fits front back new is_new =
+    let e : new ≡ (before ++ if_any left) ++ (if_any right ++ after) =
+    is_new ∙ sym (append_assoc before (if_any left) (if_any right ++ after)) in
     kept_after (without_range a n rs) rs new k
     (subst (SaysThen (without_range a n rs)) (sym e)
-    (range_taken rs (take first rs ++ if_any left) (if_any right ++ drop after rs) a n k some fits front back))
+    (range_taken rs (before ++ if_any left) (if_any right ++ after) a n k some fits front back))
     (λ x l w. past_none rs a n x None (value_at rs x) fits l w)
 
 -- ---- answers of calls that may be refused
@@ -699,34 +566,13 @@ pub on_ok : {T E P Q : Type 0} (r : Result T E) → (P → Q) → OnOk r P → O
 on_ok (Ok x) f h = f h
 on_ok (Err e) f h = tt
 
+pub on_err : {T E P Q : Type 0} (r : Result T E) → (P → Q) → OnErr r P → OnErr r Q
+on_err (Ok x) f h = tt
+on_err (Err e) f h = f h
+
 pub either_way : {T E P Q S : Type 0} (r : Result T E) → OnOk r P → OnErr r Q → (P → S) → (Q → S) → S
 either_way (Ok x) p q f g = f p
 either_way (Err e) p q f g = g q
-
-pub if_some_at : {X : Type 0} (P : X → Type 0) (o : Option X) → IfSome o P → (x : X) → o ≡ Some x → P x
-if_some_at P None h x e = absurd (none_some e)
-  where
-    none_some : {X : Type 0} {x : X} → None ≡ Some x → ⊥
-    none_some e = cc
-if_some_at P (Some y) h x e = let q : y ≡ x = cc in subst P q h
-
--- what is put in the place of runs
-abbrev pub put_for : List (AddressRun Mapping) → ℕ → ℕ → Option (AddressRun Mapping) → Option (AddressRun Mapping)
-    → Option (AddressRun Mapping)
-    → List (AddressRun Mapping)
-put_for rs first after a b c = take first rs ++ (if_any a ++ if_any b ++ if_any c ++ drop after rs)
-
--- where a run reaches a range, it is one of those that go
-pub left_room : (rs : List (AddressRun Mapping)) (a e first after : ℕ) (left : Option (AddressRun Mapping))
-    → first ≤ after → a ≤ e
-    → StartFrom (e + 1) (drop after rs)
-    → (IsSome left → (d : AddressRun Mapping) → (first < length rs) × ((get_or rs first d).start < a))
-    → length (if_any left) ≤ after - first
-left_room rs a e first after None ordered some far there = omega arith
-left_room rs a e first after (Some l) ordered some far there =
-    let h = there refl l in
-    let gone = first_before_after a e first after rs l far h.0 h.1 some in
-    omega arith
 
 -- ---- a kept list, and what it says
 

@@ -1,7 +1,7 @@
 -- Look-ups in the runs of a table.
-use Rattle.std.proofs.Common.{◌≡◌, ℕ, zero, suc, ◌+◌, ◌-◌, ◌^◌, ◌<◌, ◌≤◌, min, max, Bool, true, false, cond, ◌&&◌, ◌||◌, ltb, leb, List, [], ◌∷◌, ◌++◌, length, map, get_or, take, drop, Some, None, refl, sym, ap, subst, inl, inr, ◌⊎◌, ◌∙◌, arith}
+use Rattle.std.proofs.Common.{◌≡◌, ℕ, ◌+◌, ◌-◌, ◌^◌, ◌<◌, ◌≤◌, min, max, Bool, true, false, cond, ◌&&◌, ◌||◌, ltb, leb, List, [], ◌∷◌, ◌++◌, length, map, Some, None, refl, sym, ap, subst, inl, inr, ◌⊎◌, ◌∙◌, arith}
 use Rattle.std.proofs.lemmas.Bool.{lt-ltb, le-ltb, leb-true, and_parts, cases_lt, cases_Bool, or_cases}
-use Rattle.std.proofs.lemmas.List.{append-nil, take-append-drop, take_rest}
+use Rattle.std.proofs.lemmas.List.{append-nil}
 use Rattle.std.specs.Iterator.{MakesProgress, item_count}
 use Rattle.std.specs.List.{filter}
 use Rattle.vm_memory_base.specs.Address.{is_within}
@@ -12,8 +12,9 @@ use Rattle.vm_memory_base.specs.Table.{Mapping, same_mapping, Says, pieces, piec
 use Rattle.vm_memory_base.specs.Walk.{HeadEndsAfter, IsWalk, pieces_left}
 use Rattle.vm_memory_base.specs.declared.iotlb.Permissions.{Permissions}
 use Rattle.vm_memory_base.specs.declared.iotlb.Permissions.TheVariants.{No}
-use Rattle.vm_memory_base.proofs.ChangeLemmas.{StartFrom-weaker, tail_starts, canonical_drop, canonical_gap, cut_to-append, cut_to-before, cut_to-behind}
+use Rattle.vm_memory_base.proofs.ChangeLemmas.{StartFrom-weaker, tail_starts, canonical_gap, cut_to-append, cut_to-before, cut_to-behind}
 use Rattle.vm_memory_base.proofs.RunsLaws.{run, canonical_pos, canonical_tail, within_or_not, is_within-in, is_within-below, is_within-above, none_below, value_at_in, value_at_past, same_from_values, canonical_runs, value_at-runs, runs-of_list}
+use Rattle.vm_memory_base.proofs.StoredLemmas.{canonical_prefix, canonical_suffix}
 use Rattle.vm_memory_base.proofs.TableLaws.{same_mapping_tests_equality, is_allowed-each, failures-runs, pieces-kept}
 
 -- ---- whether a look-up succeeds
@@ -84,31 +85,38 @@ not_granted at end access (r ∷ rs) h a l g each =
     ]
 
 -- runs that end by an address say nothing from there on
-pub value_at-drop : (m at x : ℕ) (rs : List (AddressRun Mapping)) → EndBelow (at + 1) (take m rs) → at ≤ x
-    → value_at rs x ≡ value_at (drop m rs) x
-value_at-drop zero at x rs e l = refl
-value_at-drop (suc m) at x [] e l = refl
-value_at-drop (suc m) at x (r ∷ rs) e l = value_at_past r rs x (omega arith) ∙ value_at-drop m at x rs e.1 l
+value_at-behind : (front rest : List (AddressRun Mapping)) (at x : ℕ) → EndBelow (at + 1) front → at ≤ x
+    → value_at (front ++ rest) x ≡ value_at rest x
+value_at-behind [] rest at x e l = refl
+value_at-behind (r ∷ front) rest at x e l =
+    value_at_past r (front ++ rest) x (omega arith) ∙ value_at-behind front rest at x e.1 l
 
--- a look-up is allowed where the runs behind those that end by its first address are granted
-pub allowed_is_granted : (rs : List (AddressRun Mapping)) (a n m : ℕ) (access : Permissions)
-    → IsCanonical same_mapping (drop m rs) → EndBelow (a + 1) (take m rs) → HeadEndsAfter a (drop m rs) → 0 < n
-    → a + n < 2 ^ 64
-    → is_allowed (value_at rs) a n access ≡ granted a (a + n) access (drop m rs)
-allowed_is_granted rs a n m access h e head some fits =
-    elim (cases_Bool (granted a (a + n) access (drop m rs))) [
+-- and runs that start from one on say nothing before it
+value_at-before : (rest behind : List (AddressRun Mapping)) (end x : ℕ) → StartFrom end behind → x < end
+    → value_at (rest ++ behind) x ≡ value_at rest x
+value_at-before [] [] end x s l = refl
+value_at-before [] (r ∷ behind) end x s l =
+    rw (is_within-below r.start r.len x (omega arith)) (value_at-before [] behind end x s.1 l)
+value_at-before (r ∷ rest) behind end x s l = rw (value_at-before rest behind end x s l) refl
+
+-- a look-up is allowed where the runs that have an address of its range are granted
+pub allowed_is_granted : (rs asked : List (AddressRun Mapping)) (a n : ℕ) (access : Permissions)
+    → ((x : ℕ) → a ≤ x → x < a + n → value_at rs x ≡ value_at asked x)
+    → IsCanonical same_mapping asked → HeadEndsAfter a asked → 0 < n → a + n < 2 ^ 64
+    → is_allowed (value_at rs) a n access ≡ granted a (a + n) access asked
+allowed_is_granted rs asked a n access same h head some fits =
+    elim (cases_Bool (granted a (a + n) access asked)) [
       | inl g ↦
           (is_allowed-each (value_at rs) a n access).1
-          (inr (fits, λ x l u. rw (value_at-drop m a x rs e l) (granted_each a (a + n) access (drop m rs) g x l u)))
-          ∙ sym g
+          (inr (fits, λ x l u. rw (same x l u) (granted_each a (a + n) access asked g x l u))) ∙ sym g
       | inr g ↦
           elim (cases_Bool (is_allowed (value_at rs) a n access)) [
             | inl t ↦
                 elim ((is_allowed-each (value_at rs) a n access).0 t) [
                   | inl z ↦ absurd (omega arith)
                   | inr each ↦
-                      absurd (not_granted a (a + n) access (drop m rs) h head (omega arith) g
-                      (λ x l u. rw (← value_at-drop m a x rs e l) (each.1 x l u)))
+                      absurd (not_granted a (a + n) access asked h head (omega arith) g
+                      (λ x l u. rw (← same x l u) (each.1 x l u)))
                 ]
             | inr t ↦ t ∙ sym g
           ]
@@ -294,29 +302,19 @@ gaps_behind at end (r ∷ rs) s =
     let to : min r.start end ≡ end = omega arith in
     rw (to, gaps_over (max at (r.start + r.len)) end rs (omega arith))
 
-pub gaps_cut : (at end m : ℕ) (rs : List (AddressRun Mapping)) → StartFrom end (drop m rs)
-    → gaps at end (take m rs) ≡ gaps at end rs
-gaps_cut at end zero rs s = sym (gaps_behind at end rs s)
-gaps_cut at end (suc m) [] s = refl
-gaps_cut at end (suc m) (r ∷ rs) s =
-    ap (cut_onto at (min r.start end) tt) (gaps_cut (max at (r.start + r.len)) end m rs s)
+gaps_cut : (at end : ℕ) (rs behind : List (AddressRun Mapping)) → StartFrom end behind
+    → gaps at end (rs ++ behind) ≡ gaps at end rs
+gaps_cut at end [] behind s = gaps_behind at end behind s
+gaps_cut at end (r ∷ rs) behind s =
+    ap (cut_onto at (min r.start end) tt) (gaps_cut (max at (r.start + r.len)) end rs behind s)
 
-gaps_dropped : (at end m : ℕ) (rs : List (AddressRun Mapping)) → EndBelow (at + 1) (take m rs)
-    → gaps at end (drop m rs) ≡ gaps at end rs
-gaps_dropped at end zero rs e = refl
-gaps_dropped at end (suc m) [] e = refl
-gaps_dropped at end (suc m) (r ∷ rs) e =
+gaps_past : (at end : ℕ) (front rs : List (AddressRun Mapping)) → EndBelow (at + 1) front
+    → gaps at end (front ++ rs) ≡ gaps at end rs
+gaps_past at end [] rs e = refl
+gaps_past at end (r ∷ front) rs e =
     let none : ltb at (min r.start end) ≡ false = le-ltb at (min r.start end) (omega arith) in
     let next : max at (r.start + r.len) ≡ at = omega arith in
-    rw (none, next) (gaps_dropped at end m rs e.1)
-
--- the cuts of all runs are those of the runs that are asked for
-pub cuts_asked : (a n k : ℕ) (rs : List (AddressRun Mapping)) → StartFrom (a + n) (drop k rs)
-    → cut_to a n (take k rs) ≡ cut_to a n rs
-cuts_asked a n k rs s =
-    let q = ap (cut_to a n) (sym (take-append-drop k rs)) ∙ cut_to-append a n (take k rs) (drop k rs) in
-    let behind = cut_to-behind a n (drop k rs) s in
-    sym (rw (q, behind) (append-nil (cut_to a n (take k rs))))
+    rw (none, next) (gaps_past at end front rs e.1)
 
 -- ---- a step of a walk
 
@@ -380,65 +378,49 @@ first_goes rest s t x gives =
 
 -- ---- a look-up in a kept list
 
-head_of_drop : (a m : ℕ) (rs : List (AddressRun Mapping))
-    → ((d : AddressRun Mapping) → m < length rs → a < (get_or rs m d).start + (get_or rs m d).len)
-    → HeadEndsAfter a (drop m rs)
-head_of_drop a zero [] f = tt
-head_of_drop a zero (r ∷ rs) f = f r (omega arith)
-head_of_drop a (suc m) [] f = tt
-head_of_drop a (suc m) (r ∷ rs) f = head_of_drop a m rs (λ d l. f d (omega arith))
-
-module _ (rs s : List (AddressRun Mapping)) (is : s ≡ rs) (k : IsKept rs) (a n end m : ℕ) (sum : end ≡ a + n)
-    (some : 0 < n) (fits : a + n < 2 ^ 64) (access : Permissions)
-    (below : EndBelow (a + 1) (take m s))
-    (from : (d : AddressRun Mapping) → m < length s → a + 1 ≤ (get_or s m d).start + (get_or s m d).len) where
-  asked : take (length s - m) (drop m s) ≡ drop m rs
-  asked = take_rest s m ∙ ap (drop m) is
-
-  before : EndBelow (a + 1) (take m rs)
-  before = rw is at below
-
-  head : HeadEndsAfter a (drop m rs)
-  head = head_of_drop a m rs
-      (λ d l. subst (λ (ys : List (AddressRun Mapping)). a < (get_or ys m d).start + (get_or ys m d).len) is
-      (let f = from d (rw is l) in omega arith))
-
-  canonical : IsCanonical same_mapping (drop m rs)
-  canonical = canonical_drop same_mapping m rs k.canonical
-
-  pub canonical_asked : IsCanonical same_mapping (take (length s - m) (drop m s))
-  canonical_asked = rw asked canonical
+module _ (rs front asked behind : List (AddressRun Mapping)) (is : rs ≡ front ++ (asked ++ behind)) (k : IsKept rs)
+    (a n end : ℕ) (sum : end ≡ a + n) (some : 0 < n) (fits : a + n < 2 ^ 64) (access : Permissions)
+    (below : EndBelow (a + 1) front) (above : StartFrom end behind) (head : HeadEndsAfter a asked) where
+  canonical : IsCanonical same_mapping asked
+  canonical = canonical_prefix same_mapping asked behind
+      (canonical_suffix same_mapping front (asked ++ behind) (subst (IsCanonical same_mapping) is k.canonical))
 
   no_overrun : overruns a n ≡ false
   no_overrun = le-ltb (2 ^ 64 - 1) (a + n) (omega arith)
 
-  cut : (b : ℕ) → b ≡ n → cut_to a b (drop m rs) ≡ cut_to a n rs
-  cut b e = rw e (sym (ap (cut_to a n) (sym (take-append-drop m rs)) ∙ cut_to-append a n (take m rs) (drop m rs)
-      ∙ ap (λ (ys : List (AddressRun Mapping)). ys ++ cut_to a n (drop m rs)) (cut_to-before a n (take m rs) before)))
+  same : (x : ℕ) → a ≤ x → x < a + n → value_at rs x ≡ value_at asked x
+  same x l u = ap (λ (ys : List (AddressRun Mapping)). value_at ys x) is
+      ∙ value_at-behind front (asked ++ behind) a x below l ∙ value_at-before asked behind end x above (omega arith)
 
-  decided : is_allowed (value_at rs) a n access ≡ granted a end access (take (length s - m) (drop m s))
-  decided = rw (asked, sum) (allowed_is_granted rs a n m access canonical before head some fits)
+  cut : (b : ℕ) → b ≡ n → cut_to a b asked ≡ cut_to a n rs
+  cut b e =
+      let p = cut_to-before a n front below in
+      let q = cut_to-behind a n behind (rw sum at above) in
+      rw e (sym (ap (cut_to a n) is ∙ cut_to-append a n front (asked ++ behind)
+      ∙ rw (p, cut_to-append a n asked behind, q) (append-nil (cut_to a n asked))))
 
-  pub looked_up : granted a end access (take (length s - m) (drop m s)) ≡ true
-      → (is_allowed (value_at rs) a n access ≡ true) × IsWalk a end (take (length s - m) (drop m s))
-      × (pieces_left a end (take (length s - m) (drop m s)) ≡ pieces (value_at rs) a n)
+  decided : is_allowed (value_at rs) a n access ≡ granted a end access asked
+  decided = rw sum (allowed_is_granted rs asked a n access same canonical head some fits)
+
+  pub looked_up : granted a end access asked ≡ true → (is_allowed (value_at rs) a n access ≡ true)
+      × IsWalk a end asked × (pieces_left a end asked ≡ pieces (value_at rs) a n)
   looked_up g = (
     decided ∙ g,
-    rw asked (walk_of_granted a end access (drop m rs) canonical (omega arith) (rw asked at g) head),
-    rw asked (ap (map piece_of) (cut (end - a) (omega arith)) ∙ sym (pieces-kept rs a n k.canonical)),
+    walk_of_granted a end access asked canonical (omega arith) g head,
+    ap (map piece_of) (cut (end - a) (omega arith)) ∙ sym (pieces-kept rs a n k.canonical),
   )
 
-  pub looked_up_in_vain : granted a end access (take (length s - m) (drop m s)) ≡ false
-      → (is_allowed (value_at rs) a n access ≡ false)
-      × (map range_of (gaps a end (take (length s - m) (drop m s))) ≡ misses (value_at rs) a n)
-      × (map range_of (filter (λ r. forbids access r.value) (cut_to a (end - a) (take (length s - m) (drop m s))))
+  pub looked_up_in_vain : granted a end access asked ≡ false → (is_allowed (value_at rs) a n access ≡ false)
+      × (map range_of (gaps a end asked) ≡ misses (value_at rs) a n)
+      × (map range_of (filter (λ r. forbids access r.value) (cut_to a (end - a) asked))
       ≡ failures (value_at rs) a n access)
   looked_up_in_vain g = (
     decided ∙ g,
-    rw (asked, sum) (ap (map range_of) (gaps_dropped a (a + n) m rs before)
-        ∙ sym (misses_are_gaps rs a n k.canonical no_overrun)),
-    rw asked (ap (λ (ys : List (AddressRun Mapping)). map range_of (filter (λ r. forbids access r.value) ys))
-        (cut (end - a) (omega arith)) ∙ sym (failures_are_cut rs a n access k.canonical no_overrun)),
+    ap (map range_of)
+        (sym (ap (gaps a end) is ∙ gaps_past a end front (asked ++ behind) below ∙ gaps_cut a end asked behind above))
+        ∙ rw sum (sym (misses_are_gaps rs a n k.canonical no_overrun)),
+    ap (λ (ys : List (AddressRun Mapping)). map range_of (filter (λ r. forbids access r.value) ys))
+        (cut (end - a) (omega arith)) ∙ sym (failures_are_cut rs a n access k.canonical no_overrun),
   )
 
 -- a look-up of no address

@@ -1,5 +1,6 @@
 -- How a table is kept, changed and looked up. No public clause cites this module.
-use Rattle.std.specs.Prelude.{ℕ, ◌+◌, ◌^◌, ◌<◌, ◌≤◌, Bool, ◌&&◌, ◌||◌, if◌then◌else◌, ◌==◌, nat_le, List, [], ◌∷◌, Option, Some, None, min, max}
+use Rattle.std.specs.List.{filter}
+use Rattle.std.specs.Prelude.{ℕ, ◌+◌, ◌^◌, ◌<◌, ◌≤◌, Bool, ◌&&◌, ◌||◌, if◌then◌else◌, ◌==◌, nat_le, nat_lt, List, [], ◌∷◌, Option, Some, None, min, max}
 use Rattle.vm_memory_base.specs.Address.{is_within}
 use Rattle.vm_memory_base.specs.Permissions.{allow}
 use Rattle.vm_memory_base.specs.Runs.{AddressRun, IsCanonical, value_at, cut_onto}
@@ -20,6 +21,29 @@ StartFrom low (r ∷ rs) = (low ≤ r.start) × StartFrom low rs
 pub record IsKept (rs : List (AddressRun Mapping)) : Type 0 where
   pub canonical : IsCanonical same_mapping rs
   pub ends : EndBelow (2 ^ 64) rs
+
+-- ascending runs, none of them empty
+abbrev pub AreAscending : {K : Type 0} → List (AddressRun K) → Type 0
+AreAscending [] = Unit {0}
+AreAscending (r ∷ rs) = (0 < r.len) × StartFrom (r.start + 1) rs × AreAscending rs
+
+-- the runs that start below an address
+abbrev pub runs_below : {K : Type 0} → ℕ → List (AddressRun K) → List (AddressRun K)
+runs_below limit rs = filter (λ r. nat_lt r.start limit) rs
+
+-- the runs that start at an address or after it
+abbrev pub runs_from : {K : Type 0} → ℕ → List (AddressRun K) → List (AddressRun K)
+runs_from low rs = filter (λ r. nat_le low r.start) rs
+
+-- runs, with another in the place of the first that starts where it does
+abbrev pub with_reset : AddressRun Mapping → List (AddressRun Mapping) → List (AddressRun Mapping)
+with_reset r [] = []
+with_reset r (s ∷ rs) = if r.start == s.start then (r ∷ rs) else (s ∷ with_reset r rs)
+
+-- where a run starts, if there is one, or else an address
+abbrev pub start_or : Option (AddressRun Mapping) → ℕ → ℕ
+start_or None at = at
+start_or (Some r) at = r.start
 
 -- a list of the one item, if there is one
 abbrev pub if_any : {X : Type 0} → Option X → List X

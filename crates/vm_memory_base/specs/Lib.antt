@@ -12,6 +12,7 @@ pub mod Runs
 pub mod Table
 pub mod Change
 pub mod Walk
+pub mod Stored
 pub mod Lookup
 pub mod PowerOfTwo
 pub mod Bytes

@@ -4,6 +4,7 @@ ghost use Rattle.vm_memory_base.specs.Permissions as set;
 
 mod lookup;
 mod mapped_run;
+mod run_map;
 mod table;
 
 use crate::address::GuestAddress;

@@ -34,6 +34,8 @@ mod scripts;
 #[cfg(test)]
 mod shared;
 #[cfg(test)]
+mod sorted;
+#[cfg(test)]
 mod streams;
 #[cfg(test)]
 mod support;

@@ -8,7 +8,7 @@ ghost use Rattle.vm_memory_base.specs.Runs.{cut_onto, cut_to};
 ghost use Rattle.vm_memory_base.specs.Table.{range_of, forbids};
 ghost use Rattle.vm_memory_base.specs.Walk.{IsWalk, pieces_left};
 
-use super::mapped_run::MappedRun;
+use super::run_map::Runs;
 use super::{IovaRange, Permissions};
 use crate::address::GuestAddress;
 use std::alloc::{AllocError, Global};
@@ -86,7 +86,7 @@ pub enum LookupError {
 /// The pieces of a look-up, in the order of the I/O addresses that lead to them.
 #[derive(Debug, Drop)]
 pub struct IotlbIterator<'a> {
-    runs: &'a [MappedRun],
+    runs: Runs<'a>,
     at: u64,
     end: u64,
 }
@@ -99,17 +99,17 @@ impl<'a> Model for IotlbIterator<'a> {
 
     ghost use Rattle.vm_memory_base.specs.Walk.{IsWalk, pieces_left};
 
-    ghost view = { λ it. pieces_left it.at it.end it.runs.now };
+    ghost view = { λ it. pieces_left it.at it.end it.runs };
 
-    ghost invariant = { λ it. IsWalk it.at it.end it.runs.now };
+    ghost invariant = { λ it. IsWalk it.at it.end it.runs };
 }
 
 impl<'a> IotlbIterator<'a> {
     // The pieces of the addresses from one up to another, which these runs have.
     #[inline]
-    pub(super) fn new(runs: &'a [MappedRun], at: u64, end: u64) -> IotlbIterator<'a>
-        requires { IsWalk at end runs.now }
-        ensures { result ≡ pieces_left at end runs.now }
+    pub(super) fn new(runs: Runs<'a>, at: u64, end: u64) -> IotlbIterator<'a>
+        requires { IsWalk at end runs }
+        ensures { result ≡ pieces_left at end runs.entry }
     {
         IotlbIterator { runs, at, end }
     }
@@ -127,20 +127,19 @@ impl<'a> Iterator for IotlbIterator<'a> {
         if self.at >= self.end {
             return None;
         }
-        let (run, later) = self.runs.split_first()?;
+        let run = self.runs.next()?;
         let end = run.end().min(self.end);
         let base = GuestAddress(run.target(self.at));
         let length = (end - self.at) as usize;
         self.at = end;
-        self.runs = later;
         Some(MappedRange { base, length })
     }
 }
 
 // Whether runs leave no gap from one address up to another, and each permits the access.
 #[inline]
-pub(super) fn are_granted(runs: &[MappedRun], start: u64, end: u64, access: Permissions) -> bool
-    ensures { result ≡ granted start end access runs.now }
+pub(super) fn are_granted(runs: Runs<'_>, start: u64, end: u64, access: Permissions) -> bool
+    ensures { result ≡ granted start end access runs.entry }
 {
     let mut at = start;
     for run in runs {
@@ -172,11 +171,11 @@ fn push_range(found: &mut Vec<IovaRange>, from: u64, to: u64) -> Result<(), Allo
 // The gaps that runs leave from one address up to another.
 pub(super) fn misses(
     alloc: Global,
-    runs: &[MappedRun],
+    runs: Runs<'_>,
     start: u64,
     end: u64,
 ) -> Result<Vec<IovaRange>, AllocError>
-    ensures { IfOk result (λ found. map range_in found.items ≡ map range_of (gaps start end runs.now)) }
+    ensures { IfOk result (λ found. map range_in found.items ≡ map range_of (gaps start end runs.entry)) }
 {
     let mut found = Vec::new(alloc);
     let mut at = start;
@@ -191,14 +190,14 @@ pub(super) fn misses(
 // The runs that forbid the access, cut to the addresses from one up to another.
 pub(super) fn access_fails(
     alloc: Global,
-    runs: &[MappedRun],
+    runs: Runs<'_>,
     start: u64,
     end: u64,
     access: Permissions,
 ) -> Result<Vec<IovaRange>, AllocError>
     requires { start ≤ end }
     ensures { IfOk result (λ found. map range_in found.items
-        ≡ map range_of (filter (λ r. forbids access r.value) (cut_to start (end - start) runs.now))) }
+        ≡ map range_of (filter (λ r. forbids access r.value) (cut_to start (end - start) runs.entry))) }
 {
     let mut found = Vec::new(alloc);
     for run in runs {

@@ -1,13 +1,20 @@
 //! A run of I/O addresses that are mapped alike, and lists of such runs.
-ghost use Rattle.std.specs.Prelude.{◌≡◌, ◌+◌, ◌-◌, ◌^◌, ◌<◌, ◌≤◌, ◌++◌, ◌∷◌, [], length, take, drop, slice_index_or, IsSome, IfSome, OnOk, OnErr};
-ghost use Rattle.vm_memory_base.specs.Change.{EndBelow, StartFrom, IsKept, if_any, prepended, prepended_if_any, with_run, without_range};
+ghost use Rattle.std.specs.Prelude.{◌≡◌, ℕ, ◌+◌, ◌-◌, ◌<◌, ◌≤◌, ◌++◌, ◌∷◌, [], ◌↔◌, length, IsSome, IfSome};
+ghost use Rattle.vm_memory_base.specs.Change.{if_any, start_or, prepended, prepended_if_any};
 ghost use Rattle.vm_memory_base.specs.Permissions as set;
-ghost use Rattle.vm_memory_base.specs.Runs.{AddressRun, IsCanonical, cut_to};
-ghost use Rattle.vm_memory_base.specs.Table.{Mapping, same_mapping, target, canonical_list};
+ghost use Rattle.vm_memory_base.specs.Stored.{run_in};
+ghost use Rattle.vm_memory_base.specs.Table.{same_mapping, target};
 
 use super::Permissions;
-use std::alloc::AllocError;
 use std::marker::Model;
+
+// What is stored of a run at its first address.
+#[derive(Clone, Copy, Debug)]
+pub(super) struct RunTail {
+    pub(super) end: u64,
+    pub(super) difference: u64,
+    pub(super) permissions: Permissions,
+}
 
 // The addresses from `start` up to `end`, with the distance of their targets modulo 2^64.
 #[derive(Clone, Copy, Debug)]
@@ -63,6 +70,27 @@ impl MappedRun {
         }
     }
 
+    // The run of a first address and what is stored there.
+    #[inline]
+    pub(super) fn of_tail(start: u64, tail: &RunTail) -> MappedRun
+        requires { start < tail.now.end }
+        ensures { result ≡ run_in (start, tail.now) }
+    {
+        MappedRun::new(start, tail.end, tail.difference, tail.permissions)
+    }
+
+    #[inline]
+    pub(super) fn tail(&self) -> RunTail
+        ensures value { run_in (self.now.start, result) ≡ self.now }
+        ensures some { 0 < self.now.len }
+    {
+        RunTail {
+            end: self.end,
+            difference: self.difference,
+            permissions: self.permissions,
+        }
+    }
+
     #[inline]
     pub(super) fn start(&self) -> u64
         ensures { result ≡ self.now.start }
@@ -95,7 +123,7 @@ impl MappedRun {
     }
 
     // The part before an address.
-    fn before(&self, end: u64) -> MappedRun
+    pub(super) fn before(&self, end: u64) -> MappedRun
         requires some { self.now.start < end }
         ensures { result ≡ record self.now { len = end - self.now.start } }
     {
@@ -103,7 +131,7 @@ impl MappedRun {
     }
 
     // The part from an address on.
-    fn behind(&self, start: u64) -> MappedRun
+    pub(super) fn behind(&self, start: u64) -> MappedRun
         requires some { start < self.now.start + self.now.len }
         ensures { result ≡ record self.now { start = start; len = self.now.start + self.now.len - start } }
     {
@@ -118,8 +146,10 @@ impl MappedRun {
     }
 
     // The run before another: one run with it where that begins right behind it and is mapped alike.
-    fn joined(&self, next: Option<MappedRun>) -> (MappedRun, Option<MappedRun>)
-        ensures { result.0 ∷ if_any result.1 ≡ prepended self.now (if_any next) }
+    pub(super) fn joined(&self, next: Option<MappedRun>) -> (MappedRun, Option<MappedRun>)
+        ensures joined { result.0 ∷ if_any result.1 ≡ prepended self.now (if_any next) }
+        ensures start { result.0.start ≡ self.now.start }
+        ensures next { IfSome result.1 (λ r. if_any next ≡ r ∷ []) }
     {
         match next {
             Some(run) if run.start() == self.end() && self.is_like(&run) => {
@@ -133,135 +163,22 @@ impl MappedRun {
     }
 }
 
-// How many runs end below an address.
-pub(super) fn ends_below(runs: &[MappedRun], limit: u64) -> usize
-    requires { IsCanonical same_mapping runs.now }
-    ensures within { result ≤ length runs.now }
-    ensures below { EndBelow limit (take result runs.now) }
-    ensures from { (d : AddressRun Mapping) → result < length runs.now →
-        let run = slice_index_or runs.now result d in limit ≤ run.start + run.len }
-{
-    runs.partition_point(|run| run.end() < limit)
-}
-
-// How many runs start at an address or before it.
-pub(super) fn starts_upto(runs: &[MappedRun], limit: u64) -> usize
-    requires { IsCanonical same_mapping runs.now }
-    ensures within { result ≤ length runs.now }
-    ensures upto { (d : AddressRun Mapping) → 0 < result → (slice_index_or runs.now (result - 1) d).start ≤ limit }
-    ensures above { StartFrom (limit + 1) (drop result runs.now) }
-{
-    runs.partition_point(|run| run.start() <= limit)
-}
-
-// The runs before an address: so many that end below it, and then the one that reaches it, cut off there.
-fn front(runs: &[MappedRun], at: u64) -> (usize, Option<MappedRun>)
-    requires { IsCanonical same_mapping runs.now }
-    ensures within { result.0 ≤ length runs.now }
-    ensures parts { take result.0 runs.now ++ if_any result.1 ≡ cut_to 0 at runs.now }
-    ensures apart { EndBelow at (take result.0 runs.now) }
-    ensures reaches { IfSome result.1 (λ run. (0 < run.len) × (run.start + run.len ≡ at)) }
-    ensures there { IsSome result.1 → (d : AddressRun Mapping) → (result.0 < length runs.now)
-        × ((slice_index_or runs.now result.0 d).start < at) }
-{
-    let next = ends_below(runs, at);
-    if next < runs.len() {
-        let run = &runs[next];
-        if run.start() < at {
-            return (next, Some(run.before(at)));
-        }
-    }
-    (next, None)
-}
-
-// The runs behind an address, from the number of the first that starts above it on, and before them the one
-// that reaches over it, from there on.
-fn back(runs: &[MappedRun], at: u64) -> (usize, Option<MappedRun>)
-    requires { IsKept runs.now }
-    ensures within { result.0 ≤ length runs.now }
-    ensures parts { if_any result.1 ++ drop result.0 runs.now ≡ cut_to at (2 ^ 64 - at) runs.now }
-    ensures apart { StartFrom (at + 1) (drop result.0 runs.now) }
-{
-    let next = starts_upto(runs, at);
-    if next > 0 {
-        let run = &runs[next - 1];
-        if at < run.end() {
-            return (next, Some(run.behind(at)));
-        }
-    }
-    (next, None)
-}
-
-fn push_if_any(runs: &mut Vec<MappedRun>, run: Option<MappedRun>) -> Result<(), AllocError>
-    ensures { OnOk result (runs.new.items ≡ runs.old.items ++ if_any run) }
-{
-    if let Some(run) = run {
-        runs.push(run)?;
-    }
-    Ok(())
-}
-
-// Puts up to three runs in the place of those from one number up to another. Refused, nothing changes.
-fn replace(
-    runs: &mut Vec<MappedRun>,
-    first: usize,
-    after: usize,
-    middle: (Option<MappedRun>, Option<MappedRun>, Option<MappedRun>),
-) -> Result<(), AllocError>
-    requires ordered { first ≤ after }
-    requires within { after ≤ length runs.old.items }
-    ensures ok { OnOk result (runs.new.items
-        ≡ take first runs.old.items
-        ++ ((if_any middle.0 ++ if_any middle.1 ++ if_any middle.2) ++ drop after runs.old.items)) }
-    ensures err { OnErr result (runs.new.items ≡ runs.old.items) }
-{
-    let mut put = Vec::with_capacity(*runs.allocator(), 3)?;
-    push_if_any(&mut put, middle.0)?;
-    push_if_any(&mut put, middle.1)?;
-    push_if_any(&mut put, middle.2)?;
-    runs.splice(first..after, put)?;
-    Ok(())
-}
-
 // A run behind the one that reaches it, if there is one: one run with it where they are mapped alike.
-fn joined_to(left: Option<MappedRun>, run: MappedRun) -> (MappedRun, Option<MappedRun>)
-    ensures { result.0 ∷ if_any result.1 ≡ prepended_if_any left (run ∷ []) }
+pub(super) fn joined_to(
+    left: Option<MappedRun>,
+    run: MappedRun,
+) -> (Option<MappedRun>, Option<MappedRun>)
+    ensures joined { if_any result.0 ++ if_any result.1 ≡ prepended_if_any left (run ∷ []) }
+    ensures left { (at : ℕ) → start_or result.0 at ≡ start_or left at }
+    ensures same { IsSome left ↔ IsSome result.0 }
+    ensures next { IfSome result.1 (λ r. r.start ≡ run.start) }
+    ensures room { length (if_any result.1) + length (if_any result.0) ≤ length (if_any left) + 1 }
 {
     match left {
-        Some(left) => left.joined(Some(run)),
-        None => (run, None),
+        Some(left) => {
+            let (begun, next) = left.joined(Some(run));
+            (Some(begun), next)
+        }
+        None => (None, Some(run)),
     }
-}
-
-// Puts a run over what was said of its addresses. It joins those that it touches and that are mapped alike.
-// Refused, nothing changes.
-pub(super) fn set_run(runs: &mut Vec<MappedRun>, run: MappedRun) -> Result<(), AllocError>
-    requires kept { IsKept runs.old.items }
-    requires some { 0 < run.len }
-    requires fits { run.start + run.len < 2 ^ 64 }
-    ensures ok { OnOk result (runs.new.items ≡ canonical_list (with_run run runs.old.items)) }
-    ensures kept { IsKept runs.new.items }
-    ensures growth { length runs.new.items ≤ length runs.old.items + 2 }
-    ensures err { OnErr result (runs.new.items ≡ runs.old.items) }
-{
-    let (first, left) = front(runs, run.start());
-    let (after, right) = back(runs, run.end());
-    let (joined, behind) = run.joined(right);
-    let (begun, next) = joined_to(left, joined);
-    replace(runs, first, after, (Some(begun), next, behind))
-}
-
-// Makes the runs say nothing of the addresses from one up to another. Refused, nothing changes.
-pub(super) fn clear_range(runs: &mut Vec<MappedRun>, start: u64, end: u64) -> Result<(), AllocError>
-    requires kept { IsKept runs.old.items }
-    requires some { start < end }
-    ensures ok { OnOk result (runs.new.items
-        ≡ canonical_list (without_range start (end - start) runs.old.items)) }
-    ensures kept { IsKept runs.new.items }
-    ensures growth { length runs.new.items ≤ length runs.old.items + 1 }
-    ensures err { OnErr result (runs.new.items ≡ runs.old.items) }
-{
-    let (first, left) = front(runs, start);
-    let (after, right) = back(runs, end);
-    replace(runs, first, after, (left, None, right))
 }

@@ -2,14 +2,15 @@
 ghost use Rattle.std.specs.Prelude.{◌≡◌, ℕ, ◌+◌, ◌-◌, ◌^◌, ◌<◌, ◌≤◌, ◌⊎◌, ◌∷◌, [], true, false, None, map, OnOk, IfOk, IfErr};
 ghost use Rattle.std.specs.List.{filter};
 ghost use Rattle.vm_memory_base.specs.Change.{gaps};
-ghost use Rattle.vm_memory_base.specs.Runs.{IsCanonical, cut_to};
+ghost use Rattle.vm_memory_base.specs.Runs.{cut_to};
 ghost use Rattle.vm_memory_base.specs.Table as table;
 ghost use Rattle.vm_memory_base.specs.Table.{Set, Invalidate, InvalidateAll, says, says_after, canonical_list, changed, range_count, is_allowed, pieces, failures, same_mapping, range_of, forbids};
 
 use super::lookup::{
     IotlbFails, IotlbIterator, IovaRangeList, LookupError, access_fails, are_granted, misses,
 };
-use super::mapped_run::{MappedRun, clear_range, ends_below, set_run, starts_upto};
+use super::mapped_run::MappedRun;
+use super::run_map::{RunMap, Runs};
 use super::{IommuError, IovaRange, Permissions};
 use crate::address::GuestAddress;
 use std::alloc::Global;
@@ -31,7 +32,7 @@ use std::marker::Model;
 /// ```
 #[derive(Debug, Drop)]
 pub struct Iotlb {
-    ranges: Vec<MappedRun>,
+    ranges: RunMap,
 }
 
 impl Model for Iotlb {
@@ -41,9 +42,9 @@ impl Model for Iotlb {
 
     ghost Value = { Table };
 
-    ghost view = { λ t. record { limit = None; ranges = t.ranges.items } };
+    ghost view = { λ t. record { limit = None; ranges = t.ranges } };
 
-    ghost invariant = { λ t. IsKept t.ranges.items };
+    ghost invariant = { λ t. IsKept t.ranges };
 }
 
 impl Iotlb {
@@ -52,7 +53,7 @@ impl Iotlb {
         ensures { result ≡ record { limit = None; ranges = [] } }
     {
         Iotlb {
-            ranges: Vec::new(alloc),
+            ranges: RunMap::new(alloc),
         }
     }
 
@@ -83,7 +84,7 @@ impl Iotlb {
         let end = iova.0 + length as u64;
         let difference = map_to.0.wrapping_sub(iova.0);
         let run = MappedRun::new(iova.0, end, difference, perm);
-        set_run(ranges, run).map_err(|_| IommuError::Memory)
+        ranges.set_run(run).map_err(|_| IommuError::Memory)
     }
 
     /// Lets `length` addresses from `iova` on lead nowhere. A length of 0 changes nothing and takes no memory. The
@@ -107,7 +108,9 @@ impl Iotlb {
         if length == 0 {
             return Ok(());
         }
-        clear_range(ranges, iova.0, iova.0 + length as u64).map_err(|_| IommuError::Memory)
+        ranges
+            .clear_range(iova.0, iova.0 + length as u64)
+            .map_err(|_| IommuError::Memory)
     }
 
     /// Lets every address lead nowhere. It takes no memory.
@@ -139,18 +142,17 @@ impl Iotlb {
               access_fails = failures (says self.now) iova.0 length access;
             })))) }
     {
-        let ranges = self.ranges.as_slice();
         let Some(end) = iova.0.checked_add(length as u64) else {
-            return Err(overrun(*self.ranges.allocator(), iova, length));
+            return Err(overrun(self.ranges.alloc(), iova, length));
         };
         if length == 0 {
-            return Ok(IotlbIterator::new(ranges, end, end));
+            return Ok(IotlbIterator::new(Runs::none(), end, end));
         }
-        let asked = &ranges[ends_below(ranges, iova.0 + 1)..];
-        if are_granted(asked, iova.0, end, access) {
+        let asked = self.ranges.asked(iova.0, end);
+        if are_granted(asked.again(), iova.0, end, access) {
             return Ok(IotlbIterator::new(asked, iova.0, end));
         }
-        Err(refusal(*self.ranges.allocator(), asked, iova.0, end, access))
+        Err(refusal(self.ranges.alloc(), asked, iova.0, end, access))
     }
 
     /// The number of ranges that are kept. They are the canonical list of what the table says.
@@ -181,26 +183,24 @@ fn overrun(alloc: Global, iova: GuestAddress, length: usize) -> LookupError
     }
 }
 
-// What a look-up of the addresses from one up to another misses, and what fails, of runs none of which ends by
-// the first of them.
+// What a look-up of the addresses from one up to another misses, and what fails, of the runs that have any of
+// them.
 fn refusal(
     alloc: Global,
-    runs: &[MappedRun],
+    runs: Runs<'_>,
     start: u64,
     end: u64,
     access: Permissions,
 ) -> LookupError
-    requires canonical { IsCanonical same_mapping runs.now }
-    requires some { start < end }
+    requires { start < end }
     ensures { (result ≡ LookupError.Memory) ⊎ (result ≡ LookupError.Fails (record {
-      misses = map range_of (gaps start end runs.now);
-      access_fails = map range_of (filter (λ r. forbids access r.value) (cut_to start (end - start) runs.now));
+      misses = map range_of (gaps start end runs.entry);
+      access_fails = map range_of (filter (λ r. forbids access r.value) (cut_to start (end - start) runs.entry));
     })) }
 {
-    let asked = &runs[..starts_upto(runs, end - 1)];
     match (
-        misses(alloc, asked, start, end),
-        access_fails(alloc, asked, start, end, access),
+        misses(alloc, runs.again(), start, end),
+        access_fails(alloc, runs, start, end, access),
     ) {
         (Ok(misses), Ok(access_fails)) => LookupError::Fails(IotlbFails {
             misses: IovaRangeList::from_vec(misses),

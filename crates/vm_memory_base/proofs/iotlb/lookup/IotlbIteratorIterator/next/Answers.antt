@@ -9,39 +9,24 @@ use Rattle.vm_memory_base.proofs.iotlb.lookup.IotlbIteratorIterator.next.Goals a
 pub returns-then-self-clause-steps : goal.returns-then-self-clause-steps
 returns-then-self-clause-steps c =
     let done = ap (λ (rs : List (AddressRun Mapping)). mapped_ranges (map piece_of rs))
-    (walk_ends c.self.inside.at c.self.inside.end c.self.inside.runs.now c.if-self.true) in
+    (walk_ends c.self.inside.at c.self.inside.end c.self.inside.runs c.if-self.true) in
     let none : mapped_ranges c.args.self.now ≡ [] = ap mapped_ranges (sym c.self.view_is) ∙ done in (none, none)
 
--- the first run of a walk, its end as it was computed, and what follows
-module _ (c : goal.After-later-2-1) where
-  on : (cut_to c.self.inside.at (c.self.inside.end - c.self.inside.at) c.self.inside.runs.now
-      ≡ record {
-        start = c.self.inside.at;
-        len = c.min-end.result - c.self.inside.at;
-        value = c.in_ok-run.run'.now.value;
-      }
-      ∷ cut_to c.min-end.result (c.self.inside.end - c.min-end.result) c.in_ok-run.later.now)
-      × (c.self.inside.at < c.min-end.result) × IsWalk c.min-end.result c.self.inside.end c.in_ok-run.later.now
-  on =
-      let is : c.self.inside.runs.now ≡ c.in_ok-run.run'.now ∷ c.in_ok-run.later.now = c.in_ok-run.ensures.cases.0 in
-      let end = c.end.ensures.value in
-      let next : c.min-end.result ≡ min (c.in_ok-run.run'.now.start + c.in_ok-run.run'.now.len) c.self.inside.end =
-      c.min-end.ensures ∙ ap (λ (n : ℕ). min n c.self.inside.end) end in
-      let w = walk_on c.self.inside.at c.self.inside.end c.min-end.result c.in_ok-run.run'.now c.in_ok-run.later.now
-      (subst (IsWalk c.self.inside.at c.self.inside.end) is c.self.invariant) (omega arith) next in
-      rw is w
-
-  stepped : mapped_ranges c.args.self.now
-      ≡ record { base = record { 0 = c.target.result }; length = c.min-end.result - c.self.inside.at }
-      ∷ mapped_ranges (map piece_of
-      (cut_to c.min-end.result (c.self.inside.end - c.min-end.result) c.in_ok-run.later.now))
-  stepped = ap mapped_ranges (sym c.self.view_is) ∙ rw (on.0, ← c.target.ensures) refl
+-- the first piece, with the end of its run as it was computed
+first : (runs later : List (AddressRun Mapping)) (r : AddressRun Mapping) (at end next : ℕ) → runs ≡ r ∷ later
+    → IsWalk at end runs → at < end → next ≡ min (r.start + r.len) end
+    → cut_to at (end - at) runs
+    ≡ record { start = at; len = next - at; value = r.value } ∷ cut_to next (end - next) later
+first runs later r at end next is w l e =
+    ap (cut_to at (end - at)) is ∙ (walk_on at end next r later (subst (IsWalk at end) is w) l e).0
 
 pub returns-clause-steps : goal.returns-clause-steps
-returns-clause-steps c = stepped c
+returns-clause-steps c =
+    let next : c.min-end.result ≡ min (c.in_ok-run.run'.start + c.in_ok-run.run'.len) c.self.inside.end =
+    c.min-end.ensures ∙ ap (λ (n : ℕ). min n c.self.inside.end) c.end.ensures.value in
+    let cut = first c.self.inside.runs c.next.new.self c.in_ok-run.run' c.self.inside.at c.self.inside.end
+    c.min-end.result c.in_ok-run.ensures.steps c.self.invariant (omega arith) next in
+    ap mapped_ranges (sym c.self.view_is) ∙ rw (cut, ← c.target.ensures) refl
 
 pub returns-clause-goes : goal.returns-clause-goes
 returns-clause-goes c = first_goes _ _ _ _ (returns-clause-steps c)
-
-pub invariant_of-self : goal.invariant_of-self
-invariant_of-self c = (on c).2

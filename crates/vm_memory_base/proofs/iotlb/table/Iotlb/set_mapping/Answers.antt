@@ -6,7 +6,7 @@ use Rattle.vm_memory_base.proofs.iotlb.table.Iotlb.set_mapping.Goals as goal
 pub returns-then-length-eq0-clause-ok : goal.returns-then-length-eq0-clause-ok
 returns-then-length-eq0-clause-ok c =
     let call : TableCall = Set c.args.iova.0 c.args.map_to.0 c.args.length c.args.perm in
-    table_stays call (record { limit = None; ranges = c.self.inside.ranges.items }) c.self.invariant
+    table_stays call (record { limit = None; ranges = c.self.inside.ranges }) c.self.invariant
     (empty_set c.args.iova.0 c.args.map_to.0 c.args.length c.args.perm c.if-length-eq0.true)
     ∙ ap (changed call) c.self.view_is
 

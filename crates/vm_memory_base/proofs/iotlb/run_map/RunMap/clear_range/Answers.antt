@@ -1,0 +1,62 @@
+use Rattle.std.proofs.Common.{◌≡◌, ◌+◌, ◌-◌, ◌^◌, ◌<◌, ◌≤◌, ◌++◌, [], List, Option, length, sym, ap, subst, arith}
+use Rattle.vm_memory_base.specs.Change.{IsKept, if_any, runs_below, runs_from, start_or, without_range}
+use Rattle.vm_memory_base.specs.Runs.{AddressRun, cut_to}
+use Rattle.vm_memory_base.specs.Table.{Mapping, same_mapping, canonical_list}
+use Rattle.vm_memory_base.proofs.StoredLemmas.{ascending_canonical, parts_length, front_length, length_four}
+use Rattle.vm_memory_base.proofs.ChangeLemmas.{on_ok, either_way, range_is_clear, if_any_one}
+use Rattle.vm_memory_base.proofs.iotlb.run_map.RunMap.clear_range.Goals as goal
+use Rattle.vm_memory_base.proofs.iotlb.run_map.RunMap.clear_range.Goals.{After-back-right}
+
+-- what the steps of the call tell
+module _ (c : After-back-right) where
+  abbrev rs : List (AddressRun Mapping)
+  rs = c.args.self.now
+
+  abbrev left : Option (AddressRun Mapping)
+  left = c.front-left.result
+
+  abbrev right : Option (AddressRun Mapping)
+  right = c.back-right.result.0
+
+  abbrev IsPut : List (AddressRun Mapping) → Type 0
+  IsPut new = new ≡ runs_below (start_or left c.args.start) rs
+      ++ (if_any left ++ (if_any right ++ runs_from (c.args.end + 1) rs))
+
+  cleared : (new : List (AddressRun Mapping)) → IsPut new → IsKept new
+      × (new ≡ canonical_list (without_range c.args.start (c.args.end - c.args.start) rs))
+  cleared new e =
+      let to : c.args.start + (c.args.end - c.args.start) ≡ c.args.end = omega arith in
+      let some : 0 < c.args.end - c.args.start = omega arith in
+      let behind : if_any right ++ runs_from (c.args.end + 1) rs
+      ≡ cut_to (c.args.start + (c.args.end - c.args.start)) (2 ^ 64 - (c.args.start + (c.args.end - c.args.start))) rs =
+      rw to c.back-right.ensures.parts in
+      range_is_clear rs (runs_below (start_or left c.args.start) rs) (runs_from (c.args.end + 1) rs) c.args.start
+      (c.args.end - c.args.start) left right c.requires.kept some (omega arith) c.front-left.ensures.parts behind new e
+
+  grown : (new : List (AddressRun Mapping)) → IsPut new → length new ≤ length rs + 1
+  grown new e =
+      let a = length_four (runs_below (start_or left c.args.start) rs) (if_any left) [] (if_any right)
+      (runs_from (c.args.end + 1) rs) new e in
+      let b = front_length left c.args.start rs c.front-left.ensures.there in
+      let d = if_any_one right in
+      let f = parts_length c.args.start (c.args.end + 1) rs (omega arith) in
+      omega arith
+
+pub replace-requires-clause-ascending : goal.replace-requires-clause-ascending
+replace-requires-clause-ascending c = ascending_canonical same_mapping c.args.self.now c.requires.kept.canonical
+
+pub returns-clause-ok : goal.returns-clause-ok
+returns-clause-ok c =
+    let is_clear = cleared (goal.at.returns-clause-ok c).After-back-right c.replace.new.self in
+    on_ok c.replace.result (λ e. (is_clear e).1) c.replace.ensures.ok
+
+pub returns-clause-kept : goal.returns-clause-kept
+returns-clause-kept c =
+    let is_clear = cleared (goal.at.returns-clause-kept c).After-back-right c.replace.new.self in
+    either_way c.replace.result c.replace.ensures.ok c.replace.ensures.err (λ e. (is_clear e).0)
+    (λ e. subst IsKept (sym e) c.requires.kept)
+
+pub returns-clause-growth : goal.returns-clause-growth
+returns-clause-growth c =
+    let more = grown (goal.at.returns-clause-growth c).After-back-right c.replace.new.self in
+    either_way c.replace.result c.replace.ensures.ok c.replace.ensures.err more (λ e. let l = ap length e in omega arith)
