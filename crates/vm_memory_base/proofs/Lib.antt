@@ -8,5 +8,7 @@ pub mod KnownBytesJoined
 pub mod ByteLemmas
 pub mod ArrayLemmas
 pub mod BitmapLemmas
+pub mod NotesLemmas
+pub mod TrackedRule
 pub mod PieceLemmas
 pub mod TransferLemmas

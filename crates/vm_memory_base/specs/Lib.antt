@@ -2,6 +2,9 @@ pub mod Address
 pub mod Pages
 pub mod Exclusive
 pub mod OptionalBitmap
+pub mod Notes
+pub mod Tracked
+pub mod Markers
 pub mod Permissions
 pub mod Runs
 pub mod Table

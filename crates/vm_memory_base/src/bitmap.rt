@@ -4,8 +4,10 @@ ghost use Rattle.vm_memory_base.specs.Pages.{PageSet, IsPageSet, IsCleanFor, in_
 ghost use Rattle.vm_memory_base.specs.Pages as page_set;
 
 mod exclusive;
+mod tracked;
 
 pub use self::exclusive::ExclusiveBitmap;
+pub use self::tracked::{HarvestError, Harvester, Marker, TrackedBitmap};
 use std::alloc::{AllocError, Global};
 
 /// Tracks which parts of a range of bytes were written.

@@ -16,7 +16,10 @@ pub use address::{
     Address, AddressValue, AddressWord, GuestAddress, GuestUsize, MemoryRegionAddress,
 };
 pub use atomic_integer::AtomicInteger;
-pub use bitmap::{BS, Bitmap, BitmapId, BitmapRef, ExactBitmap, ExclusiveBitmap, MS, NewBitmap};
+pub use bitmap::{
+    BS, Bitmap, BitmapId, BitmapRef, ExactBitmap, ExclusiveBitmap, HarvestError, Harvester, MS,
+    Marker, NewBitmap, TrackedBitmap,
+};
 pub use bytes::{AtomicAccess, ByteSized, ByteValued, FixedInteger};
 pub use endian::{Be16, Be32, Be64, BeSize, BigEndian, Le16, Le32, Le64, LeSize, LittleEndian};
 pub use io::{
