@@ -1,9 +1,9 @@
 -- The notes of a harvest of all words.
-use Rattle.std.proofs.Common.{◌≡◌, ◌≢◌, ℕ, zero, suc, ◌+◌, ◌<◌, ◌≤◌, List, [], ◌∷◌, ◌++◌, length, map, refl, sym, ap, ◌∙◌, arith, eq-eqb, ne_eqb}
+use Rattle.std.proofs.Common.{◌≡◌, ◌≢◌, ℕ, zero, suc, ◌+◌, ◌<◌, ◌≤◌, ◌⊎◌, Bool, max, if◌then◌else◌, inl, inr, ⊎_elim, subst, List, [], ◌∷◌, ◌++◌, length, map, refl, sym, ap, ◌∙◌, arith, eq-eqb, ne_eqb}
 use mathlib.Core.Logic.{dite}
 use native.Mathlib.Decide.{ℕ_discrete}
 use Rattle.std.proofs.lemmas.List.{length-map, map-append}
-use Rattle.vm_memory_base.specs.Notes.{Note, note, rounds_of, gathered}
+use Rattle.vm_memory_base.specs.Notes.{Note, note, IsNoted, rounds_of, greatest_of, gathered}
 use Rattle.vm_memory_base.specs.declared.bitmap.tracked.view.View.{View}
 use Rattle.vm_memory_base.specs.Tracked.{after_harvest, after_harvests}
 
@@ -62,3 +62,34 @@ after_harvests-more round xs x v =
     ∙ gathered-more 0 (round + 1) (map (λ (_ : ℕ). 0) xs) 0 v.rounds
     ∙ ap (λ w. note w (round + 1) 0 ∷ gathered 0 (round + 1) (map (λ (_ : ℕ). 0) xs) v.rounds) there in
     λ i. record { marks = v.marks; sightings = v.sightings; harvests = harvests i; rounds = rounds i }
+
+-- ---- two lists of notes
+
+pub noted_left : (w r p : ℕ) (xs ys : List Note) → IsNoted w r p xs → IsNoted w r p (xs ++ ys)
+noted_left w r p [] ys h = absurd h
+noted_left w r p (x ∷ xs) ys (inl h) = inl h
+noted_left w r p (x ∷ xs) ys (inr h) = inr (noted_left w r p xs ys h)
+
+pub noted_right : (w r p : ℕ) (xs ys : List Note) → IsNoted w r p ys → IsNoted w r p (xs ++ ys)
+noted_right w r p [] ys h = h
+noted_right w r p (x ∷ xs) ys h = inr (noted_right w r p xs ys h)
+
+pub noted_either : (w r p : ℕ) (xs ys : List Note) → IsNoted w r p (xs ++ ys) → IsNoted w r p xs ⊎ IsNoted w r p ys
+noted_either w r p [] ys h = inr h
+noted_either w r p (x ∷ xs) ys (inl h) = inl (inl h)
+noted_either w r p (x ∷ xs) ys (inr h) = ⊎_elim (λ k. inl (inr k)) (λ k. inr k) (noted_either w r p xs ys h)
+
+pub greatest_both : (w limit : ℕ) (xs ys : List Note) → greatest_of w xs ≤ limit → greatest_of w ys ≤ limit
+    → greatest_of w (xs ++ ys) ≤ limit
+greatest_both w limit [] ys h k = k
+greatest_both w limit (x ∷ xs) ys h k =
+    dite (ℕ_discrete x.word w)
+    (λ (e : x.word ≡ w).
+    let first : max x.round (greatest_of w xs) ≤ limit = subst (λ (b : Bool). (if b then max x.round (greatest_of w xs) else greatest_of w xs) ≤ limit) (eq-eqb x.word w e) h in
+    let rest = greatest_both w limit xs ys (omega (arith, first)) k in
+    subst (λ (b : Bool). (if b then max x.round (greatest_of w (xs ++ ys)) else greatest_of w (xs ++ ys)) ≤ limit) (sym (eq-eqb x.word w e))
+    (omega (arith, first, rest)))
+    (λ (ne : x.word ≢ w).
+    let first : greatest_of w xs ≤ limit = subst (λ (b : Bool). (if b then max x.round (greatest_of w xs) else greatest_of w xs) ≤ limit) (ne_eqb x.word w ne) h in
+    subst (λ (b : Bool). (if b then max x.round (greatest_of w (xs ++ ys)) else greatest_of w (xs ++ ys)) ≤ limit) (sym (ne_eqb x.word w ne))
+    (greatest_both w limit xs ys first k))

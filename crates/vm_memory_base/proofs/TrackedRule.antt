@@ -11,11 +11,12 @@ use mathlib.Core.Option.{some, none, some-injective, some-ne-none}
 use mathlib.Core.Logic.{dite}
 use native.Mathlib.Decide.{ℕ_discrete}
 use lib.ListN.{get_elem?}
-use Rattle.atomic_table.specs.Table.{State, Me, step, keeps, Allows, Splits, Joins}
+use Rattle.atomic_table.specs.Table.{State, Me, step, keeps, Allows, Splits, Joins, Final, Seen}
 use Rattle.atomic_table.proofs.Lists.{at_set, at_snoc, at_longer, set_again}
 use Rattle.vm_memory_base.specs.Notes.{Note, note, IsNoted, rounds_of, greatest_of}
+use Rattle.vm_memory_base.proofs.NotesLemmas.{noted_left, noted_right, noted_either, greatest_both}
 use Rattle.vm_memory_base.specs.declared.bitmap.tracked.view.View.{View}
-use Rattle.vm_memory_base.specs.Tracked.{pages_of, round_of, rounds_before, seen_of, newcomer, note_of, both, IsPage, IsMarked, IsTrue, HasHarvests, IsKept, Holds, after_mark, after_look, after_harvest, Marks, Looks, Harvests, IsStillSet}
+use Rattle.vm_memory_base.specs.Tracked.{pages_of, round_of, rounds_before, seen_of, newcomer, note_of, both, IsPage, IsMarked, IsTrue, HasHarvests, IsKept, Holds, after_mark, after_look, after_harvest, Marks, Looks, Harvests, IsStillSet, IsLeft}
 
 -- ---- lists
 
@@ -446,3 +447,100 @@ notes_allowed count id v s kept at =
     subst (λ (l : List View). IsKept count s.words (l ++ note_of v ∷ [])) (sym (set_again s.views id v at))
     (added_keeps count s.words s.views kept (note_of v) refl
     (record { marks = λ w r p h. absurd h; sightings = λ w r p h. absurd h; rounds = (kept.true_of id v at).rounds }))
+
+-- ---- two views made one
+
+module _ (count : ℕ) (words : List ℕ) (views : List View) (kept : IsKept count words views) (id : ℕ) (v u : View)
+    (at : get_elem? views id ≡ some v) (same : u.harvests ≡ v.harvests) (says : IsTrue words kept.harvests u)
+    (more : (w r p : ℕ) → IsNoted w r p v.marks → IsNoted w r p u.marks) where
+  told_keeps : IsKept count words (set views id u)
+  told_keeps = record {
+    count_is = kept.count_is;
+    harvests = kept.harvests;
+    first = still_first count words views kept id v u at same;
+    alone = still_alone count words views kept id v u at same;
+    rounds = kept.rounds;
+    true_of = of_views views id u (λ j x. IsTrue words kept.harvests x) says (λ j x _ e. kept.true_of j x e);
+    marked = λ w r p h. still_marked count words views kept id v u at w r p (more w r p) (kept.marked w r p h);
+  }
+
+both_true : (words : List ℕ) (hs : List Note) (v w : View) → IsTrue words hs v → IsTrue words hs w → IsTrue words hs (both v w)
+both_true words harvests v w one two = record {
+  marks = λ k r p h. ⊎_elim (λ n. two.marks k r p n) (λ n. one.marks k r p n) (noted_either k r p w.marks v.marks h);
+  sightings = λ k r p h. ⊎_elim (λ n. two.sightings k r p n) (λ n. one.sightings k r p n) (noted_either k r p w.sightings v.sightings h);
+  rounds = λ k. greatest_both k (round_of (slice_index words k)) w.rounds v.rounds (two.rounds k) (one.rounds k);
+}
+
+pub joins_allowed : (count id other : ℕ) (v w : View) → w.harvests ≡ []
+    → Joins {S = Unit {0}} (Holds count) id v other w (both v w) newcomer
+unfolding told_keeps
+joins_allowed count id other v w plain s kept at apart there =
+    let b : View = both v w in
+    let views : List View = set s.views id b in
+    let was : get_elem? s.views other ≡ some w = sym (set_off s.views id other b apart) ∙ there in
+    let one : IsKept count s.words views =
+    told_keeps count s.words s.views kept id v b at refl
+    (both_true s.words kept.harvests v w (kept.true_of id v at) (kept.true_of other w was))
+    (λ k r p h. noted_right k r p w.marks v.marks h) in
+    let none_there : newcomer.harvests ≡ w.harvests = sym plain in
+    let mine : get_elem? (set views other newcomer) id ≡ some b =
+    set_off views other id newcomer (λ e. apart (sym e)) ∙ set_at s.views id v b at in
+    record {
+      count_is = kept.count_is;
+      harvests = one.harvests;
+      first = still_first count s.words views one other w newcomer there none_there;
+      alone = still_alone count s.words views one other w newcomer there none_there;
+      rounds = kept.rounds;
+      true_of = of_views views other newcomer (λ j x. IsTrue s.words one.harvests x)
+          (record { marks = λ k r p h. absurd h; sightings = λ k r p h. absurd h; rounds = λ k. omega arith })
+          (λ j x _ e. one.true_of j x e);
+      marked = λ k r p h.
+          let m = kept.marked k r p h in
+          dite (ℕ_discrete m.0 other)
+          (λ (e : m.0 ≡ other).
+          let is : m.1 ≡ w = some-injective m.1 w (sym m.2 ∙ ap (get_elem? s.views) e ∙ was) in
+          (id, b, mine, noted_left k r p w.marks v.marks (subst (λ (y : View). IsNoted k r p y.marks) is m.3)))
+          (λ (ne : m.0 ≢ other).
+          dite (ℕ_discrete m.0 id)
+          (λ (e : m.0 ≡ id).
+          let is : m.1 ≡ v = some-injective m.1 v (sym m.2 ∙ ap (get_elem? s.views) e ∙ at) in
+          (id, b, mine, noted_right k r p w.marks v.marks (subst (λ (y : View). IsNoted k r p y.marks) is m.3)))
+          (λ (ne' : m.0 ≢ id).
+          (m.0, m.1, set_off views other m.0 newcomer ne ∙ (set_off s.views id m.0 b ne' ∙ m.2), m.3)));
+    }
+
+-- ---- the end
+
+elem_index : (l : List ℕ) (i n : ℕ) → get_elem? l i ≡ some n → slice_index l i ≡ n
+elem_index [] i n e = absurd (some-ne-none n (sym e))
+elem_index (x ∷ xs) zero n e = some-injective x n e
+elem_index (x ∷ xs) (suc i) n e = elem_index xs i n e
+
+-- one more of the words was read
+pub reads_more : (words pages : List ℕ) (i found page : ℕ) → i < length pages → get_elem? words i ≡ some found → page ≡ pages_of found
+    → ((k : ℕ) → k < i → slice_index pages k ≡ pages_of (slice_index words k))
+    → (k : ℕ) → k < i + 1 → slice_index (set pages i page) k ≡ pages_of (slice_index words k)
+reads_more words pages i found page fits e is all k h =
+    dite (ℕ_discrete k i)
+    (λ (eq : k ≡ i).
+    ap (slice_index (set pages i page)) eq ∙ get_or-set_same pages i page 0 fits ∙ is
+    ∙ ap pages_of (sym (elem_index words i found e)) ∙ ap (λ j. pages_of (slice_index words j)) (sym eq))
+    (λ (ne : k ≢ i). get_or-set_other pages i k page 0 ne ∙ all k (omega arith))
+
+pub closes : (count id : ℕ) → id ≡ 0 → (v : View) (words : List ℕ) (slots : List (Unit {0}))
+    → Final (Seen (Holds count) id v) words slots
+    → (pages : List ℕ) → ((k : ℕ) → k < length pages → slice_index pages k ≡ pages_of (slice_index words k)) → IsLeft v pages
+closes count id first v words slots end pages reads w r p inside noted =
+    let s = end.0 in
+    let kept = end.1.0 in
+    let at : get_elem? s.views 0 ≡ some v = ap (get_elem? s.views) (sym first) ∙ end.1.1 in
+    let own = kept.true_of 0 v at in
+    let same : v.harvests ≡ kept.harvests = ap (λ (x : View). x.harvests) (some-injective v kept.first.0 (sym at ∙ kept.first.1)) ∙ kept.first.2 in
+    let number : length (rounds_of w v.harvests) ≡ round_of (slice_index s.words w) =
+    ap (λ l. length (rounds_of w l)) same ∙ ap length (kept.rounds w) ∙ length-before (round_of (slice_index s.words w)) in
+    let page : slice_index pages w ≡ pages_of (slice_index s.words w) = reads w inside ∙ ap (λ l. pages_of (slice_index l w)) (sym end.2) in
+    ⊎_elim
+    (λ (h : (r ≡ round_of (slice_index s.words w)) × (bit_at (pages_of (slice_index s.words w)) p ≡ 1)).
+    inr (h.0 ∙ sym number, ap (λ n. bit_at n p) page ∙ h.1))
+    (λ h. inl (subst (IsNoted w r p) (sym same) h))
+    (⊎_elim (λ h. own.marks w r p h) (λ h. own.sightings w r p h) noted)

@@ -145,3 +145,10 @@ Sees page v w told =
     (found : ℕ) × (seen_of (page / 32) v ≤ round_of found) × (w ≡ after_look (page / 32) found v)
     × (told ≡ (bit_at (pages_of found) (page % 32) == 1))
     × (told ≡ false → IsNoted (page / 32) (round_of found) (page % 32) v.marks ⊎ IsNoted (page / 32) (round_of found) (page % 32) v.sightings → ⊥)
+
+-- Of what is noted as marked or as seen set, each page is in the harvest of its round or, in the open round, left
+abbrev pub IsLeft : View → List ℕ → Type 0
+IsLeft v words =
+    (word round page : ℕ) → word < length words → IsNoted word round page v.marks ⊎ IsNoted word round page v.sightings
+    → IsNoted word round page v.harvests
+    ⊎ ((round ≡ length (rounds_of word v.harvests)) × (bit_at (slice_index words word) page ≡ 1))

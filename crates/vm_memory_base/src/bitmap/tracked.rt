@@ -8,7 +8,7 @@ ghost use Rattle.vm_memory_base.specs.Tracked as tracked;
 mod plays;
 mod view;
 
-use self::plays::{Harvests, Looks, Marks, Newcomer, Rounds};
+use self::plays::{Both, Harvests, Looks, Marks, Newcomer, Rounds};
 use self::view::View;
 use atomic_table::{Seat, Shared, Table};
 use std::alloc::{AllocError, Global};
@@ -21,7 +21,8 @@ pub struct TrackedBitmap {
     count: usize,
     page_size: NonZeroUsize,
     ghost fits: { (table.shared.key ≡ table.shared.table_id.words)
-        × (table.shared.table_id.words ≡ max 1 (div_ceil count 32)) },
+        × (table.shared.table_id.words ≡ max 1 (div_ceil count 32))
+        × (table.shared.table_id.slots ≡ 0) },
 }
 
 /// What a thread marks a `TrackedBitmap` with.
@@ -212,6 +213,49 @@ impl TrackedBitmap {
             pages[word] = self.harvest_word(seat, word, *round);
         }
         *round += 1;
+    }
+
+    /// Hands what a marker knows to the harvester.
+    pub fn join(&self, harvester: &mut Harvester, marker: Marker)
+        requires own { (harvester.old.seat.table_id ≡ self.now.table.shared.table_id)
+            × (marker.seat.table_id ≡ self.now.table.shared.table_id) }
+        ensures same { harvester.new.seat.table_id ≡ harvester.old.seat.table_id }
+        ensures joins { harvester.new.seat.me.0 ≡ tracked.both harvester.old.seat.me.0 marker.seat.me.0 }
+    {
+        let Marker { seat } = marker;
+        self.table
+            .shared
+            .join_seat::<Both>(&mut harvester.seat, seat);
+    }
+
+    /// Ends the bitmap, and answers the pages that are set, as `get_and_reset` does. Both come back where there is no
+    /// memory for them.
+    pub fn close(
+        self,
+        harvester: Harvester,
+        alloc: Global,
+    ) -> Result<Vec<u32>, (TrackedBitmap, Harvester)>
+        requires own { harvester.seat.table_id ≡ self.table.shared.table_id }
+        ensures left { IfOk result (λ words. (length words.items ≡ div_ceil self.count 32)
+            × tracked.IsLeft harvester.seat.me.0 words.items) }
+        ensures refused { OnErr result (result ≡ Err (self, harvester)) }
+    {
+        let words = self.len().div_ceil(32);
+        let Ok(mut pages) = vec![in alloc; 0u32; words] else {
+            return Err((self, harvester));
+        };
+        let TrackedBitmap {
+            table,
+            count: _,
+            page_size: _,
+        } = self;
+        let Harvester { seat, round: _ } = harvester;
+        let closed = table.close_with(seat);
+        for word in 0..words {
+            pages[word] = pages_of(closed.word(word));
+        }
+        closed.free();
+        Ok(pages)
     }
 }
 
