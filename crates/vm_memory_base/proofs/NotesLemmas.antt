@@ -93,3 +93,40 @@ greatest_both w limit (x ∷ xs) ys h k =
     let first : greatest_of w xs ≤ limit = subst (λ (b : Bool). (if b then max x.round (greatest_of w xs) else greatest_of w xs) ≤ limit) (ne_eqb x.word w ne) h in
     subst (λ (b : Bool). (if b then max x.round (greatest_of w (xs ++ ys)) else greatest_of w (xs ++ ys)) ≤ limit) (sym (ne_eqb x.word w ne))
     (greatest_both w limit xs ys first k))
+
+pub greatest_left : (w : ℕ) (xs ys : List Note) → greatest_of w xs ≤ greatest_of w (xs ++ ys)
+greatest_left w [] ys = omega arith
+greatest_left w (x ∷ xs) ys =
+    let rest = greatest_left w xs ys in
+    dite (ℕ_discrete x.word w) (λ e. rw (eq-eqb x.word w e) (omega (arith, rest))) (λ ne. rw (ne_eqb x.word w ne) rest)
+
+pub greatest_right : (w : ℕ) (xs ys : List Note) → greatest_of w ys ≤ greatest_of w (xs ++ ys)
+greatest_right w [] ys = omega arith
+greatest_right w (x ∷ xs) ys =
+    let rest = greatest_right w xs ys in
+    dite (ℕ_discrete x.word w) (λ e. rw (eq-eqb x.word w e) (omega (arith, rest))) (λ ne. rw (ne_eqb x.word w ne) rest)
+
+greatest_more : (w v round pages : ℕ) (notes : List Note) → greatest_of w notes ≤ greatest_of w (note v round pages ∷ notes)
+greatest_more w v round pages notes = greatest_right w (note v round pages ∷ []) notes
+
+greatest_here : (w round pages : ℕ) (notes : List Note) → round ≤ greatest_of w (note w round pages ∷ notes)
+greatest_here w round pages notes = rw (eq-eqb w w refl) (omega arith)
+
+pub gathered-greatest : (word round : ℕ) (xs : List ℕ) (notes : List Note) (w : ℕ)
+    → greatest_of w notes ≤ greatest_of w (gathered word round xs notes)
+gathered-greatest word round [] notes w = omega arith
+gathered-greatest word round (x ∷ xs) notes w =
+    let first = greatest_more w word round x notes in
+    let rest = gathered-greatest (word + 1) round xs (note word round x ∷ notes) w in omega (arith, first, rest)
+
+pub gathered-seen : (word round : ℕ) (xs : List ℕ) (notes : List Note) (w : ℕ) → word ≤ w → w < word + length xs
+    → round ≤ greatest_of w (gathered word round xs notes)
+gathered-seen word round [] notes w h k = absurd (omega arith)
+gathered-seen word round (x ∷ xs) notes w h k =
+    dite (ℕ_discrete word w)
+        (λ (e : word ≡ w).
+            let first = greatest_here w round x notes in
+            let rest : greatest_of w (note w round x ∷ notes) ≤ greatest_of w (gathered (word + 1) round xs (note word round x ∷ notes)) =
+                subst (λ j. greatest_of w (note j round x ∷ notes) ≤ greatest_of w (gathered (word + 1) round xs (note word round x ∷ notes))) e
+                    (gathered-greatest (word + 1) round xs (note word round x ∷ notes) w) in omega (arith, first, rest))
+        (λ (ne : word ≢ w). gathered-seen (word + 1) round xs (note word round x ∷ notes) w (omega arith) (omega arith))

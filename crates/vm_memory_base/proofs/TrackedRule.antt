@@ -6,7 +6,7 @@ use Rattle.std.proofs.lemmas.Nat.{or_shr, or_mod}
 use Rattle.std.specs.Int.Bits.{or_zero_r}
 use Rattle.std.proofs.lemmas.Bool.Decides.{nat_tests}
 use Rattle.std.proofs.lemmas.Nat.Bits.{bit_at_or, bit_at-zero, bit_at-lt}
-use Rattle.std.proofs.lemmas.List.{length-replicate}
+use Rattle.std.proofs.lemmas.List.{length-replicate, set-get_or}
 use mathlib.Core.Option.{some, none, some-injective, some-ne-none}
 use mathlib.Core.Logic.{dite}
 use native.Mathlib.Decide.{ℕ_discrete}
@@ -14,9 +14,9 @@ use lib.ListN.{get_elem?}
 use Rattle.atomic_table.specs.Table.{State, Me, step, keeps, Allows, Splits, Joins, Final, Seen}
 use Rattle.atomic_table.proofs.Lists.{at_set, at_snoc, at_longer, set_again}
 use Rattle.vm_memory_base.specs.Notes.{Note, note, IsNoted, rounds_of, greatest_of}
-use Rattle.vm_memory_base.proofs.NotesLemmas.{noted_left, noted_right, noted_either, greatest_both}
+use Rattle.vm_memory_base.proofs.NotesLemmas.{noted_left, noted_right, noted_either, greatest_both, greatest_left, greatest_right}
 use Rattle.vm_memory_base.specs.declared.bitmap.tracked.view.View.{View}
-use Rattle.vm_memory_base.specs.Tracked.{pages_of, round_of, rounds_before, seen_of, newcomer, note_of, both, IsPage, IsMarked, IsTrue, HasHarvests, IsKept, Holds, after_mark, after_look, after_harvest, Marks, Looks, Harvests, IsStillSet, IsLeft}
+use Rattle.vm_memory_base.specs.Tracked.{pages_of, round_of, rounds_before, seen_of, newcomer, note_of, both, IsPage, IsMarked, IsTrue, HasHarvests, IsKept, Holds, after_mark, after_look, after_harvest, Marks, Looks, Harvests, Counts, IsStillSet, IsLeft, AreHarvested, AreSeen}
 
 -- ---- lists
 
@@ -544,3 +544,48 @@ closes count id first v words slots end pages reads w r p inside noted =
     inr (h.0 ∙ sym number, ap (λ n. bit_at n p) page ∙ h.1))
     (λ h. inl (subst (IsNoted w r p) (sym same) h))
     (⊎_elim (λ h. own.marks w r p h) (λ h. own.sightings w r p h) noted)
+
+-- ---- a load that counts
+
+counts_first : (count slots i : ℕ) (v : View) (c : List (ℕ × Unit {0}))
+    → Allows (Holds count) slots 0 (v, c) i (λ n. n) (Counts (step slots i 0 0 none) (v, c))
+counts_first count slots i v c s kept homes at word_fits =
+    let same : v.harvests ≡ kept.harvests = ap (λ (x : View). x.harvests) (some-injective v kept.first.0 (sym at ∙ kept.first.1)) ∙ kept.first.2 in
+    let own = kept.true_of 0 v at in
+    let words : set s.words i (slice_index s.words i) ≡ s.words = set-get_or s.words i 0 in
+    let views : set s.views 0 v ≡ s.views = set_again s.views 0 v at in (
+      v,
+      keeps,
+      tt,
+      subst (λ (y : List ℕ × List View). IsKept count y.0 y.1) (λ j. (sym words j, sym views j)) kept,
+      (
+        (λ w.
+            let number : length (rounds_of w v.harvests) ≡ round_of (slice_index s.words w) =
+                ap (λ l. length (rounds_of w l)) same ∙ ap length (kept.rounds w) ∙ length-before (round_of (slice_index s.words w)) in
+            subst (λ k. seen_of w v ≤ k) (sym number) (own.rounds w)),
+        refl,
+      ),
+    )
+
+pub counts_allowed : (count slots id i : ℕ) → id ≡ 0 → (v : View) (c : List (ℕ × Unit {0}))
+    → Allows (Holds count) slots id (v, c) i (λ n. n) (Counts (step slots i 0 0 none) (v, c))
+counts_allowed count slots id i first v c =
+    subst (λ k. Allows (Holds count) slots k (v, c) i (λ n. n) (Counts (step slots i 0 0 none) (v, c))) (sym first)
+        (counts_first count slots i v c)
+
+-- each of the two has seen what the other saw, and the harvester all that it opened
+pub meets : (w : ℕ) (mine his : View) → length (rounds_of w his.harvests) ≤ seen_of w his
+    → seen_of w (both his (note_of mine)) ≤ length (rounds_of w his.harvests)
+    → seen_of w (both mine (note_of (both his (note_of mine)))) ≡ length (rounds_of w his.harvests)
+meets w mine his least most =
+    let all : List Note = mine.rounds ++ his.rounds in
+    let a = greatest_left w mine.rounds his.rounds in
+    let b = greatest_right w mine.rounds his.rounds in
+    let c = greatest_left w all mine.rounds in
+    let d = greatest_both w (length (rounds_of w his.harvests)) all mine.rounds most (omega (arith, a, most)) in
+    omega (arith, b, c, d, least)
+
+pub still_harvested : (words round : ℕ) (v w : View) → AreHarvested words round v.harvests → AreSeen words round v
+    → AreHarvested words round (both v w).harvests × AreSeen words round (both v w)
+still_harvested words round v w all seen =
+    (all, λ k h. let a = seen k h in let b = greatest_right k w.rounds v.rounds in omega (arith, a, b))

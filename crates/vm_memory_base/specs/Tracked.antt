@@ -138,6 +138,19 @@ after_harvests round words v =
 abbrev pub AreHarvested : ℕ → ℕ → List Note → Type 0
 AreHarvested words round harvests = (word : ℕ) → word < words → length (rounds_of word harvests) ≡ round
 
+-- of each of so many words, this round was seen
+abbrev pub AreSeen : ℕ → ℕ → View → Type 0
+AreSeen words round v = (word : ℕ) → word < words → round ≤ seen_of word v
+
+-- the harvester saw no round but those that it opened
+abbrev pub Counts : Step (Unit {0}) → Me (Unit {0}) View → ℕ → Me (Unit {0}) View → Type 0
+Counts s me found after =
+    ((word : ℕ) → seen_of word me.0 ≤ length (rounds_of word me.0.harvests)) × (after ≡ me)
+
+-- the same but for the rounds that were seen
+abbrev pub HasSameRecords : View → View → Type 0
+HasSameRecords v w = (w.marks ≡ v.marks) × (w.sightings ≡ v.sightings) × (w.harvests ≡ v.harvests)
+
 -- A look at a page: some round of its word is seen, no earlier than the last that was seen, with the pages that are
 -- then set. Where the page is told to be clean, it was not marked and not seen set in that round
 abbrev pub Sees : ℕ → View → View → Bool → Type 0

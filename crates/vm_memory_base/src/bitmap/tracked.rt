@@ -1,5 +1,5 @@
 //! A bitmap that several threads mark while one harvests.
-ghost use Rattle.std.specs.Prelude.{◌≡◌, ◌+◌, ◌-◌, ◌/◌, ◌^◌, ◌<◌, ◌≤◌, ◌↔◌, [], false, max, length, IfOk, OnErr, Err};
+ghost use Rattle.std.specs.Prelude.{◌≡◌, ℕ, ◌+◌, ◌-◌, ◌/◌, ◌^◌, ◌<◌, ◌≤◌, ◌↔◌, [], false, max, length, IfOk, OnErr, Err};
 ghost use Rattle.std.specs.NonZero.{non_zero_usize_get};
 ghost use Rattle.std.specs.Int.{div_ceil};
 ghost use Rattle.vm_memory_base.specs.Notes.{rounds_of};
@@ -8,7 +8,7 @@ ghost use Rattle.vm_memory_base.specs.Tracked as tracked;
 mod plays;
 mod view;
 
-use self::plays::{Both, Harvests, Looks, Marks, Newcomer, Rounds};
+use self::plays::{Both, Counts, Harvests, Looks, Marks, Newcomer, Note, Rounds};
 use self::view::View;
 use atomic_table::{Seat, Shared, Table};
 use std::alloc::{AllocError, Global};
@@ -38,7 +38,8 @@ pub struct Harvester {
     seat: Seat<(), View>,
     round: u64,
     ghost harvests_all: { (seat.id ≡ 0) × (round < 2 ^ 32)
-        × tracked.AreHarvested seat.table_id.words round seat.me.0.harvests },
+        × tracked.AreHarvested seat.table_id.words round seat.me.0.harvests
+        × tracked.AreSeen seat.table_id.words round seat.me.0 },
 }
 
 /// Why no page was harvested.
@@ -153,6 +154,15 @@ impl TrackedBitmap {
         (pages_of(found) >> (page % 32)) & 1 == 1
     }
 
+    /// Whether the page of the byte at `addr` was set at some moment. It takes no marker, and promises nothing.
+    pub fn glance(&self, addr: usize) -> bool {
+        let page = addr / self.page_size.get();
+        if page >= self.len() {
+            return false;
+        }
+        (pages_of(self.table.shared.peek(page / 32)) >> (page % 32)) & 1 == 1
+    }
+
     // Takes the pages of one word, and opens its next round.
     fn harvest_word(&self, seat: &mut Seat<(), View>, word: usize, round: u64) -> u32
         requires own { seat.old.table_id ≡ self.now.table.shared.table_id }
@@ -226,6 +236,25 @@ impl TrackedBitmap {
         self.table
             .shared
             .join_seat::<Both>(&mut harvester.seat, seat);
+    }
+
+    /// From then on the marker has seen each round at which the harvester stands.
+    pub fn meet(&self, marker: &mut Marker, harvester: &mut Harvester)
+        requires own { (marker.old.seat.table_id ≡ self.now.table.shared.table_id)
+            × (harvester.old.seat.table_id ≡ self.now.table.shared.table_id) }
+        ensures same { (marker.new.seat.table_id ≡ marker.old.seat.table_id)
+            × (harvester.new.seat.table_id ≡ harvester.old.seat.table_id) }
+        ensures records { tracked.HasSameRecords marker.old.seat.me.0 marker.new.seat.me.0
+            × tracked.HasSameRecords harvester.old.seat.me.0 harvester.new.seat.me.0 }
+        ensures seen { (word : ℕ) → word < div_ceil self.now.count 32
+            → tracked.seen_of word marker.new.seat.me.0 ≡ length (rounds_of word harvester.new.seat.me.0.harvests) }
+    {
+        let shared = &self.table.shared;
+        let told = shared.split_seat::<Note>(&mut marker.seat);
+        shared.join_seat::<Both>(&mut harvester.seat, told);
+        shared.load::<Counts>(&mut harvester.seat, 0);
+        let told = shared.split_seat::<Note>(&mut harvester.seat);
+        shared.join_seat::<Both>(&mut marker.seat, told);
     }
 
     /// Ends the bitmap, and answers the pages that are set, as `get_and_reset` does. Both come back where there is no

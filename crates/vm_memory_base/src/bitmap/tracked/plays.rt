@@ -31,6 +31,12 @@ impl Play<(), View> for Harvests {
     ghost then = { tracked.Harvests };
 }
 
+pub struct Counts;
+
+impl Play<(), View> for Counts {
+    ghost then = { tracked.Counts };
+}
+
 // A seat that knows nothing.
 pub struct Newcomer;
 
