@@ -12,5 +12,7 @@ pub mod ArrayLemmas
 pub mod BitmapLemmas
 pub mod FlagsLemmas
 pub mod WordLemmas
+pub mod NotesLemmas
+pub mod TrackedRule
 pub mod PieceLemmas
 pub mod TransferLemmas

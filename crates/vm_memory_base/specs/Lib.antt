@@ -7,6 +7,9 @@ pub mod Words
 pub mod Slices
 pub mod Events
 pub mod OptionalBitmap
+pub mod Notes
+pub mod Tracked
+pub mod Markers
 pub mod Permissions
 pub mod Runs
 pub mod Table

@@ -6,10 +6,12 @@ ghost use Rattle.vm_memory_base.specs.Pages as page_set;
 mod atomic;
 mod exclusive;
 mod slice;
+mod tracked;
 
 pub use self::atomic::{AtomicBitmap, SharedBitmap};
 pub use self::exclusive::ExclusiveBitmap;
 pub use self::slice::{ArcSlice, BaseSlice, RefSlice};
+pub use self::tracked::{HarvestError, Harvester, Marker, TrackedBitmap};
 use std::alloc::{AllocError, Global};
 
 /// Tracks which parts of a range of bytes were written.

@@ -1,0 +1,34 @@
+use Rattle.std.proofs.Common.{◌≡◌, ℕ, ◌+◌, length-append, List, [], ◌∷◌, ◌++◌, length, sym, ap, ◌∙◌, subst, ⊎_elim, arith}
+use mathlib.Core.Option.{some}
+use lib.ListN.{get_elem?}
+use Rattle.atomic_table.specs.Seated.{TableId}
+use Rattle.atomic_table.proofs.Lists.{at_snoc}
+use Rattle.vm_memory_base.specs.declared.bitmap.tracked.Marker.{Marker}
+use Rattle.vm_memory_base.specs.Tracked.{newcomer}
+use Rattle.vm_memory_base.specs.Markers.{AreNew}
+use Rattle.vm_memory_base.proofs.TrackedRule.{deals_allowed}
+use Rattle.vm_memory_base.proofs.bitmap.tracked.Marker.deal.Goals as goal
+
+one_more : (table : TableId) (markers : List Marker) (m : Marker) → AreNew table markers
+    → (m.seat.table_id ≡ table) × (m.seat.me.0 ≡ newcomer) → AreNew table (markers ++ m ∷ [])
+one_more table markers m all is k x e =
+    ⊎_elim (λ h. all k x h)
+    (λ (h : m ≡ x). subst (λ (y : Marker). (y.seat.table_id ≡ table) × (y.seat.me.0 ≡ newcomer)) h is)
+    (at_snoc markers m x k e)
+
+pub split_seat-requires : goal.split_seat-requires
+split_seat-requires c =
+    (c.loop.invariant.0 ∙ c.requires.own, c.requires.some, deals_allowed c.args.shared.now.key c.loop.seat.id c.loop.seat.me.0)
+
+pub loop-preserved : goal.loop-preserved
+loop-preserved c =
+    let inv = c.loop.invariant in
+    let s = c.split_seat.ensures in
+    let items = c.in_ok-push.ensures.items in (
+      s.0 ∙ inv.0,
+      s.1 ∙ inv.1,
+      s.2 ∙ inv.2,
+      ap length items ∙ length-append c.loop.markers.items _ ∙ ap (λ (n : ℕ). n + 1) inv.3,
+      subst (AreNew c.args.shared.now.table_id) (sym items)
+          (one_more c.args.shared.now.table_id c.loop.markers.items _ inv.4 (s.3 ∙ (inv.0 ∙ c.requires.own), ap (λ m. m.0) s.4)),
+    )

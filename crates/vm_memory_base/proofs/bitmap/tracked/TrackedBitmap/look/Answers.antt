@@ -1,0 +1,30 @@
+use Rattle.std.proofs.Common.{◌≡◌, ◌⊎◌, ℕ, ◌/◌, ◌%◌, ◌^◌, false, true, Bool, ap, sym, ◌∙◌, subst, arith}
+use Rattle.std.specs.Int.{bit_at}
+use Rattle.std.proofs.lemmas.Nat.Bits.{shr_and_one}
+use Rattle.std.proofs.lemmas.Bool.{true≢false}
+use Rattle.std.specs.Prelude.{nat_eq, ◌==◌, bit_and}
+use Rattle.vm_memory_base.specs.Tracked.{pages_of}
+use Rattle.vm_memory_base.proofs.TrackedRule.{looks_allowed}
+use Rattle.vm_memory_base.proofs.bitmap.tracked.TrackedBitmap.look.Goals as goal
+
+pub load-found-requires : goal.load-found-requires
+load-found-requires c =
+    let fits = c.args.self.now.fits in (
+      c.requires.own,
+      omega (arith, fits.1, c.requires.inside),
+      looks_allowed c.args.self.now.table.shared.key c.args.self.now.table.shared.table_id.slots c.args.marker.now.seat.id (c.args.page / 32)
+          (omega (arith, fits.0, fits.1, c.requires.inside)) c.args.marker.now.seat.me.0 c.args.marker.now.seat.me.1,
+    )
+
+pub returns-clause-sees : goal.returns-clause-sees
+returns-clause-sees c =
+    let told = c.load-found.ensures.2 in
+    let k : ℕ = c.args.page % 32 in
+    let same : nat_eq (bit_and (c.pages_of.result / 2 ^ k) 1) 1 ≡ (bit_at (pages_of c.load-found.result) k == 1) =
+    ap (λ (n : ℕ). nat_eq n 1) (shr_and_one c.pages_of.result k ∙ ap (λ (n : ℕ). bit_at n k) c.pages_of.ensures) in (
+      c.load-found.result,
+      told.0,
+      ap (λ m. m.0) told.2,
+      same,
+      λ clean noted. true≢false (sym (ap (λ (n : ℕ). n == 1) (told.1 k noted)) ∙ (sym same ∙ clean)),
+    )

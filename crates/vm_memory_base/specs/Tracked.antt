@@ -1,0 +1,167 @@
+-- The rule of a bitmap that several threads mark while one harvests, and what each step tells.
+-- The low half of a word has 32 pages as bits, and its high half the number of its harvests, its round.
+use Rattle.std.specs.Prelude.{ℕ, zero, suc, ◌+◌, ◌-◌, ◌/◌, ◌%◌, ◌^◌, ◌<◌, ◌≤◌, ◌≡◌, ◌≢◌, ◌⊎◌, List, [], ◌∷◌, ◌++◌, map, length, slice_index, min, Bool, false, ◌==◌, nat_lt, if◌then◌else◌}
+use Rattle.std.specs.Int.{bit_at}
+use mathlib.Core.Option.{some}
+use lib.ListN.{get_elem?}
+use Rattle.atomic_table.specs.Table.{State, Me, Step}
+use Rattle.vm_memory_base.specs.Pages.{last_byte}
+use Rattle.vm_memory_base.specs.Notes.{Note, note, IsNoted, rounds_of, greatest_of, gathered}
+use Rattle.vm_memory_base.specs.declared.bitmap.tracked.view.View.{View}
+
+abbrev pub pages_of : ℕ → ℕ
+pages_of word = word % 2 ^ 32
+
+abbrev pub round_of : ℕ → ℕ
+round_of word = word / 2 ^ 32
+
+-- the rounds before this one, the latest first
+abbrev pub rounds_before : ℕ → List ℕ
+rounds_before zero = []
+rounds_before (suc round) = round ∷ rounds_before round
+
+-- who knows nothing yet
+abbrev pub newcomer : View
+newcomer = record { marks = []; sightings = []; harvests = []; rounds = [] }
+
+-- the greatest round that was seen of a word
+abbrev pub seen_of : ℕ → View → ℕ
+seen_of word v = greatest_of word v.rounds
+
+-- the page was taken in this round of the word, or the round is open and the page is set
+abbrev pub IsPage : List ℕ → List Note → ℕ → ℕ → ℕ → Type 0
+IsPage words harvests word round page =
+    ((round ≡ round_of (slice_index words word)) × (bit_at (pages_of (slice_index words word)) page ≡ 1))
+    ⊎ IsNoted word round page harvests
+
+-- someone marked the page of the word in this round
+abbrev pub IsMarked : List View → ℕ → ℕ → ℕ → Type 0
+IsMarked views word round page =
+    (id : ℕ) × (v : View) × (get_elem? views id ≡ some v) × IsNoted word round page v.marks
+
+-- what the notes of one view say is so
+pub record IsTrue (words : List ℕ) (harvests : List Note) (v : View) : Type 0 where
+  pub marks : (word round page : ℕ) → IsNoted word round page v.marks → IsPage words harvests word round page
+  pub sightings : (word round page : ℕ) → IsNoted word round page v.sightings → IsPage words harvests word round page
+  pub rounds : (word : ℕ) → seen_of word v ≤ round_of (slice_index words word)
+
+-- the first seat has these harvests
+abbrev pub HasHarvests : List View → List Note → Type 0
+HasHarvests views harvests = (v : View) × (get_elem? views 0 ≡ some v) × (v.harvests ≡ harvests)
+
+-- The first seat is the harvester's, and it alone harvests. A word's round is the number of its harvests, one in
+-- each round before it. What was marked or seen is in the harvest of its round or still set, and each page that was
+-- harvested or is set was marked in its round
+pub record IsKept (count : ℕ) (words : List ℕ) (views : List View) : Type 0 where
+  pub count_is : length words ≡ count
+  pub harvests : List Note
+  pub first : HasHarvests views harvests
+  pub alone : (id : ℕ) (v : View) → get_elem? views id ≡ some v → id ≢ 0 → v.harvests ≡ []
+  pub rounds : (word : ℕ) → rounds_of word harvests ≡ rounds_before (round_of (slice_index words word))
+  pub true_of : (id : ℕ) (v : View) → get_elem? views id ≡ some v → IsTrue words harvests v
+  pub marked : (word round page : ℕ) → IsPage words harvests word round page → IsMarked views word round page
+
+abbrev pub Holds : ℕ → State (Unit {0}) View → Type 0
+Holds count s = IsKept count s.words s.views
+
+-- the view after these pages of a word were marked in this round
+abbrev pub after_mark : ℕ → ℕ → ℕ → View → View
+after_mark word round pages v =
+    record { marks = note word round pages ∷ v.marks; sightings = v.sightings; harvests = v.harvests; rounds = note word round 0 ∷ v.rounds }
+
+-- the view after a word was seen
+abbrev pub after_look : ℕ → ℕ → View → View
+after_look word found v =
+    record { marks = v.marks; sightings = note word (round_of found) (pages_of found) ∷ v.sightings; harvests = v.harvests; rounds = note word (round_of found) 0 ∷ v.rounds }
+
+-- the view after these pages of a word were taken in this round
+abbrev pub after_harvest : ℕ → ℕ → ℕ → View → View
+after_harvest word round pages v =
+    record { marks = v.marks; sightings = v.sightings; harvests = note word round pages ∷ v.harvests; rounds = note word (round + 1) 0 ∷ v.rounds }
+
+-- a mark of the pages that the step was given
+abbrev pub Marks : Step (Unit {0}) → Me (Unit {0}) View → ℕ → Me (Unit {0}) View → Type 0
+Marks s me found after =
+    (seen_of s.word me.0 ≤ round_of found) × (after ≡ (after_mark s.word (round_of found) s.first me.0, me.1))
+
+-- a page that was marked or seen set in the round that is found is still set
+abbrev pub IsStillSet : ℕ → ℕ → View → Type 0
+IsStillSet word found v =
+    (page : ℕ) → IsNoted word (round_of found) page v.marks ⊎ IsNoted word (round_of found) page v.sightings
+    → (bit_at (pages_of found) page ≡ 1)
+
+-- a look at a word
+abbrev pub Looks : Step (Unit {0}) → Me (Unit {0}) View → ℕ → Me (Unit {0}) View → Type 0
+Looks s me found after =
+    (seen_of s.word me.0 ≤ round_of found) × IsStillSet s.word found me.0
+    × (after ≡ (after_look s.word found me.0, me.1))
+
+-- a harvest of a word, by whom all its harvests were
+abbrev pub Harvests : Step (Unit {0}) → Me (Unit {0}) View → ℕ → Me (Unit {0}) View → Type 0
+Harvests s me found after =
+    (length (rounds_of s.word me.0.harvests) ≡ round_of found)
+    × (after ≡ (after_harvest s.word (round_of found) (pages_of found) me.0, me.1))
+
+-- what a note of the rounds that were seen tells
+abbrev pub note_of : View → View
+note_of v = record { marks = []; sightings = []; harvests = []; rounds = v.rounds }
+
+-- what the first of two then knows
+abbrev pub both : View → View → View
+both v w =
+    record { marks = w.marks ++ v.marks; sightings = w.sightings ++ v.sightings; harvests = v.harvests; rounds = w.rounds ++ v.rounds }
+
+-- a mark of one page, in a round no earlier than the last that was seen of its word
+abbrev pub MarksPage : ℕ → View → View → Type 0
+MarksPage page v w =
+    (round : ℕ) × (seen_of (page / 32) v ≤ round) × (w ≡ after_mark (page / 32) round (2 ^ (page % 32)) v)
+
+-- a mark of so many pages from the first on, ascending
+abbrev pub MarksPages : ℕ → ℕ → View → View → Type 0
+MarksPages zero first v w = w ≡ v
+MarksPages (suc n) first v w = (u : View) × MarksPages n first v u × MarksPage (first + n) u w
+
+-- the page behind the last that a mark of len bytes from addr on takes, of count pages of this size
+abbrev pub end_page : ℕ → ℕ → ℕ → ℕ → ℕ
+end_page size count addr len = if nat_lt 0 len then min (last_byte addr len / size + 1) count else 0
+
+-- a mark of len bytes from addr on: of the pages from that of its first byte to that of its last
+abbrev pub MarksRange : ℕ → ℕ → ℕ → ℕ → View → View → Type 0
+MarksRange size count addr len v w = MarksPages (end_page size count addr len - addr / size) (addr / size) v w
+
+-- the view after these pages of the words, from the first on, were taken in this round
+abbrev pub after_harvests : ℕ → List ℕ → View → View
+after_harvests round words v =
+    record { marks = v.marks; sightings = v.sightings; harvests = gathered 0 round words v.harvests; rounds = gathered 0 (round + 1) (map (λ _. 0) words) v.rounds }
+
+-- each of so many words was harvested so many times
+abbrev pub AreHarvested : ℕ → ℕ → List Note → Type 0
+AreHarvested words round harvests = (word : ℕ) → word < words → length (rounds_of word harvests) ≡ round
+
+-- of each of so many words, this round was seen
+abbrev pub AreSeen : ℕ → ℕ → View → Type 0
+AreSeen words round v = (word : ℕ) → word < words → round ≤ seen_of word v
+
+-- the harvester saw no round but those that it opened
+abbrev pub Counts : Step (Unit {0}) → Me (Unit {0}) View → ℕ → Me (Unit {0}) View → Type 0
+Counts s me found after =
+    ((word : ℕ) → seen_of word me.0 ≤ length (rounds_of word me.0.harvests)) × (after ≡ me)
+
+-- the same but for the rounds that were seen
+abbrev pub HasSameRecords : View → View → Type 0
+HasSameRecords v w = (w.marks ≡ v.marks) × (w.sightings ≡ v.sightings) × (w.harvests ≡ v.harvests)
+
+-- A look at a page: some round of its word is seen, no earlier than the last that was seen, with the pages that are
+-- then set. Where the page is told to be clean, it was not marked and not seen set in that round
+abbrev pub Sees : ℕ → View → View → Bool → Type 0
+Sees page v w told =
+    (found : ℕ) × (seen_of (page / 32) v ≤ round_of found) × (w ≡ after_look (page / 32) found v)
+    × (told ≡ (bit_at (pages_of found) (page % 32) == 1))
+    × (told ≡ false → IsNoted (page / 32) (round_of found) (page % 32) v.marks ⊎ IsNoted (page / 32) (round_of found) (page % 32) v.sightings → ⊥)
+
+-- Of what is noted as marked or as seen set, each page is in the harvest of its round or, in the open round, left
+abbrev pub IsLeft : View → List ℕ → Type 0
+IsLeft v words =
+    (word round page : ℕ) → word < length words → IsNoted word round page v.marks ⊎ IsNoted word round page v.sightings
+    → IsNoted word round page v.harvests
+    ⊎ ((round ≡ length (rounds_of word v.harvests)) × (bit_at (slice_index words word) page ≡ 1))

@@ -1,0 +1,22 @@
+// What a marker or the harvester knows.
+ghost use Rattle.std.specs.Prelude.{List};
+ghost use Rattle.std.specs.Borrow.{ftrue};
+ghost use Rattle.vm_memory_base.specs.Notes.{Note, notes_coded};
+
+use std::marker::Model;
+
+// No value of it is made.
+pub struct View {
+    // The pages that it marked.
+    pub ghost marks: { List Note } by { notes_coded },
+    // The pages that it saw set.
+    pub ghost sightings: { List Note } by { notes_coded },
+    // The pages that it took, a note for each harvest of a word.
+    pub ghost harvests: { List Note } by { notes_coded },
+    // The rounds that it saw of the words.
+    pub ghost rounds: { List Note } by { notes_coded },
+}
+
+impl Model for View {
+    ghost also_owns = { λ _. ftrue };
+}
