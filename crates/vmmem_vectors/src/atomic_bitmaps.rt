@@ -8,8 +8,8 @@ use std::test::Fail;
 use std::thread::{self, Threads};
 use vm_memory::{
     ArcSlice, AtomicBitmap, BaseSlice, Bitmap, BitmapId, Bytes, ExclusiveBitmap, GuestAddress,
-    GuestMemoryMmap, HostMemory, IommuMemory, NewBitmap, Permissions, RefSlice,
-    SharedBitmap, TableIommu, event_law,
+    GuestMemoryMmap, HostMemory, IommuMemory, NewBitmap, Permissions, RefSlice, SharedBitmap,
+    TableIommu, event_law,
 };
 
 // What is done to a bitmap.
@@ -263,12 +263,8 @@ fn bits_of_ranges(rt: HostRuntime) -> Result<(), Fail> {
 // The offsets below 0x800 from the first that is told to be dirty up to the first clean one behind it, and how many
 // are dirty.
 fn dirty_range<B: Bitmap>(bitmap: &B) -> (usize, usize, usize) {
-    let mut count = 0;
-    for offset in 0..0x800usize {
-        if bitmap.dirty_at(offset) {
-            count += 1;
-        }
-    }
+    let dirty = (0..0x800usize).filter(|offset| bitmap.dirty_at(*offset));
+    let count = dirty.count();
     let first = (0..0x800).position(|offset| bitmap.dirty_at(offset));
     let start = first.unwrap_or(0x800);
     let end = (start..0x800).position(|offset| !bitmap.dirty_at(offset));

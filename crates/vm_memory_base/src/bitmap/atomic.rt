@@ -117,13 +117,20 @@ impl AtomicBitmap {
         if len == 0 {
             return (0, 0);
         }
-        let last = start.saturating_add(len - 1) / self.page_size.get();
+        let page_size = self.page_size.get();
+        let first = start / page_size;
+        // Most ranges lie in one page, and need no second division.
+        let last = if len <= page_size - start % page_size {
+            first
+        } else {
+            start.saturating_add(len - 1) / page_size
+        };
         let end = if last < self.size {
             last + 1
         } else {
             self.size
         };
-        (start / self.page_size.get(), end)
+        (first, end)
     }
 
     /// Makes the pages of `len` bytes from `start` on dirty, one after another. Pages past the last are no pages.
