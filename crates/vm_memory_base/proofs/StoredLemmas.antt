@@ -645,6 +645,7 @@ put_one {K} first high r rs put new s l is e =
 pub put_two : {K : Type 0} (first last : ℕ) (r : AddressRun K) (rs put : List (AddressRun K)) → r.start ≡ last
     → first < last → put ≡ runs_below r.start rs ++ r ∷ runs_from (r.start + 1) rs
     → (runs_below first put ≡ runs_below first rs) × (runs_from last put ≡ r ∷ runs_from (last + 1) rs)
+    × (runs_below last put ≡ runs_below last rs)
 put_two {K} first last r rs put s l is =
     let k = r.start in
     let starts = from_starts (k + 1) rs in
@@ -654,7 +655,12 @@ put_two {K} first last r rs put s l is =
     ap (runs_below first) is ∙ outer_below first k rs (r ∷ runs_from (k + 1) rs) (omega arith) t in
     let b : runs_from k put ≡ r ∷ runs_from (k + 1) rs =
     ap (runs_from k) is ∙ from_of k (runs_below k rs) (r ∷ runs_from (k + 1) rs) (below_starts k rs) t in
-    (a, subst (λ (n : ℕ). runs_from n put ≡ r ∷ runs_from (n + 1) rs) s b)
+    let d : runs_below k put ≡ runs_below k rs =
+    ap (runs_below k) is ∙ outer_below k k rs (r ∷ runs_from (k + 1) rs) (omega arith) t in (
+      a,
+      subst (λ (n : ℕ). runs_from n put ≡ r ∷ runs_from (n + 1) rs) s b,
+      subst (λ (n : ℕ). runs_below n put ≡ runs_below n rs) s d,
+    )
 
 pub taken_back : {K : Type 0} (k : ℕ) (r : AddressRun K) (rs put new : List (AddressRun K)) → r.start ≡ k
     → AreAscending rs → runs_from k rs ≡ runs_from (k + 1) rs
@@ -803,3 +809,50 @@ module _ (rs found : List (AddressRun Mapping)) (h : IsCanonical same_mapping rs
     from_starts end rs,
     there.1,
   )
+
+-- ---- where the last run up to an address is known
+
+pub known : (last : Option (AddressRun Mapping)) (rs : List (AddressRun Mapping)) (limit : ℕ)
+    → IfSome last (λ r. runs_below limit rs ≡ runs_below r.start rs ++ r ∷ []) → (r : AddressRun Mapping)
+    → last ≡ Some r → runs_below limit rs ≡ runs_below r.start rs ++ r ∷ []
+known last rs limit h r is =
+    let told : IfSome (Some r) (λ r. runs_below limit rs ≡ runs_below r.start rs ++ r ∷ []) = rw is at h in
+    told
+
+-- where it starts below a lower limit too, it is the last of those
+pub last_stays : (low high : ℕ) (rs : List (AddressRun Mapping)) (r : AddressRun Mapping) → low ≤ high → r.start < low
+    → runs_below high rs ≡ runs_below r.start rs ++ r ∷ [] → runs_below high rs ≡ runs_below low rs
+last_stays low high rs r l m is =
+    let all : StartsBelow low (runs_below high rs) =
+    subst (StartsBelow low) (sym is)
+    (StartsBelow-append low (runs_below r.start rs) (r ∷ [])
+    (StartsBelow-weaker r.start low (runs_below r.start rs) (omega arith) (below_starts r.start rs)) (m, tt)) in
+    sym (below-all low (runs_below high rs) all) ∙ below_below low high rs l
+
+pub none_stay : (low high : ℕ) (rs : List (AddressRun Mapping)) → low ≤ high → runs_below high rs ≡ []
+    → runs_below low rs ≡ []
+none_stay low high rs l none = sym (below_below low high rs l) ∙ ap (runs_below low) none
+
+-- where no run starts between two addresses
+pub clear_from : (first mid high : ℕ) (rs : List (AddressRun Mapping)) → AreAscending rs → first ≤ mid → mid ≤ high
+    → runs_below high rs ≡ runs_below first rs → runs_from mid rs ≡ runs_from high rs
+clear_from first mid high rs h l m is =
+    let s : StartsBelow mid (runs_below high rs) =
+    subst (StartsBelow mid) (sym is) (StartsBelow-weaker first mid (runs_below first rs) l (below_starts first rs)) in
+    ap (runs_from mid) (sym (ascending_split high rs h))
+    ∙ from_of mid (runs_below high rs) (runs_from high rs) s
+    (StartFrom-weaker mid high (runs_from high rs) m (from_starts high rs))
+
+pub clear_lower : (first last : ℕ) (rs : List (AddressRun Mapping)) → first ≤ last
+    → runs_below (last + 1) rs ≡ runs_below first rs → runs_below last rs ≡ runs_below first rs
+clear_lower first last rs l is =
+    sym (below_below last (last + 1) rs (omega arith)) ∙ ap (runs_below last) is
+    ∙ below-all last (runs_below first rs)
+    (StartsBelow-weaker first last (runs_below first rs) l (below_starts first rs))
+
+pub put_clear : (first high : ℕ) (r : AddressRun Mapping) (rs put : List (AddressRun Mapping)) → r.start ≡ first
+    → put ≡ runs_below r.start rs ++ r ∷ runs_from (r.start + 1) rs → runs_from (first + 1) rs ≡ runs_from high rs
+    → put ≡ runs_below first rs ++ (r ∷ runs_from high rs)
+put_clear first high r rs put s is e =
+    subst (λ (n : ℕ). put ≡ runs_below n rs ++ (r ∷ runs_from (n + 1) rs)) s is
+    ∙ ap (λ (ys : List (AddressRun Mapping)). runs_below first rs ++ (r ∷ ys)) e
