@@ -156,9 +156,11 @@ ascending_from k (r ∷ rs) h =
 pub ascending_append : {K : Type 0} (k : ℕ) (xs ys : List (AddressRun K)) → AreAscending xs → StartsBelow k xs
     → AreAscending ys → StartFrom k ys → AreAscending (xs ++ ys)
 ascending_append k [] ys h b g s = g
-ascending_append k (r ∷ xs) ys h b g s =
-    (h.0, both (r.start + 1) xs ys h.1 (StartFrom-weaker (r.start + 1) k ys (omega arith) s),
-     ascending_append k xs ys h.2 b.1 g s)
+ascending_append k (r ∷ xs) ys h b g s = (
+  h.0,
+  both (r.start + 1) xs ys h.1 (StartFrom-weaker (r.start + 1) k ys (omega arith) s),
+  ascending_append k xs ys h.2 b.1 g s,
+)
   where
     both : {K : Type 0} (low : ℕ) (xs ys : List (AddressRun K)) → StartFrom low xs → StartFrom low ys
         → StartFrom low (xs ++ ys)
@@ -185,9 +187,11 @@ pub ascending_put : {K : Type 0} (r : AddressRun K) (rs : List (AddressRun K)) �
 ascending_put r rs pos h =
     ascending_append r.start (runs_below r.start rs) (r ∷ runs_from (r.start + 1) rs)
     (ascending_below r.start rs h) (below_starts r.start rs)
-    (pos, from_starts (r.start + 1) rs, ascending_from (r.start + 1) rs h)
-    (omega arith, StartFrom-weaker r.start (r.start + 1) (runs_from (r.start + 1) rs) (omega arith)
-    (from_starts (r.start + 1) rs))
+    (pos, from_starts (r.start + 1) rs, ascending_from (r.start + 1) rs h) (
+      omega arith,
+      StartFrom-weaker r.start (r.start + 1) (runs_from (r.start + 1) rs) (omega arith)
+          (from_starts (r.start + 1) rs),
+    )
 
 -- ---- what is stored
 
@@ -856,3 +860,21 @@ pub put_clear : (first high : ℕ) (r : AddressRun Mapping) (rs put : List (Addr
 put_clear first high r rs put s is e =
     subst (λ (n : ℕ). put ≡ runs_below n rs ++ (r ∷ runs_from (n + 1) rs)) s is
     ∙ ap (λ (ys : List (AddressRun Mapping)). runs_below first rs ++ (r ∷ ys)) e
+
+-- the last run up to an address goes, and it starts at the first that is asked for
+pub first_goes_last : (first high : ℕ) (r : AddressRun Mapping) (rs new : List (AddressRun Mapping)) → AreAscending rs
+    → r.start ≡ first → runs_below high rs ≡ runs_below r.start rs ++ r ∷ []
+    → new ≡ runs_below r.start rs ++ runs_from (r.start + 1) rs → new ≡ runs_below first rs ++ runs_from high rs
+first_goes_last first high r rs new h s is e =
+    let l : r.start < high = last_starts high (runs_below r.start rs) r
+    (subst (StartsBelow high) is (below_starts high rs)) in
+    let next : runs_from (r.start + 1) rs ≡ runs_from high rs =
+    ap (runs_from (r.start + 1)) (sym (ascending_split high rs h)
+    ∙ ap (λ (ys : List (AddressRun Mapping)). ys ++ runs_from high rs) is)
+    ∙ from_of (r.start + 1) (runs_below r.start rs ++ r ∷ []) (runs_from high rs)
+    (StartsBelow-append (r.start + 1) (runs_below r.start rs) (r ∷ [])
+    (StartsBelow-weaker r.start (r.start + 1) (runs_below r.start rs) (omega arith) (below_starts r.start rs))
+    (omega arith, tt))
+    (StartFrom-weaker (r.start + 1) high (runs_from high rs) (omega arith) (from_starts high rs)) in
+    let done = e ∙ ap (λ (ys : List (AddressRun Mapping)). runs_below r.start rs ++ ys) next in
+    subst (λ (n : ℕ). new ≡ runs_below n rs ++ runs_from high rs) s done

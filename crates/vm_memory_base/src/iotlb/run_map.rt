@@ -112,6 +112,9 @@ impl RunMap {
                 return;
             }
             self.remove(run.start());
+            if run.start() == first {
+                return;
+            }
         }
     }
 

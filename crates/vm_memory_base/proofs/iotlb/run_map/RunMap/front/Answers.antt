@@ -1,8 +1,8 @@
-use Rattle.std.proofs.Common.{◌≡◌, ◌+◌, ◌-◌, [], arith}
+use Rattle.std.proofs.Common.{◌≡◌, ◌+◌, [], arith}
 use Rattle.vm_memory_base.specs.Change.{EndBelow, runs_below}
 use Rattle.vm_memory_base.specs.Table.{same_mapping}
-use Rattle.vm_memory_base.proofs.ChangeLemmas.{EndBelow-weaker, StartFrom-zero}
-use Rattle.vm_memory_base.proofs.StoredLemmas.{ascending_canonical, all_end, ends_before_last, starts_limit, front_apart, front_cut, below-none}
+use Rattle.vm_memory_base.proofs.ChangeLemmas.{EndBelow-weaker}
+use Rattle.vm_memory_base.proofs.StoredLemmas.{ascending_canonical, all_end, ends_before_last, starts_limit, front_apart, front_cut}
 use Rattle.vm_memory_base.proofs.iotlb.run_map.RunMap.front.Goals as goal
 
 pub returns-in_err-run-clause-parts : goal.returns-in_err-run-clause-parts

@@ -1,7 +1,5 @@
-use Rattle.std.proofs.Common.{ℕ, ◌≡◌, ◌+◌, ◌-◌, ◌<◌, ◌≤◌, ◌++◌, ◌∷◌, [], true, false, List, Option, Some, None, IfSome, IfNone, refl, sym, ap, subst, ◌∙◌, arith, rules}
-use Rattle.vm_memory_base.specs.Change.{AreAscending, if_any, runs_below, runs_from}
-use Rattle.vm_memory_base.specs.Runs.{AddressRun}
-use Rattle.vm_memory_base.specs.Table.{Mapping}
+use Rattle.std.proofs.Common.{◌≡◌, ◌+◌, [], sym, ◌∙◌, arith}
+use Rattle.vm_memory_base.specs.Change.{runs_below}
 use Rattle.vm_memory_base.proofs.StoredLemmas.{known, last_stays, none_stay}
 use Rattle.vm_memory_base.proofs.iotlb.run_map.RunMap.is_clear.Goals as goal
 

@@ -1,7 +1,4 @@
-use Rattle.std.proofs.Common.{ℕ, ◌≡◌, ◌+◌, ◌-◌, ◌<◌, ◌≤◌, ◌++◌, ◌∷◌, [], true, false, List, Option, Some, None, IfSome, IfNone, refl, sym, ap, subst, ◌∙◌, arith, rules}
-use Rattle.vm_memory_base.specs.Change.{AreAscending, if_any, runs_below, runs_from}
-use Rattle.vm_memory_base.specs.Runs.{AddressRun}
-use Rattle.vm_memory_base.specs.Table.{Mapping}
+use Rattle.std.proofs.Common.{◌+◌, sym, ◌∙◌, arith}
 use Rattle.vm_memory_base.proofs.ChangeLemmas.{StartFrom-zero}
 use Rattle.vm_memory_base.proofs.StoredLemmas.{known, last_stays, none_stay, below-none}
 use Rattle.vm_memory_base.proofs.iotlb.run_map.RunMap.last_below.Goals as goal

@@ -1,5 +1,5 @@
-use Rattle.std.proofs.Common.{◌≡◌, ◌+◌, ◌++◌, ◌∷◌, List, Some, IfSome, sym, ap, ◌∙◌, arith}
-use Rattle.vm_memory_base.specs.Change.{if_any, runs_below, runs_from}
+use Rattle.std.proofs.Common.{◌≡◌, ◌+◌, ◌++◌, List, sym, ap, ◌∙◌, arith}
+use Rattle.vm_memory_base.specs.Change.{runs_from}
 use Rattle.vm_memory_base.specs.Runs.{AddressRun}
 use Rattle.vm_memory_base.specs.Table.{Mapping}
 use Rattle.vm_memory_base.proofs.StoredLemmas.{put_one, put_clear, clear_from, ascending_split}
