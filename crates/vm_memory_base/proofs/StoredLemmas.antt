@@ -156,9 +156,11 @@ ascending_from k (r ∷ rs) h =
 pub ascending_append : {K : Type 0} (k : ℕ) (xs ys : List (AddressRun K)) → AreAscending xs → StartsBelow k xs
     → AreAscending ys → StartFrom k ys → AreAscending (xs ++ ys)
 ascending_append k [] ys h b g s = g
-ascending_append k (r ∷ xs) ys h b g s =
-    (h.0, both (r.start + 1) xs ys h.1 (StartFrom-weaker (r.start + 1) k ys (omega arith) s),
-     ascending_append k xs ys h.2 b.1 g s)
+ascending_append k (r ∷ xs) ys h b g s = (
+  h.0,
+  both (r.start + 1) xs ys h.1 (StartFrom-weaker (r.start + 1) k ys (omega arith) s),
+  ascending_append k xs ys h.2 b.1 g s,
+)
   where
     both : {K : Type 0} (low : ℕ) (xs ys : List (AddressRun K)) → StartFrom low xs → StartFrom low ys
         → StartFrom low (xs ++ ys)
@@ -185,9 +187,11 @@ pub ascending_put : {K : Type 0} (r : AddressRun K) (rs : List (AddressRun K)) �
 ascending_put r rs pos h =
     ascending_append r.start (runs_below r.start rs) (r ∷ runs_from (r.start + 1) rs)
     (ascending_below r.start rs h) (below_starts r.start rs)
-    (pos, from_starts (r.start + 1) rs, ascending_from (r.start + 1) rs h)
-    (omega arith, StartFrom-weaker r.start (r.start + 1) (runs_from (r.start + 1) rs) (omega arith)
-    (from_starts (r.start + 1) rs))
+    (pos, from_starts (r.start + 1) rs, ascending_from (r.start + 1) rs h) (
+      omega arith,
+      StartFrom-weaker r.start (r.start + 1) (runs_from (r.start + 1) rs) (omega arith)
+          (from_starts (r.start + 1) rs),
+    )
 
 -- ---- what is stored
 
@@ -645,6 +649,7 @@ put_one {K} first high r rs put new s l is e =
 pub put_two : {K : Type 0} (first last : ℕ) (r : AddressRun K) (rs put : List (AddressRun K)) → r.start ≡ last
     → first < last → put ≡ runs_below r.start rs ++ r ∷ runs_from (r.start + 1) rs
     → (runs_below first put ≡ runs_below first rs) × (runs_from last put ≡ r ∷ runs_from (last + 1) rs)
+    × (runs_below last put ≡ runs_below last rs)
 put_two {K} first last r rs put s l is =
     let k = r.start in
     let starts = from_starts (k + 1) rs in
@@ -654,7 +659,12 @@ put_two {K} first last r rs put s l is =
     ap (runs_below first) is ∙ outer_below first k rs (r ∷ runs_from (k + 1) rs) (omega arith) t in
     let b : runs_from k put ≡ r ∷ runs_from (k + 1) rs =
     ap (runs_from k) is ∙ from_of k (runs_below k rs) (r ∷ runs_from (k + 1) rs) (below_starts k rs) t in
-    (a, subst (λ (n : ℕ). runs_from n put ≡ r ∷ runs_from (n + 1) rs) s b)
+    let d : runs_below k put ≡ runs_below k rs =
+    ap (runs_below k) is ∙ outer_below k k rs (r ∷ runs_from (k + 1) rs) (omega arith) t in (
+      a,
+      subst (λ (n : ℕ). runs_from n put ≡ r ∷ runs_from (n + 1) rs) s b,
+      subst (λ (n : ℕ). runs_below n put ≡ runs_below n rs) s d,
+    )
 
 pub taken_back : {K : Type 0} (k : ℕ) (r : AddressRun K) (rs put new : List (AddressRun K)) → r.start ≡ k
     → AreAscending rs → runs_from k rs ≡ runs_from (k + 1) rs
@@ -803,3 +813,68 @@ module _ (rs found : List (AddressRun Mapping)) (h : IsCanonical same_mapping rs
     from_starts end rs,
     there.1,
   )
+
+-- ---- where the last run up to an address is known
+
+pub known : (last : Option (AddressRun Mapping)) (rs : List (AddressRun Mapping)) (limit : ℕ)
+    → IfSome last (λ r. runs_below limit rs ≡ runs_below r.start rs ++ r ∷ []) → (r : AddressRun Mapping)
+    → last ≡ Some r → runs_below limit rs ≡ runs_below r.start rs ++ r ∷ []
+known last rs limit h r is =
+    let told : IfSome (Some r) (λ r. runs_below limit rs ≡ runs_below r.start rs ++ r ∷ []) = rw is at h in
+    told
+
+-- where it starts below a lower limit too, it is the last of those
+pub last_stays : (low high : ℕ) (rs : List (AddressRun Mapping)) (r : AddressRun Mapping) → low ≤ high → r.start < low
+    → runs_below high rs ≡ runs_below r.start rs ++ r ∷ [] → runs_below high rs ≡ runs_below low rs
+last_stays low high rs r l m is =
+    let all : StartsBelow low (runs_below high rs) =
+    subst (StartsBelow low) (sym is)
+    (StartsBelow-append low (runs_below r.start rs) (r ∷ [])
+    (StartsBelow-weaker r.start low (runs_below r.start rs) (omega arith) (below_starts r.start rs)) (m, tt)) in
+    sym (below-all low (runs_below high rs) all) ∙ below_below low high rs l
+
+pub none_stay : (low high : ℕ) (rs : List (AddressRun Mapping)) → low ≤ high → runs_below high rs ≡ []
+    → runs_below low rs ≡ []
+none_stay low high rs l none = sym (below_below low high rs l) ∙ ap (runs_below low) none
+
+-- where no run starts between two addresses
+pub clear_from : (first mid high : ℕ) (rs : List (AddressRun Mapping)) → AreAscending rs → first ≤ mid → mid ≤ high
+    → runs_below high rs ≡ runs_below first rs → runs_from mid rs ≡ runs_from high rs
+clear_from first mid high rs h l m is =
+    let s : StartsBelow mid (runs_below high rs) =
+    subst (StartsBelow mid) (sym is) (StartsBelow-weaker first mid (runs_below first rs) l (below_starts first rs)) in
+    ap (runs_from mid) (sym (ascending_split high rs h))
+    ∙ from_of mid (runs_below high rs) (runs_from high rs) s
+    (StartFrom-weaker mid high (runs_from high rs) m (from_starts high rs))
+
+pub clear_lower : (first last : ℕ) (rs : List (AddressRun Mapping)) → first ≤ last
+    → runs_below (last + 1) rs ≡ runs_below first rs → runs_below last rs ≡ runs_below first rs
+clear_lower first last rs l is =
+    sym (below_below last (last + 1) rs (omega arith)) ∙ ap (runs_below last) is
+    ∙ below-all last (runs_below first rs)
+    (StartsBelow-weaker first last (runs_below first rs) l (below_starts first rs))
+
+pub put_clear : (first high : ℕ) (r : AddressRun Mapping) (rs put : List (AddressRun Mapping)) → r.start ≡ first
+    → put ≡ runs_below r.start rs ++ r ∷ runs_from (r.start + 1) rs → runs_from (first + 1) rs ≡ runs_from high rs
+    → put ≡ runs_below first rs ++ (r ∷ runs_from high rs)
+put_clear first high r rs put s is e =
+    subst (λ (n : ℕ). put ≡ runs_below n rs ++ (r ∷ runs_from (n + 1) rs)) s is
+    ∙ ap (λ (ys : List (AddressRun Mapping)). runs_below first rs ++ (r ∷ ys)) e
+
+-- the last run up to an address goes, and it starts at the first that is asked for
+pub first_goes_last : (first high : ℕ) (r : AddressRun Mapping) (rs new : List (AddressRun Mapping)) → AreAscending rs
+    → r.start ≡ first → runs_below high rs ≡ runs_below r.start rs ++ r ∷ []
+    → new ≡ runs_below r.start rs ++ runs_from (r.start + 1) rs → new ≡ runs_below first rs ++ runs_from high rs
+first_goes_last first high r rs new h s is e =
+    let l : r.start < high = last_starts high (runs_below r.start rs) r
+    (subst (StartsBelow high) is (below_starts high rs)) in
+    let next : runs_from (r.start + 1) rs ≡ runs_from high rs =
+    ap (runs_from (r.start + 1)) (sym (ascending_split high rs h)
+    ∙ ap (λ (ys : List (AddressRun Mapping)). ys ++ runs_from high rs) is)
+    ∙ from_of (r.start + 1) (runs_below r.start rs ++ r ∷ []) (runs_from high rs)
+    (StartsBelow-append (r.start + 1) (runs_below r.start rs) (r ∷ [])
+    (StartsBelow-weaker r.start (r.start + 1) (runs_below r.start rs) (omega arith) (below_starts r.start rs))
+    (omega arith, tt))
+    (StartFrom-weaker (r.start + 1) high (runs_from high rs) (omega arith) (from_starts high rs)) in
+    let done = e ∙ ap (λ (ys : List (AddressRun Mapping)). runs_below r.start rs ++ ys) next in
+    subst (λ (n : ℕ). new ≡ runs_below n rs ++ runs_from high rs) s done

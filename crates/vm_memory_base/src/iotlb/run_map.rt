@@ -112,19 +112,24 @@ impl RunMap {
                 return;
             }
             self.remove(run.start());
+            if run.start() == first {
+                return;
+            }
         }
     }
 
-    // Puts a run, or none, in the place of those that start from one address up to another, that one included.
-    // Refused, nothing changes.
+    // Puts a run, or none, in the place of those that start from one address up to another, that one included. It is
+    // told where there are none. Refused, nothing changes.
     fn put_alone(
         &mut self,
         first: u64,
         run: Option<MappedRun>,
         last: u64,
+        clear: bool,
     ) -> Result<(), AllocError>
         requires ascending { AreAscending self.old }
         requires order { first ≤ last }
+        requires clear { clear ≡ true → runs_below (last + 1) self.old ≡ runs_below first self.old }
         requires starts { IfSome run (λ r. r.start ≡ first) }
         ensures ok { OnOk result (self.new
             ≡ runs_below first self.old ++ (if_any run ++ runs_from (last + 1) self.old)) }
@@ -133,9 +138,17 @@ impl RunMap {
         match run {
             Some(run) => {
                 self.insert(run)?;
+                if clear {
+                    return Ok(());
+                }
                 self.remove_between(first + 1, last);
             }
-            None => self.remove_between(first, last),
+            None => {
+                if clear {
+                    return Ok(());
+                }
+                self.remove_between(first, last);
+            }
         }
         Ok(())
     }
@@ -149,6 +162,7 @@ impl RunMap {
         behind: Option<MappedRun>,
         last: u64,
         stored: bool,
+        clear: bool,
     ) -> Result<(), AllocError>
         requires ascending { AreAscending self.old }
         requires order { first < last }
@@ -157,18 +171,19 @@ impl RunMap {
         requires stored { stored ≡ true → IfSome behind (λ r. runs_from last self.old
             ≡ r ∷ runs_from (last + 1) self.old) }
         requires absent { stored ≡ false → runs_from last self.old ≡ runs_from (last + 1) self.old }
+        requires clear { clear ≡ true → runs_below (last + 1) self.old ≡ runs_below first self.old }
         ensures ok { OnOk result (self.new ≡ runs_below first self.old
             ++ (if_any run ++ (if_any behind ++ runs_from (last + 1) self.old))) }
         ensures err { OnErr result (self.new ≡ self.old) }
     {
         let Some(next) = behind else {
-            return self.put_alone(first, run, last);
+            return self.put_alone(first, run, last, clear);
         };
         if stored {
-            return self.put_alone(first, run, last - 1);
+            return self.put_alone(first, run, last - 1, clear);
         }
         self.insert(next)?;
-        let put = self.put_alone(first, run, last - 1);
+        let put = self.put_alone(first, run, last - 1, clear);
         if put.is_err() {
             self.remove(last);
         }
@@ -184,6 +199,7 @@ impl RunMap {
         behind: Option<MappedRun>,
         last: u64,
         stored: bool,
+        clear: bool,
     ) -> Result<(), AllocError>
         requires ascending { AreAscending self.old }
         requires order { first < last }
@@ -194,30 +210,69 @@ impl RunMap {
         requires stored { stored ≡ true → IfSome behind (λ r. runs_from last self.old
             ≡ r ∷ runs_from (last + 1) self.old) }
         requires absent { stored ≡ false → runs_from last self.old ≡ runs_from (last + 1) self.old }
+        requires clear { clear ≡ true → runs_below (last + 1) self.old ≡ runs_below first self.old }
         ensures ok { OnOk result (self.new ≡ runs_below (start_or left first) self.old
             ++ (if_any left ++ (if_any run ++ (if_any behind ++ runs_from (last + 1) self.old)))) }
         ensures err { OnErr result (self.new ≡ self.old) }
     {
-        self.put(first, run, behind, last, stored)?;
+        self.put(first, run, behind, last, stored, clear)?;
         if let Some(left) = left {
             self.reset(left);
         }
         Ok(())
     }
 
-    // The run that starts below an address and reaches it, cut off there.
-    fn front(&self, at: u64) -> Option<MappedRun>
-        requires { IsCanonical same_mapping self.now }
+    // The last run that starts below an address, where the last up to another is known.
+    #[inline]
+    fn last_below(&self, last: &Option<MappedRun>, at: u64, end: u64) -> Option<MappedRun>
+        requires ascending { AreAscending self.now }
+        requires order { at ≤ end }
+        requires none { IfNone last.now (runs_below (end + 1) self.now ≡ []) }
+        requires some { IfSome last.now (λ r. runs_below (end + 1) self.now ≡ runs_below r.start self.now ++ r ∷ []) }
+        ensures none { IfNone result (runs_below at self.now ≡ []) }
+        ensures some { IfSome result (λ r. runs_below at self.now ≡ runs_below r.start self.now ++ r ∷ []) }
+    {
+        let Some(run) = *last else {
+            return None;
+        };
+        if run.start() < at {
+            return Some(run);
+        }
+        if at == 0 {
+            return None;
+        }
+        self.last_upto(at - 1)
+    }
+
+    // Whether no run starts from an address up to another, where the last up to that is known.
+    #[inline]
+    fn is_clear(&self, last: &Option<MappedRun>, at: u64, end: u64) -> bool
+        requires ascending { AreAscending self.now }
+        requires order { at ≤ end }
+        requires none { IfNone last.now (runs_below (end + 1) self.now ≡ []) }
+        requires some { IfSome last.now (λ r. runs_below (end + 1) self.now ≡ runs_below r.start self.now ++ r ∷ []) }
+        ensures { result ≡ true → runs_below (end + 1) self.now ≡ runs_below at self.now }
+    {
+        match *last {
+            Some(run) => run.start() < at,
+            None => true,
+        }
+    }
+
+    // The run that starts below an address and reaches it, cut off there, where the last up to another is
+    // known.
+    fn front(&self, last: &Option<MappedRun>, at: u64, end: u64) -> Option<MappedRun>
+        requires canonical { IsCanonical same_mapping self.now }
+        requires order { at ≤ end }
+        requires none { IfNone last.now (runs_below (end + 1) self.now ≡ []) }
+        requires some { IfSome last.now (λ r. runs_below (end + 1) self.now ≡ runs_below r.start self.now ++ r ∷ []) }
         ensures parts { runs_below (start_or result at) self.now ++ if_any result ≡ cut_to 0 at self.now }
         ensures apart { EndBelow at (runs_below (start_or result at) self.now) }
         ensures reaches { IfSome result (λ l. (0 < l.len) × (l.start + l.len ≡ at)) }
         ensures there { IfSome result (λ l. (d : AddressRun Mapping) × (d.start ≡ l.start)
             × (runs_below at self.now ≡ runs_below l.start self.now ++ d ∷ [])) }
     {
-        if at == 0 {
-            return None;
-        }
-        let run = self.last_upto(at - 1)?;
+        let run = self.last_below(last, at, end)?;
         if run.end() < at {
             return None;
         }
@@ -225,16 +280,18 @@ impl RunMap {
     }
 
     // The run that starts at an address or before it and reaches over it, from there on, and whether it starts
-    // there.
-    fn back(&self, at: u64) -> (Option<MappedRun>, bool)
-        requires { IsKept self.now }
+    // there. The last one up to it is known.
+    fn back(&self, last: &Option<MappedRun>, at: u64) -> (Option<MappedRun>, bool)
+        requires kept { IsKept self.now }
+        requires none { IfNone last.now (runs_below (at + 1) self.now ≡ []) }
+        requires some { IfSome last.now (λ r. runs_below (at + 1) self.now ≡ runs_below r.start self.now ++ r ∷ []) }
         ensures parts { if_any result.0 ++ runs_from (at + 1) self.now ≡ cut_to at (2 ^ 64 - at) self.now }
         ensures starts { IfSome result.0 (λ r. r.start ≡ at) }
         ensures stored { result.1 ≡ true
             → IfSome result.0 (λ r. runs_from at self.now ≡ r ∷ runs_from (at + 1) self.now) }
         ensures absent { result.1 ≡ false → runs_from at self.now ≡ runs_from (at + 1) self.now }
     {
-        let Some(run) = self.last_upto(at) else {
+        let Some(run) = *last else {
             return (None, false);
         };
         if run.end() <= at {
@@ -254,11 +311,15 @@ impl RunMap {
         ensures growth { length self.new ≤ length self.old + 2 }
         ensures err { OnErr result (self.new ≡ self.old) }
     {
-        let left = self.front(run.start());
-        let (right, stored) = self.back(run.end());
+        let start = run.start();
+        let end = run.end();
+        let last = self.last_upto(end);
+        let left = self.front(&last, start, end);
+        let (right, stored) = self.back(&last, end);
         let (joined, behind) = run.joined(right);
         let (begun, next) = joined_to(left, joined);
-        self.replace(begun, run.start(), next, behind, run.end(), stored)
+        let clear = self.is_clear(&last, start, end);
+        self.replace(begun, start, next, behind, end, stored, clear)
     }
 
     // Makes the runs say nothing of the addresses from one up to another. Refused, nothing changes.
@@ -270,9 +331,11 @@ impl RunMap {
         ensures growth { length self.new ≤ length self.old + 1 }
         ensures err { OnErr result (self.new ≡ self.old) }
     {
-        let left = self.front(start);
-        let (right, stored) = self.back(end);
-        self.replace(left, start, None, right, end, stored)
+        let last = self.last_upto(end);
+        let left = self.front(&last, start, end);
+        let (right, stored) = self.back(&last, end);
+        let clear = self.is_clear(&last, start, end);
+        self.replace(left, start, None, right, end, stored, clear)
     }
 
     // The runs that have an address from one up to another.

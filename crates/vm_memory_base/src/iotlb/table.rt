@@ -185,13 +185,7 @@ fn overrun(alloc: Global, iova: GuestAddress, length: usize) -> LookupError
 
 // What a look-up of the addresses from one up to another misses, and what fails, of the runs that have any of
 // them.
-fn refusal(
-    alloc: Global,
-    runs: Runs<'_>,
-    start: u64,
-    end: u64,
-    access: Permissions,
-) -> LookupError
+fn refusal(alloc: Global, runs: Runs<'_>, start: u64, end: u64, access: Permissions) -> LookupError
     requires { start < end }
     ensures { (result ≡ LookupError.Memory) ⊎ (result ≡ LookupError.Fails (record {
       misses = map range_of (gaps start end runs.entry);

@@ -1,6 +1,6 @@
 use Rattle.std.proofs.Common.{◌+◌, ◌∷◌, [], sym, subst, ◌∙◌, arith}
 use Rattle.vm_memory_base.specs.Change.{runs_below}
-use Rattle.vm_memory_base.proofs.StoredLemmas.{StartsBelow, StartsBelow-append, StartsBelow-weaker, below_starts, last_starts, nothing_between, one_less, outer_stay}
+use Rattle.vm_memory_base.proofs.StoredLemmas.{StartsBelow, StartsBelow-append, StartsBelow-weaker, below_starts, last_starts, first_goes_last, nothing_between, one_less, outer_stay}
 use Rattle.vm_memory_base.proofs.iotlb.run_map.RunMap.remove_between.Goals as goal
 
 pub returns-then-start-first : goal.returns-then-start-first
@@ -37,4 +37,12 @@ returns c =
     let none = c.in_default.ensures.none in
     let below : StartsBelow c.args.first (runs_below (c.args.last + 1) rs) = rw none tt in
     nothing_between c.args.first (c.args.last + 1) rs c.in_default.ensures.ascending c.requires below
+    ∙ c.loop-run.invariant
+
+pub returns-then-start-first-2 : goal.returns-then-start-first-2
+returns-then-start-first-2 c =
+    let s = c.start-in-Some-2.ensures in
+    first_goes_last c.args.first (c.args.last + 1) c.in-Some.run' c.loop-run.self c.remove.new.self
+    c.in-Some.ensures.ascending (sym s ∙ c.if-start-first-2.true) c.in-Some.ensures.some
+    (rw c.start-in-Some.ensures at c.remove.ensures)
     ∙ c.loop-run.invariant

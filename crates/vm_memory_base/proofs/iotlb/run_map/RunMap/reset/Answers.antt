@@ -1,6 +1,6 @@
 use Rattle.vm_memory_base.specs.declared.iotlb.mapped_run.RunTail.{RunTail}
 use Rattle.std.specs.BTreeMap.{is_at}
-use Rattle.std.specs.Map.{lookup}
+use Rattle.std.specs.Map.{lookup, set_value}
 use Rattle.std.proofs.Common.{nat_cmp, BTreeMap, ℕ, ◌≡◌, List, None, sym, ap, subst, ◌∙◌}
 use Rattle.vm_memory_base.specs.Change.{AreAscending, with_reset}
 use Rattle.vm_memory_base.specs.Runs.{AddressRun}
@@ -8,7 +8,6 @@ use Rattle.vm_memory_base.specs.Stored.{run_in, runs_in}
 use Rattle.vm_memory_base.specs.Table.{Mapping}
 use Rattle.vm_memory_base.proofs.StoredLemmas.{is_reset, ascending_reset, reset_absent}
 use Rattle.vm_memory_base.proofs.iotlb.run_map.RunMap.reset.Goals as goal
-use Rattle.vm_memory_base.proofs.iotlb.run_map.RunMap.reset.Goals.{After-self-2-1}
 
 pub returns-in_default : goal.returns-in_default
 returns-in_default c =
@@ -20,21 +19,25 @@ returns-in_default c =
     ≡ with_reset c.args.run rs) c.self.view_is
     (ap (λ (m : BTreeMap ℕ RunTail). runs_in m.entries) stays ∙ sym (reset_absent c.args.run es none'))
 
-put : (c : After-self-2-1) → runs_in (c.get_mut.follows.lender c.tail.result).entries
-    ≡ with_reset c.args.run (runs_in c.self.inside.tails.entries)
-put c =
-    let es = c.self.inside.tails.entries in
-    let told = ap runs_in (c.get_mut.follows.holds c.tail.result).0 ∙ is_reset c.start-start.result c.tail.result es in
-    let told' : runs_in (c.get_mut.follows.lender c.tail.result).entries
-    ≡ with_reset (run_in (c.args.run.start, c.tail.result)) (runs_in es) = rw c.start-start.ensures at told in
-    rw c.tail.ensures.value at told'
+put : (es new : List (ℕ × RunTail)) (k : ℕ) (v : RunTail) (r : AddressRun Mapping)
+    → new ≡ set_value (is_at (nat_cmp k)) es v → k ≡ r.start → run_in (r.start, v) ≡ r
+    → runs_in new ≡ with_reset r (runs_in es)
+put es new k v r e s is =
+    let told = ap runs_in e ∙ is_reset k v es in
+    let told' : runs_in new ≡ with_reset (run_in (r.start, v)) (runs_in es) = rw s at told in
+    told' ∙ ap (λ (x : AddressRun Mapping). with_reset x (runs_in es)) is
 
 pub invariant_of-self-2 : goal.invariant_of-self-2
 invariant_of-self-2 c =
-    subst AreAscending (sym (put c))
-    (ascending_reset c.args.run (runs_in c.self.inside.tails.entries) c.tail.ensures.some c.self.invariant)
+    let es = c.self.inside.tails.entries in
+    let told = put es (c.get_mut.follows.lender c.tail.result).entries c.start-start.result c.tail.result c.args.run
+    (c.get_mut.follows.holds c.tail.result).0 c.start-start.ensures c.tail.ensures.value in
+    subst AreAscending (sym told) (ascending_reset c.args.run (runs_in es) c.tail.ensures.some c.self.invariant)
 
 pub returns : goal.returns
 returns c =
+    let es = c.self.inside.tails.entries in
+    let told = put es (c.get_mut.follows.lender c.tail.result).entries c.start-start.result c.tail.result c.args.run
+    (c.get_mut.follows.holds c.tail.result).0 c.start-start.ensures c.tail.ensures.value in
     subst (λ (rs : List (AddressRun Mapping)). runs_in (c.get_mut.follows.lender c.tail.result).entries
-    ≡ with_reset c.args.run rs) c.self.view_is (put c)
+    ≡ with_reset c.args.run rs) c.self.view_is told

@@ -56,14 +56,14 @@ module _ (rs : List (AddressRun Mapping)) (k : IsKept rs) (r : AddressRun Mappin
   facts = (set, grown)
 
 told : (c : After-replace)
-    → c.replace.new.self ≡ runs_below (start_or c.joined_to-begun.result.0 c.start-2.result) c.args.self.now
+    → c.replace.new.self ≡ runs_below (start_or c.joined_to-begun.result.0 c.start-start.result) c.args.self.now
     ++ (if_any c.joined_to-begun.result.0 ++ (if_any c.joined_to-begun.result.1
-    ++ (if_any c.joined-joined.result.1 ++ runs_from (c.end-2.result + 1) c.args.self.now)))
+    ++ (if_any c.joined-joined.result.1 ++ runs_from (c.end-end.result + 1) c.args.self.now)))
     → (IsKept c.replace.new.self × (c.replace.new.self ≡ canonical_list (with_run c.args.run c.args.self.now)))
     × (length c.replace.new.self ≤ length c.args.self.now + 2)
 told c =
-    facts c.args.self.now c.requires.kept c.args.run c.requires.some c.requires.fits c.start.result c.end.result
-    c.start-2.result c.end-2.result c.start.ensures c.end.ensures.value c.start-2.ensures c.end-2.ensures.value
+    facts c.args.self.now c.requires.kept c.args.run c.requires.some c.requires.fits c.start-start.result c.end-end.result
+    c.start-start.result c.end-end.result c.start-start.ensures c.end-end.ensures.value c.start-start.ensures c.end-end.ensures.value
     c.front-left.result c.back-right.result.0 c.front-left.ensures.parts c.front-left.ensures.apart
     c.front-left.ensures.reaches c.front-left.ensures.there c.back-right.ensures.parts
     c.joined-joined.result.0 c.joined-joined.result.1 c.joined-joined.ensures.joined
