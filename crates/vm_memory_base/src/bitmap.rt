@@ -7,7 +7,7 @@ mod exclusive;
 mod tracked;
 
 pub use self::exclusive::ExclusiveBitmap;
-pub use self::tracked::{HarvestError, Harvester, Marker, TrackedBitmap};
+pub use self::tracked::{HarvestError, Harvester, Marker, MarkerBitmap, TrackedBitmap};
 use std::alloc::{AllocError, Global};
 
 /// Tracks which parts of a range of bytes were written.

@@ -18,7 +18,7 @@ pub use address::{
 pub use atomic_integer::AtomicInteger;
 pub use bitmap::{
     BS, Bitmap, BitmapId, BitmapRef, ExactBitmap, ExclusiveBitmap, HarvestError, Harvester, MS,
-    Marker, NewBitmap, TrackedBitmap,
+    Marker, MarkerBitmap, NewBitmap, TrackedBitmap,
 };
 pub use bytes::{AtomicAccess, ByteSized, ByteValued, FixedInteger};
 pub use endian::{Be16, Be32, Be64, BeSize, BigEndian, Le16, Le32, Le64, LeSize, LittleEndian};
