@@ -1,5 +1,5 @@
 -- The notes of a harvest of all words.
-use Rattle.std.proofs.Common.{◌≡◌, ◌≢◌, ℕ, zero, suc, ◌+◌, ◌<◌, ◌≤◌, ◌⊎◌, Bool, max, if◌then◌else◌, inl, inr, ⊎_elim, subst, List, [], ◌∷◌, ◌++◌, length, map, refl, sym, ap, ◌∙◌, arith, eq-eqb, ne_eqb}
+use Rattle.std.proofs.Common.{◌≡◌, ◌≢◌, ℕ, suc, ◌+◌, ◌<◌, ◌≤◌, ◌⊎◌, Bool, max, if◌then◌else◌, inl, inr, ⊎_elim, subst, List, [], ◌∷◌, ◌++◌, length, map, refl, sym, ap, ◌∙◌, arith, eq-eqb, ne_eqb}
 use mathlib.Core.Logic.{dite}
 use native.Mathlib.Decide.{ℕ_discrete}
 use Rattle.std.proofs.lemmas.List.{length-map, map-append}
@@ -124,9 +124,9 @@ pub gathered-seen : (word round : ℕ) (xs : List ℕ) (notes : List Note) (w : 
 gathered-seen word round [] notes w h k = absurd (omega arith)
 gathered-seen word round (x ∷ xs) notes w h k =
     dite (ℕ_discrete word w)
-        (λ (e : word ≡ w).
-            let first = greatest_here w round x notes in
-            let rest : greatest_of w (note w round x ∷ notes) ≤ greatest_of w (gathered (word + 1) round xs (note word round x ∷ notes)) =
-                subst (λ j. greatest_of w (note j round x ∷ notes) ≤ greatest_of w (gathered (word + 1) round xs (note word round x ∷ notes))) e
-                    (gathered-greatest (word + 1) round xs (note word round x ∷ notes) w) in omega (arith, first, rest))
-        (λ (ne : word ≢ w). gathered-seen (word + 1) round xs (note word round x ∷ notes) w (omega arith) (omega arith))
+    (λ (e : word ≡ w).
+    let first = greatest_here w round x notes in
+    let rest : greatest_of w (note w round x ∷ notes) ≤ greatest_of w (gathered (word + 1) round xs (note word round x ∷ notes)) =
+    subst (λ j. greatest_of w (note j round x ∷ notes) ≤ greatest_of w (gathered (word + 1) round xs (note word round x ∷ notes))) e
+    (gathered-greatest (word + 1) round xs (note word round x ∷ notes) w) in omega (arith, first, rest))
+    (λ (ne : word ≢ w). gathered-seen (word + 1) round xs (note word round x ∷ notes) w (omega arith) (omega arith))

@@ -1,6 +1,6 @@
 -- Each step keeps the rule of a tracked bitmap.
 use Rattle.std.proofs.Common.{◌≡◌, ◌≢◌, ◌⊎◌, ℕ, zero, suc, ◌+◌, ◌*◌, ◌/◌, ◌%◌, ◌^◌, ◌<◌, ◌≤◌, List, [], ◌∷◌, ◌++◌, length, replicate, set, refl, sym, ap, ◌∙◌, subst, inl, inr, ⊎_elim, arith, bit_or, eq-eqb, ne_eqb, get_or-set_same, get_or-set_other}
-use Rattle.std.specs.Prelude.{slice_index, max, ◌==◌}
+use Rattle.std.specs.Prelude.{slice_index, max}
 use Rattle.std.specs.Int.{bit_at}
 use Rattle.std.proofs.lemmas.Nat.{or_shr, or_mod}
 use Rattle.std.specs.Int.Bits.{or_zero_r}
@@ -11,12 +11,12 @@ use mathlib.Core.Option.{some, none, some-injective, some-ne-none}
 use mathlib.Core.Logic.{dite}
 use native.Mathlib.Decide.{ℕ_discrete}
 use lib.ListN.{get_elem?}
-use Rattle.atomic_table.specs.Table.{State, Me, step, keeps, Allows, Splits, Joins, Final, Seen}
+use Rattle.atomic_table.specs.Table.{step, keeps, Allows, Splits, Joins, Final, Seen}
 use Rattle.atomic_table.proofs.Lists.{at_set, at_snoc, at_longer, set_again}
 use Rattle.vm_memory_base.specs.Notes.{Note, note, IsNoted, rounds_of, greatest_of}
 use Rattle.vm_memory_base.proofs.NotesLemmas.{noted_left, noted_right, noted_either, greatest_both, greatest_left, greatest_right}
 use Rattle.vm_memory_base.specs.declared.bitmap.tracked.view.View.{View}
-use Rattle.vm_memory_base.specs.Tracked.{pages_of, round_of, rounds_before, seen_of, newcomer, note_of, both, IsPage, IsMarked, IsTrue, HasHarvests, IsKept, Holds, after_mark, after_look, after_harvest, Marks, Looks, Harvests, Counts, IsStillSet, IsLeft, AreHarvested, AreSeen}
+use Rattle.vm_memory_base.specs.Tracked.{pages_of, round_of, rounds_before, seen_of, newcomer, note_of, both, IsPage, IsMarked, IsTrue, HasHarvests, IsKept, Holds, after_mark, after_look, after_harvest, Marks, Looks, Harvests, Counts, IsLeft, AreHarvested, AreSeen}
 
 -- ---- lists
 
@@ -561,7 +561,7 @@ counts_first count slots i v c s kept homes at word_fits =
       (
         (λ w.
             let number : length (rounds_of w v.harvests) ≡ round_of (slice_index s.words w) =
-                ap (λ l. length (rounds_of w l)) same ∙ ap length (kept.rounds w) ∙ length-before (round_of (slice_index s.words w)) in
+            ap (λ l. length (rounds_of w l)) same ∙ ap length (kept.rounds w) ∙ length-before (round_of (slice_index s.words w)) in
             subst (λ k. seen_of w v ≤ k) (sym number) (own.rounds w)),
         refl,
       ),
@@ -571,7 +571,7 @@ pub counts_allowed : (count slots id i : ℕ) → id ≡ 0 → (v : View) (c : L
     → Allows (Holds count) slots id (v, c) i (λ n. n) (Counts (step slots i 0 0 none) (v, c))
 counts_allowed count slots id i first v c =
     subst (λ k. Allows (Holds count) slots k (v, c) i (λ n. n) (Counts (step slots i 0 0 none) (v, c))) (sym first)
-        (counts_first count slots i v c)
+    (counts_first count slots i v c)
 
 -- each of the two has seen what the other saw, and the harvester all that it opened
 pub meets : (w : ℕ) (mine his : View) → length (rounds_of w his.harvests) ≤ seen_of w his

@@ -10,6 +10,7 @@ pub mod OptionalBitmap
 pub mod Notes
 pub mod Tracked
 pub mod Markers
+pub mod MarkerBitmap
 pub mod Permissions
 pub mod Runs
 pub mod Table

@@ -11,7 +11,7 @@ mod tracked;
 pub use self::atomic::{AtomicBitmap, SharedBitmap};
 pub use self::exclusive::ExclusiveBitmap;
 pub use self::slice::{ArcSlice, BaseSlice, RefSlice};
-pub use self::tracked::{HarvestError, Harvester, Marker, TrackedBitmap};
+pub use self::tracked::{HarvestError, Harvester, Marker, MarkerBitmap, TrackedBitmap};
 use std::alloc::{AllocError, Global};
 
 /// Tracks which parts of a range of bytes were written.

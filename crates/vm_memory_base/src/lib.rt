@@ -18,8 +18,8 @@ pub use address::{
 pub use atomic_integer::AtomicInteger;
 pub use bitmap::{
     ArcSlice, AtomicBitmap, BS, BaseSlice, Bitmap, BitmapId, BitmapRef, ExactBitmap,
-    ExclusiveBitmap, HarvestError, Harvester, MS, Marker, NewBitmap, RefSlice, SharedBitmap,
-    TrackedBitmap,
+    ExclusiveBitmap, HarvestError, Harvester, MS, Marker, MarkerBitmap, NewBitmap, RefSlice,
+    SharedBitmap, TrackedBitmap,
 };
 pub use bytes::{AtomicAccess, ByteSized, ByteValued, FixedInteger};
 pub use endian::{Be16, Be32, Be64, BeSize, BigEndian, Le16, Le32, Le64, LeSize, LittleEndian};

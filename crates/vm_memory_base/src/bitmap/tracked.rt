@@ -5,9 +5,11 @@ ghost use Rattle.std.specs.Int.{div_ceil};
 ghost use Rattle.vm_memory_base.specs.Notes.{rounds_of};
 ghost use Rattle.vm_memory_base.specs.Tracked as tracked;
 
+mod marker_bitmap;
 mod plays;
 mod view;
 
+pub use self::marker_bitmap::MarkerBitmap;
 use self::plays::{Both, Counts, Harvests, Looks, Marks, Newcomer, Note, Rounds};
 use self::view::View;
 use atomic_table::{Seat, Shared, Table};

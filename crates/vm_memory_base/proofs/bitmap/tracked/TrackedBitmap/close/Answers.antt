@@ -1,4 +1,4 @@
-use Rattle.std.proofs.Common.{◌≡◌, ℕ, ◌<◌, length, ap, sym, ◌∙◌, arith}
+use Rattle.std.proofs.Common.{◌≡◌, ℕ, ap, ◌∙◌, arith}
 use Rattle.std.specs.Int.{div_ceil}
 use Rattle.vm_memory_base.proofs.TrackedRule.{length-set, reads_more, closes}
 use Rattle.vm_memory_base.proofs.bitmap.tracked.TrackedBitmap.close.Goals as goal

@@ -1,4 +1,4 @@
-use Rattle.std.proofs.Common.{◌≡◌, ℕ, ◌+◌, ◌<◌, ◌≤◌, map, List, [], ◌∷◌, length, refl, sym, ap, ◌∙◌, subst, arith}
+use Rattle.std.proofs.Common.{◌≡◌, ℕ, ◌+◌, ◌<◌, ◌≤◌, map, List, length, refl, sym, ap, ◌∙◌, subst, arith}
 use Rattle.std.specs.Int.{div_ceil}
 use Rattle.std.proofs.lemmas.List.{length-map}
 use Rattle.vm_memory_base.specs.declared.bitmap.tracked.view.View.{View}
@@ -39,13 +39,13 @@ invariant_of-harvester c =
     ∙ ap (λ (n : ℕ). n + 1) (was.2 word here)
     ∙ sym h.next in
     let seen : (word : ℕ) → word < c.harvest_words.new.seat.table_id.words
-            → c.harvest_words.new.round ≤ seen_of word c.harvest_words.new.seat.me.0 =
-        λ word inside.
-            let here : word < c.args.harvester.now.seat.table_id.words = subst (λ t. word < t.words) h.same.0 inside in
-            let there : word < c.args.self.now.table.shared.table_id.words = subst (λ t. word < t.words) c.requires.own here in
-            let zeros : List ℕ = map (λ (_ : ℕ). 0) pages in
-            let count : length zeros ≡ length pages = length-map {B = ℕ} pages (λ (_ : ℕ). 0) in
-            let least : round + 1 ≤ seen_of word (after_harvests round pages v) =
-                    gathered-seen 0 (round + 1) zeros v.rounds word (omega arith) (omega (arith, size, count, there)) in
-            subst (λ (y : ℕ × View). y.0 ≤ seen_of word y.1) (λ i. (sym h.next i, sym h.takes i)) least in
+    → c.harvest_words.new.round ≤ seen_of word c.harvest_words.new.seat.me.0 =
+    λ word inside.
+    let here : word < c.args.harvester.now.seat.table_id.words = subst (λ t. word < t.words) h.same.0 inside in
+    let there : word < c.args.self.now.table.shared.table_id.words = subst (λ t. word < t.words) c.requires.own here in
+    let zeros : List ℕ = map (λ (_ : ℕ). 0) pages in
+    let count : length zeros ≡ length pages = length-map {B = ℕ} pages (λ (_ : ℕ). 0) in
+    let least : round + 1 ≤ seen_of word (after_harvests round pages v) =
+    gathered-seen 0 (round + 1) zeros v.rounds word (omega arith) (omega (arith, size, count, there)) in
+    subst (λ (y : ℕ × View). y.0 ≤ seen_of word y.1) (λ i. (sym h.next i, sym h.takes i)) least in
     record { harvests_all = (h.same.1 ∙ was.0, omega (arith, h.next, few, was.1), each, seen) }

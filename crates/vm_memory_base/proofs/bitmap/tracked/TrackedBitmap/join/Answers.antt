@@ -1,4 +1,4 @@
-use Rattle.std.proofs.Common.{◌≡◌, ℕ, ◌<◌, sym, ap, ◌∙◌, subst, arith}
+use Rattle.std.proofs.Common.{ℕ, sym, ap, ◌∙◌, subst, arith}
 use Rattle.atomic_table.specs.Seated.{TableId}
 use Rattle.vm_memory_base.specs.declared.bitmap.tracked.view.View.{View}
 use Rattle.vm_memory_base.specs.Tracked.{AreHarvested, AreSeen}
@@ -23,7 +23,7 @@ invariant_of-harvester c =
     let j = c.join_seat.ensures in
     let round : ℕ = c.args.harvester.now.round in
     let still =
-        subst (λ (y : TableId × View). AreHarvested y.0.words round y.1.harvests × AreSeen y.0.words round y.1)
-            (λ i. (sym j.0 i, ap (λ m. m.0) (sym j.2) i))
-            (still_harvested c.args.harvester.now.seat.table_id.words round c.args.harvester.now.seat.me.0 c.args.marker.seat.me.0 was.2 was.3) in
+    subst (λ (y : TableId × View). AreHarvested y.0.words round y.1.harvests × AreSeen y.0.words round y.1)
+    (λ i. (sym j.0 i, ap (λ m. m.0) (sym j.2) i))
+    (still_harvested c.args.harvester.now.seat.table_id.words round c.args.harvester.now.seat.me.0 c.args.marker.seat.me.0 was.2 was.3) in
     record { harvests_all = (j.1 ∙ was.0, was.1, still.0, still.1) }

@@ -1,5 +1,4 @@
-use Rattle.std.proofs.Common.{◌≡◌, ℕ, ◌<◌, ◌≤◌, List, [], length, sym, ap, ◌∙◌, subst, arith}
-use Rattle.std.specs.Int.{div_ceil}
+use Rattle.std.proofs.Common.{◌≡◌, ℕ, ◌<◌, ◌≤◌, List, length, sym, ap, ◌∙◌, subst, arith}
 use Rattle.atomic_table.specs.Seated.{TableId}
 use Rattle.vm_memory_base.specs.declared.bitmap.tracked.view.View.{View}
 use Rattle.vm_memory_base.specs.Notes.{rounds_of}
@@ -62,19 +61,19 @@ returns-clause-seen c word inside =
     let was = c.args.harvester.now.harvests_all in
     let fits = c.args.self.now.fits in
     let one : c.join_seat.new.seat.me.0 ≡ joined =
-            ap (λ m. m.0) c.join_seat.ensures.2 ∙ ap (λ (m : View × List _). both his m.0) c.split_seat-told.ensures.4 in
+    ap (λ m. m.0) c.join_seat.ensures.2 ∙ ap (λ (m : View × List _). both his m.0) c.split_seat-told.ensures.4 in
     let two : c.load.new.seat.me.0 ≡ joined = ap (λ m. m.0) c.load.ensures.2.1 ∙ one in
     let three : c.split_seat-told-2.new.seat.me.0 ≡ joined = ap (λ m. m.0) c.split_seat-told-2.ensures.2 ∙ two in
     let kept : c.split_seat-told.new.seat.me.0 ≡ mine = ap (λ m. m.0) c.split_seat-told.ensures.2 in
     let note : c.split_seat-told-2.result.me.0 ≡ note_of joined = ap (λ m. m.0) c.split_seat-told-2.ensures.4 ∙ ap note_of two in
     let four : c.join_seat-2.new.seat.me.0 ≡ both mine (note_of joined) =
-            ap (λ m. m.0) c.join_seat-2.ensures.2 ∙ (λ i. both (kept i) (note i)) in
+    ap (λ m. m.0) c.join_seat-2.ensures.2 ∙ (λ i. both (kept i) (note i)) in
     let here : word < c.args.harvester.now.seat.table_id.words =
-            subst (λ t. word < t.words) (sym c.requires.own.1) (omega (arith, fits.1, inside)) in
+    subst (λ t. word < t.words) (sym c.requires.own.1) (omega (arith, fits.1, inside)) in
     let number : length (rounds_of word his.harvests) ≡ c.args.harvester.now.round = was.2 word here in
     let least : length (rounds_of word his.harvests) ≤ seen_of word his = let k = was.3 word here in omega (arith, number, k) in
     let most : seen_of word joined ≤ length (rounds_of word his.harvests) =
-            subst (λ (v : View). seen_of word v ≤ length (rounds_of word v.harvests)) one (c.load.ensures.2.0 word) in
+    subst (λ (v : View). seen_of word v ≤ length (rounds_of word v.harvests)) one (c.load.ensures.2.0 word) in
     ap (seen_of word) four ∙ meets word mine his least most
     ∙ ap (λ (v : View). length (rounds_of word v.harvests)) (sym three)
 
@@ -85,15 +84,15 @@ invariant_of-harvester c =
     let was = c.args.harvester.now.harvests_all in
     let round : ℕ = c.args.harvester.now.round in
     let one : c.join_seat.new.seat.me.0 ≡ both his (note_of mine) =
-            ap (λ m. m.0) c.join_seat.ensures.2 ∙ ap (λ (m : View × List _). both his m.0) c.split_seat-told.ensures.4 in
+    ap (λ m. m.0) c.join_seat.ensures.2 ∙ ap (λ (m : View × List _). both his m.0) c.split_seat-told.ensures.4 in
     let last : c.split_seat-told-2.new.seat.me.0 ≡ both his (note_of mine) =
-            ap (λ m. m.0) c.split_seat-told-2.ensures.2 ∙ (ap (λ m. m.0) c.load.ensures.2.1 ∙ one) in
+    ap (λ m. m.0) c.split_seat-told-2.ensures.2 ∙ (ap (λ m. m.0) c.load.ensures.2.1 ∙ one) in
     let table : c.split_seat-told-2.new.seat.table_id ≡ c.args.harvester.now.seat.table_id =
-            c.split_seat-told-2.ensures.0 ∙ (c.load.ensures.0 ∙ c.join_seat.ensures.0) in
+    c.split_seat-told-2.ensures.0 ∙ (c.load.ensures.0 ∙ c.join_seat.ensures.0) in
     let still =
-        subst (λ (y : TableId × View). AreHarvested y.0.words round y.1.harvests × AreSeen y.0.words round y.1)
-            (λ i. (sym table i, sym last i))
-            (still_harvested c.args.harvester.now.seat.table_id.words round his (note_of mine) was.2 was.3) in
+    subst (λ (y : TableId × View). AreHarvested y.0.words round y.1.harvests × AreSeen y.0.words round y.1)
+    (λ i. (sym table i, sym last i))
+    (still_harvested c.args.harvester.now.seat.table_id.words round his (note_of mine) was.2 was.3) in
     record {
-      harvests_all = (c.split_seat-told-2.ensures.1 ∙ (c.load.ensures.1 ∙ (c.join_seat.ensures.1 ∙ was.0)), was.1, still.0, still.1)
+      harvests_all = (c.split_seat-told-2.ensures.1 ∙ (c.load.ensures.1 ∙ (c.join_seat.ensures.1 ∙ was.0)), was.1, still.0, still.1);
     }

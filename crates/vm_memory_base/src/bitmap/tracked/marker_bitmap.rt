@@ -1,0 +1,81 @@
+//! A marker with its bitmap, as the bitmap of a host.
+ghost use Rattle.std.specs.Prelude.{◌≡◌, ℕ, ◌<◌, Some, None, length, MatchOption};
+ghost use Rattle.std.specs.Int.{div_ceil};
+ghost use Rattle.vm_memory_base.specs.Notes.{rounds_of};
+ghost use Rattle.vm_memory_base.specs.Tracked as tracked;
+
+use super::{Harvester, Marker, TrackedBitmap};
+use crate::bitmap::Bitmap;
+use std::sync::Arc;
+
+#[derive(Drop)]
+struct Held {
+    bitmap: Arc<TrackedBitmap>,
+    marker: Marker,
+    ghost belongs: { marker.seat.table_id ≡ bitmap.value.table.shared.table_id },
+}
+
+/// Marks a `TrackedBitmap` that others may mark too, until its marker is handed back.
+#[derive(Drop)]
+pub struct MarkerBitmap {
+    held: Option<Held>,
+}
+
+impl MarkerBitmap {
+    ghost use Rattle.vm_memory_base.specs.MarkerBitmap.{held_of, Meets};
+
+    /// Marks `bitmap` with `marker`.
+    pub fn new(bitmap: Arc<TrackedBitmap>, marker: Marker) -> MarkerBitmap
+        requires own { marker.seat.table_id ≡ bitmap.value.table.shared.table_id }
+        ensures { held_of result ≡ Some (bitmap.value, marker) }
+    {
+        MarkerBitmap {
+            held: Some(Held { bitmap, marker }),
+        }
+    }
+
+    /// As `TrackedBitmap::meet`. Where the marker was handed back, nothing.
+    pub fn meet(&mut self, harvester: &mut Harvester)
+        requires own { (h : Held) → self.old.held ≡ Some h
+            → harvester.old.seat.table_id ≡ h.bitmap.value.table.shared.table_id }
+        ensures { Meets (held_of self.old) harvester.old (held_of self.new) harvester.new }
+    {
+        if let Some(held) = &mut self.held {
+            held.bitmap.meet(&mut held.marker, harvester);
+        }
+    }
+
+    /// Hands the bitmap and the marker back, once. From then on nothing is marked.
+    pub fn retire(&mut self) -> Option<(Arc<TrackedBitmap>, Marker)>
+        ensures gone { held_of self.new ≡ None }
+        ensures handed { MatchOption result (held_of self.old ≡ None) (λ r. held_of self.old ≡ Some (r.0.value, r.1)) }
+    {
+        match self.held.take() {
+            Some(Held { bitmap, marker }) => Some((bitmap, marker)),
+            None => None,
+        }
+    }
+}
+
+/// Not exact: others mark it too. What it tells of a byte is no promise.
+impl Bitmap for MarkerBitmap {
+    ghost use Rattle.vm_memory_base.specs.MarkerBitmap.{held_of, MarksHeld};
+    ghost use Rattle.std.specs.Prelude.{false};
+
+    ghost marks = { λ old offset len new. MarksHeld (held_of old) offset len (held_of new) };
+
+    ghost tells = { λ b offset told. held_of b ≡ None → told ≡ false };
+
+    fn mark_dirty(&mut self, offset: usize, len: usize) {
+        if let Some(held) = &mut self.held {
+            held.bitmap.mark(&mut held.marker, offset, len);
+        }
+    }
+
+    fn dirty_at(&self, offset: usize) -> bool {
+        match &self.held {
+            Some(held) => held.bitmap.glance(offset),
+            None => false,
+        }
+    }
+}
