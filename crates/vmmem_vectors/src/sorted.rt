@@ -44,7 +44,12 @@ impl SortedTable {
     }
 
     // Says this, or nothing, of the addresses from one up to another.
-    fn change(&mut self, start: u64, end: u64, now: Option<(u64, Permissions)>) -> Result<(), Fail> {
+    fn change(
+        &mut self,
+        start: u64,
+        end: u64,
+        now: Option<(u64, Permissions)>,
+    ) -> Result<(), Fail> {
         if start == end {
             return Ok(());
         }
