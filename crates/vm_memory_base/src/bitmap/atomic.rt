@@ -60,8 +60,9 @@ impl AtomicBitmap {
         })
     }
 
-    /// Tracks `additional_size` bytes more, whose pages are clean: those that the last page had room for are of
-    /// that page. `AllocError` where there is no memory for them, and then nothing is changed.
+    /// Tracks `additional_size` bytes more, in new pages that are clean, behind those that the last page has room
+    /// for. The sizes together have to fit 64 bits. `AllocError` where there is no memory for the pages, and then
+    /// nothing is changed.
     pub fn enlarge(&mut self, additional_size: usize) -> Result<(), AllocError>
         requires { bytes_of self.old + additional_size < 2 ^ 64 }
         ensures bytes { OnOk result (bytes_of self.new ≡ bytes_of self.old + additional_size) }
@@ -187,8 +188,9 @@ impl AtomicBitmap {
         ensures within { IfOk result (λ words. AreWithin (len_of self.now) words.items) }
     {
         let mut words = Vec::with_capacity(alloc, self.map.len())?;
-        for k in 0..self.map.len() {
-            let word = self.map[k].fetch_and(0, Ordering::SeqCst);
+        let map = self.map.as_slice();
+        for k in 0..map.len() {
+            let word = map[k].fetch_and(0, Ordering::SeqCst);
             words.push_reserved(self.within(k, word));
         }
         Ok(words)
