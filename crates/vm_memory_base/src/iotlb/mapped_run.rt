@@ -150,6 +150,7 @@ impl MappedRun {
         ensures joined { result.0 ∷ if_any result.1 ≡ prepended self.now (if_any next) }
         ensures start { result.0.start ≡ self.now.start }
         ensures next { IfSome result.1 (λ r. if_any next ≡ r ∷ []) }
+        ensures stays { IsSome result.1 → result.0 ≡ self.now }
     {
         match next {
             Some(run) if run.start() == self.end() && self.is_like(&run) => {
@@ -172,6 +173,7 @@ pub(super) fn joined_to(
     ensures left { (at : ℕ) → start_or result.0 at ≡ start_or left at }
     ensures same { IsSome left ↔ IsSome result.0 }
     ensures next { IfSome result.1 (λ r. r.start ≡ run.start) }
+    ensures stays { IsSome result.1 → IsSome left → result.0 ≡ left }
     ensures room { length (if_any result.1) + length (if_any result.0) ≤ length (if_any left) + 1 }
 {
     match left {

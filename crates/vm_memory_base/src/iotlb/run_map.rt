@@ -190,7 +190,7 @@ impl RunMap {
         put
     }
 
-    // The same, where besides the last run before them may change.
+    // The same, where besides the last run before them may change, if it does not stay whole.
     fn replace(
         &mut self,
         left: Option<MappedRun>,
@@ -200,9 +200,12 @@ impl RunMap {
         last: u64,
         stored: bool,
         clear: bool,
+        whole: bool,
     ) -> Result<(), AllocError>
         requires ascending { AreAscending self.old }
         requires order { first < last }
+        requires whole { whole ≡ true → IfSome left (λ l. runs_below first self.old
+            ≡ runs_below l.start self.old ++ l ∷ []) }
         requires left { IfSome left (λ l. (d : AddressRun Mapping) × (d.start ≡ l.start)
             × (runs_below first self.old ≡ runs_below l.start self.old ++ d ∷ [])) }
         requires starts { IfSome run (λ r. r.start ≡ first) }
@@ -216,7 +219,10 @@ impl RunMap {
         ensures err { OnErr result (self.new ≡ self.old) }
     {
         self.put(first, run, behind, last, stored, clear)?;
-        if let Some(left) = left {
+        let Some(left) = left else {
+            return Ok(());
+        };
+        if !whole {
             self.reset(left);
         }
         Ok(())
@@ -261,22 +267,26 @@ impl RunMap {
 
     // The run that starts below an address and reaches it, cut off there, where the last up to another is
     // known.
-    fn front(&self, last: &Option<MappedRun>, at: u64, end: u64) -> Option<MappedRun>
+    fn front(&self, last: &Option<MappedRun>, at: u64, end: u64) -> (Option<MappedRun>, bool)
         requires canonical { IsCanonical same_mapping self.now }
         requires order { at ≤ end }
         requires none { IfNone last.now (runs_below (end + 1) self.now ≡ []) }
         requires some { IfSome last.now (λ r. runs_below (end + 1) self.now ≡ runs_below r.start self.now ++ r ∷ []) }
-        ensures parts { runs_below (start_or result at) self.now ++ if_any result ≡ cut_to 0 at self.now }
-        ensures apart { EndBelow at (runs_below (start_or result at) self.now) }
-        ensures reaches { IfSome result (λ l. (0 < l.len) × (l.start + l.len ≡ at)) }
-        ensures there { IfSome result (λ l. (d : AddressRun Mapping) × (d.start ≡ l.start)
+        ensures parts { runs_below (start_or result.0 at) self.now ++ if_any result.0 ≡ cut_to 0 at self.now }
+        ensures apart { EndBelow at (runs_below (start_or result.0 at) self.now) }
+        ensures reaches { IfSome result.0 (λ l. (0 < l.len) × (l.start + l.len ≡ at)) }
+        ensures there { IfSome result.0 (λ l. (d : AddressRun Mapping) × (d.start ≡ l.start)
             × (runs_below at self.now ≡ runs_below l.start self.now ++ d ∷ [])) }
+        ensures whole { result.1 ≡ true
+            → IfSome result.0 (λ l. runs_below at self.now ≡ runs_below l.start self.now ++ l ∷ []) }
     {
-        let run = self.last_below(last, at, end)?;
+        let Some(run) = self.last_below(last, at, end) else {
+            return (None, false);
+        };
         if run.end() < at {
-            return None;
+            return (None, false);
         }
-        Some(run.before(at))
+        (Some(run.before(at)), run.end() == at)
     }
 
     // The run that starts at an address or before it and reaches over it, from there on, and whether it starts
@@ -314,12 +324,13 @@ impl RunMap {
         let start = run.start();
         let end = run.end();
         let last = self.last_upto(end);
-        let left = self.front(&last, start, end);
+        let (left, whole) = self.front(&last, start, end);
         let (right, stored) = self.back(&last, end);
         let (joined, behind) = run.joined(right);
         let (begun, next) = joined_to(left, joined);
         let clear = self.is_clear(&last, start, end);
-        self.replace(begun, start, next, behind, end, stored, clear)
+        let stays = whole && next.is_some();
+        self.replace(begun, start, next, behind, end, stored, clear, stays)
     }
 
     // Makes the runs say nothing of the addresses from one up to another. Refused, nothing changes.
@@ -332,10 +343,10 @@ impl RunMap {
         ensures err { OnErr result (self.new ≡ self.old) }
     {
         let last = self.last_upto(end);
-        let left = self.front(&last, start, end);
+        let (left, whole) = self.front(&last, start, end);
         let (right, stored) = self.back(&last, end);
         let clear = self.is_clear(&last, start, end);
-        self.replace(left, start, None, right, end, stored, clear)
+        self.replace(left, start, None, right, end, stored, clear, whole)
     }
 
     // The runs that have an address from one up to another.

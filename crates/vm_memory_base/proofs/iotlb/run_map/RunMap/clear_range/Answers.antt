@@ -13,7 +13,7 @@ module _ (c : After-back-right) where
   rs = c.args.self.now
 
   abbrev left : Option (AddressRun Mapping)
-  left = c.front-left.result
+  left = c.front-left.result.0
 
   abbrev right : Option (AddressRun Mapping)
   right = c.back-right.result.0

@@ -5,16 +5,16 @@ use Rattle.vm_memory_base.proofs.ChangeLemmas.{EndBelow-weaker}
 use Rattle.vm_memory_base.proofs.StoredLemmas.{ascending_canonical, all_end, ends_before_last, starts_limit, front_apart, front_cut}
 use Rattle.vm_memory_base.proofs.iotlb.run_map.RunMap.front.Goals as goal
 
-pub returns-in_err-run-clause-parts : goal.returns-in_err-run-clause-parts
-returns-in_err-run-clause-parts c =
-    let none : runs_below c.args.at c.args.self.now ≡ [] = c.in_err-run.ensures.none in
+pub returns-in_default-clause-parts : goal.returns-in_default-clause-parts
+returns-in_default-clause-parts c =
+    let none : runs_below c.args.at c.args.self.now ≡ [] = c.in_default.ensures.none in
     let apart : EndBelow c.args.at (runs_below c.args.at c.args.self.now) = rw none tt in
-    rw c.from_residual.ensures (front_apart same_mapping c.args.at c.args.self.now c.requires.canonical apart)
+    front_apart same_mapping c.args.at c.args.self.now c.requires.canonical apart
 
 pub returns-then-end-at-clause-apart : goal.returns-then-end-at-clause-apart
 returns-then-end-at-clause-apart c =
     let e = c.end.ensures.value in
-    all_end same_mapping c.args.at c.args.self.now c.requires.canonical c.in_ok-run.run' c.in_ok-run.ensures.some
+    all_end same_mapping c.args.at c.args.self.now c.requires.canonical c.in-Some.run' c.in-Some.ensures.some
     c.args.at (omega arith)
 
 pub returns-then-end-at-clause-parts : goal.returns-then-end-at-clause-parts
@@ -23,24 +23,24 @@ returns-then-end-at-clause-parts c =
 
 pub before-requires : goal.before-requires
 before-requires c =
-    let s = starts_limit same_mapping c.args.at c.args.self.now c.requires.canonical c.in_ok-run.run'
-    c.in_ok-run.ensures.some in
+    let s = starts_limit same_mapping c.args.at c.args.self.now c.requires.canonical c.in-Some.run'
+    c.in-Some.ensures.some in
     record { some = s }
 
 pub returns-clause-parts : goal.returns-clause-parts
 returns-clause-parts c =
     let e = c.end.ensures.value in
-    let cut = front_cut same_mapping c.args.at c.args.self.now c.requires.canonical c.in_ok-run.run'
-    c.in_ok-run.ensures.some (omega arith) in
+    let cut = front_cut same_mapping c.args.at c.args.self.now c.requires.canonical c.in-Some.run'
+    c.in-Some.ensures.some (omega arith) in
     rw c.before-2.ensures cut
 
 pub returns-clause-apart : goal.returns-clause-apart
 returns-clause-apart c =
-    let is = c.in_ok-run.ensures.some in
-    let s = starts_limit same_mapping c.args.at c.args.self.now c.requires.canonical c.in_ok-run.run' is in
-    let e = ends_before_last same_mapping c.args.at c.args.self.now c.requires.canonical c.in_ok-run.run' is in
+    let is = c.in-Some.ensures.some in
+    let s = starts_limit same_mapping c.args.at c.args.self.now c.requires.canonical c.in-Some.run' is in
+    let e = ends_before_last same_mapping c.args.at c.args.self.now c.requires.canonical c.in-Some.run' is in
     rw c.before-2.ensures
-    (EndBelow-weaker (c.in_ok-run.run'.start + 1) c.args.at (runs_below c.in_ok-run.run'.start c.args.self.now)
+    (EndBelow-weaker (c.in-Some.run'.start + 1) c.args.at (runs_below c.in-Some.run'.start c.args.self.now)
     (omega arith) e)
 
 pub last_below-requires-clause-ascending : goal.last_below-requires-clause-ascending

@@ -5,8 +5,8 @@ use Rattle.vm_memory_base.specs.Table.{Mapping}
 use Rattle.vm_memory_base.proofs.StoredLemmas.{reset_last, below_starts}
 use Rattle.vm_memory_base.proofs.iotlb.run_map.RunMap.replace.Goals as goal
 
-pub returns-in-Some-clause-ok : goal.returns-in-Some-clause-ok
-returns-in-Some-clause-ok c =
+pub returns-then-not-whole-clause-ok : goal.returns-then-not-whole-clause-ok
+returns-then-not-whole-clause-ok c =
     let rs = c.args.self.now in
     let l = c.in-Some.left in
     let left : (d : AddressRun Mapping) × (d.start ≡ l.start)

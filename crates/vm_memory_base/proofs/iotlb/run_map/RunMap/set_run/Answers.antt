@@ -64,7 +64,7 @@ told : (c : After-replace)
 told c =
     facts c.args.self.now c.requires.kept c.args.run c.requires.some c.requires.fits c.start-start.result c.end-end.result
     c.start-start.result c.end-end.result c.start-start.ensures c.end-end.ensures.value c.start-start.ensures c.end-end.ensures.value
-    c.front-left.result c.back-right.result.0 c.front-left.ensures.parts c.front-left.ensures.apart
+    c.front-left.result.0 c.back-right.result.0 c.front-left.ensures.parts c.front-left.ensures.apart
     c.front-left.ensures.reaches c.front-left.ensures.there c.back-right.ensures.parts
     c.joined-joined.result.0 c.joined-joined.result.1 c.joined-joined.ensures.joined
     c.joined_to-begun.result.0 c.joined_to-begun.result.1 c.joined_to-begun.ensures.joined
