@@ -46,8 +46,6 @@ mod texts;
 #[cfg(test)]
 mod thousands;
 #[cfg(test)]
-mod tracked;
-#[cfg(test)]
 mod transfers;
 #[cfg(test)]
 mod typed;
