@@ -46,6 +46,8 @@ mod texts;
 #[cfg(test)]
 mod thousands;
 #[cfg(test)]
+mod tracked;
+#[cfg(test)]
 mod transfers;
 #[cfg(test)]
 mod typed;

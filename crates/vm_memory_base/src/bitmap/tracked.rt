@@ -15,6 +15,7 @@ use self::view::View;
 use atomic_table::{Seat, Shared, Table};
 use std::alloc::{AllocError, Global};
 use std::num::NonZeroUsize;
+use thiserror::Error;
 
 /// Tracks the pages of a number of bytes, for several threads that mark them and one that harvests.
 #[derive(Drop)]
@@ -45,11 +46,13 @@ pub struct Harvester {
 }
 
 /// Why no page was harvested.
-#[derive(Debug, PartialEq, Eq)]
+#[derive(Clone, Copy, Debug, PartialEq, Eq, Error)]
 pub enum HarvestError {
     /// There was no memory for the pages.
+    #[error("out of memory")]
     Memory,
     /// Every round that a word has room for was harvested.
+    #[error("rounds spent")]
     RoundsSpent,
 }
 
