@@ -33,6 +33,14 @@ fn expect_told(
     }
 }
 
+fn expect_words(words: &[u32], wanted: &[u32]) -> Result<(), Fail> {
+    if words == wanted {
+        Ok(())
+    } else {
+        Err(Fail::new("these are other words"))
+    }
+}
+
 // Harvests, and fails where these are not the words.
 fn expect_taken(
     alloc: Global,
@@ -44,8 +52,8 @@ fn expect_taken(
     ensures { IsHarvesterOf harvester.new bitmap.now }
 {
     match bitmap.get_and_reset(harvester, alloc) {
-        Ok(words) if words.as_slice() == wanted => Ok(()),
-        _ => Err(Fail::new("other words are taken")),
+        Ok(words) => expect_words(words.as_slice(), wanted),
+        Err(_) => Err(Fail::new("there was no memory")),
     }
 }
 
@@ -59,8 +67,8 @@ fn expect_left(
     requires { IsHarvesterOf harvester bitmap }
 {
     match bitmap.close(harvester, alloc) {
-        Ok(words) if words.as_slice() == wanted => Ok(()),
-        _ => Err(Fail::new("other words are left")),
+        Ok(words) => expect_words(words.as_slice(), wanted),
+        Err(_) => Err(Fail::new("there was no memory")),
     }
 }
 
