@@ -3,11 +3,10 @@ use Rattle.std.proofs.Common.{◌≡◌, ◌≢◌, Bool, cond, ◌==◌, ℕ, z
 use Rattle.std.proofs.Common.{ap, subst, ◌∙◌, inl, inr, arith, slice_get}
 use Rattle.std.proofs.lemmas.Bool.{cases_Bool, cond-true, cond-false, eqb-true, eqb-false}
 use Rattle.std.proofs.lemmas.List.{length-set}
-use Rattle.std.proofs.lemmas.Option.{slice_get_within}
+use Rattle.std.proofs.lemmas.Option.{slice_get_within, same_Some}
 use Rattle.vm_memory_base.specs.Pages.{PageSet}
-use Rattle.vm_memory_base.specs.Runs.{value_at}
-use Rattle.vm_memory_base.specs.Table.{Mapping, Says, TableCall, says_after, says_after_all, Table}
-use Rattle.vm_memory_base.specs.Table.{says, canonical_list, changed}
+use Rattle.vm_memory_base.specs.Table.{TableEvent, says_after_all, Table}
+use Rattle.vm_memory_base.specs.Table.{says, changed, changed_by, events_of}
 use Rattle.vm_memory_base.specs.Transfer.{Next}
 use Rattle.vm_memory_guest.specs.Access.{Reached}
 use Rattle.vm_memory_guest.specs.Dealt.{received}
@@ -15,14 +14,12 @@ use Rattle.vm_memory_guest.specs.Dirt.{after_write}
 use Rattle.vm_memory_guest.specs.Error.{of_window}
 use Rattle.vm_memory_guest.specs.Host.{Host}
 use Rattle.vm_memory_guest.specs.Lent.{MarksChanges}
-use Rattle.vm_memory_guest.specs.Memory.{says_of}
 use Rattle.vm_memory_guest.specs.Window.{Window}
 use Rattle.vm_memory_guest.specs.declared.region.GuestMemoryError.{GuestMemoryError}
 
-says_after_all-append : (xs ys : List TableCall) (x : ℕ) (said : Option Mapping)
-    → says_after_all (xs ++ ys) x said ≡ says_after_all ys x (says_after_all xs x said)
-says_after_all-append [] ys x said = refl
-says_after_all-append (call ∷ xs) ys x said = says_after_all-append xs ys x (says_after call x said)
+changed_by-append : (xs ys : List TableEvent) (t : Table) → changed_by (xs ++ ys) t ≡ changed_by ys (changed_by xs t)
+changed_by-append [] ys t = refl
+changed_by-append (call ∷ xs) ys t = changed_by-append xs ys (changed call t)
 
 slice_get-set_same : {X : Type 0} (xs : List X) (i : ℕ) (y : X) → i < length xs → slice_get (set xs i y) i ≡ Some y
 slice_get-set_same [] i y within = absurd (omega arith)
@@ -37,70 +34,69 @@ slice_get-set_other (x ∷ xs) (suc i) zero y other = refl
 slice_get-set_other (x ∷ xs) (suc i) (suc j) y other =
     slice_get-set_other xs i j y (λ e. other (ap (λ (k : ℕ). suc k) e))
 
--- as many tables as before, of which the one of this number says what these calls made of it
-pub record AreLeftBy (number : ℕ) (calls : List TableCall) (before after : List Table) : Type 0 where
+-- as many tables as before, of which the one of this number is what these calls made of it
+pub record AreLeftBy (number : ℕ) (calls : List TableEvent) (before after : List Table) : Type 0 where
   pub count : length after ≡ length before
-  pub said : (x : ℕ) → x < 2 ^ 64
-      → says_of (slice_get after number) x ≡ says_after_all calls x (says_of (slice_get before number) x)
+  pub left : (t : Table) → slice_get before number ≡ Some t → slice_get after number ≡ Some (changed_by calls t)
 
 pub same : (number : ℕ) (before after : List Table) → after ≡ before → AreLeftBy number [] before after
 same number before after e = record {
   count = ap (λ (ts : List Table). length ts) e;
-  said = λ x fits. ap (λ (ts : List Table). says_of (slice_get ts number) x) e;
+  left = λ t there. ap (λ (ts : List Table). slice_get ts number) e ∙ there;
 }
 
-pub one_after_the_other : (number : ℕ) (xs ys : List TableCall) (before mid after : List Table)
+pub one_after_the_other : (number : ℕ) (xs ys : List TableEvent) (before mid after : List Table)
     → AreLeftBy number xs before mid → AreLeftBy number ys mid after → AreLeftBy number (xs ++ ys) before after
 one_after_the_other number xs ys before mid after first second = record {
   count = second.count ∙ first.count;
-  said = λ x fits.
-      second.said x fits ∙ ap (says_after_all ys x) (first.said x fits)
-      ∙ sym (says_after_all-append xs ys x (says_of (slice_get before number) x));
+  left = λ t there.
+      second.left (changed_by xs t) (first.left t there)
+      ∙ ap (λ (u : Table). Some u) (sym (changed_by-append xs ys t));
 }
 
 -- what is taken from the laws of tables and of writes
 pub record HistoryLaws : Type 0 where
-  pub kept_says : (f : Says) (x : ℕ) → x < 2 ^ 64 → value_at (canonical_list f) x ≡ f x
+  pub says_changed : (calls : List TableEvent) (t : Table) (x : ℕ) → x < 2 ^ 64
+      → says (changed_by calls t) x ≡ says_after_all (events_of calls t) x (says t x)
   pub writes_keep : (xs : List Reached) (bytes : List ℕ) (host : Host PageSet)
       → (after_write xs bytes host).tables ≡ host.tables
   pub lent_keep : (fault : Option GuestMemoryError) (until_full : Bool) (ws : List Window) (total : ℕ)
       (next : List Next)
       (host : Host PageSet) → (received of_window fault until_full ws total next host).host.tables ≡ host.tables
 
-pub history_laws : ((f : Says) (x : ℕ) → x < 2 ^ 64 → value_at (canonical_list f) x ≡ f x)
+pub history_laws : ((calls : List TableEvent) (t : Table) (x : ℕ) → x < 2 ^ 64
+    → says (changed_by calls t) x ≡ says_after_all (events_of calls t) x (says t x))
     → ((xs : List Reached) (bytes : List ℕ) (host : Host PageSet) → (after_write xs bytes host).tables ≡ host.tables)
     → ((fault : Option GuestMemoryError) (until_full : Bool) (ws : List Window) (total : ℕ) (next : List Next)
     (host : Host PageSet) → MarksChanges ws host (received of_window fault until_full ws total next host).host)
     → HistoryLaws
-history_laws kept_says writes_keep lent_mark = record {
-  kept_says = kept_says;
+history_laws says_changed writes_keep lent_mark = record {
+  says_changed = says_changed;
   writes_keep = writes_keep;
   lent_keep = λ fault until_full ws total next host. (lent_mark fault until_full ws total next host).tables;
 }
 
-module _ (laws : HistoryLaws) where
-  changed_own : (number : ℕ) (call : TableCall) (t : Table) (ts : List Table) → slice_get ts number ≡ Some t
-      → AreLeftBy number (call ∷ []) ts (set ts number (changed call t))
-  changed_own number call t ts there = record {
-    count = length-set ts number (changed call t);
-    said = λ x fits.
-        rw (slice_get-set_same ts number (changed call t) (slice_get_within ts number t there), there)
-        (laws.kept_says (λ y. says_after call y (says t y)) x fits);
-  }
+changed_own : (number : ℕ) (call : TableEvent) (t : Table) (ts : List Table) → slice_get ts number ≡ Some t
+    → AreLeftBy number (call ∷ []) ts (set ts number (changed call t))
+changed_own number call t ts there = record {
+  count = length-set ts number (changed call t);
+  left = λ u is.
+      slice_get-set_same ts number (changed call t) (slice_get_within ts number t there)
+      ∙ ap (λ (v : Table). Some (changed call v)) (same_Some t u (sym there ∙ is));
+}
 
-  pub changed_at : (n number : ℕ) (call : TableCall) (t : Table) (ts : List Table) → slice_get ts n ≡ Some t
-      → AreLeftBy number (cond (n == number) (call ∷ []) []) ts (set ts n (changed call t))
-  changed_at n number call t ts there = elim (cases_Bool (n == number)) [
-    | inl e ↦
-        rw (cond-true (n == number) (call ∷ []) [] e)
-        (subst (λ (k : ℕ). AreLeftBy k (call ∷ []) ts (set ts n (changed call t))) (eqb-true n number e)
-        (changed_own n call t ts there))
-    | inr e ↦
-        rw (cond-false (n == number) (call ∷ []) [] e)
-        (let other : number ≢ n = λ f. eqb-false n number e (sym f) in
-        record {
-          count = length-set ts n (changed call t);
-          said = λ x fits.
-              ap (λ (o : Option Table). says_of o x) (slice_get-set_other ts n number (changed call t) other);
-        })
-  ]
+pub changed_at : (n number : ℕ) (call : TableEvent) (t : Table) (ts : List Table) → slice_get ts n ≡ Some t
+    → AreLeftBy number (cond (n == number) (call ∷ []) []) ts (set ts n (changed call t))
+changed_at n number call t ts there = elim (cases_Bool (n == number)) [
+  | inl e ↦
+      rw (cond-true (n == number) (call ∷ []) [] e)
+      (subst (λ (k : ℕ). AreLeftBy k (call ∷ []) ts (set ts n (changed call t))) (eqb-true n number e)
+      (changed_own n call t ts there))
+  | inr e ↦
+      rw (cond-false (n == number) (call ∷ []) [] e)
+      (let other : number ≢ n = λ f. eqb-false n number e (sym f) in
+      record {
+        count = length-set ts n (changed call t);
+        left = λ u is. slice_get-set_other ts n number (changed call t) other ∙ is;
+      })
+]

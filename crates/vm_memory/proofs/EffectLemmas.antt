@@ -185,7 +185,7 @@ module _ (old : State) (c : Command) where
       (λ direct. itself_marks cs))
 
   -- a change of a table
-  changed_by : (number : ℕ) (call : table.TableCall)
+  changed_by : (number : ℕ) (call : table.TableEvent)
       → ((n : ℕ) → table_call n c reply.Done ≡ cond (number == n) (call ∷ []) [])
       → ((block : ℕ) (image : List ℕ) → image_after block old.host c reply.Done image ≡ image)
       → (o : Option table.Table) → slice_get old.host.tables number ≡ o → (over : Bool)
@@ -195,7 +195,7 @@ module _ (old : State) (c : Command) where
   changed_by number call calls patch (Some t) e false = record {
     answer = λ law. tt;
     still = λ law. absurd;
-    tables = λ laws n. rw (calls n) (changed_at laws number n call t old.host.tables e);
+    tables = λ laws n. rw (calls n) (changed_at number n call t old.host.tables e);
     image = λ laws block image direct kept. rw (patch block image) kept;
   }
 

@@ -8,14 +8,14 @@ use Rattle.std.proofs.lemmas.Option.{slice_get_cases, slice_get_within, none-som
 use Rattle.vm_memory_base.specs.Address.{step, difference}
 use Rattle.vm_memory_base.specs.Permissions.{allow}
 use Rattle.vm_memory_base.specs.Table as table
-use Rattle.vm_memory_base.specs.Table.{Mapping, target, Says, TableCall, covers, says_after, says_after_all, Table}
-use Rattle.vm_memory_base.specs.Table.{says, grants, is_allowed}
+use Rattle.vm_memory_base.specs.Table.{Mapping, target, Says, TableEvent, covers, says_after, says_after_all, Table}
+use Rattle.vm_memory_base.specs.Table.{says, changed_by, grants, is_allowed}
 use Rattle.vm_memory_base.specs.declared.iotlb.Permissions.{Permissions}
 use Rattle.vm_memory_guest.specs.Access.{Reached, Meets, Reaches, Stops, meets_at, meets, onto, path, first_fault}
 use Rattle.vm_memory_guest.specs.Access.{Access, refusal, access_of}
 use Rattle.vm_memory_guest.specs.Memory.{Memory, Translation, behind_of, Route, Through, says_of, route_behind}
 use Rattle.vm_memory_guest.specs.Region.{Region, Lies, Backed, Unbacked, Unmapped, cell}
-use Rattle.vm_memory.specs.History.{AnsweredIn, table_calls, IsLast, GoesThrough}
+use Rattle.vm_memory.specs.History.{AnsweredIn, table_calls, table_events, IsLast, GoesThrough}
 use Rattle.vm_memory.specs.Machine.{Run}
 use Rattle.vm_memory.specs.Reply.{reached_by}
 use Rattle.vm_memory.specs.State.{State}
@@ -141,82 +141,85 @@ module _ (grants_where_allowed : GrantsWhereAllowed) where
 
 -- what is taken from the laws of calls
 pub record CallLaws : Type 0 where
-  pub last : (earlier later : List TableCall) (call : TableCall) (x : ℕ) (old : Option Mapping)
+  pub last : (earlier later : List TableEvent) (call : TableEvent) (x : ℕ) (old : Option Mapping)
       → covers call x ≡ true → All (λ other. covers other x ≡ false) later
       → says_after_all (earlier ++ call ∷ later) x old ≡ says_after call x None
-  pub none : (calls : List TableCall) (x : ℕ) (old : Option Mapping)
+  pub none : (calls : List TableEvent) (x : ℕ) (old : Option Mapping)
       → All (λ call. covers call x ≡ false) calls → says_after_all calls x old ≡ old
 
 -- ---- what a run says
 
--- what the table of a number says then, where it was there before
+-- what the table of a number is then, and says, where it was there before
 pub run_says : HistoryLaws
     → (number : ℕ) (old : State) (cs : List Command) (rs : List Reply) (new : State) (x : ℕ) (t : Table)
     → Run old cs rs new → slice_get old.host.tables number ≡ Some t → x < 2 ^ 64
     → (u : Table) × (slice_get new.host.tables number ≡ Some u)
-    × (says u x ≡ says_after_all (table_calls number cs rs) x (says t x))
-run_says laws number old cs rs new x t run there fits =
-    let left = run_leaves laws number old cs rs new run in
-    let within = slice_get_within old.host.tables number t there in
-    elim (slice_get_cases new.host.tables number).1 [
-      | inl at ↦ (at.0, at.2, rw (at.2, there) at (left.said x fits))
-      | inr past ↦ absurd (omega (arith, past.0, left.count))
-    ]
+    × (says u x ≡ says_after_all (table_events number t cs rs) x (says t x))
+run_says laws number old cs rs new x t run there fits = (
+  changed_by (table_calls number cs rs) t,
+  (run_leaves laws number old cs rs new run).left t there,
+  laws.says_changed (table_calls number cs rs) t x fits,
+)
 
 module _ (laws : HistoryLaws) (calls : CallLaws) where
-  last_says : (x : ℕ) (cs : List TableCall) (call : TableCall) (old : Option Mapping) → IsLast x cs call
+  last_says : (x : ℕ) (cs : List TableEvent) (call : TableEvent) (old : Option Mapping) → IsLast x cs call
       → says_after_all cs x old ≡ says_after call x None
   last_says x cs call old is =
-      ap (λ (ds : List TableCall). says_after_all ds x old) is.is_among
+      ap (λ (ds : List TableEvent). says_after_all ds x old) is.is_among
       ∙ calls.last is.earlier is.later call x old is.covers_it is.none_later
 
-  pub run_says_last : (old new : State) (cs : List Command) (rs : List Reply) (number x : ℕ) (u : Table)
-      (call : TableCall) → Run old cs rs new → slice_get new.host.tables number ≡ Some u → x < 2 ^ 64
-      → IsLast x (table_calls number cs rs) call → says u x ≡ says_after call x None
-  run_says_last old new cs rs number x u call run there fits is =
-      ap (λ (o : Option Table). says_of o x) (sym there)
-      ∙ (run_leaves laws number old cs rs new run).said x fits
-      ∙ last_says x (table_calls number cs rs) call (says_of (slice_get old.host.tables number) x) is
+  said : (old new : State) (cs : List Command) (rs : List Reply) (number x : ℕ) (t : Table) (o : Option Table)
+      → Run old cs rs new → slice_get old.host.tables number ≡ Some t → slice_get new.host.tables number ≡ o
+      → x < 2 ^ 64 → says_of o x ≡ says_after_all (table_events number t cs rs) x (says t x)
+  said old new cs rs number x t o run before there fits =
+      let h = run_says laws number old cs rs new x t run before fits in
+      ap (λ (p : Option Table). says_of p x) (sym there ∙ h.1) ∙ h.2
+
+  pub run_says_last : (old new : State) (cs : List Command) (rs : List Reply) (number x : ℕ) (t u : Table)
+      (call : TableEvent) → Run old cs rs new → slice_get old.host.tables number ≡ Some t
+      → slice_get new.host.tables number ≡ Some u → x < 2 ^ 64
+      → IsLast x (table_events number t cs rs) call → says u x ≡ says_after call x None
+  run_says_last old new cs rs number x t u call run before there fits is =
+      said old new cs rs number x t (Some u) run before there fits
+      ∙ last_says x (table_events number t cs rs) call (says t x) is
 
   pub run_says_as_before : (old new : State) (cs : List Command) (rs : List Reply) (number x : ℕ) (t u : Table)
       → Run old cs rs new → slice_get old.host.tables number ≡ Some t → slice_get new.host.tables number ≡ Some u
-      → x < 2 ^ 64 → All (λ call. covers call x ≡ false) (table_calls number cs rs) → says u x ≡ says t x
+      → x < 2 ^ 64 → All (λ call. covers call x ≡ false) (table_events number t cs rs) → says u x ≡ says t x
   run_says_as_before old new cs rs number x t u run before there fits uncovered =
-      ap (λ (o : Option Table). says_of o x) (sym there)
-      ∙ (run_leaves laws number old cs rs new run).said x fits
-      ∙ calls.none (table_calls number cs rs) x (says_of (slice_get old.host.tables number) x) uncovered
-      ∙ ap (λ (o : Option Table). says_of o x) before
+      said old new cs rs number x t (Some u) run before there fits
+      ∙ calls.none (table_events number t cs rs) x (says t x) uncovered
 
   module _ (grants_where_allowed : GrantsWhereAllowed) where
     -- byte i of an access after a run, behind the table that was there before it
     pub run_goes_through : (old now : State) (cs : List Command) (rs : List Reply) (m : Memory) (b : Translation)
-        (a n i : ℕ) (access : Permissions) (x : Reached) → Run old cs rs now → behind_of m.iommu ≡ Some b
+        (t : Table) (a n i : ℕ) (access : Permissions) (x : Reached) → Run old cs rs now → behind_of m.iommu ≡ Some b
+        → slice_get old.host.tables b.table ≡ Some t
         → slice_get (reached_by m now.host.tables a n access).path i ≡ Some x
         → (a + i < 2 ^ 64)
-        × GoesThrough m.regions (a + i)
-        (says_after_all (table_calls b.table cs rs) (a + i) (says_of (slice_get old.host.tables b.table) (a + i)))
+        × GoesThrough m.regions (a + i) (says_after_all (table_events b.table t cs rs) (a + i) (says t (a + i)))
         access x
-    run_goes_through old now cs rs m b a n i access x run on reached =
+    run_goes_through old now cs rs m b t a n i access x run on there reached =
         let at : Option Translation → Access = λ o. access_of m.regions (route_behind o now.host.tables) a n access in
         let behind = subst (λ (o : Option Translation). slice_get (at o).path i ≡ Some x) on reached in
         let now_says = says_of (slice_get now.host.tables b.table) in
         let h = goes_through grants_where_allowed m.regions now_says b.space a n i access x behind in (
           h.0,
           subst (λ (o : Option Mapping). GoesThrough m.regions (a + i) o access x)
-              ((run_leaves laws b.table old cs rs now run).said (a + i) h.0) h.1,
+              (said old now cs rs b.table (a + i) t (slice_get now.host.tables b.table) run there refl h.0) h.1,
         )
 
     pub run_goes_through_last : (old now : State) (cs : List Command) (rs : List Reply) (m : Memory) (b : Translation)
-        (a n i : ℕ) (access : Permissions) (x : Reached) (call : TableCall) → Run old cs rs now
-        → behind_of m.iommu ≡ Some b → slice_get (reached_by m now.host.tables a n access).path i ≡ Some x
-        → IsLast (a + i) (table_calls b.table cs rs) call
+        (t : Table) (a n i : ℕ) (access : Permissions) (x : Reached) (call : TableEvent) → Run old cs rs now
+        → behind_of m.iommu ≡ Some b → slice_get old.host.tables b.table ≡ Some t
+        → slice_get (reached_by m now.host.tables a n access).path i ≡ Some x
+        → IsLast (a + i) (table_events b.table t cs rs) call
         → (a + i < 2 ^ 64) × GoesThrough m.regions (a + i) (says_after call (a + i) None) access x
-    run_goes_through_last old now cs rs m b a n i access x call run on reached is =
-        let h = run_goes_through old now cs rs m b a n i access x run on reached in
-        let before = says_of (slice_get old.host.tables b.table) (a + i) in (
+    run_goes_through_last old now cs rs m b t a n i access x call run on there reached is =
+        let h = run_goes_through old now cs rs m b t a n i access x run on there reached in (
           h.0,
           subst (λ (o : Option Mapping). GoesThrough m.regions (a + i) o access x)
-              (last_says (a + i) (table_calls b.table cs rs) call before is) h.1,
+              (last_says (a + i) (table_events b.table t cs rs) call (says t (a + i)) is) h.1,
         )
 
 -- through a range that was set, a byte is what lies as far behind the range's target

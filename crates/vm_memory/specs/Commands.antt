@@ -4,7 +4,7 @@ use Rattle.std.specs.Prelude.{Option, Some, None, IsSome, IsSomeAnd}
 use Rattle.std.specs.Int.{byte_len}
 use Rattle.vm_memory_base.specs.Pages.{dirty_pages, cleaned}
 use Rattle.vm_memory_base.specs.Table as table
-use Rattle.vm_memory_base.specs.Table.{TableCall, says, overruns}
+use Rattle.vm_memory_base.specs.Table.{TableEvent, says, overruns}
 use Rattle.vm_memory_base.specs.declared.bitmap.BitmapId.{BitmapId}
 use Rattle.vm_memory_guest.specs.Layout.{inserted, removed}
 use Rattle.vm_memory_guest.specs.Memory.{NeedsTranslation}
@@ -156,7 +156,7 @@ written_memory (ReadExactFrom memory addr count source) = Some memory
 written_memory c = None
 
 -- the calls of the table of this number that a command made: its own, if it is one of this table and was done
-abbrev pub table_call : ℕ → Command → Reply → List TableCall
+abbrev pub table_call : ℕ → Command → Reply → List TableEvent
 table_call number (Set t iova to len perm) Done = if t == number then table.Set iova.0 to.0 len perm ∷ [] else []
 table_call number (Invalidate t iova len) Done = if t == number then table.Invalidate iova.0 len ∷ [] else []
 table_call number (InvalidateAll t) Done = if t == number then table.InvalidateAll ∷ [] else []

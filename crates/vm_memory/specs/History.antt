@@ -2,7 +2,7 @@
 use Rattle.std.specs.Prelude.{◌≡◌, ℕ, ◌+◌, ◌<◌, true, false, List, [], ◌∷◌, ◌++◌, All, Option, Some}
 use Rattle.std.specs.Prelude.{length, slice_get, slice_index_or}
 use Rattle.vm_memory_base.specs.Permissions.{allow}
-use Rattle.vm_memory_base.specs.Table.{Table, TableCall, says, says_after_all, covers, Mapping, target}
+use Rattle.vm_memory_base.specs.Table.{Table, TableEvent, says, says_after_all, events_of, covers, Mapping, target}
 use Rattle.vm_memory_base.specs.declared.iotlb.Permissions.{Permissions}
 use Rattle.vm_memory_guest.specs.Access.{Reached}
 use Rattle.vm_memory_guest.specs.Memory.{Memory, Translation, behind_of}
@@ -30,14 +30,19 @@ pub record AnsweredIn (old : State) (before : List Command) (c : Command) (after
   pub goes_on : Run next after later new
 
 -- and those that commands made, in order
-abbrev pub table_calls : ℕ → List Command → List Reply → List TableCall
+abbrev pub table_calls : ℕ → List Command → List Reply → List TableEvent
 table_calls number (c ∷ cs) (r ∷ rs) = table_call number c r ++ table_calls number cs rs
 table_calls number cs rs = []
 
--- of these calls, the last that covers an address is this one
-pub record IsLast (address : ℕ) (calls : List TableCall) (call : TableCall) : Type 0 where
-  pub earlier : List TableCall
-  pub later : List TableCall
+-- what befell the table of a number, which was this one before: the calls that commands made of it, and the evictions
+-- that these led to
+abbrev pub table_events : ℕ → Table → List Command → List Reply → List TableEvent
+table_events number table cs rs = events_of (table_calls number cs rs) table
+
+-- of these events, the last that covers an address is this one
+pub record IsLast (address : ℕ) (calls : List TableEvent) (call : TableEvent) : Type 0 where
+  pub earlier : List TableEvent
+  pub later : List TableEvent
   pub is_among : calls ≡ earlier ++ call ∷ later
   pub covers_it : covers call address ≡ true
   pub none_later : All (λ other. covers other address ≡ false) later
@@ -61,7 +66,7 @@ pub record GoesThrough (regions : List Region) (address : ℕ) (said : Option Ma
 
 -- a state that commands with these replies left: its layouts are layouts, at most one region of a memory has an
 -- address, and behind an IOMMU that is on each byte is reached through the mapping that was set last for its address
--- and not invalidated since
+-- and not invalidated or evicted since
 pub record ReachesAsTold (old : State) (cs : List Command) (rs : List Reply) (now : State) : Type 0 where
   pub lawful : IsLawful now
   pub one_region : (m : Memory) (memory a i j : ℕ) (d : Region) → slice_get now.memories memory ≡ Some m
@@ -70,4 +75,4 @@ pub record ReachesAsTold (old : State) (cs : List Command) (rs : List Reply) (no
   pub set_last : (m : Memory) (b : Translation) (t : Table) (a n i : ℕ) (access : Permissions) (x : Reached)
       → behind_of m.iommu ≡ Some b → slice_get old.host.tables b.table ≡ Some t
       → slice_get (reached_by m now.host.tables a n access).path i ≡ Some x
-      → GoesThrough m.regions (a + i) (says_after_all (table_calls b.table cs rs) (a + i) (says t (a + i))) access x
+      → GoesThrough m.regions (a + i) (says_after_all (table_events b.table t cs rs) (a + i) (says t (a + i))) access x

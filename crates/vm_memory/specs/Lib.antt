@@ -12,6 +12,8 @@ pub mod Lawful
 pub mod Machine
 pub mod Memories
 pub mod Parts
+pub mod Queue
+pub mod QueueText
 pub mod Reply
 pub mod Rounds
 pub mod Script

@@ -1,20 +1,20 @@
 -- Commands on I/O tables.
 use Rattle.std.specs.Prelude.{ℕ, Bool, if◌then◌else◌, Option, Some, None, slice_get}
 use Rattle.vm_memory_base.specs.Lookup.{mapped_ranges}
-use Rattle.vm_memory_base.specs.Table.{Table, TableCall, Says, changed, overruns, is_allowed, pieces, misses, failures}
+use Rattle.vm_memory_base.specs.Table.{Table, TableEvent, Says, changed, overruns, is_allowed, pieces, misses, failures}
 use Rattle.vm_memory_base.specs.declared.iotlb.Permissions.{Permissions}
 use Rattle.vm_memory_guest.specs.Host.{Host, with_table_at}
 use Rattle.vm_memory.specs.declared.machine.command.Reply.{Reply}
 use Rattle.vm_memory.specs.declared.machine.command.Reply.TheVariants.{Done, Pieces, Fails, NoSuch, BadRange}
 
 -- a change of a table that is there, where it does not go past the last address
-abbrev pub changed_table : {B : Type 0} → Host B → ℕ → Option Table → Bool → TableCall → Reply × Host B
+abbrev pub changed_table : {B : Type 0} → Host B → ℕ → Option Table → Bool → TableEvent → Reply × Host B
 changed_table host number None over call = (NoSuch, host)
 changed_table host number (Some t) over call =
     if over then (BadRange, host) else (Done, with_table_at host number (changed call t))
 
 -- a change of len addresses from iova on
-abbrev pub changes : {B : Type 0} → Host B → ℕ → ℕ → ℕ → TableCall → Reply × Host B
+abbrev pub changes : {B : Type 0} → Host B → ℕ → ℕ → ℕ → TableEvent → Reply × Host B
 changes host number iova len call =
     changed_table host number (slice_get host.tables number) (overruns iova len) call
 

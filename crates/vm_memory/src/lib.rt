@@ -5,6 +5,8 @@ mod iommu;
 pub mod machine;
 pub mod machine_examples;
 pub mod machine_laws;
+mod queue;
+pub mod queue_laws;
 pub mod script;
 
 pub use iommu::{Iommu, IommuMemory, TableIommu};
@@ -15,6 +17,9 @@ pub use machine::machine_memory::MachineMemory;
 pub use machine::shared::SharedMachine;
 pub use machine::{Machine, run};
 pub use script::{DriveFault, drive};
+
+// Chains of descriptors.
+pub use queue::{Chain, ChainFault, ChainReader, ChainWriter, Segment};
 
 // Bitmaps that several threads mark.
 pub use vm_memory_base::{HarvestError, Harvester, Marker, MarkerBitmap, TrackedBitmap};

@@ -152,7 +152,8 @@ impl<R: GuestMemoryRegion, I: Iommu, B: ExactBitmap> Machine<R, I, B> {
 /// nothing ran and nothing was appended.
 ///
 /// At every moment of the run each layout is one, and behind an IOMMU that is on a byte is reached through the
-/// mapping that was set last for its address and not invalidated since: docs/DEFINITIONS.md, "The other main theorems".
+/// mapping that was set last for its address and not invalidated or evicted since: docs/DEFINITIONS.md, "The other
+/// main theorems".
 ///
 /// A copy of a block that its bitmap covers, patched with the pages of each harvest and with those that are
 /// dirty, is the block at every moment of the run: docs/DEFINITIONS.md, "Images kept in rounds".

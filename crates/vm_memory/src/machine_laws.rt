@@ -6,7 +6,7 @@ ghost use Rattle.vm_memory_base.specs.Address.{step};
 ghost use Rattle.vm_memory_base.specs.Pages.{PageSet};
 ghost use Rattle.vm_memory_base.specs.Permissions.{allow};
 ghost use Rattle.vm_memory_base.specs.Table as table;
-ghost use Rattle.vm_memory_base.specs.Table.{Table, TableCall, says, says_after, says_after_all, covers};
+ghost use Rattle.vm_memory_base.specs.Table.{Table, TableEvent, says, says_after, says_after_all, covers};
 ghost use Rattle.vm_memory_base.specs.declared.address.GuestAddress.{GuestAddress};
 ghost use Rattle.vm_memory_base.specs.declared.bitmap.BitmapId.TheVariants.{Block};
 ghost use Rattle.vm_memory_base.specs.declared.iotlb.Permissions.{Permissions};
@@ -18,7 +18,7 @@ ghost use Rattle.vm_memory_guest.specs.Host.{Host};
 ghost use Rattle.vm_memory_guest.specs.Memory as guest;
 ghost use Rattle.vm_memory_guest.specs.Memory.{Translation, behind_of};
 ghost use Rattle.vm_memory_guest.specs.Region.{Backed, Region, cell, has_address};
-ghost use Rattle.vm_memory.specs.History.{AnsweredIn, table_calls, IsLast, GoesThrough};
+ghost use Rattle.vm_memory.specs.History.{AnsweredIn, table_events, IsLast, GoesThrough};
 ghost use Rattle.vm_memory.specs.Lawful.{IsLawful};
 ghost use Rattle.vm_memory.specs.Commands.{MayWant};
 ghost use Rattle.vm_memory.specs.Machine.{Step, Run};
@@ -41,7 +41,7 @@ use crate::iommu::Iommu;
 use vm_memory_base::ExactBitmap;
 use vm_memory_base::laws::pages::{cleaned_is_clean, dirty_pages_are_listed};
 use vm_memory_base::laws::table::{
-    allowed_where_each_address_grants, canonical_list_decides_the_table, last_call_decides,
+    allowed_where_each_address_grants, last_call_decides, tables_keep_to_their_limits,
     targets_follow_addresses,
 };
 use vm_memory_guest::GuestMemoryRegion;
@@ -138,56 +138,59 @@ pub fn ample_runs_agree()
         → (qs ≡ rs) × (again ≡ new) }
 {}
 
-/// After a run a table says of each address what the last call that covers it made of it, and, where no call
+/// After a run a table says of each address what the last call or eviction that covers it made of it, and, where none
 /// covers it, what the table said before the run. No table is made or taken away.
 pub fn tables_say_what_was_set_last()
     ensures all { (old new : State) (cs : List Command) (rs : List Reply) (number x : ℕ) (t : Table)
         → Run old cs rs new → slice_get old.host.tables number ≡ Some t → x < 2 ^ 64
         → (u : Table) × (slice_get new.host.tables number ≡ Some u)
-        × (says u x ≡ says_after_all (table_calls number cs rs) x (says t x)) }
-    ensures last { (old new : State) (cs : List Command) (rs : List Reply) (number x : ℕ) (u : Table)
-        (call : TableCall) → Run old cs rs new → slice_get new.host.tables number ≡ Some u → x < 2 ^ 64
-        → IsLast x (table_calls number cs rs) call → says u x ≡ says_after call x None }
+        × (says u x ≡ says_after_all (table_events number t cs rs) x (says t x)) }
+    ensures last { (old new : State) (cs : List Command) (rs : List Reply) (number x : ℕ) (t u : Table)
+        (call : TableEvent) → Run old cs rs new → slice_get old.host.tables number ≡ Some t
+        → slice_get new.host.tables number ≡ Some u → x < 2 ^ 64
+        → IsLast x (table_events number t cs rs) call → says u x ≡ says_after call x None }
     ensures opening { (old new : State) (cs : List Command) (rs : List Reply) (number x : ℕ) (t u : Table)
         → Run old cs rs new → slice_get old.host.tables number ≡ Some t
         → slice_get new.host.tables number ≡ Some u → x < 2 ^ 64
-        → All (λ call. covers call x ≡ false) (table_calls number cs rs) → says u x ≡ says t x }
+        → All (λ call. covers call x ≡ false) (table_events number t cs rs) → says u x ≡ says t x }
     ensures count { (old new : State) (cs : List Command) (rs : List Reply) → Run old cs rs new
         → length new.host.tables ≡ length old.host.tables }
 {
-    canonical_list_decides_the_table();
+    tables_keep_to_their_limits();
     last_call_decides();
     path_writes_keep_shapes();
     transfers_in_mark_what_they_change();
 }
 
 /// In the state that a run leaves, an access behind an IOMMU that is on reaches each byte through the mapping
-/// that was set last for its address and not invalidated since. What the table said before the run counts as
-/// set before it.
+/// that was set last for its address and not invalidated or evicted since. What the table said before the run counts
+/// as set before it.
 pub fn accesses_go_through_what_was_set_last()
     ensures all { (old now : State) (cs : List Command) (rs : List Reply) (m : guest.Memory) (b : Translation)
         (t : Table) (a n i : ℕ) (access : Permissions) (x : Reached) → Run old cs rs now
         → behind_of m.iommu ≡ Some b → slice_get old.host.tables b.table ≡ Some t
         → slice_get (reached_by m now.host.tables a n access).path i ≡ Some x
-        → GoesThrough m.regions (a + i) (says_after_all (table_calls b.table cs rs) (a + i) (says t (a + i)))
+        → GoesThrough m.regions (a + i) (says_after_all (table_events b.table t cs rs) (a + i) (says t (a + i)))
         access x }
     ensures set { (old now : State) (cs : List Command) (rs : List Reply) (m : guest.Memory) (b : Translation)
-        (a n i iova to len : ℕ) (access perm : Permissions) (x : Reached) → Run old cs rs now
-        → behind_of m.iommu ≡ Some b → slice_get (reached_by m now.host.tables a n access).path i ≡ Some x
-        → IsLast (a + i) (table_calls b.table cs rs) (table.Set iova to len perm)
+        (t : Table) (a n i iova to len : ℕ) (access perm : Permissions) (x : Reached) → Run old cs rs now
+        → behind_of m.iommu ≡ Some b → slice_get old.host.tables b.table ≡ Some t
+        → slice_get (reached_by m now.host.tables a n access).path i ≡ Some x
+        → IsLast (a + i) (table_events b.table t cs rs) (table.Set iova to len perm)
         → (allow perm access ≡ true) × (cell m.regions (step to (a + i - iova)) ≡ Backed x.region x.cell) }
     ensures invalidated { (old now : State) (cs : List Command) (rs : List Reply) (m : guest.Memory) (b : Translation)
-        (a n i : ℕ) (access : Permissions) (x : Reached) (call : TableCall) → Run old cs rs now
-        → behind_of m.iommu ≡ Some b → slice_get (reached_by m now.host.tables a n access).path i ≡ Some x
-        → IsLast (a + i) (table_calls b.table cs rs) call → says_after call (a + i) None ≡ None → ⊥ }
+        (t : Table) (a n i : ℕ) (access : Permissions) (x : Reached) (call : TableEvent) → Run old cs rs now
+        → behind_of m.iommu ≡ Some b → slice_get old.host.tables b.table ≡ Some t
+        → slice_get (reached_by m now.host.tables a n access).path i ≡ Some x
+        → IsLast (a + i) (table_events b.table t cs rs) call → says_after call (a + i) None ≡ None → ⊥ }
     ensures opening { (old now : State) (cs : List Command) (rs : List Reply) (m : guest.Memory) (b : Translation)
         (t : Table) (a n i : ℕ) (access : Permissions) (x : Reached) → Run old cs rs now
         → behind_of m.iommu ≡ Some b → slice_get old.host.tables b.table ≡ Some t
         → slice_get (reached_by m now.host.tables a n access).path i ≡ Some x
-        → All (λ call. covers call (a + i) ≡ false) (table_calls b.table cs rs)
+        → All (λ call. covers call (a + i) ≡ false) (table_events b.table t cs rs)
         → GoesThrough m.regions (a + i) (says t (a + i)) access x }
 {
-    canonical_list_decides_the_table();
+    tables_keep_to_their_limits();
     last_call_decides();
     targets_follow_addresses();
     allowed_where_each_address_grants();

@@ -1,14 +1,14 @@
 -- Runs before an address and behind it, and the runs of a table after a change.
-use Rattle.std.proofs.Common.{◌≡◌, ℕ, zero, suc, ◌+◌, ◌-◌, ◌^◌, ◌<◌, ◌≤◌, min, max, Bool, true, false, cond, ◌&&◌, ltb, eqb, List, [], ◌∷◌, ◌++◌, length, get_or, take, drop, Option, Some, None, Result, Ok, Err, OnOk, OnErr, IfSome, refl, sym, ap, subst, inl, inr, ◌∙◌, arith}
+use Rattle.std.proofs.Common.{◌≡◌, ℕ, ◌+◌, ◌-◌, ◌^◌, ◌<◌, ◌≤◌, min, max, Bool, true, false, cond, ◌&&◌, ltb, eqb, List, [], ◌∷◌, ◌++◌, length, Option, Some, None, Result, Ok, Err, OnOk, OnErr, IfSome, refl, sym, ap, subst, inl, inr, ◌∙◌, arith}
 use Rattle.std.proofs.lemmas.Bool.{lt-ltb, le-ltb, eqb-true, and_parts, and_cases, cases_lt, cases_Bool, eq-eqb}
 use Rattle.std.proofs.lemmas.List.{append-nil, append_assoc}
 use Rattle.vm_memory_base.specs.Address.{is_within}
 use Rattle.vm_memory_base.specs.Change.{EndBelow, StartFrom, IsKept, if_any, prepended, prepended_if_any, with_run, without_range}
 use Rattle.vm_memory_base.specs.Runs.{AddressRun, IsCanonical, value_at, cut_to}
-use Rattle.vm_memory_base.specs.Table.{Mapping, same_mapping, Says, Table, says, TableCall, Set, Invalidate, says_after, changed, canonical_list}
+use Rattle.vm_memory_base.specs.Table.{Mapping, same_mapping, Says, Set, Invalidate, says_after, canonical_list}
 use Rattle.vm_memory_base.specs.declared.iotlb.Permissions.{Permissions}
 use Rattle.vm_memory_base.proofs.RunsLaws.{run, either, CanFollow, canonical_cons, canonical_pos, canonical_follow, canonical_tail, within_or_not, is_within-in, is_within-below, is_within-above, is_within-join, value_at_in, value_at_past, value_at-cut_to, canonical_cut_to}
-use Rattle.vm_memory_base.proofs.TableLaws.{same_mapping_tests_equality, canonical_list-agree, canonical_list-of_values, value_at-canonical_list, set_nothing, invalidate_nothing}
+use Rattle.vm_memory_base.proofs.TableLaws.{same_mapping_tests_equality, canonical_list-agree, canonical_list-of_values, set_nothing, invalidate_nothing}
 
 -- ---- where runs begin and end
 
@@ -41,90 +41,6 @@ pub tail_starts : {K : Type 0} (same : K → K → Bool) (r : AddressRun K) (rs 
 tail_starts same r rs h =
     later_starts same (r.start + r.len) (r.start + r.len) r.value rs (omega arith) (canonical_follow same r rs h)
     (canonical_tail same r rs h)
-
-pub StartFrom-get_or : {K : Type 0} (low : ℕ) (rs : List (AddressRun K)) (m : ℕ) (d : AddressRun K) → StartFrom low rs
-    → m < length rs → low ≤ (get_or rs m d).start
-StartFrom-get_or low [] m d h l = absurd (omega arith)
-StartFrom-get_or low (r ∷ rs) zero d h l = h.0
-StartFrom-get_or low (r ∷ rs) (suc m) d h l = StartFrom-get_or low rs m d h.1 (omega arith)
-
--- the runs before one end before it begins
-pub ends_before : {K : Type 0} (same : K → K → Bool) (rs : List (AddressRun K)) (m : ℕ) (d : AddressRun K)
-    → IsCanonical same rs → m < length rs → EndBelow ((get_or rs m d).start + 1) (take m rs)
-ends_before same [] m d h l = absurd (omega arith)
-ends_before same (r ∷ rs) zero d h l = tt
-ends_before same (r ∷ rs) (suc m) d h l =
-    let next : r.start + r.len ≤ (get_or rs m d).start =
-    StartFrom-get_or (r.start + r.len) rs m d (tail_starts same r rs h) (omega arith) in
-    (omega arith, ends_before same rs m d (canonical_tail same r rs h) (omega arith))
-
--- starts rise, and so do ends
-pub rise : {K : Type 0} (same : K → K → Bool) (rs : List (AddressRun K)) → IsCanonical same rs
-    → (i j : ℕ) (d : AddressRun K) → i ≤ j → j < length rs
-    → ((get_or rs i d).start ≤ (get_or rs j d).start)
-    × ((get_or rs i d).start + (get_or rs i d).len ≤ (get_or rs j d).start + (get_or rs j d).len)
-rise same [] h i j d l k = absurd (omega arith)
-rise same (r ∷ rs) h zero zero d l k = (omega arith, omega arith)
-rise same (r ∷ rs) h zero (suc j) d l k =
-    let next : r.start + r.len ≤ (get_or rs j d).start =
-    StartFrom-get_or (r.start + r.len) rs j d (tail_starts same r rs h) (omega arith) in
-    (omega arith, omega arith)
-rise same (r ∷ rs) h (suc i) zero d l k = absurd (omega arith)
-rise same (r ∷ rs) h (suc i) (suc j) d l k = rise same rs (canonical_tail same r rs h) i j d (omega arith) (omega arith)
-
-pub EndBelow-each : {K : Type 0} (limit : ℕ) (rs : List (AddressRun K)) (m : ℕ)
-    → ((k : ℕ) (d : AddressRun K) → k < m → (get_or rs k d).start + (get_or rs k d).len < limit)
-    → EndBelow limit (take m rs)
-EndBelow-each limit rs zero h = tt
-EndBelow-each limit [] (suc m) h = tt
-EndBelow-each limit (r ∷ rs) (suc m) h =
-    (h zero r (omega arith), EndBelow-each limit rs m (λ k d l. h (suc k) d (omega arith)))
-
-pub StartFrom-each : {K : Type 0} (low : ℕ) (rs : List (AddressRun K)) (m : ℕ)
-    → ((k : ℕ) (d : AddressRun K) → m ≤ k → k < length rs → low ≤ (get_or rs k d).start) → StartFrom low (drop m rs)
-StartFrom-each low [] zero h = tt
-StartFrom-each low [] (suc m) h = tt
-StartFrom-each low (r ∷ rs) zero h = (
-  h zero r (omega arith) (omega arith),
-  StartFrom-each low rs zero (λ k d l e. h (suc k) d (omega arith) (omega arith)),
-)
-StartFrom-each low (r ∷ rs) (suc m) h = StartFrom-each low rs m (λ k d l e. h (suc k) d (omega arith) (omega arith))
-
--- where a run starts from an address on, so do those after it
-pub starts_after : {K : Type 0} (same : K → K → Bool) (low : ℕ) (rs : List (AddressRun K)) (m : ℕ) (d : AddressRun K)
-    → IsCanonical same rs → m < length rs → low ≤ (get_or rs m d).start → StartFrom low (drop m rs)
-starts_after same low [] m d h l e = absurd (omega arith)
-starts_after same low (r ∷ rs) zero d h l e =
-    (e, StartFrom-weaker low (r.start + r.len) rs (omega arith) (tail_starts same r rs h))
-starts_after same low (r ∷ rs) (suc m) d h l e =
-    starts_after same low rs m d (canonical_tail same r rs h) (omega arith) e
-
-follow_take : {K : Type 0} (same : K → K → Bool) (end : ℕ) (k : K) (n : ℕ) (rs : List (AddressRun K))
-    → CanFollow same end k rs → CanFollow same end k (take n rs)
-follow_take same end k zero rs f = tt
-follow_take same end k (suc n) [] f = tt
-follow_take same end k (suc n) (r ∷ rs) f = f
-
-pub canonical_take : {K : Type 0} (same : K → K → Bool) (n : ℕ) (rs : List (AddressRun K)) → IsCanonical same rs
-    → IsCanonical same (take n rs)
-canonical_take same zero rs h = tt
-canonical_take same (suc n) [] h = tt
-canonical_take same (suc n) (r ∷ rs) h =
-    canonical_cons same r (take n rs) (canonical_pos same r rs h)
-    (follow_take same (r.start + r.len) r.value n rs (canonical_follow same r rs h))
-    (canonical_take same n rs (canonical_tail same r rs h))
-
-pub canonical_drop : {K : Type 0} (same : K → K → Bool) (n : ℕ) (rs : List (AddressRun K)) → IsCanonical same rs
-    → IsCanonical same (drop n rs)
-canonical_drop same zero rs h = h
-canonical_drop same (suc n) [] h = tt
-canonical_drop same (suc n) (r ∷ rs) h = canonical_drop same n rs (canonical_tail same r rs h)
-
-pub EndBelow-drop : {K : Type 0} (limit n : ℕ) (rs : List (AddressRun K)) → EndBelow limit rs
-    → EndBelow limit (drop n rs)
-EndBelow-drop limit zero rs h = h
-EndBelow-drop limit (suc n) [] h = tt
-EndBelow-drop limit (suc n) (r ∷ rs) h = EndBelow-drop limit n rs h.1
 
 -- ---- cuts
 
@@ -587,22 +503,7 @@ kept_stays rs f k same = sym (kept_is_canonical rs k) ∙ canonical_list-agree (
 pub nothing_said : canonical_list (λ x. None) ≡ []
 nothing_said = canonical_list-of_values [] tt (λ x l. refl)
 
--- what is said after a call that changed a table
-pub says_then : {E : Type 0} (call : TableCall) (old new : Table) (r : Result (Unit {0}) E)
-    → OnOk r (new ≡ changed call old)
-    → OnOk r ((x : ℕ) → x < 2 ^ 64 → says new x ≡ says_after call x (says old x))
-says_then call old new r =
-    on_ok r
-    (λ e x l. ap (λ (t : Table). says t x) e ∙ value_at-canonical_list (λ y. says_after call y (says old y)) x l)
-
--- a table that a call changes at no address is as it was
-pub table_stays : (call : TableCall) (table : Table) → IsKept table.ranges
-    → ((x : ℕ) (old : Option Mapping) → says_after call x old ≡ old) → table ≡ changed call table
-table_stays call table k same =
-    let with_ranges : List (AddressRun Mapping) → Table = λ rs. record table { ranges = rs } in
-    ap with_ranges (kept_stays table.ranges (λ x. says_after call x (says table x)) k (λ x. same x (says table x)))
-
--- nor where its length is 0
+-- where the length of a call is 0, nothing is changed at any address
 pub empty_set : (iova to len : ℕ) (permissions : Permissions) → len ≡ 0 → (x : ℕ) (old : Option Mapping)
     → says_after (Set iova to len permissions) x old ≡ old
 empty_set iova to len permissions e x old = rw e (set_nothing iova to x permissions old)

@@ -3,6 +3,7 @@ pub mod EventLaws
 pub mod RunsLaws
 pub mod TableLaws
 pub mod ChangeLemmas
+pub mod EvictLemmas
 pub mod StoredLemmas
 pub mod LookupLemmas
 pub mod AlignUp

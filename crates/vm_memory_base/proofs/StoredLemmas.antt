@@ -195,9 +195,6 @@ ascending_put r rs pos h =
 
 -- ---- what is stored
 
-at_equal : (k j : ℕ) → j ≤ k → k ≤ j → j ≡ k
-at_equal k j l m = omega arith
-
 pub inserted : (k : ℕ) (v : RunTail) (es : List (ℕ × RunTail)) → AreAscending (runs_in es)
     → runs_in (insert_entry nat_cmp es k v)
     ≡ runs_below k (runs_in es) ++ run_in (k, v) ∷ runs_from (k + 1) (runs_in es)

@@ -7,7 +7,7 @@ use Rattle.std.proofs.lemmas.List.Elements.{All-head, All-tail, filter_agree}
 use Rattle.vm_memory_base.specs.Address.{step, numbers, difference, is_within}
 use Rattle.vm_memory_base.specs.Permissions.{has_read, has_write, union, intersection, allow, same}
 use Rattle.vm_memory_base.specs.Runs.{AddressRun, TestsEquality, with_address, with_value, runs, IsCanonical, value_at, cut_to}
-use Rattle.vm_memory_base.specs.Table.{Mapping, same_mapping, target, Says, Table, says, TableCall, Set, Invalidate, InvalidateAll, covers, says_after, says_after_all, new_table_after, canonical_list, grants, each, overruns, is_allowed, reason, Range, piece_of, pieces, addresses, target_if_any, forbids, range_of, if_missing, if_forbidden, misses, failures}
+use Rattle.vm_memory_base.specs.Table.{Mapping, same_mapping, target, Says, Table, says, TableEvent, Set, Invalidate, InvalidateAll, Evict, covers, says_after, says_after_all, new_table_after, canonical_list, grants, each, overruns, is_allowed, reason, Range, piece_of, pieces, addresses, target_if_any, forbids, range_of, if_missing, if_forbidden, misses, failures}
 use Rattle.vm_memory_base.specs.declared.iotlb.Permissions.{Permissions}
 use Rattle.vm_memory_base.specs.declared.iotlb.Permissions.TheVariants.{No, Read, Write, ReadWrite}
 use Rattle.vm_memory_base.specs.declared.iotlb.Reason.TheVariants.{MissingMapping, AccessNotAllowed}
@@ -184,18 +184,20 @@ or_cond true false x y = refl
 or_cond false c x y = refl
 
 -- a call says nothing of an address that it does not cover
-pub says_after-not_covered : (call : TableCall) (x : ℕ) (old : Option Mapping) → covers call x ≡ false
+pub says_after-not_covered : (call : TableEvent) (x : ℕ) (old : Option Mapping) → covers call x ≡ false
     → says_after call x old ≡ old
 says_after-not_covered (Set iova to len permissions) x old h = rw h
 says_after-not_covered (Invalidate iova len) x old h = rw h
 says_after-not_covered InvalidateAll x old h = cc
+says_after-not_covered (Evict iova len) x old h = rw h
 
 -- of the others it says one thing, whatever was said before
-pub says_after-covered : (call : TableCall) (x : ℕ) (old : Option Mapping) → covers call x ≡ true
+pub says_after-covered : (call : TableEvent) (x : ℕ) (old : Option Mapping) → covers call x ≡ true
     → says_after call x old ≡ says_after call x None
 says_after-covered (Set iova to len permissions) x old h = rw h
 says_after-covered (Invalidate iova len) x old h = rw h
 says_after-covered InvalidateAll x old h = refl
+says_after-covered (Evict iova len) x old h = rw h
 
 pub says_after-set : (iova to len x : ℕ) (permissions : Permissions) (old : Option Mapping)
     → is_within iova len x ≡ true
@@ -222,16 +224,16 @@ target-set iova to x permissions a b = omega arith
 pub target_steps : (x i : ℕ) (m : Mapping) → target (x + i) m ≡ step (target x m) i
 target_steps x i m = omega arith
 
-pub says_after_all-append : (earlier later : List TableCall) (x : ℕ) (old : Option Mapping)
+pub says_after_all-append : (earlier later : List TableEvent) (x : ℕ) (old : Option Mapping)
     → says_after_all (earlier ++ later) x old ≡ says_after_all later x (says_after_all earlier x old)
 says_after_all-append [] later x old = refl
 says_after_all-append (call ∷ calls) later x old = says_after_all-append calls later x (says_after call x old)
 
-pub says_after_all-push : (calls : List TableCall) (call : TableCall) (x : ℕ) (old : Option Mapping)
+pub says_after_all-push : (calls : List TableEvent) (call : TableEvent) (x : ℕ) (old : Option Mapping)
     → says_after_all (calls ++ call ∷ []) x old ≡ says_after call x (says_after_all calls x old)
 says_after_all-push calls call x old = says_after_all-append calls (call ∷ []) x old
 
-pub says_after_all-none_covers : (calls : List TableCall) (x : ℕ) (old : Option Mapping)
+pub says_after_all-none_covers : (calls : List TableEvent) (x : ℕ) (old : Option Mapping)
     → All (λ call. covers call x ≡ false) calls → says_after_all calls x old ≡ old
 says_after_all-none_covers [] x old h = refl
 says_after_all-none_covers (call ∷ calls) x old h =
@@ -239,7 +241,7 @@ says_after_all-none_covers (call ∷ calls) x old h =
     ∙ says_after-not_covered call x old (All-head (λ call. covers call x ≡ false) call calls h)
 
 -- the last call that covers an address decides
-pub last_decides : (earlier later : List TableCall) (call : TableCall) (x : ℕ) (old : Option Mapping)
+pub last_decides : (earlier later : List TableEvent) (call : TableEvent) (x : ℕ) (old : Option Mapping)
     → covers call x ≡ true → All (λ other. covers other x ≡ false) later
     → says_after_all (earlier ++ call ∷ later) x old ≡ says_after call x None
 last_decides earlier later call x old h g =

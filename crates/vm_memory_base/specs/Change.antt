@@ -1,6 +1,6 @@
 -- How a table is kept, changed and looked up. No public clause cites this module.
 use Rattle.std.specs.List.{filter}
-use Rattle.std.specs.Prelude.{ℕ, ◌+◌, ◌^◌, ◌<◌, ◌≤◌, Bool, ◌&&◌, ◌||◌, if◌then◌else◌, ◌==◌, nat_le, nat_lt, List, [], ◌∷◌, Option, Some, None, min, max}
+use Rattle.std.specs.Prelude.{ℕ, zero, suc, ◌+◌, ◌^◌, ◌<◌, ◌≤◌, Bool, ◌&&◌, ◌||◌, if◌then◌else◌, ◌==◌, nat_le, nat_lt, List, [], ◌∷◌, length, Option, Some, None, min, max}
 use Rattle.vm_memory_base.specs.Address.{is_within}
 use Rattle.vm_memory_base.specs.Permissions.{allow}
 use Rattle.vm_memory_base.specs.Runs.{AddressRun, IsCanonical, value_at, cut_onto}
@@ -80,3 +80,15 @@ granted at end access (r ∷ rs) =
 abbrev pub gaps : ℕ → ℕ → List (AddressRun Mapping) → List (AddressRun (Unit {0}))
 gaps at end [] = cut_onto at end tt []
 gaps at end (r ∷ rs) = cut_onto at (min r.start end) tt (gaps (max at (r.start + r.len)) end rs)
+
+-- runs without so many of the first ones, but for those that a test spares
+abbrev pub without_first : {K : Type 0} → (AddressRun K → Bool) → ℕ → List (AddressRun K) → List (AddressRun K)
+without_first spares zero rs = rs
+without_first spares (suc n) [] = []
+without_first spares (suc n) (r ∷ rs) =
+    if spares r then (r ∷ without_first spares (suc n) rs) else without_first spares n rs
+
+-- a limit, if there is one, is above 0, and there are at most so many runs
+abbrev pub IsWithinLimit : {K : Type 0} → Option ℕ → List (AddressRun K) → Type 0
+IsWithinLimit None rs = Unit {0}
+IsWithinLimit (Some limit) rs = (0 < limit) × (length rs ≤ limit)

@@ -1,7 +1,7 @@
 -- What contracts see of a `MarkerBitmap`.
 use Rattle.std.specs.Prelude.{◌≡◌, ℕ, ◌<◌, length, Option, Some, None, option_map}
 use Rattle.std.specs.Int.{div_ceil}
-use Rattle.std.specs.NonZero.{non_zero_usize_get}
+use Rattle.vm_memory_base.specs.Markers.{count_of, page_size_of, marker_table, harvester_table, known_to, known_by}
 use Rattle.vm_memory_base.specs.Notes.{rounds_of}
 use Rattle.vm_memory_base.specs.Tracked.{MarksRange, HasSameRecords, seen_of}
 use Rattle.vm_memory_base.specs.declared.bitmap.tracked.TrackedBitmap.{TrackedBitmap}
@@ -17,15 +17,16 @@ held_of b = option_map (λ h. (h.bitmap.value, h.marker)) b.held
 abbrev pub MarksHeld : Option (TrackedBitmap × Marker) → ℕ → ℕ → Option (TrackedBitmap × Marker) → Type 0
 MarksHeld None offset len new = new ≡ None
 MarksHeld (Some h) offset len new =
-    (m : Marker) × (new ≡ Some (h.0, m)) × (m.seat.table_id ≡ h.1.seat.table_id)
-    × MarksRange (non_zero_usize_get h.0.page_size) h.0.count offset len h.1.seat.me.0 m.seat.me.0
+    (m : Marker) × (new ≡ Some (h.0, m)) × (marker_table m ≡ marker_table h.1)
+    × MarksRange (page_size_of h.0) (count_of h.0) offset len (known_to h.1) (known_to m)
 
 -- the marker meets the harvester. Where there is none, nothing is changed
-abbrev pub Meets : Option (TrackedBitmap × Marker) → Harvester → Option (TrackedBitmap × Marker) → Harvester → Type 0
+abbrev pub Meets : Option (TrackedBitmap × Marker) → Harvester
+    → Option (TrackedBitmap × Marker) → Harvester → Type 0
 Meets None harvester new after = (new ≡ None) × (after ≡ harvester)
 Meets (Some h) harvester new after =
-    (m : Marker) × (new ≡ Some (h.0, m)) × (m.seat.table_id ≡ h.1.seat.table_id)
-    × (after.seat.table_id ≡ harvester.seat.table_id)
-    × HasSameRecords h.1.seat.me.0 m.seat.me.0 × HasSameRecords harvester.seat.me.0 after.seat.me.0
-    × ((word : ℕ) → word < div_ceil h.0.count 32
-    → seen_of word m.seat.me.0 ≡ length (rounds_of word after.seat.me.0.harvests))
+    (m : Marker) × (new ≡ Some (h.0, m)) × (marker_table m ≡ marker_table h.1)
+    × (harvester_table after ≡ harvester_table harvester)
+    × HasSameRecords (known_to h.1) (known_to m) × HasSameRecords (known_by harvester) (known_by after)
+    × ((word : ℕ) → word < div_ceil (count_of h.0) 32
+    → seen_of word (known_to m) ≡ length (rounds_of word (known_by after).harvests))

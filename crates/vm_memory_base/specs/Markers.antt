@@ -1,12 +1,42 @@
--- What contracts see of the markers of a `TrackedBitmap`.
-use Rattle.std.specs.Prelude.{◌≡◌, ℕ, List}
-use mathlib.Core.Option.{some}
-use lib.ListN.{get_elem?}
+-- What contracts see of a `TrackedBitmap`, its markers and its harvester.
+use Rattle.std.specs.Prelude.{◌≡◌, ℕ, List, All}
+use Rattle.std.specs.NonZero.{non_zero_usize_get}
 use Rattle.atomic_table.specs.Seated.{TableId}
 use Rattle.vm_memory_base.specs.Tracked.{newcomer}
+use Rattle.vm_memory_base.specs.declared.bitmap.tracked.Harvester.{Harvester}
 use Rattle.vm_memory_base.specs.declared.bitmap.tracked.Marker.{Marker}
+use Rattle.vm_memory_base.specs.declared.bitmap.tracked.TrackedBitmap.{TrackedBitmap}
+use Rattle.vm_memory_base.specs.declared.bitmap.tracked.view.View.{View}
+
+-- the number of pages
+abbrev pub count_of : TrackedBitmap → ℕ
+count_of b = b.count
+
+-- the number of bytes of a page
+abbrev pub page_size_of : TrackedBitmap → ℕ
+page_size_of b = non_zero_usize_get b.page_size
+
+-- the words of a bitmap, and of which words a marker and a harvester are
+abbrev pub table_of : TrackedBitmap → TableId
+table_of b = b.table.shared.table_id
+
+abbrev pub marker_table : Marker → TableId
+marker_table m = m.seat.table_id
+
+abbrev pub harvester_table : Harvester → TableId
+harvester_table h = h.seat.table_id
+
+-- what a marker knows, and a harvester
+abbrev pub known_to : Marker → View
+known_to m = m.seat.me.0
+
+abbrev pub known_by : Harvester → View
+known_by h = h.seat.me.0
+
+-- how often a harvester harvested
+abbrev pub harvests_of : Harvester → ℕ
+harvests_of h = h.round
 
 -- markers of this table, which know nothing yet
 abbrev pub AreNew : TableId → List Marker → Type 0
-AreNew table markers =
-    (k : ℕ) (m : Marker) → get_elem? markers k ≡ some m → (m.seat.table_id ≡ table) × (m.seat.me.0 ≡ newcomer)
+AreNew table markers = All (λ m. (marker_table m ≡ table) × (known_to m ≡ newcomer)) markers

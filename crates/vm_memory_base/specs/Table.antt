@@ -1,6 +1,7 @@
 -- What an I/O table says of each address, what the calls that change it make of that, and what a look-up
 -- gives.
-use Rattle.std.specs.Prelude.{ℕ, zero, suc, ◌+◌, ◌-◌, ◌%◌, ◌^◌, Bool, true, false, not, ◌&&◌, ◌||◌, if◌then◌else◌, ◌==◌, nat_lt, List, [], ◌∷◌, length, map, Option, Some, None, is_some}
+use Rattle.std.specs.List.{filter}
+use Rattle.std.specs.Prelude.{ℕ, zero, suc, ◌+◌, ◌-◌, ◌%◌, ◌^◌, Bool, true, false, not, ◌&&◌, ◌||◌, if◌then◌else◌, ◌==◌, nat_lt, List, [], ◌∷◌, ◌++◌, length, map, take, Option, Some, None, is_some}
 use Rattle.vm_memory_base.specs.Address.{step, numbers, difference, is_within}
 use Rattle.vm_memory_base.specs.Permissions.{allow, same}
 use Rattle.vm_memory_base.specs.Runs.{AddressRun, runs, value_at}
@@ -24,29 +25,32 @@ target x m = (x + m.difference) % 2 ^ 64
 abbrev pub Says : Type 0
 Says = ℕ → Option Mapping
 
--- a call that changes a table
-pub data TableCall : Type 0 where
-  Set : (iova to len : ℕ) (permissions : Permissions) → TableCall
-  Invalidate : (iova len : ℕ) → TableCall
-  InvalidateAll : TableCall
+-- what befalls a table: a call that changes it, or a run of it is evicted
+pub data TableEvent : Type 0 where
+  Set : (iova to len : ℕ) (permissions : Permissions) → TableEvent
+  Invalidate : (iova len : ℕ) → TableEvent
+  InvalidateAll : TableEvent
+  Evict : (iova len : ℕ) → TableEvent
 
--- what is said of x after a call, where old was said before it
-abbrev pub says_after : TableCall → ℕ → Option Mapping → Option Mapping
+-- what is said of x after an event, where old was said before it
+abbrev pub says_after : TableEvent → ℕ → Option Mapping → Option Mapping
 says_after (Set iova to len permissions) x old =
     if is_within iova len x then Some (record { difference = difference iova to; permissions = permissions })
     else old
 says_after (Invalidate iova len) x old = if is_within iova len x then None else old
 says_after InvalidateAll x old = None
+says_after (Evict iova len) x old = if is_within iova len x then None else old
 
--- whether a call says something of x
-abbrev pub covers : TableCall → ℕ → Bool
+-- whether an event says something of x
+abbrev pub covers : TableEvent → ℕ → Bool
 covers (Set iova to len permissions) x = is_within iova len x
 covers (Invalidate iova len) x = is_within iova len x
 covers InvalidateAll x = true
+covers (Evict iova len) x = is_within iova len x
 
--- what is said of x after calls, the earliest first, where old was said before them: the last one that
+-- what is said of x after events, the earliest first, where old was said before them: the last one that
 -- covers x decides
-abbrev pub says_after_all : List TableCall → ℕ → Option Mapping → Option Mapping
+abbrev pub says_after_all : List TableEvent → ℕ → Option Mapping → Option Mapping
 says_after_all [] x old = old
 says_after_all (call ∷ calls) x old = says_after_all calls x (says_after call x old)
 
@@ -54,8 +58,8 @@ says_after_all (call ∷ calls) x old = says_after_all calls x (says_after call 
 abbrev pub says_nothing : Says
 says_nothing x = None
 
--- what a new table says after these calls
-abbrev pub new_table_after : List TableCall → Says
+-- what a new table says after these events
+abbrev pub new_table_after : List TableEvent → Says
 new_table_after calls x = says_after_all calls x (says_nothing x)
 
 -- a table as it is kept: at most so many runs, if there is a limit, and its runs
@@ -71,9 +75,48 @@ says table x = value_at table.ranges x
 abbrev pub canonical_list : Says → List (AddressRun Mapping)
 canonical_list f = runs same_mapping f 0 (2 ^ 64)
 
--- a kept table after a call: the canonical list of what is then said
-abbrev pub changed : TableCall → Table → Table
-changed call table = record table { ranges = canonical_list (λ x. says_after call x (says table x)) }
+-- how many of so many runs are too many
+abbrev pub excess : Option ℕ → ℕ → ℕ
+excess None count = 0
+excess (Some limit) count = count - limit
+
+-- the first address that a call sets, if it sets any
+abbrev pub first_set : TableEvent → Option ℕ
+first_set (Set iova to len permissions) = Some iova
+first_set event = None
+
+-- whether a run has an address, if there is one
+abbrev pub has_any : Option ℕ → AddressRun Mapping → Bool
+has_any None r = false
+has_any (Some x) r = is_within r.start r.len x
+
+-- of the runs that a call left, those that are evicted: the first of those that do not have the first address that it
+-- set, as many as are too many
+abbrev pub evicted : TableEvent → Option ℕ → List (AddressRun Mapping) → List (AddressRun Mapping)
+evicted call limit rs = take (excess limit (length rs)) (filter (λ r. not (has_any (first_set call) r)) rs)
+
+abbrev pub eviction : AddressRun Mapping → TableEvent
+eviction r = Evict r.start r.len
+
+-- a call of a table, and the evictions that it leads to
+abbrev pub events : TableEvent → Table → List TableEvent
+events call table =
+    call ∷ map eviction (evicted call table.limit (canonical_list (λ x. says_after call x (says table x))))
+
+-- a kept table after a call: the canonical list of what is said once it evicted what was too much
+abbrev pub changed : TableEvent → Table → Table
+changed call table =
+    record table { ranges = canonical_list (λ x. says_after_all (events call table) x (says table x)) }
+
+-- a kept table after calls, the earliest first
+abbrev pub changed_by : List TableEvent → Table → Table
+changed_by [] table = table
+changed_by (call ∷ calls) table = changed_by calls (changed call table)
+
+-- calls of a table, each with the evictions that it led to
+abbrev pub events_of : List TableEvent → Table → List TableEvent
+events_of [] table = []
+events_of (call ∷ calls) table = events call table ++ events_of calls (changed call table)
 
 abbrev pub range_count : Table → ℕ
 range_count table = length table.ranges

@@ -67,17 +67,20 @@ Holds count s = IsKept count s.words s.views
 -- the view after these pages of a word were marked in this round
 abbrev pub after_mark : ℕ → ℕ → ℕ → View → View
 after_mark word round pages v =
-    record { marks = note word round pages ∷ v.marks; sightings = v.sightings; harvests = v.harvests; rounds = note word round 0 ∷ v.rounds }
+    record v { marks = note word round pages ∷ v.marks; rounds = note word round 0 ∷ v.rounds }
 
 -- the view after a word was seen
 abbrev pub after_look : ℕ → ℕ → View → View
 after_look word found v =
-    record { marks = v.marks; sightings = note word (round_of found) (pages_of found) ∷ v.sightings; harvests = v.harvests; rounds = note word (round_of found) 0 ∷ v.rounds }
+    record v {
+      sightings = note word (round_of found) (pages_of found) ∷ v.sightings;
+      rounds = note word (round_of found) 0 ∷ v.rounds;
+    }
 
 -- the view after these pages of a word were taken in this round
 abbrev pub after_harvest : ℕ → ℕ → ℕ → View → View
 after_harvest word round pages v =
-    record { marks = v.marks; sightings = v.sightings; harvests = note word round pages ∷ v.harvests; rounds = note word (round + 1) 0 ∷ v.rounds }
+    record v { harvests = note word round pages ∷ v.harvests; rounds = note word (round + 1) 0 ∷ v.rounds }
 
 -- a mark of the pages that the step was given
 abbrev pub Marks : Step (Unit {0}) → Me (Unit {0}) View → ℕ → Me (Unit {0}) View → Type 0
@@ -109,7 +112,11 @@ note_of v = record { marks = []; sightings = []; harvests = []; rounds = v.round
 -- what the first of two then knows
 abbrev pub both : View → View → View
 both v w =
-    record { marks = w.marks ++ v.marks; sightings = w.sightings ++ v.sightings; harvests = v.harvests; rounds = w.rounds ++ v.rounds }
+    record v {
+      marks = w.marks ++ v.marks;
+      sightings = w.sightings ++ v.sightings;
+      rounds = w.rounds ++ v.rounds;
+    }
 
 -- a mark of one page, in a round no earlier than the last that was seen of its word
 abbrev pub MarksPage : ℕ → View → View → Type 0
@@ -132,7 +139,10 @@ MarksRange size count addr len v w = MarksPages (end_page size count addr len - 
 -- the view after these pages of the words, from the first on, were taken in this round
 abbrev pub after_harvests : ℕ → List ℕ → View → View
 after_harvests round words v =
-    record { marks = v.marks; sightings = v.sightings; harvests = gathered 0 round words v.harvests; rounds = gathered 0 (round + 1) (map (λ _. 0) words) v.rounds }
+    record v {
+      harvests = gathered 0 round words v.harvests;
+      rounds = gathered 0 (round + 1) (map (λ _. 0) words) v.rounds;
+    }
 
 -- each of so many words was harvested so many times
 abbrev pub AreHarvested : ℕ → ℕ → List Note → Type 0
@@ -157,7 +167,9 @@ abbrev pub Sees : ℕ → View → View → Bool → Type 0
 Sees page v w told =
     (found : ℕ) × (seen_of (page / 32) v ≤ round_of found) × (w ≡ after_look (page / 32) found v)
     × (told ≡ (bit_at (pages_of found) (page % 32) == 1))
-    × (told ≡ false → IsNoted (page / 32) (round_of found) (page % 32) v.marks ⊎ IsNoted (page / 32) (round_of found) (page % 32) v.sightings → ⊥)
+    × (told ≡ false
+    → IsNoted (page / 32) (round_of found) (page % 32) v.marks
+    ⊎ IsNoted (page / 32) (round_of found) (page % 32) v.sightings → ⊥)
 
 -- Of what is noted as marked or as seen set, each page is in the harvest of its round or, in the open round, left
 abbrev pub IsLeft : View → List ℕ → Type 0

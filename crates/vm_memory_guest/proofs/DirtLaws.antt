@@ -218,3 +218,16 @@ module _ {B : Type 0} (marks : B → ℕ → ℕ → B → Type 0) (pages : B �
           dirtied-MarksAll xs (record old { blocks = written (cells (windows xs)) bytes old.blocks }) new follow h
           ∙ ap (λ (cs : List Cell). dirtied xs
           (record (with_pages pages old) { blocks = written cs bytes old.blocks })) same
+
+      -- a write to windows that have the cells and the marks of a path leaves what a write to the path leaves
+      pub after_write-AreWindows : (xs : List Reached) (ws : List Window) (bytes : List ℕ) (old new : Host B)
+          → cells ws ≡ path_cells xs → flat_map window_marks ws ≡ path_marks xs → All Fits ws
+          → Writes marks ws bytes old new → with_pages pages new ≡ after_write xs bytes (with_pages pages old)
+      after_write-AreWindows xs ws bytes old new same marked fit h =
+          let moved = record old { blocks = written (cells ws) bytes old.blocks } in
+          with_pages-MarksAll ws moved new h
+          ∙ windows_dirtied-each by_bytes ws (with_pages pages moved) fit
+          ∙ ap (λ (ms : List (BitmapId × ℕ)). each_marked ms (with_pages pages moved)) marked
+          ∙ sym (dirtied-each xs (with_pages pages moved))
+          ∙ ap (λ (cs : List Cell). dirtied xs
+          (record (with_pages pages old) { blocks = written cs bytes old.blocks })) same

@@ -4,7 +4,8 @@ use Rattle.std.proofs.lemmas.List.{get_or_append_left, map-append}
 use Rattle.std.proofs.lemmas.List.Elements.{All-nil, All-cons, All-head, All-tail, All-weaker, All-contains, All-from_recursion, recursion_from_All}
 use Rattle.std.proofs.Math.Seq.{drop-cons}
 use Rattle.std.specs.List.{AllByRecursion}
-use Rattle.vm_memory_guest.specs.Host.{Host, Shape, Name, Block, Place, Space, Tlb, IsHeld, Holds, with_table, shape_of, block_at}
+use Rattle.vm_memory_base.specs.Table.{Table}
+use Rattle.vm_memory_guest.specs.Host.{Host, Shape, Name, Block, Place, Space, Tlb, IsHeld, Holds, with_given_table, shape_of, block_at}
 use Rattle.vm_memory_guest.specs.Region.{Region, region_names}
 use Rattle.vm_memory_guest.proofs.WrittenLaws.{length-block_at}
 
@@ -125,16 +126,16 @@ Holds-space old bitmap names held =
     Holds-more (shape_of old) (record (shape_of old) { spaces = length (old.spaces ++ bitmap ∷ []) }) more names held
 
 -- one table more
-pub Holds-table : {B : Type 0} (old : Host B) (names : List Name) → Holds (shape_of old) names
-    → Holds (shape_of (with_table old)) names
-Holds-table old names held =
-    let long = length-append old.tables (record { limit = None; ranges = [] } ∷ []) in
-    let more : IsMore (shape_of old) (shape_of (with_table old)) = record {
+pub Holds-table : {B : Type 0} (old : Host B) (table : Table) (names : List Name) → Holds (shape_of old) names
+    → Holds (shape_of (with_given_table old table)) names
+Holds-table old table names held =
+    let long = length-append old.tables (table ∷ []) in
+    let more : IsMore (shape_of old) (shape_of (with_given_table old table)) = record {
       blocks = λ block h. (h, refl);
       spaces = omega arith;
       tables = omega arith;
     } in
-    Holds-more (shape_of old) (shape_of (with_table old)) more names held
+    Holds-more (shape_of old) (shape_of (with_given_table old table)) more names held
 
 -- one more where a call made it, and none where it did not
 module _ {B T E : Type 0} (old new more : Host B)

@@ -30,6 +30,10 @@ with_space host bitmap = record host { spaces = host.spaces ++ bitmap ∷ [] }
 abbrev pub with_table : {B : Type 0} → Host B → Host B
 with_table host = record host { tables = host.tables ++ record { limit = None; ranges = [] } ∷ [] }
 
+-- the host with one more table, which is given
+abbrev pub with_given_table : {B : Type 0} → Host B → Table → Host B
+with_given_table host table = record host { tables = host.tables ++ table ∷ [] }
+
 -- the host with another table of this number
 abbrev pub with_table_at : {B : Type 0} → Host B → ℕ → Table → Host B
 with_table_at host number table = record host { tables = slice_set host.tables number table }

@@ -1,16 +1,16 @@
 //! What an access of guest memory is, byte by byte: each function here is a theorem, and does nothing. It
 //! calls the theorems that it follows from.
-ghost use Rattle.std.specs.Prelude.{◌≡◌, ℕ, ◌<◌, List, [], length, take, true, Some, Err, All};
+ghost use Rattle.std.specs.Prelude.{◌≡◌, ℕ, ◌+◌, ◌^◌, ◌<◌, ◌≤◌, List, [], flat_map, length, take, true, Some, Err, All};
 ghost use Rattle.vm_memory_base.specs.Pages.{PageSet};
 ghost use Rattle.vm_memory_base.specs.declared.iotlb.Permissions.{Permissions};
-ghost use Rattle.vm_memory_guest.specs.Access.{AccessFault, Stops, access_of, allowed, meets, windows};
+ghost use Rattle.vm_memory_guest.specs.Access.{AccessFault, Reached, Stops, access_of, allowed, meets, windows};
 ghost use Rattle.vm_memory_guest.specs.Answer.{filled_buffer};
-ghost use Rattle.vm_memory_guest.specs.Dirt.{after_write, path_cells, with_pages};
+ghost use Rattle.vm_memory_guest.specs.Dirt.{after_write, path_cells, path_marks, window_marks, with_pages};
 ghost use Rattle.vm_memory_guest.specs.Host.{Host, bytes_at};
 ghost use Rattle.vm_memory_guest.specs.Memory.{Route};
 ghost use Rattle.vm_memory_guest.specs.Region.{Region, IsRegion};
 ghost use Rattle.vm_memory_guest.specs.Transfer.{ended};
-ghost use Rattle.vm_memory_guest.specs.Window.{Writes, cells, span};
+ghost use Rattle.vm_memory_guest.specs.Window.{Window, Writes, cells, span};
 
 use vm_memory_base::ExactBitmap;
 use vm_memory_base::laws::pages::mark_is_by_bytes;
@@ -32,6 +32,31 @@ pub fn accesses_are_by_bytes<B: ExactBitmap>()
 {
     mark_is_by_bytes();
     allowed_where_each_address_grants();
+}
+
+/// The windows of an access, put together, are its path: they have its cells, and mark what its bytes mark, at
+/// offsets of 64 bits.
+pub fn windows_of_accesses_are_their_paths()
+    ensures cells { (regions : List Region) (route : Route) (a n : ℕ) (access : Permissions) → All IsRegion regions
+        → let xs = (access_of regions route a n access).path in cells (windows xs) ≡ path_cells xs }
+    ensures marks { (regions : List Region) (route : Route) (a n : ℕ) (access : Permissions) → All IsRegion regions
+        → let xs = (access_of regions route a n access).path in flat_map window_marks (windows xs) ≡ path_marks xs }
+    ensures fit { (regions : List Region) (route : Route) (a n : ℕ) (access : Permissions) → All IsRegion regions
+        → let xs = (access_of regions route a n access).path in
+        All (λ w. w.bitmap.base + w.size ≤ 2 ^ 64) (windows xs) }
+{
+    allowed_where_each_address_grants();
+}
+
+/// A write of a host with exact bitmaps to windows that have the cells of a path, and mark what its bytes mark, is
+/// the write of its bytes, one after the other.
+pub fn writes_to_the_windows_of_a_path_are_by_bytes<B: ExactBitmap>()
+    ensures { (xs : List Reached) (ws : List Window) (bytes : List ℕ) (old new : Host B)
+        → cells ws ≡ path_cells xs → flat_map window_marks ws ≡ path_marks xs
+        → All (λ w. w.bitmap.base + w.size ≤ 2 ^ 64) ws → Writes B.marks ws bytes old new
+        → with_pages B.pages new ≡ after_write xs bytes (with_pages B.pages old) }
+{
+    mark_is_by_bytes();
 }
 
 /// What keeps an allowed access from going on is what its first byte that it does not reach meets. One that

@@ -1,7 +1,7 @@
 //! Host memory: every block, bitmap, space and table, which each access is lent.
 ghost use Rattle.std.specs.Prelude.{◌≡◌, ◌+◌, ◌*◌, ◌^◌, ◌<◌, ◌≤◌, ◌↔◌, ◌⊎◌, [], ◌∷◌, ◌++◌, List, length, take, drop, replicate, slice_get, nat_lt, All, IsTrue, Some, IfOk, OnOk, OnErr, IsErrOf};
 ghost use Rattle.vm_memory_guest.specs.Host as names;
-ghost use Rattle.vm_memory_guest.specs.Host.{Host, Shape, with_block, with_space, with_table, with_table_at, shape_of, Name, IsHeld, Holds, block_at, bytes_at, cells_from, written};
+ghost use Rattle.vm_memory_guest.specs.Host.{Host, Shape, with_block, with_space, with_table, with_given_table, with_table_at, shape_of, Name, IsHeld, Holds, block_at, bytes_at, cells_from, written};
 ghost use Rattle.std.specs.List.{flat_map};
 ghost use Rattle.vm_memory_base.specs.Bytes.{values_of};
 ghost use Rattle.vm_memory_guest.specs.Inside.{blocks_of};
@@ -284,18 +284,31 @@ impl<B> HostMemory<B> {
         ensures kept { (names : List Name) → Holds (shape_of self.old) names
             → Holds (shape_of self.new) names }
     {
-        self.add_table()
+        let table = Iotlb::new(self.alloc);
+        self.new_table_with(table)
     }
 
-    fn add_table(&mut self) -> Result<TlbId, AllocError>
-        ensures number { IfOk result (λ table. table.0 ≡ length self.old.tables) }
-        ensures ok { OnOk result (self.new ≡ with_table self.old) }
+    /// Takes a table in, one with a limit perhaps, or one that says something: the answer is its number. Refused,
+    /// nothing changes.
+    pub fn new_table_with(&mut self, table: Iotlb) -> Result<TlbId, AllocError>
+        ensures number { IfOk result (λ number. number.0 ≡ length self.old.tables) }
+        ensures ok { OnOk result (self.new ≡ with_given_table self.old table) }
+        ensures err { OnErr result (self.new ≡ self.old) }
+        ensures kept { (names : List Name) → Holds (shape_of self.old) names
+            → Holds (shape_of self.new) names }
+    {
+        self.add_table(table)
+    }
+
+    fn add_table(&mut self, table: Iotlb) -> Result<TlbId, AllocError>
+        ensures number { IfOk result (λ number. number.0 ≡ length self.old.tables) }
+        ensures ok { OnOk result (self.new ≡ with_given_table self.old table) }
         ensures err { OnErr result (self.new ≡ self.old) }
     {
-        let table = TlbId(self.tables.len());
-        self.tables.push(Iotlb::new(self.alloc))?;
+        let number = TlbId(self.tables.len());
+        self.tables.push(table)?;
         self.shape.tables += 1;
-        Ok(table)
+        Ok(number)
     }
 }
 

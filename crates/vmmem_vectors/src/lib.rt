@@ -4,16 +4,21 @@
 #[cfg(test)]
 mod addresses;
 #[cfg(test)]
+mod ample;
+#[cfg(test)]
 mod atomic;
 #[cfg(test)]
 mod atomic_bitmaps;
 #[cfg(test)]
 mod bitmaps;
+#[cfg(test)]
+mod block_device;
 pub mod cells;
 #[cfg(test)]
 mod endian;
 #[cfg(test)]
 mod example;
+pub mod fixtures;
 #[cfg(test)]
 mod iommu;
 #[cfg(test)]
@@ -24,6 +29,8 @@ mod machines;
 mod memories;
 #[cfg(test)]
 mod queries;
+#[cfg(test)]
+mod queue;
 #[cfg(test)]
 mod references;
 pub mod regions;
@@ -45,6 +52,9 @@ mod tables;
 mod texts;
 #[cfg(test)]
 mod thousands;
+pub mod threads;
+#[cfg(test)]
+mod torn;
 #[cfg(test)]
 mod tracked;
 #[cfg(test)]

@@ -1,41 +1,13 @@
 //! Machines: each command by its call, and its reply.
-ghost use Rattle.std.specs.Prelude.{IsTrue, map, flat_map};
-ghost use Rattle.vm_memory_guest.specs.Collection.{regions_of};
-ghost use Rattle.vm_memory_guest.specs.Host.{Holds, shape_of};
-ghost use Rattle.vm_memory_guest.specs.Region.{region_names};
-ghost use Rattle.vmmem_vectors.specs.Regions.{test_region};
 
-use crate::regions::TestRegion;
-use crate::support::{Place, expect_text, regions_of};
+use crate::fixtures::{layout_of, machine_of, read_of, run_on, write_of};
+use crate::support::{Place, expect_text};
 use std::alloc::{AllocError, Global};
-use std::sync::Arc;
 use std::test::Fail;
 use vm_memory::{
-    ByteList, Command, Ending, Fault, GuestAddress, HostMemory, IommuError, IovaRange, Machine,
-    NumberList, Reason, Reply, SinkList, SinkStep, SourceList, SourceStep, TableIommu, run,
+    ByteList, Command, Ending, Fault, GuestAddress, IommuError, IovaRange, Reason, Reply, SinkList,
+    SinkStep, SourceList, SourceStep, run,
 };
-use vm_memory_guest::host_laws::regions_are_held_one_by_one;
-
-pub type TestMachine = Machine<TestRegion, TableIommu, ()>;
-
-// Whether a host holds each region.
-fn are_held(host: &HostMemory<()>, regions: &Vec<Arc<TestRegion>>) -> bool
-    ensures { IsTrue result → Holds (shape_of host.now)
-        (flat_map region_names (map test_region (regions_of regions.now))) }
-{
-    regions_are_held_one_by_one();
-    regions.iter().all(|region| host.holds(&**region))
-}
-
-// A machine of these regions, and nothing made yet.
-pub fn machine_of(alloc: Global, places: &[Place]) -> Result<TestMachine, Fail> {
-    let mut host = HostMemory::new(alloc);
-    let regions = regions_of(alloc, &mut host, places)?;
-    if !are_held(&host, &regions) {
-        return Err(Fail::new("the host holds the regions"));
-    }
-    Ok(Machine::new(alloc, host, regions, Vec::new(alloc)))
-}
 
 // Runs commands on a machine of these regions, so many at a time, and compares the lines of all replies.
 fn expect_replies(
@@ -54,48 +26,12 @@ fn expect_replies(
     expect_text(0, text.as_str(), wanted)
 }
 
-// It tells its caller less than `run`, and so makes the proof there short.
-fn run_on(
-    machine: &mut TestMachine,
-    commands: &[Command],
-    replies: &mut Vec<Reply>,
-) -> Result<(), AllocError> {
-    run(machine, commands, replies)
-}
-
 fn lines_of(alloc: Global, replies: &[Reply]) -> Result<String, AllocError> {
     let mut text = String::new(alloc);
     for reply in replies {
         writeln!(text, "{reply}")?;
     }
     Ok(text)
-}
-
-pub fn layout_of(alloc: Global, numbers: &[usize]) -> Result<Command, AllocError> {
-    let numbers = Vec::from_slice(alloc, numbers)?;
-    Ok(Command::FromRegions(NumberList::from_vec(numbers)))
-}
-
-pub fn write_of(
-    alloc: Global,
-    memory: usize,
-    addr: u64,
-    bytes: &[u8],
-) -> Result<Command, AllocError> {
-    let bytes = Vec::from_slice(alloc, bytes)?;
-    Ok(Command::Write {
-        memory,
-        addr: GuestAddress(addr),
-        bytes: ByteList::from_vec(bytes),
-    })
-}
-
-pub fn read_of(memory: usize, addr: u64, count: usize) -> Command {
-    Command::Read {
-        memory,
-        addr: GuestAddress(addr),
-        count,
-    }
 }
 
 // A command of a table.

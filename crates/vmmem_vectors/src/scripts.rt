@@ -8,7 +8,7 @@ use std::test::Fail;
 use vm_memory::{DriveFault, drive};
 
 // Scripts, and what they tell: their replies, and then the status and the text of a fault.
-const SCRIPTS: [(&[u8], &str); 41] = [
+const SCRIPTS: [(&[u8], &str); 48] = [
     (b"", ""),
     (b"\n\n# nothing\n#\xff\x00\r  \n", ""),
     (
@@ -151,6 +151,27 @@ const SCRIPTS: [(&[u8], &str); 41] = [
         "table 0\ntable 1\nok\nok\nok\nfails misses 0x0+0x2 0x4+0x2 0x9+0x1 access 0x8+0x1\nok\n\
          pieces 0x8+0x2 0x0+0x2 0xc+0x2\nerror NoSuch\nerror NoSuch\nerror NoSuch\nerror NoSuch\n\
          fails misses 0x0+0x1 access -\n",
+    ),
+    // A table with a limit forgets its first ranges where it has more, but for the one that was set last.
+    (
+        b"table 2\ntable 1\nset 0 0 0x10000 0x1000 r\nset 0 0x2000 0x20000 0x1000 r\n\
+          set 0 0x4000 0x30000 0x1000 r\nlookup 0 0 1 r\nlookup 0 0x2000 0x1000 r\nlookup 0 0 0x5000 no\n\
+          set 0 0 0x10000 0x1000 r\nlookup 0 0 0x5000 no\nset 1 0 0x10000 0x3000 r\n\
+          invalidate 1 0x1000 0x1000\nlookup 1 0x2000 0x1000 r\nlookup 1 0 0x2000 no\nclear 1\n\
+          set 1 0 0x10000 0x3000 r\nset 1 0x1000 0x50000 0x1000 rw\nlookup 1 0 0x3000 no\n\
+          lookup 1 0x1000 0x1000 rw\n",
+        "table 0\ntable 1\nok\nok\nok\nfails misses 0x0+0x1 access -\npieces 0x20000+0x1000\n\
+         fails misses 0x0+0x2000 0x3000+0x1000 access -\nok\nfails misses 0x1000+0x3000 access -\nok\nok\n\
+         pieces 0x12000+0x1000\nfails misses 0x0+0x2000 access -\nok\nok\nok\n\
+         fails misses 0x0+0x1000 0x2000+0x1000 access -\npieces 0x50000+0x1000\n",
+    ),
+    // A write through an address that was evicted is refused, and changes nothing.
+    (
+        b"block 0x10 4\nregion 0 0\nspace 0x20 4\ntable 1\ntranslator 0\nlayout 0\nmemory 0 0 0 on\n\
+          set 0 0x10 0 4 rw\nwrite 0 0x10 01020304\nharvest space 0\nset 0 0x18 8 4 rw\nwrite 0 0x10 05\n\
+          dirty space 0\ndirty block 0\nenable 0 off\nread 0 0 4\n",
+        "block 0\nregion 0\nspace 0\ntable 0\ntranslator 0\nlayout 0\nmemory 0\nok\ncount 4\npages 4\nok\n\
+         error G8 I1 0x10+0x1 missing\npages -\npages -\nok\nbytes 01020304\n",
     ),
     // A value is loaded from one piece of a translation or not at all. Where a piece has no more region the
     // access ends. A write marks the space, and not the block. The greatest address is reached through no
@@ -333,6 +354,36 @@ const SCRIPTS: [(&[u8], &str); 41] = [
         "block 0\nregion 0\nlayout 0\nmemory 0\nok\nvalue 1234605616436508552\nvalue 287454020\n\
          error G1 0x2000\nerror G1 0x2000\nerror G1 0xfff\nvalue 0\n",
     ),
+    // A source that tears: what it gave before its end, its failure or its interruption is there.
+    (
+        b"block 4 1\nblock 4 1\nregion 0 0\nregion 1 4\nlayout 0 1\nplain 0\nfrom 0 0 4 g:01\nread 0 0 4\n",
+        "block 0\nblock 1\nregion 0\nregion 1\nlayout 0\nmemory 0\ncount 1\nbytes 01000000\n",
+    ),
+    (
+        b"block 4 1\nblock 4 1\nregion 0 0\nregion 1 4\nlayout 0 1\nplain 0\n\
+          fromx 0 0 4 g:01,g:02,g:03,g:04\nread 0 0 4\n",
+        "block 0\nblock 1\nregion 0\nregion 1\nlayout 0\nmemory 0\nok\nbytes 01020304\n",
+    ),
+    (
+        b"block 4 1\nblock 4 1\nregion 0 0\nregion 1 4\nlayout 0 1\nplain 0\n\
+          from 0 0 4 i:0909,g:01\nread 0 0 4\ndirty block 0\n",
+        "block 0\nblock 1\nregion 0\nregion 1\nlayout 0\nmemory 0\ncount 1\nbytes 01090000\npages 0 1 2 3\n",
+    ),
+    (
+        b"block 4 1\nblock 4 1\nregion 0 0\nregion 1 4\nspace 0x6000 1\ntable\ntranslator 0\nlayout 0 1\n\
+          memory 0 0 0 on\nset 0 0x5000 0 4 rw\nfromx 0 0x5000 4 g:0102,f:09\nread 0 0x5000 4\n\
+          dirty space 0\ndirty block 0\n",
+        "block 0\nblock 1\nregion 0\nregion 1\nspace 0\ntable 0\ntranslator 0\nlayout 0\nmemory 0\nok\n\
+         error G2 Other\nbytes 01020900\npages 20480 20481 20482 20483\npages -\n",
+    ),
+    // Lines that name what is not there, and what no memory has room for.
+    (
+        b"block 0x10 1\nregion 0 0xfffffffffffffff0\nregion 0 0xffffffffffffffef\nregion 7 0\nregion 0 0\n\
+          layout 1\nplain 0\nset 9 0xffffffffffffffff 0 1 r\nenable 0 on\ncopy 0 0 0x11 0 0 1\n\
+          read 0 0 0x8000000000000000\n",
+        "block 0\nerror F3\nregion 0\nerror NoSuch\nregion 1\nlayout 0\nmemory 0\nerror NoSuch\n\
+         error NoSuch\nerror BadRange\nerror Memory\n",
+    ),
     (
         b"block 1 1\ntable\nplain 0\ntranslator 0\n",
         "block 0\ntable 0\nerror NoSuch\n1 line 4: bad line",
@@ -370,9 +421,11 @@ fn each_line_has_its_reply(rt: HostRuntime) -> Result<(), Fail> {
 }
 
 // Lines that are bad before the first command and after it.
-const BAD_LINES: [&[u8]; 154] = [
+const BAD_LINES: [&[u8]; 156] = [
     // tables and accesses
     b"table 0",
+    b"table 1 1",
+    b"table r",
     b"set 0 0 0 1",
     b"set 0 0 0 1 rwx",
     b"invalidate 0 0",
@@ -586,12 +639,12 @@ fn a_mebibyte_goes_through_a_script(rt: HostRuntime) -> Result<(), Fail> {
 const INTERRUPTIONS: [(usize, &str); 2] = [
     (
         64,
-        "count 4\nok\nsent count 4 taken 01020304\nsent ok taken 01020304\n",
+        "error G3 4 2\nbytes 01020000\ncount 4\nok\nsent count 4 taken 01020304\nsent ok taken 01020304\n",
     ),
     (
         65,
-        "error G2 Interrupted\nerror G2 Interrupted\nsent error G2 Interrupted taken -\n\
-         sent error G2 Interrupted taken -\n",
+        "error G2 Interrupted\nbytes 01000000\nerror G2 Interrupted\nerror G2 Interrupted\n\
+         sent error G2 Interrupted taken -\nsent error G2 Interrupted taken -\n",
     ),
 ];
 
@@ -601,10 +654,11 @@ fn sixty_four_interruptions_are_tried_again(rt: HostRuntime) -> Result<(), Fail>
         let source = "i:-,".repeat(rt.alloc(), count)?;
         let sink = "i,".repeat(rt.alloc(), count)?;
         let script = format!(in rt.alloc();
-            "block 8 1\nregion 0 0\nlayout 0\nplain 0\nfrom 0 0 4 {source}g:01020304\n\
+            "block 4 1\nblock 4 1\nregion 0 0\nregion 1 4\nlayout 0 1\nplain 0\n\
+             fromx 0 0 4 g:01,{source}g:02\nread 0 0 4\nfrom 0 0 4 {source}g:01020304\n\
              fromx 0 0 4 {source}g:01,{source}g:020304\nto 0 0 4 {sink}t:4\ntox 0 0 4 {sink}t:1,{sink}t:3\n"
         )?;
-        let before = "block 0\nregion 0\nlayout 0\nmemory 0\n";
+        let before = "block 0\nblock 1\nregion 0\nregion 1\nlayout 0\nmemory 0\n";
         let wanted = format!(in rt.alloc(); "{before}{wanted}")?;
         let text = told(rt.alloc(), script.as_bytes())?;
         expect_text(count, text.as_str(), wanted.as_str())?;

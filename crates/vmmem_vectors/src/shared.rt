@@ -1,17 +1,14 @@
 //! A machine that two threads command.
 
-use crate::machines::{TestMachine, layout_of, machine_of, read_of, write_of};
-use crate::regions::TestRegion;
+use crate::fixtures::{
+    TestJournal, TestMachine, TestShared, layout_of, machine_of, read_of, write_of,
+};
 use crate::support::{Place, expect_text};
 use std::alloc::{AllocError, Global};
 use std::sync::{Barrier, Wait};
 use std::test::Fail;
 use std::thread::{self, Threads};
-use vm_memory::{CallError, Command, Journal, Reply, SharedMachine, TableIommu};
-
-type TestJournal = Journal<TestRegion, TableIommu, ()>;
-
-type TestShared = SharedMachine<TestRegion, TableIommu, ()>;
+use vm_memory::{CallError, Command, Journal, Reply, SharedMachine};
 
 // A layout of the one region and a memory of it are the first two entries.
 fn set_up(alloc: Global, machine: TestMachine) -> Result<TestShared, AllocError> {

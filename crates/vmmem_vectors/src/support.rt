@@ -1,55 +1,17 @@
 //! What several tests share.
 
+pub use crate::fixtures::{Place, expect_text, regions_of};
 use crate::regions::TestRegion;
 use std::alloc::Global;
 use std::fmt;
-use std::sync::Arc;
 use std::test::Fail;
-use vm_memory::{Bytes, GuestAddress, GuestRegionCollection, HostMemory, MmapRegion};
-
-/// A region of a test.
-#[derive(Clone, Copy)]
-pub enum Place {
-    /// A new block of so many bytes, at an address.
-    Block(u64, usize),
-    /// The block before it, at another address.
-    Again(u64),
-    /// So many addresses without host bytes, from an address on.
-    Bare(u64, u64),
-}
+use vm_memory::{Bytes, GuestRegionCollection, HostMemory};
 
 /// Two regions with a hole between them.
 pub const AROUND_A_HOLE: [Place; 2] = [Place::Block(0, 0x400), Place::Block(0x1000, 0x400)];
 
 /// A region with bytes, and right behind it one without.
 pub const BEFORE_A_BARE_REGION: [Place; 2] = [Place::Block(0, 0x1000), Place::Bare(0x1000, 0x1000)];
-
-/// The regions, and new blocks in the host for them.
-pub fn regions_of(
-    alloc: Global,
-    host: &mut HostMemory<()>,
-    places: &[Place],
-) -> Result<Vec<Arc<TestRegion>>, Fail> {
-    let mut regions = Vec::new(alloc);
-    let mut before = None;
-    for place in places {
-        let region = match place {
-            Place::Block(start, size) => {
-                let block = MmapRegion::new(host, *size)?;
-                before = Some(block);
-                TestRegion::moved(block, GuestAddress(*start))
-            }
-            Place::Again(start) => {
-                let block = before.ok_or("there is a block before")?;
-                TestRegion::moved(block, GuestAddress(*start))
-            }
-            Place::Bare(start, len) => TestRegion::bare(GuestAddress(*start), *len),
-        };
-        let region = region.ok_or("the region fits")?;
-        regions.push(Arc::new(alloc, region)?)?;
-    }
-    Ok(regions)
-}
 
 /// A memory of these regions.
 pub fn memory_of(
@@ -59,14 +21,6 @@ pub fn memory_of(
 ) -> Result<GuestRegionCollection<TestRegion>, Fail> {
     let regions = regions_of(alloc, host, places)?;
     Ok(GuestRegionCollection::from_arc_regions(regions)?)
-}
-
-/// Fails where a text is not the wanted one, and says in which case.
-pub fn expect_text(case: usize, told: &str, wanted: &str) -> Result<(), Fail> {
-    if told != wanted {
-        return Err(Fail::new(format_args!("case {case}: {told}, not {wanted}")));
-    }
-    Ok(())
 }
 
 /// Tries a write, a read, a write of all and a read of all of so many bytes, and fails where they do not answer so.

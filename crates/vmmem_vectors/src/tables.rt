@@ -258,35 +258,103 @@ const CALLS: [(Call, usize, &str); 12] = [
     ),
 ];
 
-#[test]
-fn calls_of_a_table(rt: HostRuntime) -> Result<(), Fail> {
-    let mut table = Iotlb::new(rt.alloc());
-    for (case, (call, ranges, wanted)) in CALLS.iter().enumerate() {
+// Of a table of at most two ranges. The first is evicted, but for the one that has the first address that was set.
+const CALLS_WITHIN_TWO: [(Call, usize, &str); 7] = [
+    (Call::Set(0, 0x10000, 0x1000, Permissions::Read), 1, ""),
+    (Call::Set(0x2000, 0x20000, 0x1000, Permissions::Read), 2, ""),
+    (Call::Set(0x4000, 0x30000, 0x1000, Permissions::Read), 2, ""),
+    (
+        Call::Lookup(0, 0x5000, Permissions::Read),
+        2,
+        "misses 0x0+0x2000 0x3000+0x1000 access",
+    ),
+    (
+        Call::Lookup(0, 1, Permissions::Read),
+        2,
+        "misses 0x0+0x1 access",
+    ),
+    (Call::Set(0, 0x10000, 0x1000, Permissions::Read), 2, ""),
+    (
+        Call::Lookup(0, 0x5000, Permissions::Read),
+        2,
+        "misses 0x1000+0x3000 access",
+    ),
+];
+
+// Of a table of at most one.
+const CALLS_WITHIN_ONE: [(Call, usize, &str); 7] = [
+    (Call::Set(0, 0x10000, 0x3000, Permissions::Read), 1, ""),
+    (Call::Invalidate(0x1000, 0x1000), 1, ""),
+    (
+        Call::Lookup(0x2000, 0x1000, Permissions::Read),
+        1,
+        " 0x12000+0x1000",
+    ),
+    (
+        Call::Lookup(0, 0x3000, Permissions::Read),
+        1,
+        "misses 0x0+0x2000 access",
+    ),
+    (Call::Set(0, 0x10000, 0x3000, Permissions::Read), 1, ""),
+    (
+        Call::Set(0x1000, 0x50000, 0x1000, Permissions::ReadWrite),
+        1,
+        "",
+    ),
+    (
+        Call::Lookup(0, 0x3000, Permissions::Read),
+        1,
+        "misses 0x0+0x1000 0x2000+0x1000 access",
+    ),
+];
+
+// Makes the calls, and compares what they tell, and the number of ranges then.
+fn expect_calls(
+    alloc: Global,
+    table: &mut Iotlb,
+    calls: &[(Call, usize, &str)],
+) -> Result<(), Fail> {
+    for (case, (call, ranges, wanted)) in calls.iter().enumerate() {
         let text = match call {
             Call::Set(iova, map_to, len, perm) => {
                 if iova.checked_add(*len as u64).is_none() {
                     return Err(Fail::new("the range ends at an address"));
                 }
                 table.set_mapping(GuestAddress(*iova), GuestAddress(*map_to), *len, *perm)?;
-                String::new(rt.alloc())
+                String::new(alloc)
             }
             Call::Invalidate(iova, len) => {
                 if iova.checked_add(*len as u64).is_none() {
                     return Err(Fail::new("the range ends at an address"));
                 }
                 table.invalidate_mapping(GuestAddress(*iova), *len)?;
-                String::new(rt.alloc())
+                String::new(alloc)
             }
-            Call::Lookup(iova, len, access) => told(rt.alloc(), &table, *iova, *len, *access)?,
+            Call::Lookup(iova, len, access) => told(alloc, table, *iova, *len, *access)?,
         };
         expect_text(case, text.as_str(), wanted)?;
         if table.num_ranges() != *ranges {
             return Err(Fail::new(format_args!("case {case}: {ranges} ranges")));
         }
     }
+    Ok(())
+}
+
+#[test]
+fn calls_of_a_table(rt: HostRuntime) -> Result<(), Fail> {
+    let mut table = Iotlb::new(rt.alloc());
+    expect_calls(rt.alloc(), &mut table, &CALLS)?;
     table.invalidate_all();
     if table.num_ranges() != 0 {
         return Err(Fail::new("no range is left"));
     }
     Ok(())
+}
+
+#[test]
+fn calls_of_tables_with_limits(rt: HostRuntime) -> Result<(), Fail> {
+    let mut two = Iotlb::with_limit(rt.alloc(), 2);
+    expect_calls(rt.alloc(), &mut two, &CALLS_WITHIN_TWO)?;
+    let mut one = Iotlb::with_limit(rt.alloc(), 1);
+    expect_calls(rt.alloc(), &mut one, &CALLS_WITHIN_ONE)
 }

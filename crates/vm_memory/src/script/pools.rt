@@ -10,7 +10,7 @@ use std::alloc::{AllocError, Global};
 use std::marker::Model;
 use std::num::NonZeroUsize;
 use std::sync::Arc;
-use vm_memory_base::{ExclusiveBitmap, GuestAddress};
+use vm_memory_base::{ExclusiveBitmap, GuestAddress, Iotlb};
 use vm_memory_guest::host_laws::{names_are_held_one_by_one, parts_of_a_block_are_held};
 use vm_memory_guest::{
     BlockId, GuestRegionMmap, HostMemory, HostShape, MmapRegion, MmapRegionError, TlbId,
@@ -59,7 +59,7 @@ impl Pools {
         match setup {
             Setup::Block { size, page_size } => self.make_block(size, page_size),
             Setup::Space { size, page_size } => self.make_space(size, page_size),
-            Setup::Table => self.make_table(),
+            Setup::Table(limit) => self.make_table(limit),
             Setup::Region { block, addr } => self.make_region(block, addr),
             Setup::Translator(table) => self.make_translator(table),
         }
@@ -95,8 +95,12 @@ impl Pools {
         }
     }
 
-    fn make_table(&mut self) -> SetupReply {
-        match self.host.new_table() {
+    fn make_table(&mut self, limit: Option<NonZeroUsize>) -> SetupReply {
+        let table = match limit {
+            Some(limit) => Iotlb::with_limit(self.alloc, limit.get()),
+            None => Iotlb::new(self.alloc),
+        };
+        match self.host.new_table_with(table) {
             Ok(table) => SetupReply::TableMade(table.0),
             Err(_) => SetupReply::Memory,
         }

@@ -18,8 +18,8 @@ pub(super) enum Setup {
         size: usize,
         page_size: NonZeroUsize,
     },
-    /// A table that says nothing.
-    Table,
+    /// A table that says nothing, with a limit of its ranges, or with none.
+    Table(Option<NonZeroUsize>),
     /// A region of a whole block at an address.
     Region {
         block: BlockId,
@@ -40,7 +40,7 @@ pub(super) fn parse(word: &str, words: &mut Words<'_>) -> Result<Option<Setup>, 
             size: words.index()?,
             page_size: words.page_size()?,
         }),
-        "table" => Some(Setup::Table),
+        "table" => Some(Setup::Table(words.limit()?)),
         "region" => Some(Setup::Region {
             block: BlockId(words.index()?),
             addr: words.address()?,

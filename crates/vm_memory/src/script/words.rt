@@ -74,6 +74,18 @@ impl<'a> Words<'a> {
         NonZeroUsize::new(self.index()?).ok_or(LineError::Bad)
     }
 
+    /// The next word, if there is one, as a limit, which is above 0.
+    pub(super) fn limit(&mut self) -> Result<Option<NonZeroUsize>, LineError> {
+        let Some(word) = self.words.next() else {
+            return Ok(None);
+        };
+        let limit = number(word).ok_or(LineError::Bad)?;
+        match NonZeroUsize::new(limit as usize) {
+            Some(limit) => Ok(Some(limit)),
+            None => Err(LineError::Bad),
+        }
+    }
+
     /// The next two words as the name of a bitmap: that of a block, or a space.
     pub(super) fn bitmap(&mut self) -> Result<BitmapId, LineError> {
         match self.word()? {

@@ -190,7 +190,8 @@ impl AtomicBitmap {
         let mut words = Vec::with_capacity(alloc, self.map.len())?;
         let map = self.map.as_slice();
         for k in 0..map.len() {
-            let word = map[k].fetch_and(0, Ordering::SeqCst);
+            // What a `fetch_and` with 0 does, in one instruction.
+            let word = map[k].swap(0, Ordering::SeqCst);
             words.push_reserved(self.within(k, word));
         }
         Ok(words)

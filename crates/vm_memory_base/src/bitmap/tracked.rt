@@ -57,7 +57,17 @@ pub enum HarvestError {
 }
 
 impl TrackedBitmap {
-    ghost use Rattle.vm_memory_base.specs.Markers.{AreNew};
+    ghost use Rattle.vm_memory_base.specs.Markers.{
+      AreNew,
+      count_of,
+      page_size_of,
+      table_of,
+      marker_table,
+      harvester_table,
+      known_to,
+      known_by,
+      harvests_of,
+    };
     ghost use Rattle.vm_memory_base.specs.declared.bitmap.tracked.HarvestError.TheVariants.{RoundsSpent};
 
     /// A bitmap for `byte_size` bytes in pages of `page_size` bytes, the last of which may be cut, of which none is
@@ -68,12 +78,12 @@ impl TrackedBitmap {
         page_size: NonZeroUsize,
         markers: usize,
     ) -> Result<(TrackedBitmap, Harvester, Vec<Marker>), AllocError>
-        ensures pages { IfOk result (λ r. (r.0.count ≡ div_ceil byte_size (non_zero_usize_get page_size))
-            × (r.0.page_size ≡ page_size)) }
-        ensures harvester { IfOk result (λ r. (r.1.seat.table_id ≡ r.0.table.shared.table_id)
-            × (r.1.seat.me.0 ≡ tracked.newcomer)) }
+        ensures pages { IfOk result (λ r. (count_of r.0 ≡ div_ceil byte_size (non_zero_usize_get page_size))
+            × (page_size_of r.0 ≡ non_zero_usize_get page_size)) }
+        ensures harvester { IfOk result (λ r. (harvester_table r.1 ≡ table_of r.0)
+            × (known_by r.1 ≡ tracked.newcomer)) }
         ensures markers { IfOk result (λ r. (length r.2.items ≡ markers)
-            × AreNew r.0.table.shared.table_id r.2.items) }
+            × AreNew (table_of r.0) r.2.items) }
     {
         let count = byte_size.div_ceil(page_size.get());
         let words = count.div_ceil(32).max(1);
@@ -90,17 +100,17 @@ impl TrackedBitmap {
 
     /// The number of pages.
     pub fn len(&self) -> usize
-        ensures { result ≡ self.now.count }
+        ensures { result ≡ count_of self.now }
     {
         self.count
     }
 
     // Marks one page.
     fn mark_page(&self, marker: &mut Marker, page: usize)
-        requires own { marker.old.seat.table_id ≡ self.now.table.shared.table_id }
-        requires inside { page < self.now.count }
-        ensures same { marker.new.seat.table_id ≡ marker.old.seat.table_id }
-        ensures marks { tracked.MarksPage page marker.old.seat.me.0 marker.new.seat.me.0 }
+        requires own { marker_table marker.old ≡ table_of self.now }
+        requires inside { page < count_of self.now }
+        ensures same { marker_table marker.new ≡ marker_table marker.old }
+        ensures marks { tracked.MarksPage page (known_to marker.old) (known_to marker.new) }
     {
         self.table
             .shared
@@ -109,7 +119,7 @@ impl TrackedBitmap {
 
     // The page behind the last that a mark takes.
     fn end_of(&self, addr: usize, len: usize) -> usize
-        ensures { result ≡ tracked.end_page (non_zero_usize_get self.now.page_size) self.now.count addr len }
+        ensures { result ≡ tracked.end_page (page_size_of self.now) (count_of self.now) addr len }
     {
         if len == 0 {
             return 0;
@@ -121,10 +131,10 @@ impl TrackedBitmap {
 
     /// Marks the pages of `len` bytes from `addr` on, ascending, each by one step. Past the last page there is none.
     pub fn mark(&self, marker: &mut Marker, addr: usize, len: usize)
-        requires own { marker.old.seat.table_id ≡ self.now.table.shared.table_id }
-        ensures same { marker.new.seat.table_id ≡ marker.old.seat.table_id }
-        ensures marks { tracked.MarksRange (non_zero_usize_get self.now.page_size) self.now.count addr len
-            marker.old.seat.me.0 marker.new.seat.me.0 }
+        requires own { marker_table marker.old ≡ table_of self.now }
+        ensures same { marker_table marker.new ≡ marker_table marker.old }
+        ensures marks { tracked.MarksRange (page_size_of self.now) (count_of self.now) addr len
+            (known_to marker.old) (known_to marker.new) }
     {
         let end = self.end_of(addr, len);
         for page in addr / self.page_size.get()..end {
@@ -134,11 +144,11 @@ impl TrackedBitmap {
 
     /// Whether the page of the byte at `addr` is seen set, by one step. Past the last page there is none.
     pub fn is_addr_set(&self, marker: &mut Marker, addr: usize) -> bool
-        requires own { marker.old.seat.table_id ≡ self.now.table.shared.table_id }
-        ensures same { marker.new.seat.table_id ≡ marker.old.seat.table_id }
-        ensures sees { addr / non_zero_usize_get self.now.page_size < self.now.count
-            → tracked.Sees (addr / non_zero_usize_get self.now.page_size) marker.old.seat.me.0 marker.new.seat.me.0 result }
-        ensures past { self.now.count ≤ addr / non_zero_usize_get self.now.page_size
+        requires own { marker_table marker.old ≡ table_of self.now }
+        ensures same { marker_table marker.new ≡ marker_table marker.old }
+        ensures sees { addr / page_size_of self.now < count_of self.now
+            → tracked.Sees (addr / page_size_of self.now) (known_to marker.old) (known_to marker.new) result }
+        ensures past { count_of self.now ≤ addr / page_size_of self.now
             → (result ≡ false) × (marker.new ≡ marker.old) }
     {
         let page = addr / self.page_size.get();
@@ -150,10 +160,10 @@ impl TrackedBitmap {
 
     // Whether a page is set.
     fn look(&self, marker: &mut Marker, page: usize) -> bool
-        requires own { marker.old.seat.table_id ≡ self.now.table.shared.table_id }
-        requires inside { page < self.now.count }
-        ensures same { marker.new.seat.table_id ≡ marker.old.seat.table_id }
-        ensures sees { tracked.Sees page marker.old.seat.me.0 marker.new.seat.me.0 result }
+        requires own { marker_table marker.old ≡ table_of self.now }
+        requires inside { page < count_of self.now }
+        ensures same { marker_table marker.new ≡ marker_table marker.old }
+        ensures sees { tracked.Sees page (known_to marker.old) (known_to marker.new) result }
     {
         let found = self.table.shared.load::<Looks>(&mut marker.seat, page / 32);
         (pages_of(found) >> (page % 32)) & 1 == 1
@@ -170,9 +180,9 @@ impl TrackedBitmap {
 
     // Takes the pages of one word, and opens its next round.
     fn harvest_word(&self, seat: &mut Seat<(), View>, word: usize, round: u64) -> u32
-        requires own { seat.old.table_id ≡ self.now.table.shared.table_id }
+        requires own { seat.old.table_id ≡ table_of self.now }
         requires first { seat.old.id ≡ 0 }
-        requires inside { word < self.now.table.shared.table_id.words }
+        requires inside { word < (table_of self.now).words }
         requires round { (round ≡ length (rounds_of word seat.old.me.0.harvests)) × (round + 1 < 2 ^ 32) }
         ensures same { (seat.new.table_id ≡ seat.old.table_id) × (seat.new.id ≡ seat.old.id) }
         ensures takes { seat.new.me.0 ≡ tracked.after_harvest word round result seat.old.me.0 }
@@ -191,12 +201,14 @@ impl TrackedBitmap {
         harvester: &mut Harvester,
         alloc: Global,
     ) -> Result<Vec<u32>, HarvestError>
-        requires own { harvester.old.seat.table_id ≡ self.now.table.shared.table_id }
-        ensures same { harvester.new.seat.table_id ≡ harvester.old.seat.table_id }
-        ensures taken { IfOk result (λ words. (length words.items ≡ div_ceil self.now.count 32)
-            × (harvester.new.seat.me.0 ≡ tracked.after_harvests harvester.old.round words.items harvester.old.seat.me.0)) }
+        requires own { harvester_table harvester.old ≡ table_of self.now }
+        ensures same { harvester_table harvester.new ≡ harvester_table harvester.old }
+        ensures taken { IfOk result (λ words. (length words.items ≡ div_ceil (count_of self.now) 32)
+            × (known_by harvester.new
+            ≡ tracked.after_harvests (harvests_of harvester.old) words.items (known_by harvester.old))) }
         ensures refused { OnErr result (harvester.new ≡ harvester.old) }
-        ensures spent { (result ≡ Err RoundsSpent) ↔ ((0 < self.now.count) × (harvester.old.round ≡ 2 ^ 32 - 1)) }
+        ensures spent { (result ≡ Err RoundsSpent) ↔ ((0 < count_of self.now)
+            × (harvests_of harvester.old ≡ 2 ^ 32 - 1)) }
     {
         let words = self.len().div_ceil(32);
         if words == 0 {
@@ -214,11 +226,11 @@ impl TrackedBitmap {
 
     // Takes the pages of every word, in order.
     fn harvest_words(&self, seat: &mut Seat<(), View>, round: &mut u64, pages: &mut [u32])
-        requires own { seat.old.table_id ≡ self.now.table.shared.table_id }
+        requires own { seat.old.table_id ≡ table_of self.now }
         requires first { seat.old.id ≡ 0 }
-        requires room { length pages.old ≡ self.now.table.shared.table_id.words }
+        requires room { length pages.old ≡ (table_of self.now).words }
         requires rounds { (round.old + 1 < 2 ^ 32)
-            × tracked.AreHarvested self.now.table.shared.table_id.words round.old seat.old.me.0.harvests }
+            × tracked.AreHarvested (table_of self.now).words round.old seat.old.me.0.harvests }
         ensures same { (seat.new.table_id ≡ seat.old.table_id) × (seat.new.id ≡ seat.old.id) }
         ensures room { length pages.new ≡ length pages.old }
         ensures takes { seat.new.me.0 ≡ tracked.after_harvests round.old pages.new seat.old.me.0 }
@@ -232,10 +244,10 @@ impl TrackedBitmap {
 
     /// Hands what a marker knows to the harvester.
     pub fn join(&self, harvester: &mut Harvester, marker: Marker)
-        requires own { (harvester.old.seat.table_id ≡ self.now.table.shared.table_id)
-            × (marker.seat.table_id ≡ self.now.table.shared.table_id) }
-        ensures same { harvester.new.seat.table_id ≡ harvester.old.seat.table_id }
-        ensures joins { harvester.new.seat.me.0 ≡ tracked.both harvester.old.seat.me.0 marker.seat.me.0 }
+        requires own { (harvester_table harvester.old ≡ table_of self.now)
+            × (marker_table marker ≡ table_of self.now) }
+        ensures same { harvester_table harvester.new ≡ harvester_table harvester.old }
+        ensures joins { known_by harvester.new ≡ tracked.both (known_by harvester.old) (known_to marker) }
     {
         let Marker { seat } = marker;
         self.table
@@ -245,14 +257,14 @@ impl TrackedBitmap {
 
     /// From then on the marker has seen each round at which the harvester stands.
     pub fn meet(&self, marker: &mut Marker, harvester: &mut Harvester)
-        requires own { (marker.old.seat.table_id ≡ self.now.table.shared.table_id)
-            × (harvester.old.seat.table_id ≡ self.now.table.shared.table_id) }
-        ensures same { (marker.new.seat.table_id ≡ marker.old.seat.table_id)
-            × (harvester.new.seat.table_id ≡ harvester.old.seat.table_id) }
-        ensures records { tracked.HasSameRecords marker.old.seat.me.0 marker.new.seat.me.0
-            × tracked.HasSameRecords harvester.old.seat.me.0 harvester.new.seat.me.0 }
-        ensures seen { (word : ℕ) → word < div_ceil self.now.count 32
-            → tracked.seen_of word marker.new.seat.me.0 ≡ length (rounds_of word harvester.new.seat.me.0.harvests) }
+        requires own { (marker_table marker.old ≡ table_of self.now)
+            × (harvester_table harvester.old ≡ table_of self.now) }
+        ensures same { (marker_table marker.new ≡ marker_table marker.old)
+            × (harvester_table harvester.new ≡ harvester_table harvester.old) }
+        ensures records { tracked.HasSameRecords (known_to marker.old) (known_to marker.new)
+            × tracked.HasSameRecords (known_by harvester.old) (known_by harvester.new) }
+        ensures seen { (word : ℕ) → word < div_ceil (count_of self.now) 32
+            → tracked.seen_of word (known_to marker.new) ≡ length (rounds_of word (known_by harvester.new).harvests) }
     {
         let shared = &self.table.shared;
         let told = shared.split_seat::<Note>(&mut marker.seat);
@@ -269,9 +281,9 @@ impl TrackedBitmap {
         harvester: Harvester,
         alloc: Global,
     ) -> Result<Vec<u32>, (TrackedBitmap, Harvester)>
-        requires own { harvester.seat.table_id ≡ self.table.shared.table_id }
-        ensures left { IfOk result (λ words. (length words.items ≡ div_ceil self.count 32)
-            × tracked.IsLeft harvester.seat.me.0 words.items) }
+        requires own { harvester_table harvester ≡ table_of self }
+        ensures left { IfOk result (λ words. (length words.items ≡ div_ceil (count_of self) 32)
+            × tracked.IsLeft (known_by harvester) words.items) }
         ensures refused { OnErr result (result ≡ Err (self, harvester)) }
     {
         let words = self.len().div_ceil(32);
@@ -305,7 +317,8 @@ impl Marker {
     ) -> Result<Vec<Marker>, AllocError>
         requires own { seat.old.table_id ≡ shared.now.table_id }
         requires some { 0 < shared.now.table_id.words }
-        ensures same { (seat.new.table_id ≡ seat.old.table_id) × (seat.new.id ≡ seat.old.id) × (seat.new.me ≡ seat.old.me) }
+        ensures same { (seat.new.table_id ≡ seat.old.table_id) × (seat.new.id ≡ seat.old.id)
+            × (seat.new.me ≡ seat.old.me) }
         ensures markers { IfOk result (λ markers. (length markers.items ≡ count)
             × AreNew shared.now.table_id markers.items) }
     {

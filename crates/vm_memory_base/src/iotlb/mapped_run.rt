@@ -3,7 +3,7 @@ ghost use Rattle.std.specs.Prelude.{◌≡◌, ℕ, ◌+◌, ◌-◌, ◌<◌, �
 ghost use Rattle.vm_memory_base.specs.Change.{if_any, start_or, prepended, prepended_if_any};
 ghost use Rattle.vm_memory_base.specs.Permissions as set;
 ghost use Rattle.vm_memory_base.specs.Stored.{run_in};
-ghost use Rattle.vm_memory_base.specs.Table.{same_mapping, target};
+ghost use Rattle.vm_memory_base.specs.Table.{has_any, same_mapping, target};
 
 use super::Permissions;
 use std::marker::Model;
@@ -113,6 +113,17 @@ impl MappedRun {
         ensures { result ≡ target iova self.now.value }
     {
         iova.wrapping_add(self.difference)
+    }
+
+    // Whether the run has an address, if there is one.
+    #[inline]
+    pub(super) fn has_any(&self, iova: Option<u64>) -> bool
+        ensures { result ≡ has_any iova self.now }
+    {
+        match iova {
+            Some(iova) => self.start <= iova && iova < self.end,
+            None => false,
+        }
     }
 
     #[inline]

@@ -1,9 +1,9 @@
 //! The runs of a table, kept in the order of their first addresses.
 ghost use Rattle.std.specs.Prelude.{◌≡◌, ◌+◌, ◌-◌, ◌^◌, ◌<◌, ◌≤◌, ◌++◌, ◌∷◌, [], true, false, List, length, IsSome, IfSome, IfNone, OnOk, OnErr};
 ghost use Rattle.std.specs.Iterator.{YieldsFirst, item_count};
-ghost use Rattle.vm_memory_base.specs.Change.{EndBelow, StartFrom, AreAscending, IsKept, if_any, runs_below, runs_from, with_reset, start_or, with_run, without_range};
+ghost use Rattle.vm_memory_base.specs.Change.{EndBelow, StartFrom, AreAscending, IsKept, IsWithinLimit, if_any, runs_below, runs_from, with_reset, start_or, with_run, without_first, without_range};
 ghost use Rattle.vm_memory_base.specs.Runs.{AddressRun, IsCanonical, cut_to};
-ghost use Rattle.vm_memory_base.specs.Table.{Mapping, same_mapping, canonical_list};
+ghost use Rattle.vm_memory_base.specs.Table.{Mapping, excess, has_any, same_mapping, canonical_list};
 ghost use Rattle.vm_memory_base.specs.Walk.{HeadEndsAfter};
 
 use super::mapped_run::{MappedRun, RunTail, joined_to};
@@ -347,6 +347,55 @@ impl RunMap {
         let (right, stored) = self.back(&last, end);
         let clear = self.is_clear(&last, start, end);
         self.replace(left, start, None, right, end, stored, clear, whole)
+    }
+
+    // Evicts what is more than a limit, if there is one.
+    pub(super) fn keep_within(&mut self, limit: Option<usize>, spared: Option<u64>)
+        requires kept { IsKept self.old }
+        requires some { IfSome limit (λ n. 0 < n) }
+        ensures gone { self.new ≡ without_first (has_any spared) (excess limit (length self.old)) self.old }
+        ensures kept { IsKept self.new }
+        ensures within { IsWithinLimit limit self.new }
+    {
+        if let Some(limit) = limit {
+            self.evict(limit, spared);
+        }
+    }
+
+    // Takes the first runs out while there are more than so many, but for the one that has an address.
+    fn evict(&mut self, limit: usize, spared: Option<u64>)
+        requires kept { IsKept self.old }
+        requires some { 0 < limit }
+        ensures gone { self.new ≡ without_first (has_any spared) (length self.old - limit) self.old }
+        ensures kept { IsKept self.new }
+        ensures within { length self.new ≤ limit }
+    {
+        while self.len() > limit {
+            let start = self.first_without(spared);
+            self.remove(start);
+        }
+    }
+
+    // Where the first run starts that does not have an address.
+    fn first_without(&self, spared: Option<u64>) -> u64
+        requires canonical { IsCanonical same_mapping self.now }
+        requires several { 1 < length self.now }
+        ensures gone { runs_below result self.now ++ runs_from (result + 1) self.now
+            ≡ without_first (has_any spared) 1 self.now }
+        ensures less { length (without_first (has_any spared) 1 self.now) + 1 ≡ length self.now }
+    {
+        let mut runs = self.tails.iter();
+        let Some((start, tail)) = runs.next() else {
+            return 0;
+        };
+        let first = MappedRun::of_tail(*start, tail);
+        if !first.has_any(spared) {
+            return first.start();
+        }
+        let Some((start, _)) = runs.next() else {
+            return 0;
+        };
+        *start
     }
 
     // The runs that have an address from one up to another.

@@ -1,10 +1,10 @@
 //! The table of an IOMMU.
-ghost use Rattle.std.specs.Prelude.{◌≡◌, ℕ, ◌+◌, ◌-◌, ◌^◌, ◌<◌, ◌≤◌, ◌⊎◌, ◌∷◌, [], true, false, None, map, OnOk, IfOk, IfErr};
+ghost use Rattle.std.specs.Prelude.{◌≡◌, ℕ, ◌+◌, ◌-◌, ◌^◌, ◌<◌, ◌≤◌, ◌⊎◌, ◌∷◌, [], true, false, Some, None, map, OnOk, IfOk, IfErr, IfSome};
 ghost use Rattle.std.specs.List.{filter};
 ghost use Rattle.vm_memory_base.specs.Change.{gaps};
 ghost use Rattle.vm_memory_base.specs.Runs.{cut_to};
 ghost use Rattle.vm_memory_base.specs.Table as table;
-ghost use Rattle.vm_memory_base.specs.Table.{Set, Invalidate, InvalidateAll, says, says_after, canonical_list, changed, range_count, is_allowed, pieces, failures, same_mapping, range_of, forbids};
+ghost use Rattle.vm_memory_base.specs.Table.{Set, Invalidate, InvalidateAll, covers, says, says_after, says_after_all, events, canonical_list, changed, range_count, is_allowed, pieces, failures, same_mapping, range_of, forbids};
 
 use super::lookup::{
     IotlbFails, IotlbIterator, IovaRangeList, LookupError, access_fails, are_granted, misses,
@@ -18,8 +18,8 @@ use std::marker::Model;
 
 /// The table of an IOMMU: where I/O addresses lead, and which accesses are permitted there.
 ///
-/// It keeps the maximal ranges of neighbouring addresses that are mapped alike, ascending. So two tables
-/// that say the same of each address are equal: docs/DEFINITIONS.md, "I/O tables".
+/// It keeps the maximal ranges of neighbouring addresses that are mapped alike, ascending. So two tables of one
+/// limit that say the same of each address are equal: docs/DEFINITIONS.md, "I/O tables".
 ///
 /// ```rust
 /// use vm_memory_base::{GuestAddress, Iotlb, Permissions};
@@ -32,19 +32,19 @@ use std::marker::Model;
 /// ```
 #[derive(Debug, Drop)]
 pub struct Iotlb {
+    limit: Option<usize>,
     ranges: RunMap,
 }
 
 impl Model for Iotlb {
-    ghost use Rattle.std.specs.Prelude.{None};
-    ghost use Rattle.vm_memory_base.specs.Change.{IsKept};
+    ghost use Rattle.vm_memory_base.specs.Change.{IsKept, IsWithinLimit};
     ghost use Rattle.vm_memory_base.specs.Table.{Table};
 
     ghost Value = { Table };
 
-    ghost view = { λ t. record { limit = None; ranges = t.ranges } };
+    ghost view = { λ t. record { limit = t.limit; ranges = t.ranges } };
 
-    ghost invariant = { λ t. IsKept t.ranges };
+    ghost invariant = { λ t. IsKept t.ranges × IsWithinLimit t.limit t.ranges };
 }
 
 impl Iotlb {
@@ -53,6 +53,19 @@ impl Iotlb {
         ensures { result ≡ record { limit = None; ranges = [] } }
     {
         Iotlb {
+            limit: None,
+            ranges: RunMap::new(alloc),
+        }
+    }
+
+    /// A table that says nothing of any address, and never keeps more than `limit` ranges, of which there has to be
+    /// one at least. It takes no memory.
+    pub fn with_limit(alloc: Global, limit: usize) -> Iotlb
+        requires { 0 < limit }
+        ensures { result ≡ record { limit = Some limit; ranges = [] } }
+    {
+        Iotlb {
+            limit: Some(limit),
             ranges: RunMap::new(alloc),
         }
     }
@@ -61,7 +74,10 @@ impl Iotlb {
     /// accesses, whatever was said of them before. A length of 0 changes nothing and takes no memory. The sum of
     /// `iova` and `length` has to be an address.
     ///
-    /// `Memory` where there is no memory for it, and then nothing is changed.
+    /// While a table with a limit has more ranges, the first of them is evicted that does not have `iova`: what it
+    /// said is a miss from then on.
+    ///
+    /// `Memory` where there is no memory for it, and then nothing is changed or evicted.
     pub fn set_mapping(
         &mut self,
         iova: GuestAddress,
@@ -72,11 +88,15 @@ impl Iotlb {
         requires { iova.0 + length < 2 ^ 64 }
         ensures ok { OnOk result (self.new ≡ changed (Set iova.0 map_to.0 length perm) self.old) }
         ensures says { OnOk result ((x : ℕ) → x < 2 ^ 64
-            → says self.new x ≡ says_after (Set iova.0 map_to.0 length perm) x (says self.old x)) }
+            → says self.new x ≡ says_after_all (events (Set iova.0 map_to.0 length perm) self.old) x (says self.old x)) }
+        ensures set { OnOk result ((x : ℕ) → covers (Set iova.0 map_to.0 length perm) x ≡ true
+            → says self.new x ≡ says_after (Set iova.0 map_to.0 length perm) x None) }
+        ensures limit { IfSome self.new.limit (λ n. range_count self.new ≤ n) }
         ensures growth { range_count self.new ≤ range_count self.old + 2 }
         ensures none { length ≡ 0 → self.new ≡ self.old }
         ensures err { IfErr result (λ e. (e ≡ IommuError.Memory) × (0 < length) × (self.new ≡ self.old)) }
     {
+        let limit = self.limit;
         let ranges = &mut self.ranges;
         if length == 0 {
             return Ok(());
@@ -84,13 +104,17 @@ impl Iotlb {
         let end = iova.0 + length as u64;
         let difference = map_to.0.wrapping_sub(iova.0);
         let run = MappedRun::new(iova.0, end, difference, perm);
-        ranges.set_run(run).map_err(|_| IommuError::Memory)
+        ranges.set_run(run).map_err(|_| IommuError::Memory)?;
+        ranges.keep_within(limit, Some(iova.0));
+        Ok(())
     }
 
     /// Lets `length` addresses from `iova` on lead nowhere. A length of 0 changes nothing and takes no memory. The
     /// sum of `iova` and `length` has to be an address.
     ///
-    /// `Memory` where there is no memory for it, and then nothing is changed.
+    /// While a table with a limit has more ranges, the first of them is evicted: what it said is a miss from then on.
+    ///
+    /// `Memory` where there is no memory for it, and then nothing is changed or evicted.
     pub fn invalidate_mapping(
         &mut self,
         iova: GuestAddress,
@@ -99,18 +123,22 @@ impl Iotlb {
         requires { iova.0 + length < 2 ^ 64 }
         ensures ok { OnOk result (self.new ≡ changed (Invalidate iova.0 length) self.old) }
         ensures says { OnOk result ((x : ℕ) → x < 2 ^ 64
-            → says self.new x ≡ says_after (Invalidate iova.0 length) x (says self.old x)) }
+            → says self.new x ≡ says_after_all (events (Invalidate iova.0 length) self.old) x (says self.old x)) }
+        ensures limit { IfSome self.new.limit (λ n. range_count self.new ≤ n) }
         ensures growth { range_count self.new ≤ range_count self.old + 2 }
         ensures none { length ≡ 0 → self.new ≡ self.old }
         ensures err { IfErr result (λ e. (e ≡ IommuError.Memory) × (0 < length) × (self.new ≡ self.old)) }
     {
+        let limit = self.limit;
         let ranges = &mut self.ranges;
         if length == 0 {
             return Ok(());
         }
         ranges
             .clear_range(iova.0, iova.0 + length as u64)
-            .map_err(|_| IommuError::Memory)
+            .map_err(|_| IommuError::Memory)?;
+        ranges.keep_within(limit, None);
+        Ok(())
     }
 
     /// Lets every address lead nowhere. It takes no memory.
@@ -155,11 +183,12 @@ impl Iotlb {
         Err(refusal(self.ranges.alloc(), asked, iova.0, end, access))
     }
 
-    /// The number of ranges that are kept. They are the canonical list of what the table says.
+    /// The number of ranges that are kept. They are the canonical list of what the table says, and at most as many as
+    /// its limit, if it has one.
     pub fn num_ranges(&self) -> usize
         ensures count { result ≡ range_count self.now }
         ensures canonical { canonical_list (says self.now) ≡ self.now.ranges }
-        ensures limit { self.now.limit ≡ None }
+        ensures limit { IfSome self.now.limit (λ n. (0 < n) × (result ≤ n)) }
     {
         self.ranges.len()
     }

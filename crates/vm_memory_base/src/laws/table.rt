@@ -2,7 +2,7 @@
 ghost use Rattle.std.specs.Prelude.{◌≡◌, ◌↔◌, ℕ, ◌+◌, ◌-◌, ◌^◌, ◌<◌, ◌≤◌, ◌⊎◌, Bool, true, false, not, List, [], ◌∷◌, ◌++◌, map, filter, flat_map, sum_by, Option, Some, None, is_some, All};
 ghost use Rattle.vm_memory_base.specs.Address.{step, numbers, difference};
 ghost use Rattle.vm_memory_base.specs.Runs.{AddressRun, TestsEquality, runs, IsCanonical, value_at, cut_to};
-ghost use Rattle.vm_memory_base.specs.Table.{Mapping, same_mapping, target, Says, Table, says, range_count, TableCall, Set, Invalidate, InvalidateAll, covers, says_after, says_after_all, new_table_after, canonical_list, grants, each, overruns, is_allowed, reason, piece_of, pieces, addresses, target_if_any, forbids, range_of, if_forbidden, misses, failures};
+ghost use Rattle.vm_memory_base.specs.Table.{Mapping, same_mapping, target, Says, Table, says, range_count, TableEvent, Set, Invalidate, InvalidateAll, covers, says_after, says_after_all, events, changed, changed_by, events_of, new_table_after, canonical_list, grants, each, overruns, is_allowed, reason, piece_of, pieces, addresses, target_if_any, forbids, range_of, if_forbidden, misses, failures};
 ghost use Rattle.vm_memory_base.specs.declared.iotlb.Permissions.{Permissions};
 ghost use Rattle.vm_memory_base.specs.declared.iotlb.Reason.TheVariants.{MissingMapping, AccessNotAllowed};
 
@@ -11,7 +11,7 @@ use crate::iotlb::Iotlb;
 /// A call changes what is said of the addresses that it covers, and of no other; one of length 0 covers none. So
 /// the last call that covers an address decides what is said of it, and where none does nothing is changed.
 pub fn last_call_decides()
-    ensures elsewhere { (call : TableCall) (x : ℕ) (old : Option Mapping) → covers call x ≡ false
+    ensures elsewhere { (call : TableEvent) (x : ℕ) (old : Option Mapping) → covers call x ≡ false
         → says_after call x old ≡ old }
     ensures set { (iova to len x : ℕ) (permissions : Permissions) (old : Option Mapping)
         → covers (Set iova to len permissions) x ≡ true
@@ -24,12 +24,12 @@ pub fn last_call_decides()
         → says_after (Set iova to 0 permissions) x old ≡ old }
     ensures invalidated_nothing { (iova x : ℕ) (old : Option Mapping)
         → says_after (Invalidate iova 0) x old ≡ old }
-    ensures one_more { (calls : List TableCall) (call : TableCall) (x : ℕ) (old : Option Mapping)
+    ensures one_more { (calls : List TableEvent) (call : TableEvent) (x : ℕ) (old : Option Mapping)
         → says_after_all (calls ++ call ∷ []) x old ≡ says_after call x (says_after_all calls x old) }
-    ensures last { (earlier later : List TableCall) (call : TableCall) (x : ℕ) (old : Option Mapping)
+    ensures last { (earlier later : List TableEvent) (call : TableEvent) (x : ℕ) (old : Option Mapping)
         → covers call x ≡ true → All (λ other. covers other x ≡ false) later
         → says_after_all (earlier ++ call ∷ later) x old ≡ says_after call x None }
-    ensures none { (calls : List TableCall) (x : ℕ) (old : Option Mapping)
+    ensures none { (calls : List TableEvent) (x : ℕ) (old : Option Mapping)
         → All (λ call. covers call x ≡ false) calls → says_after_all calls x old ≡ old }
 {}
 
@@ -127,10 +127,28 @@ pub fn look_up_by_addresses()
         → (each test f a n ≡ true) ↔ ((x : ℕ) → a ≤ x → x < a + n → test (f x) ≡ true) }
 {}
 
-/// Two tables that say the same of each address are equal: they keep the same ranges, and answer every
+/// Calls of a table with a limit lead to evictions, and those of one without to none. Such a table never has more
+/// ranges than its limit. What is evicted is a miss, and never leads elsewhere than before; and what a call set stays.
+/// What a table says after calls is decided by these and the evictions that they led to.
+pub fn tables_keep_to_their_limits()
+    ensures unbounded { (call : TableEvent) (t : Table) → t.limit ≡ None → events call t ≡ call ∷ [] }
+    ensures within { (call : TableEvent) (t : Table) (limit : ℕ) → t.limit ≡ Some limit → 0 < limit
+        → range_count (changed call t) ≤ limit }
+    ensures missed { (call : TableEvent) (t : Table) (x : ℕ) → x < 2 ^ 64
+        → (says (changed call t) x ≡ None) ⊎ (says (changed call t) x ≡ says_after call x (says t x)) }
+    ensures set { (iova to len x : ℕ) (permissions : Permissions) (t : Table) → iova + len < 2 ^ 64
+        → covers (Set iova to len permissions) x ≡ true
+        → says (changed (Set iova to len permissions) t) x ≡ says_after (Set iova to len permissions) x None }
+    ensures events { (calls : List TableEvent) (t : Table) (x : ℕ) → x < 2 ^ 64
+        → says (changed_by calls t) x ≡ says_after_all (events_of calls t) x (says t x) }
+    ensures limit { (calls : List TableEvent) (t : Table) → (changed_by calls t).limit ≡ t.limit }
+{}
+
+/// Two tables of one limit that say the same of each address are equal: they keep the same ranges, and answer every
 /// look-up alike.
 pub fn tables_that_say_the_same(a: &Iotlb, b: &Iotlb)
-    ensures same { ((x : ℕ) → x < 2 ^ 64 → says a.now x ≡ says b.now x) → a.now ≡ b.now }
+    ensures same { a.now.limit ≡ b.now.limit → ((x : ℕ) → x < 2 ^ 64 → says a.now x ≡ says b.now x)
+        → a.now ≡ b.now }
     ensures ranges { ((x : ℕ) → x < 2 ^ 64 → says a.now x ≡ says b.now x)
         → range_count a.now ≡ range_count b.now }
 {

@@ -5,7 +5,7 @@ use Rattle.vm_memory.proofs.machine_laws.tables_say_what_was_set_last.Goals as g
 
 pub returns : goal.returns
 returns c =
-    let laws = history_laws c.canonical_list_decides_the_table.ensures.values c.path_writes_keep_shapes.ensures.tables
+    let laws = history_laws c.tables_keep_to_their_limits.ensures.events c.path_writes_keep_shapes.ensures.tables
     c.transfers_in_mark_what_they_change.ensures in
     let calls : CallLaws = record {
       last = c.last_call_decides.ensures.last;

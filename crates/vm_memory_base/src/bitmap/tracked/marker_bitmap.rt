@@ -1,8 +1,5 @@
 //! A marker with its bitmap, as the bitmap of a host.
-ghost use Rattle.std.specs.Prelude.{◌≡◌, ℕ, ◌<◌, Some, None, length, MatchOption};
-ghost use Rattle.std.specs.Int.{div_ceil};
-ghost use Rattle.vm_memory_base.specs.Notes.{rounds_of};
-ghost use Rattle.vm_memory_base.specs.Tracked as tracked;
+ghost use Rattle.std.specs.Prelude.{◌≡◌, ⊤, Some, None, IfSome, MatchOption};
 
 use super::{Harvester, Marker, TrackedBitmap};
 use crate::bitmap::Bitmap;
@@ -23,10 +20,11 @@ pub struct MarkerBitmap {
 
 impl MarkerBitmap {
     ghost use Rattle.vm_memory_base.specs.MarkerBitmap.{held_of, Meets};
+    ghost use Rattle.vm_memory_base.specs.Markers.{table_of, marker_table, harvester_table};
 
     /// Marks `bitmap` with `marker`.
     pub fn new(bitmap: Arc<TrackedBitmap>, marker: Marker) -> MarkerBitmap
-        requires own { marker.seat.table_id ≡ bitmap.value.table.shared.table_id }
+        requires own { marker_table marker ≡ table_of bitmap.value }
         ensures { held_of result ≡ Some (bitmap.value, marker) }
     {
         MarkerBitmap {
@@ -36,8 +34,7 @@ impl MarkerBitmap {
 
     /// As `TrackedBitmap::meet`. Where the marker was handed back, nothing.
     pub fn meet(&mut self, harvester: &mut Harvester)
-        requires own { (h : Held) → self.old.held ≡ Some h
-            → harvester.old.seat.table_id ≡ h.bitmap.value.table.shared.table_id }
+        requires own { MatchOption (held_of self.old) ⊤ (λ h. harvester_table harvester.old ≡ table_of h.0) }
         ensures { Meets (held_of self.old) harvester.old (held_of self.new) harvester.new }
     {
         if let Some(held) = &mut self.held {
@@ -48,7 +45,9 @@ impl MarkerBitmap {
     /// Hands the bitmap and the marker back, once. From then on nothing is marked.
     pub fn retire(&mut self) -> Option<(Arc<TrackedBitmap>, Marker)>
         ensures gone { held_of self.new ≡ None }
-        ensures handed { MatchOption result (held_of self.old ≡ None) (λ r. held_of self.old ≡ Some (r.0.value, r.1)) }
+        ensures handed { MatchOption result (held_of self.old ≡ None)
+            (λ r. held_of self.old ≡ Some (r.0.value, r.1)) }
+        ensures own { IfSome result (λ r. marker_table r.1 ≡ table_of r.0.value) }
     {
         match self.held.take() {
             Some(Held { bitmap, marker }) => Some((bitmap, marker)),

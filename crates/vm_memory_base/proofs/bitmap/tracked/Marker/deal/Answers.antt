@@ -1,6 +1,6 @@
-use Rattle.std.proofs.Common.{◌≡◌, ℕ, ◌+◌, length-append, List, [], ◌∷◌, ◌++◌, length, sym, ap, ◌∙◌, subst, ⊎_elim}
+use Rattle.std.proofs.Common.{◌≡◌, ℕ, ◌+◌, length-append, List, [], ◌∷◌, ◌++◌, length, sym, ap, ◌∙◌, subst}
+use Rattle.std.proofs.lemmas.List.Elements.{All-push}
 use Rattle.atomic_table.specs.Seated.{TableId}
-use Rattle.atomic_table.proofs.Lists.{at_snoc}
 use Rattle.vm_memory_base.specs.declared.bitmap.tracked.Marker.{Marker}
 use Rattle.vm_memory_base.specs.Tracked.{newcomer}
 use Rattle.vm_memory_base.specs.Markers.{AreNew}
@@ -9,10 +9,8 @@ use Rattle.vm_memory_base.proofs.bitmap.tracked.Marker.deal.Goals as goal
 
 one_more : (table : TableId) (markers : List Marker) (m : Marker) → AreNew table markers
     → (m.seat.table_id ≡ table) × (m.seat.me.0 ≡ newcomer) → AreNew table (markers ++ m ∷ [])
-one_more table markers m all is k x e =
-    ⊎_elim (λ h. all k x h)
-    (λ (h : m ≡ x). subst (λ (y : Marker). (y.seat.table_id ≡ table) × (y.seat.me.0 ≡ newcomer)) h is)
-    (at_snoc markers m x k e)
+one_more table markers m all is =
+    All-push (λ (y : Marker). (y.seat.table_id ≡ table) × (y.seat.me.0 ≡ newcomer)) markers m all is
 
 pub split_seat-requires : goal.split_seat-requires
 split_seat-requires c =

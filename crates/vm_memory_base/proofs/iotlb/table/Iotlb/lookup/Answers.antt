@@ -16,7 +16,7 @@ returns-then-length-eq0-clause-found c =
 pub new-requires-then-are_granted : goal.new-requires-then-are_granted
 new-requires-then-are_granted c =
     let there = c.asked-asked.ensures in
-    (looked_up c.self.inside.ranges there.0 c.asked-asked.result there.1 there.2 c.self.invariant c.args.iova.0
+    (looked_up c.self.inside.ranges there.0 c.asked-asked.result there.1 there.2 c.self.invariant.0 c.args.iova.0
     c.args.length c.in-Some.end c.in-Some.ensures.1 (omega arith) c.in-Some.ensures.0 c.args.access there.3 there.4
     there.5 (ap (granted c.args.iova.0 c.in-Some.end c.args.access) (sym c.again.ensures) ∙ sym c.are_granted.ensures
     ∙ c.if-are_granted.true)).1
@@ -24,7 +24,7 @@ new-requires-then-are_granted c =
 pub returns-then-are_granted-clause-found : goal.returns-then-are_granted-clause-found
 returns-then-are_granted-clause-found c =
     let there = c.asked-asked.ensures in
-    let told = looked_up c.self.inside.ranges there.0 c.asked-asked.result there.1 there.2 c.self.invariant
+    let told = looked_up c.self.inside.ranges there.0 c.asked-asked.result there.1 there.2 c.self.invariant.0
     c.args.iova.0 c.args.length c.in-Some.end c.in-Some.ensures.1 (omega arith) c.in-Some.ensures.0 c.args.access
     there.3 there.4 there.5
     (ap (granted c.args.iova.0 c.in-Some.end c.args.access) (sym c.again.ensures) ∙ sym c.are_granted.ensures
@@ -43,7 +43,7 @@ same_fails e m m' f f' p q (inr s) = inr (cc)
 pub returns-clause-refused : goal.returns-clause-refused
 returns-clause-refused c =
     let there = c.asked-asked.ensures in
-    let told = looked_up_in_vain c.self.inside.ranges there.0 c.asked-asked.result there.1 there.2 c.self.invariant
+    let told = looked_up_in_vain c.self.inside.ranges there.0 c.asked-asked.result there.1 there.2 c.self.invariant.0
     c.args.iova.0 c.args.length c.in-Some.end c.in-Some.ensures.1 (omega arith) c.in-Some.ensures.0 c.args.access
     there.3 there.4 there.5
     (ap (granted c.args.iova.0 c.in-Some.end c.args.access) (sym c.again.ensures) ∙ sym c.are_granted.ensures

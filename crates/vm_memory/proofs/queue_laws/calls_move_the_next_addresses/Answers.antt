@@ -1,0 +1,10 @@
+use Rattle.vm_memory.proofs.AddressesOfText.{addresses-text, next_address}
+use Rattle.vm_memory.proofs.queue_laws.calls_move_the_next_addresses.Goals as goal
+
+pub returns : goal.returns
+returns g c = record {
+  text = addresses-text;
+  next = next_address;
+  written = λ xs ws bytes old new are.
+      c.writes_to_the_windows_of_a_path_are_by_bytes.ensures xs ws bytes old new are.cells are.marks are.fit;
+}

@@ -1,9 +1,0 @@
-use Rattle.vm_memory_guest.specs.Host.{with_table}
-use Rattle.vm_memory_guest.proofs.HoldsLemmas.{Holds-table, Holds-made}
-use Rattle.vm_memory_guest.proofs.host.HostMemory.new_table.Goals as goal
-
-pub returns-clause-kept : goal.returns-clause-kept
-returns-clause-kept g c =
-    let old = c.args.self.now in
-    let made = c.add_table.ensures in
-    Holds-made old c.add_table.new.self (with_table old) (Holds-table old) c.add_table.result made.ok made.err

@@ -1,0 +1,103 @@
+//! Marks and harvests bitmaps, replaces a layout and calls a machine by many threads at once, for a number of
+//! seconds: for a person, and for a run at night. It prints a line a second. Its status is not 0 where a page was
+//! lost or invented, a snapshot changed, or a reply is not that of the journal: then it tells what went wrong.
+#![tactic(auto)]
+
+ghost use Rattle.std.specs.Prelude.{◌<◌};
+
+use clap::{Arg, Command, value_parser};
+use rand_core::{Rng, SeedableRng};
+use rand_xoshiro::Xoshiro256PlusPlus;
+use std::alloc::Global;
+use std::env;
+use std::sync::Wait;
+use std::test::Fail;
+use std::thread::Threads;
+use std::time::{Clock, Instant};
+use vmmem_vectors::threads::{Marks, expect_atomic, expect_calls, expect_layouts, expect_tracked};
+
+// A number below another.
+fn below(rng: &mut Xoshiro256PlusPlus, limit: u64) -> usize
+    requires { 0 < limit }
+{
+    (rng.next_u64() % limit) as usize
+}
+
+fn random_span(rng: &mut Xoshiro256PlusPlus) -> (usize, usize) {
+    (below(rng, 5000), below(rng, 2000))
+}
+
+// Up to 5000 pages, and four ranges that may go past the last.
+fn random_marks(rng: &mut Xoshiro256PlusPlus) -> Marks {
+    Marks {
+        pages: below(rng, 5001),
+        spans: [
+            random_span(rng),
+            random_span(rng),
+            random_span(rng),
+            random_span(rng),
+        ],
+        // Each range is marked at least once.
+        times: below(rng, 50).saturating_add(1),
+    }
+}
+
+// Each of the structures once.
+fn round<R: Sync + Threads + Wait>(rt: &R, alloc: Global, marks: &Marks) -> Result<(), Fail> {
+    expect_tracked(rt, alloc, marks)?;
+    expect_atomic(rt, alloc, marks)?;
+    expect_layouts(rt, alloc)?;
+    expect_calls(rt, alloc)
+}
+
+// Rounds for so many seconds.
+fn rounds<R: Clock + Print + Sync + Threads + Wait>(
+    rt: &R,
+    alloc: Global,
+    seconds: u64,
+    seed: u64,
+) -> Result<(), Fail> {
+    let mut rng = Xoshiro256PlusPlus::seed_from_u64(seed);
+    let start = Instant::now(rt)?;
+    let mut told = 0u64;
+    for number in 1..u64::MAX {
+        let marks = random_marks(&mut rng);
+        round(rt, alloc, &marks)?;
+        let passed = start.elapsed(rt)?.as_secs();
+        if passed >= seconds {
+            break;
+        }
+        if passed > told {
+            println!(rt;
+                "{passed} s: {number} rounds, the last with {} pages",
+                marks.pages
+            )?;
+            told = passed;
+        }
+    }
+    Ok(())
+}
+
+fn main(rt: HostRuntime) -> Result<(), Fail> {
+    let alloc = rt.alloc();
+    let words: Vec<String> = env::args(&rt)?.collect(alloc)?;
+    let seconds = Arg::new(alloc, "seconds")
+        .long("seconds")
+        .value_parser(value_parser!(u64))
+        .default_value("10");
+    let seed = Arg::new(alloc, "seed")
+        .long("seed")
+        .value_parser(value_parser!(u64))
+        .default_value("1");
+    let command = Command::new(alloc, "vmmem_stress").arg(seconds)?.arg(seed)?;
+    let matches = match command.try_get_matches_from(words.as_slice()) {
+        Ok(matches) => matches,
+        Err(error) => {
+            error.print(&rt)?;
+            return Err(Fail::new("these are no arguments"));
+        }
+    };
+    let seconds = matches.get_one::<u64>("seconds").unwrap_or(10);
+    let seed = matches.get_one::<u64>("seed").unwrap_or(1);
+    rounds(&rt, alloc, seconds, seed)
+}
