@@ -331,6 +331,29 @@ pub no_bits : (first : ℕ) → dirty_among 0 first ≡ []
 unfolding dirty_among
 no_bits first = none_dirty (λ page. eqb (bit_at 0 (page - first)) 1) first 64 (λ p l. ap (λ (n : ℕ). eqb n 1) (bit_at-zero (p - first)))
 
+pub not_empty : (xs : List ℕ) (y : ℕ) (ys : List ℕ) → xs ++ y ∷ ys ≢ []
+not_empty [] y ys e = absurd (cc)
+not_empty (x ∷ xs) y ys e = absurd (cc)
+
+-- the pages of a word all bits of which are set, as many as have been seen
+abbrev pub all_set : ℕ → ℕ → Bool
+all_set first page = eqb (bit_at (2 ^ 64 - 1) (page - first)) 1
+
+pub one_more : (first k : ℕ) → k < 64
+    → dirty_by (all_set first) first (k + 1) ≡ dirty_by (all_set first) first k ++ (first + k) ∷ []
+one_more first k inside =
+    let at : first + k - first ≡ k = omega arith in
+    let set : all_set first (first + k) ≡ true = rw at (ap (λ (n : ℕ). eqb n 1) (bit_at_ones 64 k inside)) in
+    dirty_by-split (all_set first) first k 1 (k + 1) refl
+    ∙ ap (λ (ps : List ℕ). dirty_by (all_set first) first k ++ ps) (rw set refl)
+
+pub all_of_word : (first : ℕ) → dirty_by (all_set first) first 64 ≡ dirty_among (2 ^ 64 - 1) first
+unfolding dirty_among
+all_of_word first = refl
+
+pub some_of_word : (first : ℕ) → dirty_among (2 ^ 64 - 1) first ≢ []
+some_of_word first none = not_empty _ _ _ (sym (one_more first 63 (omega arith)) ∙ all_of_word first ∙ none)
+
 -- the pages of one word more
 pub dirty_of_word : (words : List ℕ) (k : ℕ)
     → dirty_by (flag words) 0 (64 * (k + 1)) ≡ dirty_by (flag words) 0 (64 * k) ++ dirty_among (get_or words k 0) (64 * k)
@@ -370,10 +393,6 @@ some_dirty words count k whole inside clear some none =
     middle [] [] zs e = refl
     middle [] (y ∷ ys) zs e = absurd (cc)
     middle (x ∷ xs) ys zs e = absurd (cc)
-
-pub not_empty : (xs : List ℕ) (y : ℕ) (ys : List ℕ) → xs ++ y ∷ ys ≢ []
-not_empty [] y ys e = absurd (cc)
-not_empty (x ∷ xs) y ys e = absurd (cc)
 
 -- a word is less without a bit that it has
 pub without_bit : (word t : ℕ) → t < 64 → bit_at word t ≡ 1 → bit_and word (bit_not w64 (1 * 2 ^ t % 2 ^ 64)) < word

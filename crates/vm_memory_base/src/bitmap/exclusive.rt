@@ -201,6 +201,18 @@ fn set_flags(words: &mut [u64], first: usize, end: usize, dirty: bool)
     }
 }
 
+// Adds the numbers of the pages of a word, the lowest bit of which is that of page `first`, where all are dirty.
+#[inline]
+fn add_all(pages: &mut Vec<usize>, first: usize) -> Result<(), AllocError>
+    requires { first + 64 ≤ 2 ^ 64 }
+    ensures { OnOk result (pages.new.items ≡ pages.old.items ++ dirty_among (2 ^ 64 - 1) first) }
+{
+    for bit in 0..64 {
+        pages.push(first + bit)?;
+    }
+    Ok(())
+}
+
 // Adds the numbers of the dirty pages of a word, whose lowest bit is that of page `first`.
 #[inline]
 fn add_pages(pages: &mut Vec<usize>, first: usize, word: u64) -> Result<(), AllocError>
@@ -208,6 +220,9 @@ fn add_pages(pages: &mut Vec<usize>, first: usize, word: u64) -> Result<(), Allo
     ensures added { OnOk result (pages.new.items ≡ pages.old.items ++ dirty_among word first) }
     ensures refused { OnErr result (dirty_among word first ≢ []) }
 {
+    if word == u64::MAX {
+        return add_all(pages, first);
+    }
     let mut left = word;
     'bits: while left != 0 {
         let bit = left.trailing_zeros();

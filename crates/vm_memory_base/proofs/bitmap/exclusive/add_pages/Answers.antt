@@ -1,9 +1,9 @@
-use Rattle.std.proofs.Common.{ℕ, List, [], ◌∷◌, ◌++◌, ◌+◌, sym, ap, refl, append-nil, append_assoc, ◌∙◌, arith, w64}
+use Rattle.std.proofs.Common.{◌≢◌, Result, Ok, Err, OnErr, ℕ, List, [], ◌∷◌, ◌++◌, ◌+◌, sym, ap, refl, append-nil, append_assoc, ◌∙◌, arith, w64}
 use Rattle.std.proofs.lemmas.Nat.Bits.{bit_at-trailing_zeros}
 use Rattle.std.proofs.lemmas.Result.{err_from_is_err_and}
 use Rattle.std.specs.Int.{trailing_zeros}
 use Rattle.vm_memory_base.specs.Flags.{dirty_among}
-use Rattle.vm_memory_base.proofs.FlagsLemmas.{lowest_bit, no_bits, not_empty, without_bit}
+use Rattle.vm_memory_base.proofs.FlagsLemmas.{lowest_bit, no_bits, not_empty, without_bit, some_of_word}
 use Rattle.vm_memory_base.proofs.bitmap.exclusive.add_pages.Goals as goal
 
 pub bits-init : goal.bits-init
@@ -41,3 +41,14 @@ returns-clause-added c =
     let all = c.bits.invariant.2 ∙ ap (λ (n : ℕ). done ++ dirty_among n c.args.first) c.bits-test.false
     ∙ ap (λ (ps : List ℕ). done ++ ps) (no_bits c.args.first) ∙ append-nil done in
     c.bits.invariant.1 ∙ ap (λ (ps : List ℕ). c.args.pages.now.items ++ ps) (sym all)
+
+pub returns-then-word-eq18446744073709551615-clause-refused :
+    goal.returns-then-word-eq18446744073709551615-clause-refused
+returns-then-word-eq18446744073709551615-clause-refused c =
+    let some : dirty_among c.args.word c.args.first ≢ [] =
+    rw c.if-word-eq18446744073709551615.true (some_of_word c.args.first) in
+    always c.add_all.result some
+  where
+    always : {T E P : Type 0} (r : Result T E) → P → OnErr r P
+    always (Ok x) h = tt
+    always (Err e) h = h
