@@ -27,8 +27,10 @@ use crate::machine::command::{Command, Reply};
 use crate::machine::run;
 use line::Line;
 use pools::{Pools, ScriptMachine};
+use setup::Setup;
 use std::alloc::Global;
 use std::io::{BufWriter, ErrorKind, Read, Write};
+use std::mem;
 use thiserror::Error;
 use words::LineError;
 
@@ -97,72 +99,85 @@ fn read_all(alloc: Global, input: &mut impl Read) -> Result<Vec<u8>, DriveFault>
 
 fn answer_lines(alloc: Global, text: &[u8], output: &mut impl Write) -> Result<(), DriveFault> {
     let mut session = Session::new(alloc)?;
-    for (index, line) in text.split(|byte| *byte == b'\n').enumerate() {
-        let number = index.saturating_add(1);
-        let line = match line::parse(alloc, line) {
-            Ok(line) => line,
-            Err(LineError::Bad) => return Err(DriveFault::BadLine(number)),
-            Err(LineError::Memory) => return Err(DriveFault::Memory),
-        };
-        session = session.answer(line, number, output)?;
+    let mut number = 0usize;
+    for line in text.split(is_line_end) {
+        number = number.saturating_add(1);
+        session.answer(alloc, line, number, output)?;
     }
     Ok(())
 }
 
-// How far a script has come, and room for one reply.
-#[derive(Drop)]
-struct Session {
-    stage: Stage,
-    replies: Vec<Reply>,
+fn is_line_end(byte: &u8) -> bool {
+    *byte == b'\n'
 }
 
+fn parsed(alloc: Global, line: &[u8], number: usize) -> Result<Line, DriveFault> {
+    match line::parse(alloc, line) {
+        Ok(line) => Ok(line),
+        Err(LineError::Bad) => Err(DriveFault::BadLine(number)),
+        Err(LineError::Memory) => Err(DriveFault::Memory),
+    }
+}
+
+// What setup lines filled, the machine that the first command makes of it, and room for one reply.
 #[derive(Drop)]
-enum Stage {
-    Setup(Pools),
-    Running(ScriptMachine),
+struct Session {
+    pools: Pools,
+    machine: Option<ScriptMachine>,
+    replies: Vec<Reply>,
 }
 
 impl Session {
     fn new(alloc: Global) -> Result<Session, DriveFault> {
         let replies = Vec::with_capacity(alloc, 1).map_err(|_| DriveFault::Memory)?;
         Ok(Session {
-            stage: Stage::Setup(Pools::new(alloc)),
+            pools: Pools::new(alloc),
+            machine: None,
             replies,
         })
     }
 
     // Runs a line of this number and writes its reply.
     fn answer(
-        self,
-        line: Line,
+        &mut self,
+        alloc: Global,
+        line: &[u8],
         number: usize,
         output: &mut impl Write,
-    ) -> Result<Session, DriveFault> {
-        let Session { stage, mut replies } = self;
-        let stage = match (line, stage) {
-            (Line::Nothing, stage) => stage,
-            (Line::Setup(setup), Stage::Setup(mut pools)) => {
-                let reply = pools.make(setup);
-                writeln!(output, "{reply}").map_err(|_| DriveFault::Write)?;
-                Stage::Setup(pools)
-            }
-            (Line::Setup(_), Stage::Running(_)) => return Err(DriveFault::BadLine(number)),
-            (Line::Command(command), stage) => {
-                let mut machine = stage.into_machine();
-                run_one(&mut machine, command, &mut replies, output)?;
-                Stage::Running(machine)
-            }
-        };
-        Ok(Session { stage, replies })
-    }
-}
-
-impl Stage {
-    fn into_machine(self) -> ScriptMachine {
-        match self {
-            Stage::Setup(pools) => pools.into_machine(),
-            Stage::Running(machine) => machine,
+    ) -> Result<(), DriveFault> {
+        match parsed(alloc, line, number)? {
+            Line::Nothing => Ok(()),
+            Line::Setup(setup) => self.set_up(setup, number, output),
+            Line::Command(command) => self.serve(alloc, command, output),
         }
+    }
+
+    fn set_up(
+        &mut self,
+        setup: Setup,
+        number: usize,
+        output: &mut impl Write,
+    ) -> Result<(), DriveFault> {
+        if self.machine.is_some() {
+            return Err(DriveFault::BadLine(number));
+        }
+        let reply = self.pools.make(setup);
+        writeln!(output, "{reply}").map_err(|_| DriveFault::Write)
+    }
+
+    fn serve(
+        &mut self,
+        alloc: Global,
+        command: Command,
+        output: &mut impl Write,
+    ) -> Result<(), DriveFault> {
+        let mut machine = match self.machine.take() {
+            Some(machine) => machine,
+            None => mem::replace(&mut self.pools, Pools::new(alloc)).into_machine(),
+        };
+        let answered = run_one(&mut machine, command, &mut self.replies, output);
+        self.machine = Some(machine);
+        answered
     }
 }
 
