@@ -69,6 +69,7 @@ impl Model for Chain {
 impl Chain {
     /// The chain of these segments. They are tested in order, each for `Range`, for `Order`, and for `TooLong` with
     /// those before it. It takes no memory, and there may be no segments.
+    #[inline(always)]
     pub fn new(segments: Vec<Segment>) -> Result<Chain, ChainFault>
         ensures { MatchResult result (λ chain. (chain ≡ segments.items) × (chain_fault segments.items ≡ None))
             (λ fault. chain_fault segments.items ≡ Some fault) }
@@ -78,6 +79,7 @@ impl Chain {
     }
 
     /// A reader of the readable segments, from their first byte on.
+    #[inline(always)]
     pub fn reader(&self) -> ChainReader<'_>
         ensures { result ≡ text (readable self.now) }
     {
@@ -89,6 +91,7 @@ impl Chain {
     }
 
     /// A writer of the writable segments, from their first byte on.
+    #[inline(always)]
     pub fn writer(&self) -> ChainWriter<'_>
         ensures { result ≡ text (writable self.now) }
     {
@@ -118,7 +121,7 @@ impl<'c> Model for ChainReader<'c> {
 
 impl<'c> ChainReader<'c> {
     /// How many bytes lie behind its place.
-    #[inline]
+    #[inline(always)]
     pub fn left(&self) -> usize
         ensures { result ≡ length self.now }
     {
@@ -129,7 +132,7 @@ impl<'c> ChainReader<'c> {
     /// makes one access a segment, up to and with the first that counts fewer bytes than it was to read, or that
     /// fails. Where the first access fails, its error is the answer, and nothing changes. Where a later one
     /// fails, the answer tells what came before. Of an empty buffer, or with nothing left, it is `Ok(0)`.
-    #[inline]
+    #[inline(always)]
     pub fn read<M: GuestMemory, B: Bitmap>(
         &mut self,
         mem: &M,
@@ -161,7 +164,7 @@ impl<'c> Model for ChainWriter<'c> {
 
 impl<'c> ChainWriter<'c> {
     /// How many bytes lie behind its place.
-    #[inline]
+    #[inline(always)]
     pub fn left(&self) -> usize
         ensures { result ≡ length self.now }
     {
@@ -173,7 +176,7 @@ impl<'c> ChainWriter<'c> {
     /// than it was to write, or that fails. Where the first access fails, its error is the answer, and nothing
     /// changes. Where a later one fails, the answer tells what came before. Of an empty buffer, or with nothing
     /// left, it is `Ok(0)`.
-    #[inline]
+    #[inline(always)]
     pub fn write<M: GuestMemory, B: Bitmap>(
         &mut self,
         mem: &M,

@@ -21,6 +21,7 @@ pub(super) struct Division {
 }
 
 // The division of segments, or why they make no chain.
+#[inline(always)]
 pub(super) fn divided(segments: &[Segment]) -> Result<Division, ChainFault>
     ensures { MatchResult result (λ d. (chain_fault segments.now ≡ None)
         × Divides segments.now d.readable d.readable_len d.writable_len)
@@ -47,6 +48,7 @@ pub(super) fn divided(segments: &[Segment]) -> Result<Division, ChainFault>
 }
 
 // How many bytes segments have with one more behind those of `total` bytes, of which one is writable or not.
+#[inline(always)]
 fn total_with(segment: &Segment, writes: bool, total: u32) -> Result<u32, ChainFault>
     ensures { MatchResult result
         (λ sum. (fault_behind writes total segment.now ≡ None) × Fits segment.now × (sum ≡ total + segment.now.len))
@@ -76,7 +78,7 @@ pub(super) struct Text<'c> {
 
 impl<'c> Text<'c> {
     // The text of these segments, which have so many bytes.
-    #[inline]
+    #[inline(always)]
     pub(super) fn new(segments: &'c [Segment], len: usize) -> Text<'c>
         requires fit { All Fits segments.now }
         requires len { len ≡ length (text segments.now) }
@@ -91,7 +93,7 @@ impl<'c> Text<'c> {
     }
 
     // The next access of at most `room` bytes: its address, and how many bytes it is to move.
-    #[inline]
+    #[inline(always)]
     fn next_access(&mut self, room: usize) -> Option<(GuestAddress, usize)>
         ensures same { entries self.new.addr self.new.rest self.new.behind.now
             ≡ entries self.old.addr self.old.rest self.old.behind.now }
@@ -113,7 +115,7 @@ impl<'c> Text<'c> {
     }
 
     // Goes so many bytes on, at most to the end of the segment.
-    #[inline]
+    #[inline(always)]
     fn pass(&mut self, count: usize)
         requires { count ≤ self.old.rest }
         ensures { entries self.new.addr self.new.rest self.new.behind.now
@@ -125,7 +127,7 @@ impl<'c> Text<'c> {
     }
 
     // Fills the beginning of the buffer, one access a segment.
-    #[inline]
+    #[inline(always)]
     pub(super) fn read<M: GuestMemory, B: Bitmap>(
         &mut self,
         mem: &M,
@@ -143,10 +145,10 @@ impl<'c> Text<'c> {
         let mut total = 0;
         while let Some((addr, most)) = self.next_access(buf.len() - total) {
             match mem.read(host, &mut buf[total..total + most], addr) {
-                Ok(count) => {
-                    self.pass(count);
-                    total += count;
-                    if count < most {
+                Ok(read) => {
+                    self.pass(read);
+                    total += read;
+                    if read < most {
                         return Ok(total);
                     }
                 }
@@ -157,7 +159,7 @@ impl<'c> Text<'c> {
     }
 
     // Writes the beginning of the buffer, one access a segment.
-    #[inline]
+    #[inline(always)]
     pub(super) fn write<M: GuestMemory, B: Bitmap>(
         &mut self,
         mem: &M,
@@ -177,10 +179,10 @@ impl<'c> Text<'c> {
         let mut total = 0;
         while let Some((addr, most)) = self.next_access(buf.len() - total) {
             match mem.write(host, &buf[total..total + most], addr) {
-                Ok(count) => {
-                    self.pass(count);
-                    total += count;
-                    if count < most {
+                Ok(written) => {
+                    self.pass(written);
+                    total += written;
+                    if written < most {
                         return Ok(total);
                     }
                 }

@@ -35,8 +35,8 @@ returns g c =
     l.invariant.within l.auto.buf l.invariant.moved.2 l.invariant.place (entries next.addr next.rest next.behind.now)
     c.in_default.ensures.next c.next_access.ensures.same
 
-pub returns-then-count-most : goal.returns-then-count-most
-returns-then-count-most g c =
+pub returns-then-read-most : goal.returns-then-read-most
+returns-then-read-most g c =
     let m = g.M.GuestMemory.memory c.args.mem.now in
     let host = c.args.host.now in
     let way = route m host.tables in
@@ -60,15 +60,15 @@ returns-then-count-most g c =
     l.self.behind.now)
     l.invariant.moved.1 l.invariant.within l.auto.buf l.invariant.moved.2 l.invariant.place a n c.read.new.buf
     asked.0 asked.1
-    same spans at_most all c.in-Ok.count (entries after.addr after.rest after.behind.now) given.0 given.1
-    c.if-count-most.true (c.pass.ensures ∙ ap (drop c.in-Ok.count) c.next_access.ensures.same)
+    same spans at_most all c.in-Ok.read (entries after.addr after.rest after.behind.now) given.0 given.1
+    c.if-read-most.true (c.pass.ensures ∙ ap (drop c.in-Ok.read) c.next_access.ensures.same)
 
 pub loop-addr-smaller : goal.loop-addr-smaller
 loop-addr-smaller g c =
     let l = c.loop-addr in
     let asked = c.in-Some.ensures.next in
     let some = runs-some c.in-Some.addr.0 c.in-Some.most _ asked.0 in
-    omega (arith, some, asked.1, l.auto.buf, c.if-count-most.false)
+    omega (arith, some, asked.1, l.auto.buf, c.if-read-most.false)
 
 pub loop-addr-preserved : goal.loop-addr-preserved
 loop-addr-preserved g c =
@@ -90,17 +90,17 @@ loop-addr-preserved g c =
     let at_most = c.accesses_reach_all_unless_stopped.ensures.at_most m.regions way a n permissions.Read in
     let all = c.accesses_reach_all_unless_stopped.ensures.all m.regions way a n permissions.Read in
     let given = rw len at c.in-Ok.ensures.answer in
-    let count : c.in-Ok.count ≤ n = rw len at c.in-Ok.ensures.at_most in
+    let count : c.in-Ok.read ≤ n = rw len at c.in-Ok.ensures.at_most in
     let after = c.pass.new.self in
     let more = read_more m host before c.args.buf.now l.buf l.total l.invariant.moved.0 (entries l.self.addr
     l.self.rest l.self.behind.now)
     l.invariant.moved.1 l.invariant.within l.auto.buf l.invariant.moved.2 l.invariant.place a n c.read.new.buf
     asked.0 asked.1
-    same spans at_most all c.in-Ok.count given.0 given.1 c.if-count-most.false in
+    same spans at_most all c.in-Ok.read given.0 given.1 c.if-read-most.false in
     record {
       within = omega (arith, count, asked.1, l.auto.buf, l.invariant.within, some);
-      place = c.pass.ensures ∙ ap (drop c.in-Ok.count) (c.next_access.ensures.same ∙ l.invariant.place)
-          ∙ drop-drop c.in-Ok.count l.total before;
+      place = c.pass.ensures ∙ ap (drop c.in-Ok.read) (c.next_access.ensures.same ∙ l.invariant.place)
+          ∙ drop-drop c.in-Ok.read l.total before;
       moved = (l.invariant.moved.0 ++ (reached_by m host.tables a n permissions.Read).path, more.0, more.1);
     }
 

@@ -45,8 +45,8 @@ returns-clause-wrote g c =
     (entries l.self.addr l.self.rest l.self.behind.now) i.moved.2 i.moved.3 i.moved.4 i.within i.place
     (entries next.addr next.rest next.behind.now) c.in_default.ensures.next c.next_access.ensures.same
 
-pub returns-then-count-most-clause-wrote : goal.returns-then-count-most-clause-wrote
-returns-then-count-most-clause-wrote g c =
+pub returns-then-written-most-clause-wrote : goal.returns-then-written-most-clause-wrote
+returns-then-written-most-clause-wrote g c =
     let m = g.M.GuestMemory.memory c.args.mem.now in
     let old = c.args.host.now in
     let way = route m old.tables in
@@ -70,7 +70,7 @@ returns-then-count-most-clause-wrote g c =
     let at_most = c.accesses_reach_all_unless_stopped.ensures.at_most m.regions way a n permissions.Write in
     let all = c.accesses_reach_all_unless_stopped.ensures.all m.regions way a n permissions.Write in
     let i = l.invariant in
-    let given = subst (λ ts. (Ok c.in-Ok.count ≡ ended (span (windows (reached_by m ts a n permissions.Write).path))
+    let given = subst (λ ts. (Ok c.in-Ok.written ≡ ended (span (windows (reached_by m ts a n permissions.Write).path))
     (option_map error_of (reached_by m ts a n permissions.Write).fault))
     × Writes g.B.Bitmap.marks (windows (reached_by m ts a n permissions.Write).path)
     (take (l.total + n - l.total) (drop l.total c.args.buf.now)) l.host c.write.new.host) i.tables
@@ -78,16 +78,16 @@ returns-then-count-most-clause-wrote g c =
     let after = c.pass.new.self in
     write_short g.B.Bitmap.marks m old l.host before c.args.buf.now l.total i.moved.0 i.moved.1
     (entries l.self.addr l.self.rest l.self.behind.now) i.moved.2 i.moved.3 i.moved.4 i.within i.place
-    c.writes_keep_shapes.ensures.joined a n c.write.new.host asked.0 asked.1 these at_most all c.in-Ok.count
-    (entries after.addr after.rest after.behind.now) given.0 given.1 c.if-count-most.true
-    (c.pass.ensures ∙ ap (drop c.in-Ok.count) c.next_access.ensures.same)
+    c.writes_keep_shapes.ensures.joined a n c.write.new.host asked.0 asked.1 these at_most all c.in-Ok.written
+    (entries after.addr after.rest after.behind.now) given.0 given.1 c.if-written-most.true
+    (c.pass.ensures ∙ ap (drop c.in-Ok.written) c.next_access.ensures.same)
 
 pub loop-addr-smaller : goal.loop-addr-smaller
 loop-addr-smaller g c =
     let l = c.loop-addr in
     let asked = c.in-Some.ensures.next in
     let some = runs-some c.in-Some.addr.0 c.in-Some.most _ asked.0 in
-    omega (arith, some, asked.1, c.if-count-most.false)
+    omega (arith, some, asked.1, c.if-written-most.false)
 
 pub loop-addr-preserved : goal.loop-addr-preserved
 loop-addr-preserved g c =
@@ -114,21 +114,21 @@ loop-addr-preserved g c =
     let at_most = c.accesses_reach_all_unless_stopped.ensures.at_most m.regions way a n permissions.Write in
     let all = c.accesses_reach_all_unless_stopped.ensures.all m.regions way a n permissions.Write in
     let i = l.invariant in
-    let given = subst (λ ts. (Ok c.in-Ok.count ≡ ended (span (windows (reached_by m ts a n permissions.Write).path))
+    let given = subst (λ ts. (Ok c.in-Ok.written ≡ ended (span (windows (reached_by m ts a n permissions.Write).path))
     (option_map error_of (reached_by m ts a n permissions.Write).fault))
     × Writes g.B.Bitmap.marks (windows (reached_by m ts a n permissions.Write).path)
     (take (l.total + n - l.total) (drop l.total c.args.buf.now)) l.host c.write.new.host) i.tables
     (rw len at c.in-Ok.ensures.answer) in
-    let count : c.in-Ok.count ≤ n = rw len at c.in-Ok.ensures.at_most in
+    let count : c.in-Ok.written ≤ n = rw len at c.in-Ok.ensures.at_most in
     let after = c.pass.new.self in
     let more = write_more g.B.Bitmap.marks m old l.host before c.args.buf.now l.total i.moved.0 i.moved.1
     (entries l.self.addr l.self.rest l.self.behind.now) i.moved.2 i.moved.3 i.moved.4 i.within i.place
-    c.writes_keep_shapes.ensures.joined a n c.write.new.host asked.0 asked.1 these at_most all c.in-Ok.count
-    given.0 given.1 c.if-count-most.false in
+    c.writes_keep_shapes.ensures.joined a n c.write.new.host asked.0 asked.1 these at_most all c.in-Ok.written
+    given.0 given.1 c.if-written-most.false in
     record {
       within = omega (arith, count, asked.1, i.within, some);
-      place = c.pass.ensures ∙ ap (drop c.in-Ok.count) (c.next_access.ensures.same ∙ i.place)
-          ∙ drop-drop c.in-Ok.count l.total before;
+      place = c.pass.ensures ∙ ap (drop c.in-Ok.written) (c.next_access.ensures.same ∙ i.place)
+          ∙ drop-drop c.in-Ok.written l.total before;
       shape = c.write.ensures.shape ∙ i.shape;
       tables = c.writes_keep_shapes.ensures.tables (windows (reached_by m old.tables a n permissions.Write).path)
           (take (l.total + n - l.total) (drop l.total c.args.buf.now)) l.host c.write.new.host given.1 ∙ i.tables;
