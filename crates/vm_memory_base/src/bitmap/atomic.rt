@@ -137,8 +137,13 @@ impl AtomicBitmap {
     /// Makes the pages of `len` bytes from `start` on dirty, one after another. Pages past the last are no pages.
     pub fn set_addr_range(&self, start: usize, len: usize) {
         let (first, end) = self.taken(start, len);
+        let map = self.map.as_slice();
+        let mut left = None;
         for page in first..end {
-            self.map[page / 64].fetch_or(1 << (page % 64), Ordering::SeqCst);
+            left = Some(set_in(&map[page / 64], 1 << (page % 64), left));
+            if page % 64 == 63 {
+                left = None;
+            }
         }
     }
 
@@ -203,6 +208,20 @@ impl AtomicBitmap {
             word.store(0, Ordering::SeqCst);
         }
     }
+}
+
+// Sets a bit of a word in one step, and gives what the word is then. A `fetch_or` looks at the word before its step,
+// and such a look waits for the step before. So where it is known what that step left, this is tried first.
+#[inline]
+fn set_in(word: &AtomicU64, bit: u64, left: Option<u64>) -> u64 {
+    if let Some(left) = left
+        && word
+            .compare_exchange(left, left | bit, Ordering::SeqCst, Ordering::SeqCst)
+            .is_ok()
+    {
+        return left | bit;
+    }
+    word.fetch_or(bit, Ordering::SeqCst) | bit
 }
 
 /// Tracks as many bytes in pages of the same size, of which those are dirty that were found dirty.
