@@ -1,7 +1,7 @@
 -- Runs by where they start, and what becomes of them where they are stored.
 use Rattle.std.proofs.Common.{◌≡◌, ℕ, ◌+◌, ◌-◌, ◌<◌, ◌≤◌, min, max, Bool, true, false, ltb, leb, eqb, List, [], ◌∷◌, ◌++◌, length, Option, Some, None, IfSome, IfNone, refl, sym, ap, subst, inl, inr, ◌∙◌, arith, nat_cmp}
 use Rattle.std.proofs.lemmas.Bool.{lt-ltb, le-ltb, cases_lt, eqb-true, eq-eqb, cases_Bool}
-use Rattle.std.proofs.lemmas.List.{append-nil, append_assoc, length-append}
+use Rattle.std.proofs.lemmas.List.{append_cancel_right, append-nil, append_assoc, length-append}
 use Rattle.std.proofs.lemmas.List.Elements.{filter-append}
 use Rattle.std.specs.BTreeMap.{insert_entry, is_at}
 use Rattle.std.specs.BTreeMap.Range.{entries_between}
@@ -481,16 +481,21 @@ module _ {K : Type 0} (same : K → K → Bool) (limit : ℕ) (rs : List (Addres
       sym (ap (cut_to 0 limit) whole
       ∙ cut_to-append 0 limit (runs_below r.start rs) (r ∷ runs_from limit rs) ∙ rw (p, last))
 
-pub front_apart : {K : Type 0} (same : K → K → Bool) (limit : ℕ) (rs : List (AddressRun K)) → IsCanonical same rs
-    → EndBelow limit (runs_below limit rs) → runs_below limit rs ++ [] ≡ cut_to 0 limit rs
-front_apart same limit rs h e =
+pub front_upto : {K : Type 0} (same : K → K → Bool) (limit : ℕ) (rs : List (AddressRun K)) → IsCanonical same rs
+    → EndBelow (limit + 1) (runs_below limit rs) → runs_below limit rs ++ [] ≡ cut_to 0 limit rs
+front_upto same limit rs h e =
     let split = sym (ascending_split limit rs (ascending_canonical same rs h)) in
     let t = cut_to-behind 0 limit (runs_from limit rs)
     (StartFrom-weaker (0 + limit) limit (runs_from limit rs) (omega arith) (from_starts limit rs)) in
     let p = cut_to-inside same 0 limit (runs_below limit rs)
     (canonical_prefix same (runs_below limit rs) (runs_from limit rs) (subst (IsCanonical same) split h))
-    (StartFrom-zero (runs_below limit rs)) (EndBelow-weaker limit (0 + limit + 1) (runs_below limit rs) (omega arith) e) in
+    (StartFrom-zero (runs_below limit rs)) (EndBelow-weaker (limit + 1) (0 + limit + 1) (runs_below limit rs) (omega arith) e) in
     sym (ap (cut_to 0 limit) split ∙ cut_to-append 0 limit (runs_below limit rs) (runs_from limit rs) ∙ rw (p, t))
+
+pub front_apart : {K : Type 0} (same : K → K → Bool) (limit : ℕ) (rs : List (AddressRun K)) → IsCanonical same rs
+    → EndBelow limit (runs_below limit rs) → runs_below limit rs ++ [] ≡ cut_to 0 limit rs
+front_apart same limit rs h e =
+    front_upto same limit rs h (EndBelow-weaker limit (limit + 1) (runs_below limit rs) (omega arith) e)
 
 inside_behind : {K : Type 0} (same : K → K → Bool) (at n : ℕ) (rs : List (AddressRun K)) → IsCanonical same rs
     → EndBelow (at + n + 1) rs → cut_to at n (runs_from (at + 1) rs) ≡ runs_from (at + 1) rs
@@ -834,22 +839,36 @@ pub none_stay : (low high : ℕ) (rs : List (AddressRun Mapping)) → low ≤ hi
     → runs_below low rs ≡ []
 none_stay low high rs l none = sym (below_below low high rs l) ∙ ap (runs_below low) none
 
--- where no run starts between two addresses
-pub clear_from : (first mid high : ℕ) (rs : List (AddressRun Mapping)) → AreAscending rs → first ≤ mid → mid ≤ high
-    → runs_below high rs ≡ runs_below first rs → runs_from mid rs ≡ runs_from high rs
-clear_from first mid high rs h l m is =
-    let s : StartsBelow mid (runs_below high rs) =
-    subst (StartsBelow mid) (sym is) (StartsBelow-weaker first mid (runs_below first rs) l (below_starts first rs)) in
+-- the runs from an address on, where another was put behind it
+pub clear_kept : (first last : ℕ) (r : AddressRun Mapping) (rs put : List (AddressRun Mapping)) → AreAscending rs → r.start ≡ last
+    → first < last → put ≡ runs_below r.start rs ++ r ∷ runs_from (r.start + 1) rs
+    → runs_from (first + 1) rs ≡ runs_from last rs → runs_from (first + 1) put ≡ runs_from last put
+clear_kept first last r rs put h s l is same =
+    let k = r.start in
+    let starts = from_starts (k + 1) rs in
+    let t : StartFrom k (r ∷ runs_from (k + 1) rs) =
+    (omega arith, StartFrom-weaker k (k + 1) (runs_from (k + 1) rs) (omega arith) starts) in
+    let none : runs_from (first + 1) (runs_below k rs) ≡ [] =
+    append_cancel_right (runs_from (first + 1) (runs_below k rs)) [] (runs_from k rs)
+    (sym (ap (λ (ys : List (AddressRun Mapping)). runs_from (first + 1) (runs_below k rs) ++ ys)
+    (from-all (first + 1) (runs_from k rs) (StartFrom-weaker (first + 1) k (runs_from k rs) (omega arith) (from_starts k rs))))
+    ∙ sym (filter-append (λ r. leb (first + 1) r.start) (runs_below k rs) (runs_from k rs))
+    ∙ ap (runs_from (first + 1)) (ascending_split k rs h) ∙ rw s same) in
+    let a : runs_from (first + 1) put ≡ r ∷ runs_from (k + 1) rs =
+    ap (runs_from (first + 1)) is
+    ∙ filter-append (λ r. leb (first + 1) r.start) (runs_below k rs) (r ∷ runs_from (k + 1) rs)
+    ∙ rw (none, from-all (first + 1) (r ∷ runs_from (k + 1) rs) (StartFrom-weaker (first + 1) k (r ∷ runs_from (k + 1) rs) (omega arith) t)) refl in
+    let b : runs_from k put ≡ r ∷ runs_from (k + 1) rs =
+    ap (runs_from k) is ∙ from_of k (runs_below k rs) (r ∷ runs_from (k + 1) rs) (below_starts k rs) t in
+    a ∙ sym (subst (λ (n : ℕ). runs_from n put ≡ r ∷ runs_from (k + 1) rs) s b)
+
+-- where no run below an address starts behind another
+pub none_from : (mid high : ℕ) (rs : List (AddressRun Mapping)) → AreAscending rs → mid ≤ high
+    → StartsBelow mid (runs_below high rs) → runs_from mid rs ≡ runs_from high rs
+none_from mid high rs h m s =
     ap (runs_from mid) (sym (ascending_split high rs h))
     ∙ from_of mid (runs_below high rs) (runs_from high rs) s
     (StartFrom-weaker mid high (runs_from high rs) m (from_starts high rs))
-
-pub clear_lower : (first last : ℕ) (rs : List (AddressRun Mapping)) → first ≤ last
-    → runs_below (last + 1) rs ≡ runs_below first rs → runs_below last rs ≡ runs_below first rs
-clear_lower first last rs l is =
-    sym (below_below last (last + 1) rs (omega arith)) ∙ ap (runs_below last) is
-    ∙ below-all last (runs_below first rs)
-    (StartsBelow-weaker first last (runs_below first rs) l (below_starts first rs))
 
 pub put_clear : (first high : ℕ) (r : AddressRun Mapping) (rs put : List (AddressRun Mapping)) → r.start ≡ first
     → put ≡ runs_below r.start rs ++ r ∷ runs_from (r.start + 1) rs → runs_from (first + 1) rs ≡ runs_from high rs

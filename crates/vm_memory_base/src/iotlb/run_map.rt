@@ -119,7 +119,7 @@ impl RunMap {
     }
 
     // Puts a run, or none, in the place of those that start from one address up to another, that one included. It is
-    // told where there are none. Refused, nothing changes.
+    // told where none starts behind the first address. Refused, nothing changes.
     fn put_alone(
         &mut self,
         first: u64,
@@ -129,7 +129,7 @@ impl RunMap {
     ) -> Result<(), AllocError>
         requires ascending { AreAscending self.old }
         requires order { first ≤ last }
-        requires clear { clear ≡ true → runs_below (last + 1) self.old ≡ runs_below first self.old }
+        requires clear { clear ≡ true → runs_from (first + 1) self.old ≡ runs_from (last + 1) self.old }
         requires starts { IfSome run (λ r. r.start ≡ first) }
         ensures ok { OnOk result (self.new
             ≡ runs_below first self.old ++ (if_any run ++ runs_from (last + 1) self.old)) }
@@ -145,6 +145,7 @@ impl RunMap {
             }
             None => {
                 if clear {
+                    self.remove(first);
                     return Ok(());
                 }
                 self.remove_between(first, last);
@@ -171,12 +172,15 @@ impl RunMap {
         requires stored { stored ≡ true → IfSome behind (λ r. runs_from last self.old
             ≡ r ∷ runs_from (last + 1) self.old) }
         requires absent { stored ≡ false → runs_from last self.old ≡ runs_from (last + 1) self.old }
-        requires clear { clear ≡ true → runs_below (last + 1) self.old ≡ runs_below first self.old }
+        requires clear { clear ≡ true → runs_from (first + 1) self.old ≡ runs_from last self.old }
         ensures ok { OnOk result (self.new ≡ runs_below first self.old
             ++ (if_any run ++ (if_any behind ++ runs_from (last + 1) self.old))) }
         ensures err { OnErr result (self.new ≡ self.old) }
     {
         let Some(next) = behind else {
+            if stored {
+                return self.put_alone(first, run, last, false);
+            }
             return self.put_alone(first, run, last, clear);
         };
         if stored {
@@ -213,7 +217,7 @@ impl RunMap {
         requires stored { stored ≡ true → IfSome behind (λ r. runs_from last self.old
             ≡ r ∷ runs_from (last + 1) self.old) }
         requires absent { stored ≡ false → runs_from last self.old ≡ runs_from (last + 1) self.old }
-        requires clear { clear ≡ true → runs_below (last + 1) self.old ≡ runs_below first self.old }
+        requires clear { clear ≡ true → runs_from (first + 1) self.old ≡ runs_from last self.old }
         ensures ok { OnOk result (self.new ≡ runs_below (start_or left first) self.old
             ++ (if_any left ++ (if_any run ++ (if_any behind ++ runs_from (last + 1) self.old)))) }
         ensures err { OnErr result (self.new ≡ self.old) }
@@ -250,17 +254,17 @@ impl RunMap {
         self.last_upto(at - 1)
     }
 
-    // Whether no run starts from an address up to another, where the last up to that is known.
+    // Whether no run starts behind an address up to another, where the last up to that is known.
     #[inline]
     fn is_clear(&self, last: &Option<MappedRun>, at: u64, end: u64) -> bool
         requires ascending { AreAscending self.now }
         requires order { at ≤ end }
         requires none { IfNone last.now (runs_below (end + 1) self.now ≡ []) }
         requires some { IfSome last.now (λ r. runs_below (end + 1) self.now ≡ runs_below r.start self.now ++ r ∷ []) }
-        ensures { result ≡ true → runs_below (end + 1) self.now ≡ runs_below at self.now }
+        ensures { result ≡ true → runs_from (at + 1) self.now ≡ runs_from (end + 1) self.now }
     {
         match *last {
-            Some(run) => run.start() < at,
+            Some(run) => run.start() <= at,
             None => true,
         }
     }
@@ -287,6 +291,26 @@ impl RunMap {
             return (None, false);
         }
         (Some(run.before(at)), run.end() == at)
+    }
+
+    // The same, but where a run starts at the address: then none reaches over it.
+    fn front_over(&self, last: &Option<MappedRun>, at: u64, end: u64) -> (Option<MappedRun>, bool)
+        requires canonical { IsCanonical same_mapping self.now }
+        requires order { at ≤ end }
+        requires none { IfNone last.now (runs_below (end + 1) self.now ≡ []) }
+        requires some { IfSome last.now (λ r. runs_below (end + 1) self.now ≡ runs_below r.start self.now ++ r ∷ []) }
+        ensures parts { runs_below (start_or result.0 at) self.now ++ if_any result.0 ≡ cut_to 0 at self.now }
+        ensures there { IfSome result.0 (λ l. (d : AddressRun Mapping) × (d.start ≡ l.start)
+            × (runs_below at self.now ≡ runs_below l.start self.now ++ d ∷ [])) }
+        ensures whole { result.1 ≡ true
+            → IfSome result.0 (λ l. runs_below at self.now ≡ runs_below l.start self.now ++ l ∷ []) }
+    {
+        if let Some(run) = *last {
+            if run.start() == at {
+                return (None, false);
+            }
+        }
+        self.front(last, at, end)
     }
 
     // The run that starts at an address or before it and reaches over it, from there on, and whether it starts
@@ -324,11 +348,12 @@ impl RunMap {
         let start = run.start();
         let end = run.end();
         let last = self.last_upto(end);
-        let (left, whole) = self.front(&last, start, end);
+        let before = self.last_below(&last, end, end);
+        let (left, whole) = self.front(&before, start, end - 1);
         let (right, stored) = self.back(&last, end);
         let (joined, behind) = run.joined(right);
         let (begun, next) = joined_to(left, joined);
-        let clear = self.is_clear(&last, start, end);
+        let clear = self.is_clear(&before, start, end - 1);
         let stays = whole && next.is_some();
         self.replace(begun, start, next, behind, end, stored, clear, stays)
     }
@@ -343,9 +368,10 @@ impl RunMap {
         ensures err { OnErr result (self.new ≡ self.old) }
     {
         let last = self.last_upto(end);
-        let (left, whole) = self.front(&last, start, end);
+        let before = self.last_below(&last, end, end);
+        let (left, whole) = self.front_over(&before, start, end - 1);
         let (right, stored) = self.back(&last, end);
-        let clear = self.is_clear(&last, start, end);
+        let clear = self.is_clear(&before, start, end - 1);
         self.replace(left, start, None, right, end, stored, clear, whole)
     }
 

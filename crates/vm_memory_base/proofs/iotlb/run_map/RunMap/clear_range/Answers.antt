@@ -13,7 +13,7 @@ module _ (c : After-back-right) where
   rs = c.args.self.now
 
   abbrev left : Option (AddressRun Mapping)
-  left = c.front-left.result.0
+  left = c.front_over-left.result.0
 
   abbrev right : Option (AddressRun Mapping)
   right = c.back-right.result.0
@@ -31,13 +31,13 @@ module _ (c : After-back-right) where
       ≡ cut_to (c.args.start + (c.args.end - c.args.start)) (2 ^ 64 - (c.args.start + (c.args.end - c.args.start))) rs =
       rw to c.back-right.ensures.parts in
       range_is_clear rs (runs_below (start_or left c.args.start) rs) (runs_from (c.args.end + 1) rs) c.args.start
-      (c.args.end - c.args.start) left right c.requires.kept some (omega arith) c.front-left.ensures.parts behind new e
+      (c.args.end - c.args.start) left right c.requires.kept some (omega arith) c.front_over-left.ensures.parts behind new e
 
   grown : (new : List (AddressRun Mapping)) → IsPut new → length new ≤ length rs + 1
   grown new e =
       let a = length_four (runs_below (start_or left c.args.start) rs) (if_any left) [] (if_any right)
       (runs_from (c.args.end + 1) rs) new e in
-      let b = front_length left c.args.start rs c.front-left.ensures.there in
+      let b = front_length left c.args.start rs c.front_over-left.ensures.there in
       let d = if_any_one right in
       let f = parts_length c.args.start (c.args.end + 1) rs (omega arith) in
       omega arith

@@ -1,15 +1,14 @@
-use Rattle.std.proofs.Common.{◌≡◌, ◌+◌, ◌++◌, List, sym, ap, ◌∙◌, arith}
-use Rattle.vm_memory_base.specs.Change.{runs_from}
+use Rattle.std.proofs.Common.{◌≡◌, ◌+◌, ◌++◌, List, ap, ◌∙◌, arith}
+use Rattle.vm_memory_base.specs.Change.{runs_below}
 use Rattle.vm_memory_base.specs.Runs.{AddressRun}
 use Rattle.vm_memory_base.specs.Table.{Mapping}
-use Rattle.vm_memory_base.proofs.StoredLemmas.{put_one, put_clear, clear_from, ascending_split}
+use Rattle.vm_memory_base.proofs.StoredLemmas.{put_one, put_clear}
 use Rattle.vm_memory_base.proofs.iotlb.run_map.RunMap.put_alone.Goals as goal
 
 pub returns-then-clear-clause-ok : goal.returns-then-clear-clause-ok
 returns-then-clear-clause-ok c =
     let starts : c.in-Some.run'.start ≡ c.args.first = rw c.in-Some.is at c.requires.starts in
-    let next = clear_from c.args.first (c.args.first + 1) (c.args.last + 1) c.args.self.now c.requires.ascending
-    (omega arith) (omega arith) (c.requires.clear c.if-clear.true) in
+    let next = c.requires.clear c.if-clear.true in
     let put = put_clear c.args.first (c.args.last + 1) c.in-Some.run' c.args.self.now c.insert.new.self starts
     c.in_ok-insert-in-Some.ensures.ok next in
     rw c.in-Some.is put
@@ -17,9 +16,8 @@ returns-then-clear-clause-ok c =
 pub returns-then-clear-2-clause-ok : goal.returns-then-clear-2-clause-ok
 returns-then-clear-2-clause-ok c =
     let rs = c.args.self.now in
-    let all = sym (ascending_split (c.args.last + 1) rs c.requires.ascending)
-    ∙ ap (λ (ys : List (AddressRun Mapping)). ys ++ runs_from (c.args.last + 1) rs)
-    (c.requires.clear c.if-clear-2.true) in
+    let all = c.remove.ensures
+    ∙ ap (λ (ys : List (AddressRun Mapping)). runs_below c.args.first rs ++ ys) (c.requires.clear c.if-clear-2.true) in
     rw c.in-None.is all
 
 pub returns-else-clear-clause-ok : goal.returns-else-clear-clause-ok
