@@ -27,10 +27,10 @@ fn below(rng: &mut Xoshiro256PlusPlus, limit: u64) -> usize
     (rng.next_u64() % limit) as usize
 }
 
-// Up to 200,000 pages, in lots of up to 100.
+// Up to 50,000 pages, in lots of fewer than 100.
 fn random_marks(rng: &mut Xoshiro256PlusPlus) -> Marks {
     Marks {
-        pages: below(rng, 200_001),
+        pages: below(rng, 50_001),
         lot: NonZeroUsize::new(below(rng, 100)).unwrap_or(NonZeroUsize::MIN),
     }
 }

@@ -32,9 +32,22 @@ pub struct Marks {
     pub lot: NonZeroUsize,
 }
 
-// Bitmaps, and lots of them. The first is large, so that the threads run at once for a while.
+// Bitmaps, and lots of them. One round meets few of the moments in which a page can be lost, so there are many.
 #[cfg(test)]
-const MARKS: [(usize, usize); 3] = [(100_000, 1), (100_003, 3), (5000, 70)];
+const MARKS: [(usize, usize); 3] = [(100_000, 1), (20_003, 3), (5000, 70)];
+
+#[cfg(test)]
+const ROUNDS: usize = 30;
+
+// The bitmap of a round.
+#[cfg(test)]
+fn marks_of(round: usize) -> Marks {
+    let (pages, lot) = MARKS[round % MARKS.len()];
+    Marks {
+        pages,
+        lot: NonZeroUsize::new(lot).unwrap_or(NonZeroUsize::MIN),
+    }
+}
 
 impl Marks {
     // The number of the thread that changes a page. It is 4 where none does.
@@ -348,21 +361,10 @@ pub fn expect_tracked<R: Sync + Threads>(rt: &R, alloc: Global, marks: &Marks) -
     expect_joined(rt, alloc, bitmap, harvester, markers, marks)
 }
 
-// A row of `MARKS`.
-#[cfg(test)]
-fn marks_of(number: usize) -> Option<Marks> {
-    let (pages, lot) = *MARKS.get(number)?;
-    Some(Marks {
-        pages,
-        lot: NonZeroUsize::new(lot)?,
-    })
-}
-
 #[test]
 fn markers_and_a_harvester_lose_no_page(rt: HostRuntime) -> Result<(), Fail> {
-    for number in 0..MARKS.len() {
-        let marks = marks_of(number).ok_or("a lot has pages")?;
-        expect_tracked(&rt, rt.alloc(), &marks)?;
+    for round in 0..ROUNDS {
+        expect_tracked(&rt, rt.alloc(), &marks_of(round))?;
     }
     Ok(())
 }
@@ -494,10 +496,9 @@ pub fn expect_cleared<R: Sync + Threads>(rt: &R, alloc: Global, marks: &Marks) -
 
 #[test]
 fn words_lose_no_page(rt: HostRuntime) -> Result<(), Fail> {
-    for number in 0..MARKS.len() {
-        let marks = marks_of(number).ok_or("a lot has pages")?;
-        expect_atomic(&rt, rt.alloc(), &marks)?;
-        expect_cleared(&rt, rt.alloc(), &marks)?;
+    for round in 0..ROUNDS {
+        expect_atomic(&rt, rt.alloc(), &marks_of(round))?;
+        expect_cleared(&rt, rt.alloc(), &marks_of(round))?;
     }
     Ok(())
 }
@@ -661,13 +662,13 @@ fn threads_add_regions_in_turn(rt: HostRuntime) -> Result<(), Fail> {
 // How many commands a thread calls.
 const CALLS: u8 = 250;
 
-// Writes two bytes, or reads what all threads wrote.
+// Writes two bytes, or reads what all threads wrote. No two threads have a command in common.
 fn command_of(alloc: Global, caller: u8, number: u8) -> Result<Command, AllocError> {
     if number % 2 == 0 {
         let addr = u64::from(number) * 7 % 0x1d + u64::from(caller);
         write_of(alloc, 0, addr, &[caller, number])
     } else {
-        Ok(read_of(0, 0, 0x20))
+        Ok(read_of(0, u64::from(caller), 0x1d))
     }
 }
 
@@ -705,16 +706,22 @@ fn answers_of_two<R: Sync + Threads + Wait>(
     )
 }
 
-// Fails where the entries of the answers do not follow one another, or have other replies.
+// Fails where the entries of the answers do not follow one another, or have other commands or replies.
 fn expect_answered(
     alloc: Global,
     journal: &TestJournal,
+    caller: u8,
     answers: &[(usize, Reply)],
 ) -> Result<(), Fail> {
     let mut next = 0usize;
-    for (number, reply) in answers {
-        let told = format!(in alloc; "{reply:?}")?;
-        let wanted = format!(in alloc; "{:?}", journal.reply(*number).ok_or("an entry")?)?;
+    for (place, (number, reply)) in answers.iter().enumerate() {
+        let command = command_of(alloc, caller, (place % 256) as u8)?;
+        let told = format!(in alloc; "{command:?} {reply:?}")?;
+        let entry = (journal.command(*number), journal.reply(*number));
+        let (Some(command), Some(reply)) = entry else {
+            return Err(Fail::new(format_args!("there is no entry {number}")));
+        };
+        let wanted = format!(in alloc; "{command:?} {reply:?}")?;
         expect_text(*number, told.as_str(), wanted.as_str())?;
         if *number < next {
             return Err(Fail::new(format_args!("entry {number} is before {next}")));
@@ -761,8 +768,10 @@ pub fn expect_calls<R: Sync + Threads + Wait>(rt: &R, alloc: Global) -> Result<(
         || answers_of_two(rt, alloc, &machine, 2, &gate),
     );
     let journal = machine.into_journal();
+    let mut caller = 0u8;
     for answers in [a, b, c, d] {
-        expect_answered(alloc, &journal, answers?.as_slice())?;
+        expect_answered(alloc, &journal, caller, answers?.as_slice())?;
+        caller = caller.wrapping_add(1);
     }
     if journal.len() != 4 * usize::from(CALLS) {
         return Err(Fail::new(format_args!("{} entries", journal.len())));
