@@ -34,10 +34,10 @@ pub struct Marks {
 
 // Bitmaps, and lots of them. One round meets few of the moments in which a page can be lost, so there are many.
 #[cfg(test)]
-const MARKS: [(usize, usize); 3] = [(100_000, 1), (20_003, 3), (5000, 70)];
+const MARKS: [(usize, usize); 3] = [(30_000, 1), (10_001, 3), (5000, 70)];
 
 #[cfg(test)]
-const ROUNDS: usize = 30;
+const ROUNDS: usize = 20;
 
 // The bitmap of a round.
 #[cfg(test)]
@@ -464,16 +464,29 @@ fn harvest_atomic(alloc: Global, bitmap: &AtomicBitmap, mut tally: Tally, gate: 
     tally
 }
 
-/// Fails where an `AtomicBitmap`, marked by four threads while one harvests, loses or invents a page.
-pub fn expect_atomic<R: Sync + Threads>(rt: &R, alloc: Global, marks: &Marks) -> Result<(), Fail> {
-    let bitmap = &AtomicBitmap::new(alloc, marks.pages, NonZeroUsize::MIN)?;
-    let tally = Tally::new(alloc, marks.pages.div_ceil(64))?;
-    let gate = &Gate::new();
-    let (_, mut tally) = thread::join(
+// What one thread harvests while four mark.
+fn harvested_beside_marks<R: Sync + Threads>(
+    rt: &R,
+    alloc: Global,
+    bitmap: &AtomicBitmap,
+    marks: &Marks,
+    tally: Tally,
+    gate: &Gate,
+) -> Tally {
+    let (_, tally) = thread::join(
         rt,
         || change_all(rt, bitmap, true, marks, gate),
         || harvest_atomic(alloc, bitmap, tally, gate),
     );
+    tally
+}
+
+/// Fails where an `AtomicBitmap`, marked by four threads while one harvests, loses or invents a page.
+pub fn expect_atomic<R: Sync + Threads>(rt: &R, alloc: Global, marks: &Marks) -> Result<(), Fail> {
+    let bitmap = AtomicBitmap::new(alloc, marks.pages, NonZeroUsize::MIN)?;
+    let tally = Tally::new(alloc, marks.pages.div_ceil(64))?;
+    let gate = Gate::new();
+    let mut tally = harvested_beside_marks(rt, alloc, &bitmap, marks, tally, &gate);
     tally.add_atomic(bitmap.get_and_reset(alloc)?.as_slice());
     tally.expect(64, marks, 0)
 }
