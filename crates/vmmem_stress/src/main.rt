@@ -10,11 +10,15 @@ use rand_core::{Rng, SeedableRng};
 use rand_xoshiro::Xoshiro256PlusPlus;
 use std::alloc::Global;
 use std::env;
+use std::num::NonZeroUsize;
 use std::sync::Wait;
 use std::test::Fail;
 use std::thread::Threads;
 use std::time::{Clock, Instant};
-use vmmem_vectors::threads::{Marks, expect_atomic, expect_calls, expect_layouts, expect_tracked};
+use vmmem_vectors::threads::{
+    Marks, expect_added, expect_atomic, expect_calls, expect_cleared, expect_layouts,
+    expect_tracked,
+};
 
 // A number below another.
 fn below(rng: &mut Xoshiro256PlusPlus, limit: u64) -> usize
@@ -23,22 +27,11 @@ fn below(rng: &mut Xoshiro256PlusPlus, limit: u64) -> usize
     (rng.next_u64() % limit) as usize
 }
 
-fn random_span(rng: &mut Xoshiro256PlusPlus) -> (usize, usize) {
-    (below(rng, 5000), below(rng, 2000))
-}
-
-// Up to 5000 pages, and four ranges that may go past the last.
+// Up to 50,000 pages, in lots of fewer than 100.
 fn random_marks(rng: &mut Xoshiro256PlusPlus) -> Marks {
     Marks {
-        pages: below(rng, 5001),
-        spans: [
-            random_span(rng),
-            random_span(rng),
-            random_span(rng),
-            random_span(rng),
-        ],
-        // Each range is marked at least once.
-        times: below(rng, 50).saturating_add(1),
+        pages: below(rng, 50_001),
+        lot: NonZeroUsize::new(below(rng, 100)).unwrap_or(NonZeroUsize::MIN),
     }
 }
 
@@ -46,7 +39,9 @@ fn random_marks(rng: &mut Xoshiro256PlusPlus) -> Marks {
 fn round<R: Sync + Threads + Wait>(rt: &R, alloc: Global, marks: &Marks) -> Result<(), Fail> {
     expect_tracked(rt, alloc, marks)?;
     expect_atomic(rt, alloc, marks)?;
+    expect_cleared(rt, alloc, marks)?;
     expect_layouts(rt, alloc)?;
+    expect_added(rt, alloc)?;
     expect_calls(rt, alloc)
 }
 

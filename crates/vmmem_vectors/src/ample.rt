@@ -3,10 +3,12 @@
 use crate::fixtures::machine_of;
 use crate::support::{Place, expect_text};
 use std::alloc::{AllocError, Global};
+use std::num::NonZeroUsize;
 use std::test::Fail;
 use vm_memory::{
-    Bytes, Command, DriveFault, GuestAddress, GuestMemoryBackend, GuestMemoryMmap, HostMemory,
-    Reply, drive, run,
+    Bitmap, BlockId, ByteValued, Bytes, Command, DriveFault, ExclusiveBitmap, GuestAddress,
+    GuestMemoryBackend, GuestMemoryMmap, GuestRegionMmap, HostMemory, Machine, Reply, TableIommu,
+    drive, run,
 };
 
 // How many bytes transfers move.
@@ -109,19 +111,49 @@ fn scripts_have_room_for_many(rt: HostRuntime) -> Result<(), Fail> {
     expect_answers(rt.alloc(), 3, &MANY_MAPPINGS)
 }
 
-// A read and a send of more than two mebibytes, of which the read goes through an IOMMU.
+// Reads, writes and transfers of more than two mebibytes, some of which go through an IOMMU.
 #[test]
 fn scripts_have_room_for_long_replies(rt: HostRuntime) -> Result<(), Fail> {
     let zeros = "00".repeat(rt.alloc(), 0x21_0000)?;
-    let script =
+    let script = format!(in rt.alloc();
         "block 0x210000 0x1000\nregion 0 0\nspace 0x210000 0x1000\ntable\ntranslator 0\nlayout 0\n\
-                  plain 0\nmemory 0 0 0 on\nset 0 0 0 0x210000 rw\nread 1 0 0x210000\ntox 0 0 0x210000 -\n\
-                  check 1 0 0x210000 rw\n";
+         plain 0\nmemory 0 0 0 on\nset 0 0 0 0x210000 rw\nread 1 0 0x210000\ntox 0 0 0x210000 -\n\
+         check 1 0 0x210000 rw\nwrite 1 0 {zeros}\nfromx 0 0 0x210000 g:{zeros}\n"
+    )?;
     let wanted = format!(in rt.alloc();
         "block 0\nregion 0\nspace 0\ntable 0\ntranslator 0\nlayout 0\nmemory 0\nmemory 1\nok\n\
-         bytes {zeros}\nsent ok taken {zeros}\ntrue\n"
+         bytes {zeros}\nsent ok taken {zeros}\ntrue\ncount 2162688\nok\n"
     )?;
-    expect_told(rt.alloc(), 4, script, wanted.as_str())
+    expect_told(rt.alloc(), 4, script.as_str(), wanted.as_str())
+}
+
+// Two tables: one of every second address, and one of neighbours that lead to every second address.
+const EVERY_SECOND: [Repeated; 3] = [
+    (2, "table", "table #"),
+    (2500, "set 0 % # 1 r", "ok"),
+    (2500, "set 1 # % 1 r", "ok"),
+];
+
+// Writes each of 2,500 addresses, from the first on every second, as a range.
+fn push_ranges(text: &mut String, first: usize) -> Result<(), AllocError> {
+    for number in 0..2500usize {
+        write!(text, " {:#x}+0x1", 2 * number + first % 2)?;
+    }
+    Ok(())
+}
+
+#[test]
+fn look_ups_have_room_for_many_ranges(rt: HostRuntime) -> Result<(), Fail> {
+    let (mut script, mut wanted) = script_of(rt.alloc(), &EVERY_SECOND)?;
+    script.push_str("lookup 0 0 5000 w\nlookup 1 0 2500 r\n")?;
+    wanted.push_str("fails misses")?;
+    push_ranges(&mut wanted, 1)?;
+    wanted.push_str(" access")?;
+    push_ranges(&mut wanted, 0)?;
+    wanted.push_str("\npieces")?;
+    push_ranges(&mut wanted, 0)?;
+    wanted.push('\n')?;
+    expect_told(rt.alloc(), 5, script.as_str(), wanted.as_str())
 }
 
 // Whether 16 mebibytes go to a vector, and from it into another memory.
@@ -156,6 +188,77 @@ fn sixteen_mebibytes_go_from_memory_to_memory(rt: HostRuntime) -> Result<(), Fai
     let from = GuestMemoryMmap::from_ranges(rt.alloc(), &mut host, &ranges)?;
     let to = GuestMemoryMmap::from_ranges(rt.alloc(), &mut host, &ranges)?;
     expect_moved(rt.alloc(), &mut host, &from, &to)
+}
+
+// A value of 64 kibibytes.
+type Large = [u8; 0x1_0000];
+
+// The bytes of a value, no two pages of which are alike.
+fn bytes_of_large(alloc: Global) -> Result<Vec<u8>, AllocError> {
+    let mut bytes = Vec::new(alloc);
+    for number in 0..0x1_0000u32 {
+        bytes.push((number % 251) as u8)?;
+    }
+    Ok(bytes)
+}
+
+// Writes a value and reads it, over the bound of two regions.
+fn written_and_read(alloc: Global, value: Large) -> Result<Large, Fail> {
+    let mut host = HostMemory::<()>::new(alloc);
+    let ranges = [(GuestAddress(0), 0x9000), (GuestAddress(0x9000), 0x8000)];
+    let memory = GuestMemoryMmap::from_ranges(alloc, &mut host, &ranges)?;
+    if !host.holds(&memory) {
+        return Err(Fail::new("the host holds the memory"));
+    }
+    memory.write_obj(&mut host, value, GuestAddress(0x800))?;
+    Ok(memory.read_obj(&host, GuestAddress(0x800))?)
+}
+
+fn expect_large(alloc: Global, value: &Large, wanted: &[u8]) -> Result<(), Fail> {
+    let mut bytes = vec![in alloc; 0u8; 0x1_0000]?;
+    if !value.to_slice(bytes.as_mut_slice()) || bytes.as_slice() != wanted {
+        return Err(Fail::new("another value came"));
+    }
+    Ok(())
+}
+
+#[test]
+fn values_of_sixty_four_kibibytes_move(rt: HostRuntime) -> Result<(), Fail> {
+    let bytes = bytes_of_large(rt.alloc())?;
+    let value = Large::from_slice(bytes.as_slice()).ok_or("these are its bytes")?;
+    let read = written_and_read(rt.alloc(), value)?;
+    expect_large(rt.alloc(), &read, bytes.as_slice())?;
+    let mut sink = Vec::new(rt.alloc());
+    value.write_all_to(&mut sink)?;
+    let mut source = sink.as_slice();
+    let read = Large::read_exact_from(&mut source)?;
+    expect_large(rt.alloc(), &read, bytes.as_slice())
+}
+
+// The number of bytes of an image.
+const SYNCED: usize = 0x10_0000;
+
+// A machine of a block of that many bytes, all 0, in as many pages, all dirty.
+fn dirty_machine(
+    alloc: Global,
+) -> Result<Machine<GuestRegionMmap, TableIommu, ExclusiveBitmap>, Fail> {
+    let mut bitmap = ExclusiveBitmap::new(alloc, SYNCED, NonZeroUsize::MIN)?;
+    bitmap.mark_dirty(0, SYNCED);
+    let mut host = HostMemory::new(alloc);
+    host.new_block_with(SYNCED, bitmap)?;
+    Ok(Machine::new(alloc, host, Vec::new(alloc), Vec::new(alloc)))
+}
+
+#[test]
+fn an_image_of_a_mebibyte_is_synced(rt: HostRuntime) -> Result<(), Fail> {
+    let mut machine = dirty_machine(rt.alloc())?;
+    let mut image = vec![in rt.alloc(); 7u8; SYNCED]?;
+    if machine.host().shape().block_len(BlockId(0)) != Some(image.len()) {
+        return Err(Fail::new("the image is as long as the block"));
+    }
+    machine.sync(BlockId(0), image.as_mut_slice())?;
+    assert!(rt; image.iter().all(|byte| *byte == 0));
+    Ok(())
 }
 
 #[test]

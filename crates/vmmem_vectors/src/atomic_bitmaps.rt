@@ -5,7 +5,6 @@ use std::alloc::Global;
 use std::num::NonZeroUsize;
 use std::sync::Arc;
 use std::test::Fail;
-use std::thread::{self, Threads};
 use vm_memory::{
     ArcSlice, AtomicBitmap, BaseSlice, Bitmap, BitmapId, Bytes, ExclusiveBitmap, GuestAddress,
     GuestMemoryMmap, HostMemory, IommuMemory, NewBitmap, Permissions, RefSlice, SharedBitmap,
@@ -335,47 +334,6 @@ fn shared_references_mark(rt: HostRuntime) -> Result<(), Fail> {
     ().mark_shared(0, 1);
     expect_range(&none, 0x800, 0)?;
     expect_range(&(), 0x800, 0)
-}
-
-// Marks every other one of 0x1000 pages, from the first or the second on.
-fn mark_every_other(bitmap: &AtomicBitmap, first: usize) {
-    for page in 0..0x800usize {
-        bitmap.set_bit(2 * page + first % 2);
-    }
-}
-
-// The words that three threads leave, two of which mark while one takes what it finds.
-fn words_of_threads<R: Threads + Sync>(
-    rt: &R,
-    alloc: Global,
-    bitmap: &AtomicBitmap,
-) -> Result<(Vec<u64>, Vec<u64>), Fail> {
-    let (taken, _) = thread::join(
-        rt,
-        || bitmap.get_and_reset(alloc),
-        || {
-            thread::join(
-                rt,
-                || mark_every_other(bitmap, 0),
-                || mark_every_other(bitmap, 1),
-            )
-        },
-    );
-    Ok((taken?, bitmap.get_and_reset(alloc)?))
-}
-
-#[test]
-fn threads_lose_no_page(rt: HostRuntime) -> Result<(), Fail> {
-    let bitmap = AtomicBitmap::new(rt.alloc(), 0x1000, NonZeroUsize::MIN)?;
-    let (taken, left) = words_of_threads(&rt, rt.alloc(), &bitmap)?;
-    assert!(rt; taken.len() == 0x40 && left.len() == 0x40);
-    assert!(rt;
-        taken
-            .iter()
-            .zip(left.iter())
-            .all(|(a, b)| *a | *b == u64::MAX && *a & *b == 0)
-    );
-    Ok(())
 }
 
 // A write of so many bytes at an address, behind the IOMMU or not.
