@@ -156,24 +156,25 @@ fn look_ups_have_room_for_many_ranges(rt: HostRuntime) -> Result<(), Fail> {
     expect_told(rt.alloc(), 5, script.as_str(), wanted.as_str())
 }
 
-// Whether 16 mebibytes go to a vector, and from it into another memory.
+// Whether so many bytes go to a vector, and from it into another memory.
 fn expect_moved(
     alloc: Global,
     host: &mut HostMemory<()>,
     from: &GuestMemoryMmap,
     to: &GuestMemoryMmap,
+    count: usize,
 ) -> Result<(), Fail> {
     if !host.holds(from) || !host.holds(to) {
         return Err(Fail::new("the host holds the memories"));
     }
     let start = GuestAddress(0);
-    let sent = vec![in alloc; 7u8; MOVED]?;
+    let sent = vec![in alloc; 7u8; count]?;
     from.write_slice(host, sent.as_slice(), start)?;
     let mut sink = Vec::new(alloc);
-    from.write_all_volatile_to(host, start, &mut sink, MOVED)?;
+    from.write_all_volatile_to(host, start, &mut sink, count)?;
     let mut source = sink.as_slice();
-    to.read_exact_volatile_from(host, start, &mut source, MOVED)?;
-    let mut came = vec![in alloc; 0u8; MOVED]?;
+    to.read_exact_volatile_from(host, start, &mut source, count)?;
+    let mut came = vec![in alloc; 0u8; count]?;
     to.read_slice(host, came.as_mut_slice(), start)?;
     if came.as_slice() != sent.as_slice() {
         return Err(Fail::new("other bytes came"));
@@ -187,7 +188,7 @@ fn sixteen_mebibytes_go_from_memory_to_memory(rt: HostRuntime) -> Result<(), Fai
     let ranges = [(GuestAddress(0), MOVED)];
     let from = GuestMemoryMmap::from_ranges(rt.alloc(), &mut host, &ranges)?;
     let to = GuestMemoryMmap::from_ranges(rt.alloc(), &mut host, &ranges)?;
-    expect_moved(rt.alloc(), &mut host, &from, &to)
+    expect_moved(rt.alloc(), &mut host, &from, &to, MOVED)
 }
 
 // A value of 64 kibibytes.
@@ -235,30 +236,35 @@ fn values_of_sixty_four_kibibytes_move(rt: HostRuntime) -> Result<(), Fail> {
     expect_large(rt.alloc(), &read, bytes.as_slice())
 }
 
-// The number of bytes of an image.
-const SYNCED: usize = 0x10_0000;
-
-// A machine of a block of that many bytes, all 0, in as many pages, all dirty.
+// A machine of a block of so many bytes, all 0, in as many pages, all dirty.
 fn dirty_machine(
     alloc: Global,
+    size: usize,
 ) -> Result<Machine<GuestRegionMmap, TableIommu, ExclusiveBitmap>, Fail> {
-    let mut bitmap = ExclusiveBitmap::new(alloc, SYNCED, NonZeroUsize::MIN)?;
-    bitmap.mark_dirty(0, SYNCED);
+    let mut bitmap = ExclusiveBitmap::new(alloc, size, NonZeroUsize::MIN)?;
+    bitmap.mark_dirty(0, size);
     let mut host = HostMemory::new(alloc);
-    host.new_block_with(SYNCED, bitmap)?;
+    host.new_block_with(size, bitmap)?;
     Ok(Machine::new(alloc, host, Vec::new(alloc), Vec::new(alloc)))
 }
 
-#[test]
-fn an_image_of_a_mebibyte_is_synced(rt: HostRuntime) -> Result<(), Fail> {
-    let mut machine = dirty_machine(rt.alloc())?;
-    let mut image = vec![in rt.alloc(); 7u8; SYNCED]?;
+// Fails where an image of a block of so many bytes is not the block after a sync.
+fn expect_synced(alloc: Global, size: usize) -> Result<(), Fail> {
+    let mut machine = dirty_machine(alloc, size)?;
+    let mut image = vec![in alloc; 7u8; size]?;
     if machine.host().shape().block_len(BlockId(0)) != Some(image.len()) {
         return Err(Fail::new("the image is as long as the block"));
     }
     machine.sync(BlockId(0), image.as_mut_slice())?;
-    assert!(rt; image.iter().all(|byte| *byte == 0));
+    if !image.iter().all(|byte| *byte == 0) {
+        return Err(Fail::new("the image is not the block"));
+    }
     Ok(())
+}
+
+#[test]
+fn an_image_of_a_mebibyte_is_synced(rt: HostRuntime) -> Result<(), Fail> {
+    expect_synced(rt.alloc(), 0x10_0000)
 }
 
 #[test]
