@@ -1,6 +1,6 @@
 //! Calls that are refused in turn.
 
-use crate::famine::{Famine, MOST};
+use crate::famine::{Famine, MOST, STEP};
 use std::alloc::AllocError;
 use std::test::Fail;
 
@@ -38,51 +38,54 @@ pub fn keep<T: Drop>(made: Result<T, AllocError>, place: &mut Option<T>) -> Answ
     }
 }
 
-// Makes a call with none left, then with a little more, and so on until it is not refused. So each of its requests is
-// refused in turn. It says whether the call was refused at all.
-fn refuse(famine: &mut Famine, calls: &mut impl Calls, number: usize) -> Result<bool, Fail> {
+fn wrong(name: &str, number: usize, what: &str) -> Fail {
+    Fail::new(format_args!("{name}, call {number}: {what}"))
+}
+
+// Makes a call with no memory left, then with a little more, and so on until it is not refused. So each of its
+// requests is refused in turn. It tells whether the call was refused at all.
+fn refuse(
+    famine: &mut Famine,
+    name: &str,
+    calls: &mut impl Calls,
+    number: usize,
+) -> Result<bool, Fail> {
     let before = calls.seen(number)?;
-    for step in 0..MOST / 16 {
-        famine.begin(16 * step)?;
+    for step in 0..MOST / STEP {
+        famine.begin(STEP * step)?;
         let answer = calls.make(number);
         famine.end();
         match answer {
             Answer::Done => return Ok(step != 0),
+            Answer::Other => return Err(wrong(name, number, "it answered something else")),
             Answer::Refused => {
-                let after = calls.seen(number)?;
-                if after.as_str() != before.as_str() {
-                    return Err(Fail::new(format_args!(
-                        "call {number} was refused, and changed something"
-                    )));
+                if calls.seen(number)?.as_str() != before.as_str() {
+                    return Err(wrong(name, number, "a refusal changed something"));
                 }
             }
-            Answer::Other => return Err(Fail::new(format_args!(
-                "call {number} answered something else"
-            ))),
         }
     }
-    Err(Fail::new(format_args!("call {number} is refused where there is memory")))
+    Err(wrong(name, number, "it is refused where there is memory"))
 }
 
 /// Makes each call with ample memory in one state, and refuses it in the other, which is to be the same then. It tells
 /// how many calls were refused.
 pub fn expect_refusals<C: Calls>(
     famine: &mut Famine,
+    name: &str,
     ample: &mut C,
     tried: &mut C,
 ) -> Result<usize, Fail> {
     let mut refused = 0usize;
     for number in 0..ample.count() {
         if ample.make(number) != Answer::Done {
-            return Err(Fail::new(format_args!("call {number} is refused with ample memory")));
+            return Err(wrong(name, number, "it is not done with ample memory"));
         }
-        if refuse(famine, tried, number)? {
+        if refuse(famine, name, tried, number)? {
             refused = refused.saturating_add(1);
         }
-        let wanted = ample.seen(number)?;
-        let told = tried.seen(number)?;
-        if told.as_str() != wanted.as_str() {
-            return Err(Fail::new(format_args!("call {number} left something else after refusals")));
+        if tried.seen(number)?.as_str() != ample.seen(number)?.as_str() {
+            return Err(wrong(name, number, "it left something else after refusals"));
         }
     }
     Ok(refused)

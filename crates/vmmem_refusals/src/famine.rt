@@ -9,10 +9,14 @@ const PARTS: usize = 0x400;
 const PART: usize = 0x1_0000;
 
 // The most vectors that are taken.
-const ROOM: usize = 0x1_0000;
+const ROOM: usize = 0x2_0000;
 
 /// The most bytes that a call may be left.
 pub const MOST: usize = 0x1_8000;
+
+/// How many bytes more a call is left each time. The allocator takes as many for each request, or more, so that none is
+/// passed over.
+pub const STEP: usize = 32;
 
 /// All memory that the process may have is taken, but for some that is kept back for what is made and called.
 ///
