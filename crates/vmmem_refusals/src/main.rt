@@ -1,5 +1,5 @@
-//! Refuses each request for memory of each call that wants some, and shows that everything is then as before. It takes
-//! all memory that it may have, and writes to none of it.
+//! Refuses calls their memory, request by request, and fails where a call that was refused changed something, or where a
+//! call is refused though there is memory. It takes all memory of its process, and writes to next to none of it.
 #![tactic(auto)]
 
 mod bitmaps;
@@ -33,6 +33,9 @@ fn tell<C: Calls>(
     tried: &mut C,
 ) -> Result<(), Fail> {
     let refused = expect_refusals(famine, name, ample, tried)?;
+    if refused == 0 {
+        return Err(Fail::new("no call was refused"));
+    }
     println!(rt; "{name}: {refused} of {} calls refused", tried.count())?;
     Ok(())
 }

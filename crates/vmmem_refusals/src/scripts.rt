@@ -21,44 +21,53 @@ fn is_replied(line: &str) -> bool {
     !line.is_empty() && !line.starts_with('#')
 }
 
-// The lines of a script that were replied to and not refused, and these replies.
-fn rest_of(alloc: Global, script: &str, told: &str) -> Result<(String, String), AllocError> {
-    let mut lines = String::new(alloc);
-    let mut replies = String::new(alloc);
-    let mut left = told.lines();
+// The lines of a script that were not refused, their replies, and how many lines have none.
+#[derive(Drop)]
+struct Rest {
+    lines: String,
+    replies: String,
+    left: usize,
+}
+
+// What is left of a script without the lines that were refused.
+fn rest_of(alloc: Global, script: &str, told: &str) -> Result<Rest, AllocError> {
+    let mut rest = Rest {
+        lines: String::new(alloc),
+        replies: String::new(alloc),
+        left: 0,
+    };
+    let mut replies = told.lines();
     for line in script.lines() {
         if !is_replied(line) {
             continue;
         }
-        match left.next() {
+        match replies.next() {
             Some("error Memory") => {}
             Some(reply) => {
-                writeln!(lines, "{line}")?;
-                writeln!(replies, "{reply}")?;
+                writeln!(rest.lines, "{line}")?;
+                writeln!(rest.replies, "{reply}")?;
             }
-            None => break,
+            None => rest.left = rest.left.saturating_add(1),
         }
     }
-    Ok((lines, replies))
+    Ok(rest)
 }
 
-// Fails where a script that was refused memory did not end as one of these is to end: it says so, or it went on to its
-// last line, and what it replied is what the lines reply that were not refused.
+// Fails where a script that was refused memory neither went on to its last line nor said so, or where the lines that
+// were not refused reply something else by themselves.
 fn expect_told(
     alloc: Global,
     script: &str,
     told: &[u8],
     ending: &Result<(), DriveFault>,
 ) -> Result<(), Fail> {
-    let told = str::from_utf8(told)?;
-    let (lines, replies) = rest_of(alloc, script, told)?;
-    let all = script.lines().filter(|line| is_replied(line)).count();
+    let rest = rest_of(alloc, script, str::from_utf8(told)?)?;
     match ending {
-        Ok(()) if told.lines().count() == all => {}
+        Ok(()) if rest.left == 0 => {}
         Err(DriveFault::Memory) => {}
         _ => return Err(Fail::new("the script ended in another way")),
     }
-    if replies_of(alloc, lines.as_str())?.as_slice() != replies.as_bytes() {
+    if replies_of(alloc, rest.lines.as_str())?.as_slice() != rest.replies.as_bytes() {
         return Err(Fail::new("a line that was refused changed something"));
     }
     Ok(())
@@ -76,6 +85,9 @@ pub fn expect_script(famine: &mut Famine, alloc: Global, script: &str) -> Result
         famine.end();
         expect_told(alloc, script, told.as_slice(), &ending)?;
         if ending.is_ok() && told.as_slice() == wanted.as_slice() {
+            if step == 0 {
+                return Err(Fail::new("a script was not refused"));
+            }
             return Ok(());
         }
     }

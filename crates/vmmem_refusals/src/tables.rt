@@ -31,7 +31,7 @@ impl Tables {
     }
 }
 
-// A table of so many ranges, of which the last call of the tests makes two more.
+// A table of so many ranges, with room for one more where it has a limit.
 fn table_of(alloc: Global, ranges: usize) -> Result<Iotlb, Fail>
     requires { ranges ≤ 40 }
 {
