@@ -1,0 +1,111 @@
+//! Refuses calls their memory, request by request, and fails where a call that was refused changed something, or where a
+//! call is refused though there is memory. It takes all memory of its process, and writes to next to none of it.
+#![tactic(auto)]
+
+mod bitmaps;
+mod calls;
+mod famine;
+mod machines;
+mod memories;
+mod scripts;
+mod shared;
+mod tables;
+
+use bitmaps::Bitmaps;
+use calls::{Calls, expect_refusals};
+use famine::Famine;
+use machines::Machines;
+use memories::Memories;
+use scripts::expect_script;
+use shared::Shared;
+use std::alloc::Global;
+use std::io;
+use std::sync::Wait;
+use std::test::Fail;
+use tables::Tables;
+
+// Tells of how many calls each request was refused.
+fn tell<C: Calls>(
+    rt: &impl Print,
+    famine: &mut Famine,
+    name: &str,
+    ample: &mut C,
+    tried: &mut C,
+) -> Result<(), Fail> {
+    let refused = expect_refusals(famine, name, ample, tried)?;
+    if refused == 0 {
+        return Err(Fail::new("no call was refused"));
+    }
+    println!(rt; "{name}: {refused} of {} calls refused", tried.count())?;
+    Ok(())
+}
+
+fn tell_bitmaps(rt: &impl Print, alloc: Global, famine: &mut Famine) -> Result<(), Fail> {
+    let mut ample = Bitmaps::new(alloc)?;
+    tell(rt, famine, "bitmaps", &mut ample, &mut Bitmaps::new(alloc)?)
+}
+
+fn tell_tables(rt: &impl Print, alloc: Global, famine: &mut Famine) -> Result<(), Fail> {
+    let mut ample = Tables::new(alloc)?;
+    tell(
+        rt,
+        famine,
+        "I/O tables",
+        &mut ample,
+        &mut Tables::new(alloc)?,
+    )
+}
+
+fn tell_memories(rt: &impl Print, alloc: Global, famine: &mut Famine) -> Result<(), Fail> {
+    let mut ample = Memories::new(alloc)?;
+    let mut tried = Memories::new(alloc)?;
+    tell(rt, famine, "hosts and layouts", &mut ample, &mut tried)?;
+    if !tried.had_parts() {
+        return Err(Fail::new("no refusal left the first of two parts"));
+    }
+    Ok(())
+}
+
+fn tell_machines(rt: &impl Print, alloc: Global, famine: &mut Famine) -> Result<(), Fail> {
+    let mut ample = Machines::new(alloc)?;
+    tell(
+        rt,
+        famine,
+        "a machine",
+        &mut ample,
+        &mut Machines::new(alloc)?,
+    )
+}
+
+fn tell_shared<R: Print + Wait>(rt: &R, alloc: Global, famine: &mut Famine) -> Result<(), Fail> {
+    let mut ample = Shared::new(rt, alloc)?;
+    let mut tried = Shared::new(rt, alloc)?;
+    tell(rt, famine, "what threads share", &mut ample, &mut tried)?;
+    if !tried.had_run() {
+        return Err(Fail::new("no command ran whose reply found no memory"));
+    }
+    Ok(())
+}
+
+// The scripts on standard input, with an empty line between any two.
+fn tell_scripts<R: Input + Print>(rt: &R, alloc: Global, famine: &mut Famine) -> Result<(), Fail> {
+    let text = io::read_to_string(alloc, rt.reader())?;
+    let mut scripts = 0usize;
+    for script in text.as_str().split("\n\n") {
+        expect_script(famine, alloc, script)?;
+        scripts = scripts.saturating_add(1);
+    }
+    println!(rt; "scripts: {scripts}")?;
+    Ok(())
+}
+
+fn main(rt: HostRuntime) -> Result<(), Fail> {
+    let alloc = rt.alloc();
+    let mut famine = Famine::new(alloc)?;
+    tell_bitmaps(&rt, alloc, &mut famine)?;
+    tell_tables(&rt, alloc, &mut famine)?;
+    tell_memories(&rt, alloc, &mut famine)?;
+    tell_machines(&rt, alloc, &mut famine)?;
+    tell_shared(&rt, alloc, &mut famine)?;
+    tell_scripts(&rt, alloc, &mut famine)
+}
