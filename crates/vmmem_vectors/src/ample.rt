@@ -236,11 +236,10 @@ fn values_of_sixty_four_kibibytes_move(rt: HostRuntime) -> Result<(), Fail> {
     expect_large(rt.alloc(), &read, bytes.as_slice())
 }
 
+type DirtyMachine = Machine<GuestRegionMmap, TableIommu, ExclusiveBitmap>;
+
 // A machine of a block of so many bytes, all 0, in as many pages, all dirty.
-fn dirty_machine(
-    alloc: Global,
-    size: usize,
-) -> Result<Machine<GuestRegionMmap, TableIommu, ExclusiveBitmap>, Fail> {
+fn dirty_machine(alloc: Global, size: usize) -> Result<DirtyMachine, Fail> {
     let mut bitmap = ExclusiveBitmap::new(alloc, size, NonZeroUsize::MIN)?;
     bitmap.mark_dirty(0, size);
     let mut host = HostMemory::new(alloc);
@@ -248,14 +247,12 @@ fn dirty_machine(
     Ok(Machine::new(alloc, host, Vec::new(alloc), Vec::new(alloc)))
 }
 
-// Fails where an image of a block of so many bytes is not the block after a sync.
-fn expect_synced(alloc: Global, size: usize) -> Result<(), Fail> {
-    let mut machine = dirty_machine(alloc, size)?;
-    let mut image = vec![in alloc; 7u8; size]?;
+// Fails where an image is not the block of the machine after a sync.
+fn expect_synced(machine: &mut DirtyMachine, image: &mut [u8]) -> Result<(), Fail> {
     if machine.host().shape().block_len(BlockId(0)) != Some(image.len()) {
         return Err(Fail::new("the image is as long as the block"));
     }
-    machine.sync(BlockId(0), image.as_mut_slice())?;
+    machine.sync(BlockId(0), image)?;
     if !image.iter().all(|byte| *byte == 0) {
         return Err(Fail::new("the image is not the block"));
     }
@@ -264,7 +261,9 @@ fn expect_synced(alloc: Global, size: usize) -> Result<(), Fail> {
 
 #[test]
 fn an_image_of_a_mebibyte_is_synced(rt: HostRuntime) -> Result<(), Fail> {
-    expect_synced(rt.alloc(), 0x10_0000)
+    let mut image = vec![in rt.alloc(); 7u8; 0x10_0000]?;
+    let mut machine = dirty_machine(rt.alloc(), image.len())?;
+    expect_synced(&mut machine, image.as_mut_slice())
 }
 
 #[test]
