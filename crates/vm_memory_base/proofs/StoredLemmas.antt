@@ -392,6 +392,40 @@ last_stored limit es found t e h is ends =
     let long : 0 < e.1.end - e.0 = told.0 in
     (omega arith, told.1)
 
+-- the last entry of those up to a limit, where a table is seen as its runs, and what precedes it
+module _ (es : List (ℕ × RunTail)) (rs : List (AddressRun Mapping)) (view : runs_in es ≡ rs)
+    (h : AreAscending (runs_in es)) (limit : ℕ) (found t : List (ℕ × RunTail))
+    (is : found ≡ entries_between nat_cmp Unbounded (Included limit) es) (e : ℕ × RunTail) (ends : found ≡ t ++ e ∷ [])
+    (r : AddressRun Mapping) (run_is : r ≡ run_in e) where
+  pub last_seen : runs_below (limit + 1) rs ≡ runs_below r.start rs ++ r ∷ []
+  last_seen =
+      rw run_is
+      (subst (λ (ys : List (AddressRun Mapping)). runs_below (limit + 1) ys ≡ runs_below e.0 ys ++ run_in e ∷ []) view
+      (last_stored limit es found t e h is ends).1)
+
+  pub front_seen : limit ≤ r.start → runs_below limit rs ≡ runs_in t
+  front_seen l =
+      let last = last_seen in
+      let s = last_starts (limit + 1) (runs_below r.start rs) r
+      (subst (StartsBelow (limit + 1)) last (below_starts (limit + 1) rs)) in
+      let same : r.start ≡ limit = omega arith in
+      let parts : runs_below (limit + 1) rs ≡ runs_in t ++ r ∷ [] =
+      rw run_is
+      (ap (runs_below (limit + 1)) (sym view) ∙ sym (between_upto limit es) ∙ ap runs_in (sym is ∙ ends)
+      ∙ runs_in-append t (e ∷ [])) in
+      let front : runs_below r.start rs ≡ runs_in t =
+      append_cancel_right (runs_below r.start rs) (runs_in t) (r ∷ []) (sym last ∙ parts) in
+      subst (λ (n : ℕ). runs_below n rs ≡ runs_in t) same front
+
+  -- the entry before it
+  pub front_stored : limit ≤ r.start → (u : List (ℕ × RunTail)) (d : ℕ × RunTail) → t ≡ u ++ d ∷ []
+      → (d.0 < d.1.end) × (runs_below limit rs ≡ runs_below d.0 rs ++ run_in d ∷ [])
+  front_stored l u d parts =
+      let told = last_below limit rs (runs_in u) (run_in d) (subst AreAscending view h)
+      (front_seen l ∙ ap runs_in parts ∙ runs_in-append u (d ∷ [])) in
+      let long : 0 < d.1.end - d.0 = told.0 in
+      (omega arith, told.1)
+
 pub ascending_without : {K : Type 0} (low high : ℕ) (rs : List (AddressRun K)) → low ≤ high → AreAscending rs
     → AreAscending (runs_below low rs ++ runs_from high rs)
 ascending_without low high rs l h =

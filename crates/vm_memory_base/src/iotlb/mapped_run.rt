@@ -54,6 +54,7 @@ impl Model for MappedRun {
 }
 
 impl MappedRun {
+    #[inline(always)]
     pub(super) fn new(start: u64, end: u64, difference: u64, permissions: Permissions) -> MappedRun
         requires { start < end }
         ensures { result ≡ record {
@@ -71,7 +72,7 @@ impl MappedRun {
     }
 
     // The run of a first address and what is stored there.
-    #[inline]
+    #[inline(always)]
     pub(super) fn of_tail(start: u64, tail: &RunTail) -> MappedRun
         requires { start < tail.now.end }
         ensures { result ≡ run_in (start, tail.now) }
@@ -79,7 +80,7 @@ impl MappedRun {
         MappedRun::new(start, tail.end, tail.difference, tail.permissions)
     }
 
-    #[inline]
+    #[inline(always)]
     pub(super) fn tail(&self) -> RunTail
         ensures value { run_in (self.now.start, result) ≡ self.now }
         ensures some { 0 < self.now.len }
@@ -91,7 +92,7 @@ impl MappedRun {
         }
     }
 
-    #[inline]
+    #[inline(always)]
     pub(super) fn start(&self) -> u64
         ensures { result ≡ self.now.start }
     {
@@ -99,7 +100,7 @@ impl MappedRun {
     }
 
     // The first address after the run.
-    #[inline]
+    #[inline(always)]
     pub(super) fn end(&self) -> u64
         ensures value { result ≡ self.now.start + self.now.len }
         ensures some { 0 < self.now.len }
@@ -108,7 +109,7 @@ impl MappedRun {
     }
 
     // The target of an address of the run.
-    #[inline]
+    #[inline(always)]
     pub(super) fn target(&self, iova: u64) -> u64
         ensures { result ≡ target iova self.now.value }
     {
@@ -116,7 +117,7 @@ impl MappedRun {
     }
 
     // Whether the run has an address, if there is one.
-    #[inline]
+    #[inline(always)]
     pub(super) fn has_any(&self, iova: Option<u64>) -> bool
         ensures { result ≡ has_any iova self.now }
     {
@@ -126,7 +127,7 @@ impl MappedRun {
         }
     }
 
-    #[inline]
+    #[inline(always)]
     pub(super) fn allows(&self, access: Permissions) -> bool
         ensures { result ≡ set.allow self.now.value.permissions access }
     {
@@ -134,6 +135,7 @@ impl MappedRun {
     }
 
     // The part before an address.
+    #[inline(always)]
     pub(super) fn before(&self, end: u64) -> MappedRun
         requires some { self.now.start < end }
         ensures { result ≡ record self.now { len = end - self.now.start } }
@@ -142,6 +144,7 @@ impl MappedRun {
     }
 
     // The part from an address on.
+    #[inline(always)]
     pub(super) fn behind(&self, start: u64) -> MappedRun
         requires some { start < self.now.start + self.now.len }
         ensures { result ≡ record self.now { start = start; len = self.now.start + self.now.len - start } }
@@ -150,6 +153,7 @@ impl MappedRun {
     }
 
     // Whether two runs are mapped alike.
+    #[inline(always)]
     fn is_like(&self, other: &MappedRun) -> bool
         ensures { result ≡ same_mapping self.now.value other.now.value }
     {
@@ -157,6 +161,7 @@ impl MappedRun {
     }
 
     // The run before another: one run with it where that begins right behind it and is mapped alike.
+    #[inline(always)]
     pub(super) fn joined(&self, next: Option<MappedRun>) -> (MappedRun, Option<MappedRun>)
         ensures joined { result.0 ∷ if_any result.1 ≡ prepended self.now (if_any next) }
         ensures start { result.0.start ≡ self.now.start }
@@ -176,6 +181,7 @@ impl MappedRun {
 }
 
 // A run behind the one that reaches it, if there is one: one run with it where they are mapped alike.
+#[inline(always)]
 pub(super) fn joined_to(
     left: Option<MappedRun>,
     run: MappedRun,

@@ -60,7 +60,7 @@ impl RunMap {
     }
 
     // The last run that starts at an address or before it.
-    #[inline]
+    #[inline(always)]
     fn last_upto(&self, limit: u64) -> Option<MappedRun>
         ensures none { IfNone result (runs_below (limit + 1) self.now ≡ []) }
         ensures some { IfSome result (λ r. runs_below (limit + 1) self.now ≡ runs_below r.start self.now ++ r ∷ []) }
@@ -70,7 +70,31 @@ impl RunMap {
         Some(MappedRun::of_tail(*start, tail))
     }
 
+    // The last run that starts at an address or before it, and the last that starts before it.
+    #[inline(always)]
+    fn neighbours(&self, at: u64) -> (Option<MappedRun>, Option<MappedRun>)
+        ensures none { IfNone result.0 (runs_below (at + 1) self.now ≡ []) }
+        ensures some { IfSome result.0 (λ r. runs_below (at + 1) self.now ≡ runs_below r.start self.now ++ r ∷ []) }
+        ensures none_before { IfNone result.1 (runs_below at self.now ≡ []) }
+        ensures some_before { IfSome result.1 (λ r. runs_below at self.now ≡ runs_below r.start self.now ++ r ∷ []) }
+        ensures ascending { AreAscending self.now }
+    {
+        let mut upto = self.tails.range(..=at);
+        let Some((start, tail)) = upto.next_back() else {
+            return (None, None);
+        };
+        let last = MappedRun::of_tail(*start, tail);
+        if last.start() < at {
+            return (Some(last), Some(last));
+        }
+        let Some((start, tail)) = upto.next_back() else {
+            return (Some(last), None);
+        };
+        (Some(last), Some(MappedRun::of_tail(*start, tail)))
+    }
+
     // Puts a run where it belongs, in the place of one that starts where it does. Refused, nothing changes.
+    #[inline(always)]
     fn insert(&mut self, run: MappedRun) -> Result<(), AllocError>
         ensures ok { OnOk result (self.new
             ≡ runs_below run.start self.old ++ run ∷ runs_from (run.start + 1) self.old) }
@@ -83,6 +107,7 @@ impl RunMap {
     }
 
     // Puts a run in the place of the one that starts where it does, if there is one.
+    #[inline(always)]
     fn reset(&mut self, run: MappedRun)
         ensures { self.new ≡ with_reset run self.old }
     {
@@ -95,6 +120,7 @@ impl RunMap {
     }
 
     // Takes the run that starts at an address out, if there is one.
+    #[inline(always)]
     fn remove(&mut self, start: u64)
         ensures { self.new ≡ runs_below start self.old ++ runs_from (start + 1) self.old }
     {
@@ -120,6 +146,7 @@ impl RunMap {
 
     // Puts a run, or none, in the place of those that start from one address up to another, that one included. It is
     // told where none starts behind the first address. Refused, nothing changes.
+    #[inline(always)]
     fn put_alone(
         &mut self,
         first: u64,
@@ -156,6 +183,7 @@ impl RunMap {
 
     // Puts up to two runs in the place of those that start from one address up to another, that one included. The
     // second starts at the other, where it may be stored. Refused, nothing changes.
+    #[inline(always)]
     fn put(
         &mut self,
         first: u64,
@@ -195,6 +223,7 @@ impl RunMap {
     }
 
     // The same, where besides the last run before them may change, if it does not stay whole.
+    #[inline(always)]
     fn replace(
         &mut self,
         left: Option<MappedRun>,
@@ -233,7 +262,7 @@ impl RunMap {
     }
 
     // The last run that starts below an address, where the last up to another is known.
-    #[inline]
+    #[inline(always)]
     fn last_below(&self, last: &Option<MappedRun>, at: u64, end: u64) -> Option<MappedRun>
         requires ascending { AreAscending self.now }
         requires order { at ≤ end }
@@ -255,7 +284,7 @@ impl RunMap {
     }
 
     // Whether no run starts behind an address up to another, where the last up to that is known.
-    #[inline]
+    #[inline(always)]
     fn is_clear(&self, last: &Option<MappedRun>, at: u64, end: u64) -> bool
         requires ascending { AreAscending self.now }
         requires order { at ≤ end }
@@ -271,6 +300,7 @@ impl RunMap {
 
     // The run that starts below an address and reaches it, cut off there, where the last up to another is
     // known.
+    #[inline(always)]
     fn front(&self, last: &Option<MappedRun>, at: u64, end: u64) -> (Option<MappedRun>, bool)
         requires canonical { IsCanonical same_mapping self.now }
         requires order { at ≤ end }
@@ -294,6 +324,7 @@ impl RunMap {
     }
 
     // The same, but where a run starts at the address: then none reaches over it.
+    #[inline(always)]
     fn front_over(&self, last: &Option<MappedRun>, at: u64, end: u64) -> (Option<MappedRun>, bool)
         requires canonical { IsCanonical same_mapping self.now }
         requires order { at ≤ end }
@@ -315,6 +346,7 @@ impl RunMap {
 
     // The run that starts at an address or before it and reaches over it, from there on, and whether it starts
     // there. The last one up to it is known.
+    #[inline(always)]
     fn back(&self, last: &Option<MappedRun>, at: u64) -> (Option<MappedRun>, bool)
         requires kept { IsKept self.now }
         requires none { IfNone last.now (runs_below (at + 1) self.now ≡ []) }
@@ -336,6 +368,7 @@ impl RunMap {
 
     // Puts a run over what was said of its addresses. It joins those that it touches and that are mapped alike.
     // Refused, nothing changes.
+    #[inline(always)]
     pub(super) fn set_run(&mut self, run: MappedRun) -> Result<(), AllocError>
         requires kept { IsKept self.old }
         requires some { 0 < run.len }
@@ -347,8 +380,7 @@ impl RunMap {
     {
         let start = run.start();
         let end = run.end();
-        let last = self.last_upto(end);
-        let before = self.last_below(&last, end, end);
+        let (last, before) = self.neighbours(end);
         let (left, whole) = self.front(&before, start, end - 1);
         let (right, stored) = self.back(&last, end);
         let (joined, behind) = run.joined(right);
@@ -359,6 +391,7 @@ impl RunMap {
     }
 
     // Makes the runs say nothing of the addresses from one up to another. Refused, nothing changes.
+    #[inline(always)]
     pub(super) fn clear_range(&mut self, start: u64, end: u64) -> Result<(), AllocError>
         requires kept { IsKept self.old }
         requires some { start < end }
@@ -367,8 +400,7 @@ impl RunMap {
         ensures growth { length self.new ≤ length self.old + 1 }
         ensures err { OnErr result (self.new ≡ self.old) }
     {
-        let last = self.last_upto(end);
-        let before = self.last_below(&last, end, end);
+        let (last, before) = self.neighbours(end);
         let (left, whole) = self.front_over(&before, start, end - 1);
         let (right, stored) = self.back(&last, end);
         let clear = self.is_clear(&before, start, end - 1);
@@ -376,6 +408,7 @@ impl RunMap {
     }
 
     // Evicts what is more than a limit, if there is one.
+    #[inline(always)]
     pub(super) fn keep_within(&mut self, limit: Option<usize>, spared: Option<u64>)
         requires kept { IsKept self.old }
         requires some { IfSome limit (λ n. 0 < n) }
