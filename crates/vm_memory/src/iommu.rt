@@ -1,6 +1,5 @@
 //! Guest memory behind an IOMMU.
 ghost use Rattle.std.specs.Prelude.{◌≡◌, ◌⊎◌, ◌<◌, ◌∷◌, ◌++◌, [], ℕ, IfOk, MatchResult, map};
-ghost use Rattle.vm_memory_base.specs.Lookup.{mapped_ranges};
 ghost use Rattle.vm_memory_base.specs.Table.{says};
 ghost use Rattle.vm_memory_guest.specs.Host as names;
 ghost use Rattle.vm_memory.specs.Iommu.{Translates, RefusesTranslation, behind, of_translation};
@@ -10,8 +9,8 @@ use std::marker::Model;
 use std::sync::Arc;
 use vm_memory_base::laws::table::reason_of_a_refusal;
 use vm_memory_base::{
-    Bitmap, GuestAddress, IommuError, Iotlb, IotlbIterator, IovaRange, IovaRangeList, LookupError,
-    MappedRange, Permissions, Reason,
+    Bitmap, GuestAddress, IommuError, Iotlb, IovaRange, IovaRangeList, LookupError, MappedRange,
+    Permissions, Reason,
 };
 use vm_memory_guest::host_laws::names_are_held_one_by_one;
 use vm_memory_guest::path_laws::pieces_are_the_access;
@@ -97,18 +96,18 @@ impl Iommu for TableIommu {
         self.table
     }
 
+    #[inline]
     fn translate(
         &self,
-        alloc: Global,
+        _alloc: Global,
         table: &Iotlb,
         iova: GuestAddress,
         length: usize,
         access: Permissions,
     ) -> Result<Vec<MappedRange>, IommuError> {
         reason_of_a_refusal();
-        match table.lookup(iova, length, access) {
-            Ok(_) if length == 0 => Ok(Vec::new(alloc)),
-            Ok(found) => pieces_of(alloc, found),
+        match table.lookup_all(iova, length, access) {
+            Ok(found) => Ok(found),
             Err(LookupError::Fails(fails)) => Err(IommuError::CannotResolve {
                 iova_range: IovaRange { base: iova, length },
                 reason: reason_of(&fails.misses),
@@ -118,17 +117,6 @@ impl Iommu for TableIommu {
     }
 
     ghost names_table = { λ iommu. refl };
-}
-
-// All pieces of a look-up.
-fn pieces_of(alloc: Global, found: IotlbIterator<'_>) -> Result<Vec<MappedRange>, IommuError>
-    ensures { MatchResult result (λ pieces. pieces.items ≡ mapped_ranges found.entry)
-        (λ e. e ≡ IommuError.Memory) }
-{
-    match found.collect(alloc) {
-        Ok(pieces) => Ok(pieces),
-        Err(_) => Err(IommuError::Memory),
-    }
 }
 
 // Why a look-up failed that missed these ranges.

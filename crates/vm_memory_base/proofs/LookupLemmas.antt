@@ -8,7 +8,7 @@ use Rattle.vm_memory_base.specs.Address.{is_within}
 use Rattle.vm_memory_base.specs.Change.{EndBelow, StartFrom, IsKept, granted, gaps}
 use Rattle.vm_memory_base.specs.Permissions.{allow}
 use Rattle.vm_memory_base.specs.Runs.{AddressRun, IsCanonical, runs, value_at, cut_onto, cut_to}
-use Rattle.vm_memory_base.specs.Table.{Mapping, same_mapping, Says, pieces, piece_of, grants, overruns, is_allowed, if_missing, forbids, range_of, misses, failures}
+use Rattle.vm_memory_base.specs.Table.{Mapping, same_mapping, target, Says, pieces, piece_of, grants, overruns, is_allowed, if_missing, forbids, range_of, misses, failures}
 use Rattle.vm_memory_base.specs.Walk.{HeadEndsAfter, IsWalk, pieces_left}
 use Rattle.vm_memory_base.specs.declared.iotlb.Permissions.{Permissions}
 use Rattle.vm_memory_base.specs.declared.iotlb.Permissions.TheVariants.{No}
@@ -422,6 +422,26 @@ module _ (rs front asked behind : List (AddressRun Mapping)) (is : rs ≡ front 
     ap (λ (ys : List (AddressRun Mapping)). map range_of (filter (λ r. forbids access r.value) ys))
         (cut (end - a) (omega arith)) ∙ sym (failures_are_cut rs a n access k.canonical no_overrun),
   )
+
+-- a look-up of addresses that one run has
+pub one_run : (rs front behind : List (AddressRun Mapping)) (r : AddressRun Mapping)
+    → rs ≡ front ++ (r ∷ [] ++ behind) → IsKept rs → (a n end : ℕ) → end ≡ a + n → 0 < n → a + n < 2 ^ 64
+    → (access : Permissions) → EndBelow (a + 1) front → StartFrom end behind → r.start ≤ a → end ≤ r.start + r.len
+    → allow r.value.permissions access ≡ true
+    → (is_allowed (value_at rs) a n access ≡ true)
+    × (pieces (value_at rs) a n ≡ record { base = target a r.value; len = n } ∷ [])
+one_run rs front behind r is k a n end sum some fits access below above low high grant =
+    let l : leb r.start a ≡ true = grind (arith) in
+    let h : leb end (r.start + r.len) ≡ true = grind (arith) in
+    let g : granted a end access (r ∷ []) ≡ true = rw (l, grant, h) refl in
+    let told = looked_up rs front (r ∷ []) behind is k a n end sum some fits access below above (omega arith) g in
+    let from : max a r.start ≡ a = omega arith in
+    let to : min (a + (end - a)) (r.start + r.len) ≡ end = omega arith in
+    let there : ltb a end ≡ true = lt-ltb a end (omega arith) in
+    let len : end - a ≡ n = omega arith in
+    let one : pieces_left a end (r ∷ []) ≡ record { base = target a r.value; len = n } ∷ [] =
+    rw (from, to, there, len) refl in
+    (told.0, sym told.2 ∙ one)
 
 -- a look-up of no address
 pub no_pieces : (f : Says) (a : ℕ) (access : Permissions) (n : ℕ) → n ≡ 0 → (is_allowed f a n access ≡ true)

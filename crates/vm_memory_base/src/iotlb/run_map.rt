@@ -477,6 +477,22 @@ impl RunMap {
         }
     }
 
+    // The run that has every address from one up to another.
+    #[inline(always)]
+    pub(super) fn holder_of_all(&self, start: u64, end: u64) -> Option<MappedRun>
+        requires canonical { IsCanonical same_mapping self.now }
+        requires some { start < end }
+        ensures { IfSome result (λ r. (front behind : List (AddressRun Mapping))
+            × (self.now ≡ front ++ (r ∷ [] ++ behind)) × EndBelow (start + 1) front × StartFrom end behind
+            × (r.start ≤ start) × (end ≤ r.start + r.len)) }
+    {
+        let run = self.holder(start)?;
+        if run.end() < end {
+            return None;
+        }
+        Some(run)
+    }
+
     // The run that has an address.
     #[inline]
     fn holder(&self, at: u64) -> Option<MappedRun>

@@ -1,13 +1,15 @@
 //! The table of an IOMMU.
-ghost use Rattle.std.specs.Prelude.{◌≡◌, ℕ, ◌+◌, ◌-◌, ◌^◌, ◌<◌, ◌≤◌, ◌⊎◌, ◌∷◌, [], true, false, Some, None, map, OnOk, IfOk, IfErr, IfSome};
+ghost use Rattle.std.specs.Prelude.{◌≡◌, ℕ, ◌+◌, ◌-◌, ◌^◌, ◌<◌, ◌≤◌, ◌⊎◌, ◌∷◌, [], true, false, Some, None, map, OnOk, IfOk, IfErr, IfSome, MatchResult};
 ghost use Rattle.std.specs.List.{filter};
 ghost use Rattle.vm_memory_base.specs.Change.{gaps};
+ghost use Rattle.vm_memory_base.specs.Lookup.{mapped_ranges};
 ghost use Rattle.vm_memory_base.specs.Runs.{cut_to};
 ghost use Rattle.vm_memory_base.specs.Table as table;
 ghost use Rattle.vm_memory_base.specs.Table.{Set, Invalidate, InvalidateAll, covers, says, says_after, says_after_all, events, canonical_list, changed, range_count, is_allowed, pieces, failures, same_mapping, range_of, forbids};
 
 use super::lookup::{
-    IotlbFails, IotlbIterator, IovaRangeList, LookupError, access_fails, are_granted, misses,
+    IotlbFails, IotlbIterator, IovaRangeList, LookupError, MappedRange, access_fails, are_granted,
+    misses,
 };
 use super::mapped_run::MappedRun;
 use super::run_map::{RunMap, Runs};
@@ -183,6 +185,62 @@ impl Iotlb {
         Err(refusal(self.ranges.alloc(), asked, iova.0, end, access))
     }
 
+    /// The pieces of a look-up, as a vector. It takes memory for them: for a length of 0 none.
+    ///
+    /// `Fails` where the look-up fails, and what it tells. `Memory` where there is no memory for the answer.
+    pub fn lookup_all(
+        &self,
+        iova: GuestAddress,
+        length: usize,
+        access: Permissions,
+    ) -> Result<Vec<MappedRange>, LookupError>
+        ensures found { IfOk result (λ found. (is_allowed (says self.now) iova.0 length access ≡ true)
+            × (found.items ≡ mapped_ranges (pieces (says self.now) iova.0 length))) }
+        ensures refused { IfErr result (λ e. ((e ≡ LookupError.Memory) × (0 < length))
+            ⊎ ((is_allowed (says self.now) iova.0 length access ≡ false) × (e ≡ LookupError.Fails (record {
+              misses = table.misses (says self.now) iova.0 length;
+              access_fails = failures (says self.now) iova.0 length access;
+            })))) }
+    {
+        let alloc = self.ranges.alloc();
+        if let Some(piece) = self.lookup_one(iova, length, access) {
+            return only(alloc, piece);
+        }
+        let found = self.lookup(iova, length, access)?;
+        if length == 0 {
+            return Ok(Vec::new(alloc));
+        }
+        match found.collect(alloc) {
+            Ok(pieces) => Ok(pieces),
+            Err(_) => Err(LookupError::Memory),
+        }
+    }
+
+    // Where a range leads, if one of the ranges that are kept has all of it and permits the access.
+    #[inline(always)]
+    fn lookup_one(
+        &self,
+        iova: GuestAddress,
+        length: usize,
+        access: Permissions,
+    ) -> Option<MappedRange>
+        ensures { IfSome result (λ piece. (0 < length) × (is_allowed (says self.now) iova.0 length access ≡ true)
+            × (piece ∷ [] ≡ mapped_ranges (pieces (says self.now) iova.0 length))) }
+    {
+        let end = iova.0.checked_add(length as u64)?;
+        if length == 0 {
+            return None;
+        }
+        let run = self.ranges.holder_of_all(iova.0, end)?;
+        if !run.allows(access) {
+            return None;
+        }
+        Some(MappedRange {
+            base: GuestAddress(run.target(iova.0)),
+            length,
+        })
+    }
+
     /// The number of ranges that are kept. They are the canonical list of what the table says, and at most as many as
     /// its limit, if it has one.
     pub fn num_ranges(&self) -> usize
@@ -191,6 +249,17 @@ impl Iotlb {
         ensures limit { IfSome self.now.limit (λ n. (0 < n) × (result ≤ n)) }
     {
         self.ranges.len()
+    }
+}
+
+// A vector of the one piece.
+#[inline(always)]
+fn only(alloc: Global, piece: MappedRange) -> Result<Vec<MappedRange>, LookupError>
+    ensures { MatchResult result (λ found. found.items ≡ piece ∷ []) (λ e. e ≡ LookupError.Memory) }
+{
+    match Vec::from_slice(alloc, &[piece]) {
+        Ok(found) => Ok(found),
+        Err(_) => Err(LookupError::Memory),
     }
 }
 
