@@ -132,7 +132,7 @@ canonical_gap same end (r ∷ []) (t ∷ ys) h e g s = (h, omega arith, λ touch
 canonical_gap same end (r ∷ q ∷ xs) ys h e g s = (h.0, h.1, h.2, canonical_gap same end (q ∷ xs) ys h.3 e.1 g s)
 
 -- the last run may be another that begins where it does and is mapped alike
-canonical_last : {K : Type 0} (same : K → K → Bool) (xs : List (AddressRun K)) (l h : AddressRun K)
+pub canonical_last : {K : Type 0} (same : K → K → Bool) (xs : List (AddressRun K)) (l h : AddressRun K)
     (ys : List (AddressRun K)) → IsCanonical same (xs ++ l ∷ []) → h.start ≡ l.start → h.value ≡ l.value
     → IsCanonical same (h ∷ ys) → IsCanonical same (xs ++ h ∷ ys)
 canonical_last same [] l h ys c s v g = g
@@ -458,6 +458,29 @@ module _ (rs : List (AddressRun Mapping)) (k : IsKept rs) (r : AddressRun Mappin
           range_set rs before (if_any right ++ after) r k some fits (sym (append-nil before) ∙ front) apart back
       says (Some l) front reaches =
           range_joined rs before (if_any right ++ after) l r k reaches.0 some fits front reaches.1 back
+
+-- a run in its place, where no other has any of its addresses or is to join it
+pub run_is_alone : (rs front back : List (AddressRun Mapping)) (r : AddressRun Mapping) → IsKept rs → 0 < r.len
+    → r.start + r.len < 2 ^ 64 → front ≡ cut_to 0 r.start rs
+    → back ≡ cut_to (r.start + r.len) (2 ^ 64 - (r.start + r.len)) rs → IsCanonical same_mapping (front ++ r ∷ back)
+    → (new : List (AddressRun Mapping)) → new ≡ front ++ r ∷ back
+    → IsKept new × (new ≡ canonical_list (with_run r rs))
+run_is_alone rs front back r k some fits f b h new is =
+    let far = 2 ^ 64 - (r.start + r.len) in
+    let told : SaysThen (with_run r rs) (front ++ r ∷ back) =
+    record {
+      canonical = h;
+      values = λ x. rw (
+        value_at-append front (r ∷ back) x,
+        f,
+        b,
+        value_at-cut_to 0 r.start rs x,
+        value_at-cut_to (r.start + r.len) far rs x,
+      )
+          (says_parts r.start r.len x (value_at rs x) (Some r.value) fits (none_far rs k x));
+    } in
+    kept_after (with_run r rs) rs new k (subst (SaysThen (with_run r rs)) (sym is) told)
+    (λ x l w. past_none rs r.start r.len x (Some r.value) (value_at rs x) fits l w)
 
 pub if_any_one : {X : Type 0} (o : Option X) → length (if_any o) ≤ 1
 if_any_one None = omega arith

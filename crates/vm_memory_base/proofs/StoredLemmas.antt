@@ -1,5 +1,5 @@
 -- Runs by where they start, and what becomes of them where they are stored.
-use Rattle.std.proofs.Common.{◌≡◌, ℕ, ◌+◌, ◌-◌, ◌<◌, ◌≤◌, min, max, Bool, true, false, ltb, leb, eqb, List, [], ◌∷◌, ◌++◌, length, Option, Some, None, IfSome, IfNone, refl, sym, ap, subst, inl, inr, ◌∙◌, arith, nat_cmp}
+use Rattle.std.proofs.Common.{◌≡◌, ℕ, ◌+◌, ◌-◌, ◌^◌, ◌<◌, ◌≤◌, min, max, Bool, true, false, ltb, leb, eqb, List, [], ◌∷◌, ◌++◌, length, Option, Some, None, IfSome, IfNone, refl, sym, ap, subst, inl, inr, ◌∙◌, arith, nat_cmp}
 use Rattle.std.proofs.lemmas.Bool.{lt-ltb, le-ltb, cases_lt, eqb-true, eq-eqb, cases_Bool}
 use Rattle.std.proofs.lemmas.List.{append_cancel_right, append-nil, append_assoc, length-append}
 use Rattle.std.proofs.lemmas.List.Elements.{filter-append}
@@ -7,14 +7,14 @@ use Rattle.std.specs.BTreeMap.{insert_entry, is_at}
 use Rattle.std.specs.BTreeMap.Range.{entries_between}
 use Rattle.std.specs.declared.ops.Bound.TheVariants.{Included, Excluded, Unbounded}
 use Rattle.std.specs.Map.{lookup, remove_entry, set_value}
-use Rattle.vm_memory_base.specs.Change.{if_any, start_or, EndBelow, StartFrom, AreAscending, runs_below, runs_from, with_reset}
+use Rattle.vm_memory_base.specs.Change.{if_any, start_or, EndBelow, StartFrom, AreAscending, IsKept, runs_below, runs_from, with_reset, with_run, without_range}
 use Rattle.vm_memory_base.specs.Runs.{AddressRun, IsCanonical, cut_to}
 use Rattle.vm_memory_base.specs.Stored.{run_in, runs_in}
-use Rattle.vm_memory_base.specs.Table.{Mapping, same_mapping}
+use Rattle.vm_memory_base.specs.Table.{Mapping, same_mapping, canonical_list}
 use Rattle.vm_memory_base.specs.Walk.{HeadEndsAfter}
 use Rattle.vm_memory_base.specs.declared.iotlb.mapped_run.RunTail.{RunTail}
-use Rattle.vm_memory_base.proofs.ChangeLemmas.{StartFrom-weaker, StartFrom-zero, EndBelow-weaker, tail_starts, cut_to-append, cut_to-inside, cut_to-before, cut_to-behind}
-use Rattle.vm_memory_base.proofs.RunsLaws.{run, canonical_pos, canonical_tail}
+use Rattle.vm_memory_base.proofs.ChangeLemmas.{StartFrom-weaker, StartFrom-zero, EndBelow-weaker, tail_starts, cut_to-append, cut_to-inside, cut_to-before, cut_to-behind, canonical_last, range_is_clear, run_is_alone}
+use Rattle.vm_memory_base.proofs.RunsLaws.{run, CanFollow, canonical_cons, canonical_pos, canonical_tail}
 
 -- each run starts below a limit
 abbrev pub StartsBelow : {K : Type 0} → ℕ → List (AddressRun K) → Type 0
@@ -569,6 +569,17 @@ back_cut same at n rs h b r is u =
     ≡ run at (r.start + r.len - at) r.value ∷ runs_from (at + 1) rs = rw (from, to, below, q) in
     sym (ap (cut_to at n) w ∙ cut_to-append at n (runs_below r.start rs) (r ∷ runs_from (at + 1) rs) ∙ rw (p, last))
 
+-- where the runs that start below an address end there or before it
+pub back_upto : {K : Type 0} (same : K → K → Bool) (at n : ℕ) (rs : List (AddressRun K)) → IsCanonical same rs
+    → EndBelow (at + n + 1) rs → EndBelow (at + 1) (runs_below at rs) → runs_from at rs ≡ cut_to at n rs
+back_upto same at n rs h b e =
+    let split = sym (ascending_split at rs (ascending_canonical same rs h)) in
+    let p = cut_to-before at n (runs_below at rs) e in
+    let q = cut_to-inside same at n (runs_from at rs)
+    (canonical_suffix same (runs_below at rs) (runs_from at rs) (subst (IsCanonical same) split h)) (from_starts at rs)
+    (EndBelow-suffix (at + n + 1) (runs_below at rs) (runs_from at rs) (subst (EndBelow (at + n + 1)) split b)) in
+    sym (ap (cut_to at n) split ∙ cut_to-append at n (runs_below at rs) (runs_from at rs) ∙ rw (p, q))
+
 -- whether a run starts at an address
 pub from_next : {K : Type 0} (at : ℕ) (rs : List (AddressRun K)) → AreAscending rs
     → StartsBelow at (runs_below (at + 1) rs) → runs_from at rs ≡ runs_from (at + 1) rs
@@ -928,3 +939,144 @@ first_goes_last first high r rs new h s is e =
     (StartFrom-weaker (r.start + 1) high (runs_from high rs) (omega arith) (from_starts high rs)) in
     let done = e ∙ ap (λ (ys : List (AddressRun Mapping)). runs_below r.start rs ++ ys) next in
     subst (λ (n : ℕ). new ≡ runs_below n rs ++ runs_from high rs) s done
+
+-- ---- a change that leaves all other runs as they are
+
+-- the run that has just the addresses of a range goes
+pub whole_goes : (rs : List (AddressRun Mapping)) → IsKept rs → (start end : ℕ) → start < end → end < 2 ^ 64
+    → (r : AddressRun Mapping) → runs_below end rs ≡ runs_below r.start rs ++ r ∷ [] → r.start ≡ start
+    → r.start + r.len ≡ end → (new : List (AddressRun Mapping))
+    → new ≡ runs_below start rs ++ runs_from (start + 1) rs
+    → (IsKept new × (new ≡ canonical_list (without_range start (end - start) rs))) × (length new ≤ length rs + 1)
+whole_goes rs k start end some fits r is s e new is_new =
+    let ascending = ascending_canonical same_mapping rs k.canonical in
+    let to : start + (end - start) ≡ end = omega arith in
+    let ends : EndBelow (start + 1) (runs_below start rs) =
+    subst (λ (n : ℕ). EndBelow (n + 1) (runs_below n rs)) s (ends_before_last same_mapping end rs k.canonical r is) in
+    let all : EndBelow (end + 1) (runs_below end rs) =
+    all_end same_mapping end rs k.canonical r is (end + 1) (omega arith) in
+    let low : StartsBelow (start + 1) (runs_below end rs) =
+    subst (StartsBelow (start + 1)) (sym is)
+    (StartsBelow-append (start + 1) (runs_below r.start rs) (r ∷ [])
+    (StartsBelow-weaker r.start (start + 1) (runs_below r.start rs) (omega arith) (below_starts r.start rs))
+    (omega arith, tt)) in
+    let back : runs_from end rs ≡ cut_to end (2 ^ 64 - end) rs =
+    back_upto same_mapping end (2 ^ 64 - end) rs k.canonical
+    (EndBelow-weaker (2 ^ 64) (end + (2 ^ 64 - end) + 1) rs (omega arith) k.ends) all in
+    let back' : runs_from (start + 1) rs
+    ≡ cut_to (start + (end - start)) (2 ^ 64 - (start + (end - start))) rs =
+    rw to (none_from (start + 1) end rs ascending (omega arith) low ∙ back) in
+    let a = ap length is_new in
+    let b = length-append (runs_below start rs) (runs_from (start + 1) rs) in
+    let c = parts_length start (start + 1) rs (omega arith) in (
+      range_is_clear rs (runs_below start rs) (runs_from (start + 1) rs) start (end - start) None None k (omega arith)
+          (omega arith) (front_upto same_mapping start rs k.canonical ends) back' new is_new,
+      omega arith,
+    )
+
+starts_of_ends : {K : Type 0} (n : ℕ) (rs : List (AddressRun K)) → AreAscending rs → EndBelow (n + 1) rs
+    → StartsBelow n rs
+starts_of_ends n [] h e = tt
+starts_of_ends n (r ∷ rs) h e = let pos = h.0 in (omega arith, starts_of_ends n rs h.2 e.1)
+
+far_follow : (end : ℕ) (m : Mapping) (rs : List (AddressRun Mapping)) → StartFrom (end + 1) rs
+    → CanFollow same_mapping end m rs
+far_follow end m [] s = tt
+far_follow end m (r ∷ rs) s = (omega arith, λ e. absurd (omega arith))
+
+-- one more run, which overlaps no other and joins none. The last ones that start below its end, and there or before
+-- it, are known
+module _ (rs : List (AddressRun Mapping)) (k : IsKept rs) (r : AddressRun Mapping) (some : 0 < r.len) (end : ℕ)
+    (to : end ≡ r.start + r.len) (fits : end < 2 ^ 64) where
+  ascending : AreAscending rs
+  ascending = ascending_canonical same_mapping rs k.canonical
+
+  parts : IsCanonical same_mapping (runs_below end rs ++ runs_from end rs)
+  parts = subst (IsCanonical same_mapping) (sym (ascending_split end rs ascending)) k.canonical
+
+  follows : (last : Option (AddressRun Mapping)) → IfNone last (runs_below (end + 1) rs ≡ [])
+      → IfSome last (λ t. runs_below (end + 1) rs ≡ runs_below t.start rs ++ t ∷ [])
+      → IfSome last (λ t. end ≡ t.start → same_mapping r.value t.value ≡ false)
+      → CanFollow same_mapping end r.value (runs_from end rs)
+  follows None none is differs =
+      let low : StartsBelow end (runs_below (end + 1) rs) = rw none tt in
+      rw (from_next end rs ascending low)
+      (far_follow end r.value (runs_from (end + 1) rs) (from_starts (end + 1) rs))
+  follows (Some t) none is differs =
+      let l = starts_limit same_mapping (end + 1) rs k.canonical t is in
+      elim (cases_lt t.start end) [
+        | inl m ↦
+            rw (from_absent end rs ascending t is m)
+            (far_follow end r.value (runs_from (end + 1) rs) (from_starts (end + 1) rs))
+        | inr m ↦
+            let same : t.start ≡ end = omega arith in
+            rw (from_here end rs ascending t is same) (omega arith, λ e. differs (sym same))
+      ]
+
+  module _ (last : Option (AddressRun Mapping)) (none : IfNone last (runs_below (end + 1) rs ≡ []))
+      (there : IfSome last (λ t. runs_below (end + 1) rs ≡ runs_below t.start rs ++ t ∷ []))
+      (differs : IfSome last (λ t. end ≡ t.start → same_mapping r.value t.value ≡ false)) where
+    behind : IsCanonical same_mapping (r ∷ runs_from end rs)
+    behind =
+        let f : CanFollow same_mapping (r.start + r.len) r.value (runs_from end rs) =
+        subst (λ (n : ℕ). CanFollow same_mapping n r.value (runs_from end rs)) to (follows last none there differs) in
+        canonical_cons same_mapping r (runs_from end rs) some f
+        (canonical_suffix same_mapping (runs_below end rs) (runs_from end rs) parts)
+
+    -- where all runs that start below its end do not reach over its start
+    module _ (ends : EndBelow (r.start + 1) (runs_below end rs)) where
+      starts : StartsBelow r.start (runs_below end rs)
+      starts = starts_of_ends r.start (runs_below end rs) (ascending_below end rs ascending) ends
+
+      same_front : runs_below end rs ≡ runs_below r.start rs
+      same_front = sym (below-all r.start (runs_below end rs) starts) ∙ below_below r.start end rs (omega arith)
+
+      stands : IsCanonical same_mapping (runs_below r.start rs ++ r ∷ runs_from end rs)
+          → (new : List (AddressRun Mapping)) → new ≡ runs_below r.start rs ++ r ∷ runs_from (r.start + 1) rs
+          → (IsKept new × (new ≡ canonical_list (with_run r rs))) × (length new ≤ length rs + 2)
+      stands h new is_new =
+          let low = StartsBelow-weaker r.start (r.start + 1) (runs_below end rs) (omega arith) starts in
+          let is : new ≡ runs_below r.start rs ++ r ∷ runs_from end rs =
+          is_new ∙ ap (λ (ys : List (AddressRun Mapping)). runs_below r.start rs ++ (r ∷ ys))
+          (none_from (r.start + 1) end rs ascending (omega arith) low) in
+          let front : runs_below r.start rs ≡ cut_to 0 r.start rs =
+          sym (append-nil (runs_below r.start rs))
+          ∙ front_upto same_mapping r.start rs k.canonical (subst (EndBelow (r.start + 1)) same_front ends) in
+          let back : runs_from end rs ≡ cut_to (r.start + r.len) (2 ^ 64 - (r.start + r.len)) rs =
+          rw (← to)
+          (back_upto same_mapping end (2 ^ 64 - end) rs k.canonical
+          (EndBelow-weaker (2 ^ 64) (end + (2 ^ 64 - end) + 1) rs (omega arith) k.ends)
+          (EndBelow-weaker (r.start + 1) (end + 1) (runs_below end rs) (omega arith) ends)) in
+          let a = ap length is_new in
+          let b = length-append (runs_below r.start rs) (r ∷ runs_from (r.start + 1) rs) in
+          let c = parts_length r.start (r.start + 1) rs (omega arith) in (
+            run_is_alone rs (runs_below r.start rs) (runs_from end rs) r k some (omega arith) front back h new is,
+            omega arith,
+          )
+
+    pub stands_alone : (before : Option (AddressRun Mapping)) → IfNone before (runs_below end rs ≡ [])
+        → IfSome before (λ l. runs_below end rs ≡ runs_below l.start rs ++ l ∷ [])
+        → IfSome before (λ l. (l.start + l.len ≤ r.start)
+        × (l.start + l.len ≡ r.start → same_mapping l.value r.value ≡ false))
+        → (new : List (AddressRun Mapping)) → new ≡ runs_below r.start rs ++ r ∷ runs_from (r.start + 1) rs
+        → (IsKept new × (new ≡ canonical_list (with_run r rs))) × (length new ≤ length rs + 2)
+    stands_alone None none is apart =
+        let ends : EndBelow (r.start + 1) (runs_below end rs) = rw none tt in
+        let front : runs_below r.start rs ≡ [] = sym (same_front ends) ∙ none in
+        stands ends
+        (subst (λ (xs : List (AddressRun Mapping)). IsCanonical same_mapping (xs ++ r ∷ runs_from end rs)) (sym front)
+        behind)
+    stands_alone (Some l) none is apart =
+        let ends : EndBelow (r.start + 1) (runs_below end rs) =
+        all_end same_mapping end rs k.canonical l is (r.start + 1) (omega arith) in
+        let front : runs_below r.start rs ≡ runs_below l.start rs ++ l ∷ [] = sym (same_front ends) ∙ is in
+        let c : IsCanonical same_mapping (runs_below l.start rs ++ l ∷ []) =
+        subst (IsCanonical same_mapping) is
+        (canonical_prefix same_mapping (runs_below end rs) (runs_from end rs) parts) in
+        let all : IsCanonical same_mapping (runs_below l.start rs ++ l ∷ r ∷ runs_from end rs) =
+        canonical_last same_mapping (runs_below l.start rs) l l (r ∷ runs_from end rs) c refl refl
+        (canonical_cons same_mapping l (r ∷ runs_from end rs) (long same_mapping end rs k.canonical l is) apart
+        behind) in
+        stands ends
+        (subst (λ (xs : List (AddressRun Mapping)). IsCanonical same_mapping (xs ++ r ∷ runs_from end rs)) (sym front)
+        (rw (append_assoc (runs_below l.start rs) (l ∷ []) (r ∷ runs_from end rs)) all))

@@ -6,7 +6,7 @@ ghost use Rattle.vm_memory_base.specs.Runs.{AddressRun, IsCanonical, cut_to};
 ghost use Rattle.vm_memory_base.specs.Table.{Mapping, excess, has_any, same_mapping, canonical_list};
 ghost use Rattle.vm_memory_base.specs.Walk.{HeadEndsAfter};
 
-use super::mapped_run::{MappedRun, RunTail, joined_to};
+use super::mapped_run::{MappedRun, RunTail, has_just, joined_to};
 use std::alloc::{AllocError, Global};
 use std::collections::BTreeMap;
 use std::collections::btree_map::Range;
@@ -381,6 +381,9 @@ impl RunMap {
         let start = run.start();
         let end = run.end();
         let (last, before) = self.neighbours(end);
+        if run.stands_alone(&before, &last) {
+            return self.insert(run);
+        }
         let (left, whole) = self.front(&before, start, end - 1);
         let (right, stored) = self.back(&last, end);
         let (joined, behind) = run.joined(right);
@@ -401,6 +404,10 @@ impl RunMap {
         ensures err { OnErr result (self.new ≡ self.old) }
     {
         let (last, before) = self.neighbours(end);
+        if has_just(&before, start, end) {
+            self.remove(start);
+            return Ok(());
+        }
         let (left, whole) = self.front_over(&before, start, end - 1);
         let (right, stored) = self.back(&last, end);
         let clear = self.is_clear(&before, start, end - 1);

@@ -1,11 +1,11 @@
-use Rattle.std.proofs.Common.{◌≡◌, ◌+◌, ◌-◌, ◌^◌, ◌<◌, ◌≤◌, ◌++◌, [], List, Option, length, sym, ap, subst, arith}
+use Rattle.std.proofs.Common.{◌≡◌, ℕ, ◌+◌, ◌-◌, ◌^◌, ◌<◌, ◌≤◌, ◌++◌, ◌∷◌, [], List, Option, Some, None, length, IfSome, IsSomeAnd, sym, ap, subst, arith}
 use Rattle.vm_memory_base.specs.Change.{IsKept, if_any, runs_below, runs_from, start_or, without_range}
 use Rattle.vm_memory_base.specs.Runs.{AddressRun, cut_to}
 use Rattle.vm_memory_base.specs.Table.{Mapping, same_mapping, canonical_list}
-use Rattle.vm_memory_base.proofs.StoredLemmas.{ascending_canonical, parts_length, front_length, length_four}
+use Rattle.vm_memory_base.proofs.StoredLemmas.{ascending_canonical, parts_length, front_length, length_four, whole_goes}
 use Rattle.vm_memory_base.proofs.ChangeLemmas.{on_ok, either_way, range_is_clear, if_any_one}
 use Rattle.vm_memory_base.proofs.iotlb.run_map.RunMap.clear_range.Goals as goal
-use Rattle.vm_memory_base.proofs.iotlb.run_map.RunMap.clear_range.Goals.{After-back-right}
+use Rattle.vm_memory_base.proofs.iotlb.run_map.RunMap.clear_range.Goals.{After-back-right, After-remove}
 
 -- what the steps of the call tell
 module _ (c : After-back-right) where
@@ -60,3 +60,28 @@ pub returns-clause-growth : goal.returns-clause-growth
 returns-clause-growth c =
     let more = grown (goal.at.returns-clause-growth c).After-back-right c.replace.new.self in
     either_way c.replace.result c.replace.ensures.ok c.replace.ensures.err more (λ e. let l = ap length e in omega arith)
+
+-- where the run goes that has just these addresses
+gone : (before : Option (AddressRun Mapping)) (rs : List (AddressRun Mapping)) → IsKept rs → (start end : ℕ)
+    → start < end → end < 2 ^ 64 → IfSome before (λ r. runs_below end rs ≡ runs_below r.start rs ++ r ∷ [])
+    → IsSomeAnd before (λ r. (r.start ≡ start) × (r.start + r.len ≡ end)) → (new : List (AddressRun Mapping))
+    → new ≡ runs_below start rs ++ runs_from (start + 1) rs
+    → (IsKept new × (new ≡ canonical_list (without_range start (end - start) rs))) × (length new ≤ length rs + 1)
+gone None rs k start end some fits is h new e = absurd h
+gone (Some r) rs k start end some fits is h new e = whole_goes rs k start end some fits r is h.0 h.1 new e
+
+whole : (c : After-remove) → (IsKept c.remove.new.self
+    × (c.remove.new.self ≡ canonical_list (without_range c.args.start (c.args.end - c.args.start) c.args.self.now)))
+    × (length c.remove.new.self ≤ length c.args.self.now + 1)
+whole c =
+    gone c.neighbours-last.result.1 c.args.self.now c.requires.kept c.args.start c.args.end c.requires.some (omega arith)
+    c.neighbours-last.ensures.some_before (c.has_just.ensures c.if-has_just.true) c.remove.new.self c.remove.ensures
+
+pub returns-then-has_just-clause-ok : goal.returns-then-has_just-clause-ok
+returns-then-has_just-clause-ok c = (whole c).0.1
+
+pub returns-then-has_just-clause-kept : goal.returns-then-has_just-clause-kept
+returns-then-has_just-clause-kept c = (whole c).0.0
+
+pub returns-then-has_just-clause-growth : goal.returns-then-has_just-clause-growth
+returns-then-has_just-clause-growth c = (whole c).1

@@ -1,11 +1,11 @@
-use Rattle.std.proofs.Common.{ℕ, ◌≡◌, ◌+◌, ◌-◌, ◌^◌, ◌<◌, ◌≤◌, ◌++◌, ◌∷◌, [], List, Option, length, IfSome, sym, ap, subst, arith}
+use Rattle.std.proofs.Common.{ℕ, ◌≡◌, ◌+◌, ◌-◌, ◌^◌, ◌<◌, ◌≤◌, ◌++◌, ◌∷◌, [], List, false, Option, length, IfSome, sym, ap, subst, arith}
 use Rattle.vm_memory_base.specs.Change.{EndBelow, IsKept, if_any, prepended, prepended_if_any, runs_below, runs_from, start_or, with_run}
 use Rattle.vm_memory_base.specs.Runs.{AddressRun, cut_to}
 use Rattle.vm_memory_base.specs.Table.{Mapping, same_mapping, canonical_list}
-use Rattle.vm_memory_base.proofs.StoredLemmas.{ascending_canonical, from_starts, parts_length, front_length, length_four}
+use Rattle.vm_memory_base.proofs.StoredLemmas.{ascending_canonical, from_starts, parts_length, front_length, length_four, stands_alone}
 use Rattle.vm_memory_base.proofs.ChangeLemmas.{on_ok, either_way, run_is_set, if_any_one}
 use Rattle.vm_memory_base.proofs.iotlb.run_map.RunMap.set_run.Goals as goal
-use Rattle.vm_memory_base.proofs.iotlb.run_map.RunMap.set_run.Goals.{After-replace}
+use Rattle.vm_memory_base.proofs.iotlb.run_map.RunMap.set_run.Goals.{After-insert, After-replace}
 
 -- what the steps of the call tell
 module _ (rs : List (AddressRun Mapping)) (k : IsKept rs) (r : AddressRun Mapping) (some : 0 < r.len)
@@ -84,4 +84,32 @@ returns-clause-kept c =
 pub returns-clause-growth : goal.returns-clause-growth
 returns-clause-growth c =
     either_way c.replace.result c.replace.ensures.ok c.replace.ensures.err (λ e. (told c e).1)
+    (λ e. let l = ap length e in omega arith)
+
+-- where the run stands alone
+alone : (c : After-insert) → c.insert.new.self ≡ runs_below c.args.run.start c.args.self.now
+    ++ c.args.run ∷ runs_from (c.args.run.start + 1) c.args.self.now
+    → (IsKept c.insert.new.self × (c.insert.new.self ≡ canonical_list (with_run c.args.run c.args.self.now)))
+    × (length c.insert.new.self ≤ length c.args.self.now + 2)
+alone c =
+    let near = c.neighbours-last.ensures in
+    let end = c.end-end.ensures.value in
+    let differs : IfSome c.neighbours-last.result.0 (λ t. c.end-end.result ≡ t.start
+    → same_mapping c.args.run.value t.value ≡ false) =
+    rw end (c.stands_alone.ensures.behind c.if-stands_alone.true) in
+    stands_alone c.args.self.now c.requires.kept c.args.run c.requires.some c.end-end.result end (omega arith)
+    c.neighbours-last.result.0 near.none near.some differs c.neighbours-last.result.1 near.none_before near.some_before
+    (c.stands_alone.ensures.before c.if-stands_alone.true) c.insert.new.self
+
+pub returns-then-stands_alone-clause-ok : goal.returns-then-stands_alone-clause-ok
+returns-then-stands_alone-clause-ok c = on_ok c.insert.result (λ e. (alone c e).0.1) c.insert.ensures.ok
+
+pub returns-then-stands_alone-clause-kept : goal.returns-then-stands_alone-clause-kept
+returns-then-stands_alone-clause-kept c =
+    either_way c.insert.result c.insert.ensures.ok c.insert.ensures.err (λ e. (alone c e).0.0)
+    (λ e. subst IsKept (sym e) c.requires.kept)
+
+pub returns-then-stands_alone-clause-growth : goal.returns-then-stands_alone-clause-growth
+returns-then-stands_alone-clause-growth c =
+    either_way c.insert.result c.insert.ensures.ok c.insert.ensures.err (λ e. (alone c e).1)
     (λ e. let l = ap length e in omega arith)
