@@ -428,7 +428,8 @@ pub one_run : (rs front behind : List (AddressRun Mapping)) (r : AddressRun Mapp
     → rs ≡ front ++ (r ∷ [] ++ behind) → IsKept rs → (a n end : ℕ) → end ≡ a + n → 0 < n → a + n < 2 ^ 64
     → (access : Permissions) → EndBelow (a + 1) front → StartFrom end behind → r.start ≤ a → end ≤ r.start + r.len
     → allow r.value.permissions access ≡ true
-    → (is_allowed (value_at rs) a n access ≡ true)
+    → IsWalk a end (r ∷ []) × (is_allowed (value_at rs) a n access ≡ true)
+    × (pieces_left a end (r ∷ []) ≡ pieces (value_at rs) a n)
     × (pieces (value_at rs) a n ≡ record { base = target a r.value; len = n } ∷ [])
 one_run rs front behind r is k a n end sum some fits access below above low high grant =
     let l : leb r.start a ≡ true = grind (arith) in
@@ -441,7 +442,7 @@ one_run rs front behind r is k a n end sum some fits access below above low high
     let len : end - a ≡ n = omega arith in
     let one : pieces_left a end (r ∷ []) ≡ record { base = target a r.value; len = n } ∷ [] =
     rw (from, to, there, len) refl in
-    (told.0, sym told.2 ∙ one)
+    (told.1, told.0, told.2, sym told.2 ∙ one)
 
 -- a look-up of no address
 pub no_pieces : (f : Says) (a : ℕ) (access : Permissions) (n : ℕ) → n ≡ 0 → (is_allowed f a n access ≡ true)

@@ -170,6 +170,27 @@ fn told(
     Ok(text)
 }
 
+// Fails where a look-up that gives a vector tells something else.
+fn expect_all(
+    alloc: Global,
+    table: &Iotlb,
+    (first, len): (u64, usize),
+    access: Permissions,
+    right: &str,
+) -> Result<(), Fail> {
+    let mut text = String::new(alloc);
+    match table.lookup_all(GuestAddress(first), len, access) {
+        Ok(pieces) => {
+            for piece in &pieces {
+                write!(text, " {:#x}+{:#x}", piece.base.0, piece.length)?;
+            }
+        }
+        Err(LookupError::Fails(_)) if right.starts_with("misses") => return Ok(()),
+        Err(_) => return Err(Fail::new("there is memory, and the range is allowed")),
+    }
+    expect_text(len, text.as_str(), right)
+}
+
 // How many addresses the tables speak of.
 const ADDRESSES: u64 = 1000;
 
@@ -235,6 +256,7 @@ fn a_tree_of_ranges_is_a_sorted_vector(rt: HostRuntime) -> Result<(), Fail> {
             let found = told(rt.alloc(), &table, first, len, access)?;
             let right = sorted.told(first, len, access)?;
             expect_text(step, found.as_str(), right.as_str())?;
+            expect_all(rt.alloc(), &table, (first, len), access, right.as_str())?;
         }
     }
     Ok(())

@@ -539,6 +539,17 @@ impl<'a> Model for Runs<'a> {
 }
 
 impl<'a> Runs<'a> {
+    // One run alone.
+    #[inline(always)]
+    pub(super) fn of(run: MappedRun) -> Runs<'a>
+        ensures { result ≡ run ∷ [] }
+    {
+        Runs {
+            held: Some(run),
+            rest: None,
+        }
+    }
+
     pub(super) fn none() -> Runs<'a>
         ensures { result ≡ [] }
     {

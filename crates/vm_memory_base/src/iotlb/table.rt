@@ -5,7 +5,8 @@ ghost use Rattle.vm_memory_base.specs.Change.{gaps};
 ghost use Rattle.vm_memory_base.specs.Lookup.{mapped_ranges};
 ghost use Rattle.vm_memory_base.specs.Runs.{cut_to};
 ghost use Rattle.vm_memory_base.specs.Table as table;
-ghost use Rattle.vm_memory_base.specs.Table.{Set, Invalidate, InvalidateAll, covers, says, says_after, says_after_all, events, canonical_list, changed, range_count, is_allowed, pieces, failures, same_mapping, range_of, forbids};
+ghost use Rattle.vm_memory_base.specs.Table.{target, Set, Invalidate, InvalidateAll, covers, says, says_after, says_after_all, events, canonical_list, changed, range_count, is_allowed, pieces, failures, same_mapping, range_of, forbids};
+ghost use Rattle.vm_memory_base.specs.Walk.{IsWalk, pieces_left};
 
 use super::lookup::{
     IotlbFails, IotlbIterator, IovaRangeList, LookupError, MappedRange, access_fails, are_granted,
@@ -158,7 +159,29 @@ impl Iotlb {
     /// `Fails` where an address is not mapped or its mapping does not permit the access: what is missed and
     /// what fails, each in order. Where the sum of `iova` and `length` is no address the whole range is missed.
     /// `Memory` where there is no memory to say so.
+    #[inline]
     pub fn lookup(
+        &self,
+        iova: GuestAddress,
+        length: usize,
+        access: Permissions,
+    ) -> Result<IotlbIterator<'_>, LookupError>
+        ensures found { IfOk result (λ it. (is_allowed (says self.now) iova.0 length access ≡ true)
+            × (it ≡ pieces (says self.now) iova.0 length)) }
+        ensures refused { IfErr result (λ e. (is_allowed (says self.now) iova.0 length access ≡ false)
+            × ((e ≡ LookupError.Memory) ⊎ (e ≡ LookupError.Fails (record {
+              misses = table.misses (says self.now) iova.0 length;
+              access_fails = failures (says self.now) iova.0 length access;
+            })))) }
+    {
+        if let Some((run, end)) = self.run_of(iova, length, access) {
+            return Ok(IotlbIterator::new(Runs::of(run), iova.0, end));
+        }
+        self.lookup_parts(iova, length, access)
+    }
+
+    // A look-up of any range: run by run.
+    fn lookup_parts(
         &self,
         iova: GuestAddress,
         length: usize,
@@ -203,10 +226,11 @@ impl Iotlb {
             })))) }
     {
         let alloc = self.ranges.alloc();
-        if let Some(piece) = self.lookup_one(iova, length, access) {
-            return only(alloc, piece);
+        if let Some((run, _)) = self.run_of(iova, length, access) {
+            let base = GuestAddress(run.target(iova.0));
+            return only(alloc, MappedRange { base, length });
         }
-        let found = self.lookup(iova, length, access)?;
+        let found = self.lookup_parts(iova, length, access)?;
         if length == 0 {
             return Ok(Vec::new(alloc));
         }
@@ -216,16 +240,18 @@ impl Iotlb {
         }
     }
 
-    // Where a range leads, if one of the ranges that are kept has all of it and permits the access.
+    // The run that has all of a range, if there is one and it permits the access, and where the range ends.
     #[inline(always)]
-    fn lookup_one(
+    fn run_of(
         &self,
         iova: GuestAddress,
         length: usize,
         access: Permissions,
-    ) -> Option<MappedRange>
-        ensures { IfSome result (λ piece. (0 < length) × (is_allowed (says self.now) iova.0 length access ≡ true)
-            × (piece ∷ [] ≡ mapped_ranges (pieces (says self.now) iova.0 length))) }
+    ) -> Option<(MappedRun, u64)>
+        ensures { IfSome result (λ p. (0 < length) × IsWalk iova.0 p.1 (p.0 ∷ [])
+            × (is_allowed (says self.now) iova.0 length access ≡ true)
+            × (pieces_left iova.0 p.1 (p.0 ∷ []) ≡ pieces (says self.now) iova.0 length)
+            × (pieces (says self.now) iova.0 length ≡ record { base = target iova.0 p.0.value; len = length } ∷ [])) }
     {
         let end = iova.0.checked_add(length as u64)?;
         if length == 0 {
@@ -235,10 +261,7 @@ impl Iotlb {
         if !run.allows(access) {
             return None;
         }
-        Some(MappedRange {
-            base: GuestAddress(run.target(iova.0)),
-            length,
-        })
+        Some((run, end))
     }
 
     /// The number of ranges that are kept. They are the canonical list of what the table says, and at most as many as

@@ -5,7 +5,7 @@ use Rattle.vm_memory_base.specs.declared.iotlb.lookup.LookupError.TheVariants.{F
 use Rattle.vm_memory_base.proofs.LookupLemmas.{looked_up, looked_up_in_vain, no_pieces}
 use Rattle.vm_memory_base.specs.Change.{granted}
 use Rattle.vm_memory_base.specs.Walk.{pieces_left}
-use Rattle.vm_memory_base.proofs.iotlb.table.Iotlb.lookup.Goals as goal
+use Rattle.vm_memory_base.proofs.iotlb.table.Iotlb.lookup_parts.Goals as goal
 
 pub returns-then-length-eq0-clause-found : goal.returns-then-length-eq0-clause-found
 returns-then-length-eq0-clause-found c =
