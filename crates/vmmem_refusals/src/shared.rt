@@ -16,13 +16,12 @@ type TestJournal = Journal<GuestRegionMmap, TableIommu, ExclusiveBitmap>;
 // How many commands a machine served before: as many as its journal has room for.
 const SERVED: usize = 32;
 
-// The journal of a machine that served these commands.
-fn served(machine: TestMachine) -> Result<TestJournal, AllocError> {
-    let mut journal = Journal::new(machine);
+// Lets a journal serve so many commands.
+fn serve_all(journal: &mut TestJournal) -> Result<(), AllocError> {
     for _ in 0..SERVED {
         journal.serve(Command::InvalidateAll(0))?;
     }
-    Ok(journal)
+    Ok(())
 }
 
 /// A journal, a machine and a memory that threads share, and what was made of them.
@@ -48,11 +47,13 @@ impl<'a, R: Wait> Shared<'a, R> {
         let mut host = HostMemory::<()>::new(alloc);
         let ranges = [(GuestAddress(0), 0x400), (GuestAddress(0x1000), 0x400)];
         let layout = GuestMemoryMmap::from_ranges(alloc, &mut host, &ranges)?;
+        let mut journal = Journal::new(machine_of(alloc)?);
+        serve_all(&mut journal)?;
         Ok(Shared {
             rt,
             alloc,
             journal: Journal::new(machine_of(alloc)?),
-            machine: SharedMachine::new(served(machine_of(alloc)?)?),
+            machine: SharedMachine::new(journal),
             entry: 0,
             reply: None,
             ran: false,
@@ -125,6 +126,26 @@ impl<'a, R: Wait> Shared<'a, R> {
         }
     }
 
+    fn push_reply(&self, text: &mut String, entry: usize) -> Result<(), Fail> {
+        let reply = self.machine.fetch(self.rt, entry)?;
+        writeln!(text, "{reply:?}")?;
+        Ok(())
+    }
+
+    // How many regions there are now, in the snapshot and in what was made.
+    fn push_regions(&self, text: &mut String) -> Result<(), Fail> {
+        push_count(text, &self.space.memory(self.rt, self.alloc)?)?;
+        match &self.snapshot {
+            Some(snapshot) => push_count(text, snapshot)?,
+            None => text.push('-')?,
+        }
+        match &self.made {
+            Some(made) => push_count(text, &made.memory(self.rt, self.alloc)?)?,
+            None => text.push('-')?,
+        }
+        Ok(())
+    }
+
     fn replace(&mut self) -> Answer {
         let Ok((layout, _)) = self.layout.remove_region(GuestAddress(0), 0x400) else {
             return Answer::Refused;
@@ -138,6 +159,14 @@ impl<'a, R: Wait> Shared<'a, R> {
             Err(_) => Answer::Refused,
         }
     }
+}
+
+fn push_count(
+    text: &mut String,
+    snapshot: &GuestMemoryLoadGuard<GuestMemoryMmap>,
+) -> Result<(), Fail> {
+    writeln!(text, "{}", snapshot.num_regions())?;
+    Ok(())
 }
 
 impl<R: Wait> Calls for Shared<'_, R> {
@@ -163,21 +192,10 @@ impl<R: Wait> Calls for Shared<'_, R> {
     }
 
     fn seen(&mut self, _number: usize) -> Result<String, Fail> {
-        let first = self.machine.fetch(self.rt, SERVED)?;
-        let last = self.machine.fetch(self.rt, self.entry)?;
-        let now = self.space.memory(self.rt, self.alloc)?.num_regions();
-        let kept = match &self.snapshot {
-            Some(snapshot) => snapshot.num_regions(),
-            None => 0,
-        };
-        let made = match &self.made {
-            Some(made) => made.memory(self.rt, self.alloc)?.num_regions(),
-            None => 0,
-        };
-        Ok(format!(in self.alloc;
-            "{} {first:?} {last:?} {:?} {now} {kept} {made}",
-            self.journal.len(),
-            self.reply
-        )?)
+        let mut text = format!(in self.alloc; "{} {:?}\n", self.journal.len(), self.reply)?;
+        self.push_reply(&mut text, SERVED)?;
+        self.push_reply(&mut text, self.entry)?;
+        self.push_regions(&mut text)?;
+        Ok(text)
     }
 }
