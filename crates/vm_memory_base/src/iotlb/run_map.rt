@@ -473,11 +473,6 @@ impl RunMap {
             × EndBelow (start + 1) front × StartFrom end behind × HeadEndsAfter start result }
     {
         let held = self.holder(start);
-        if let Some(run) = held {
-            if end <= run.end() {
-                return Runs { held, rest: None };
-            }
-        }
         Runs {
             held,
             rest: Some(self.tails.range(start + 1..end)),

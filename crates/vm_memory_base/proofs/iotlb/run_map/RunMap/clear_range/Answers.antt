@@ -62,13 +62,13 @@ returns-clause-growth c =
     either_way c.replace.result c.replace.ensures.ok c.replace.ensures.err more (λ e. let l = ap length e in omega arith)
 
 -- where the run goes that has just these addresses
-gone : (before : Option (AddressRun Mapping)) (rs : List (AddressRun Mapping)) → IsKept rs → (start end : ℕ)
-    → start < end → end < 2 ^ 64 → IfSome before (λ r. runs_below end rs ≡ runs_below r.start rs ++ r ∷ [])
+gone : (before : Option (AddressRun Mapping)) (all : List (AddressRun Mapping)) → IsKept all → (start end : ℕ)
+    → start < end → end < 2 ^ 64 → IfSome before (λ r. runs_below end all ≡ runs_below r.start all ++ r ∷ [])
     → IsSomeAnd before (λ r. (r.start ≡ start) × (r.start + r.len ≡ end)) → (new : List (AddressRun Mapping))
-    → new ≡ runs_below start rs ++ runs_from (start + 1) rs
-    → (IsKept new × (new ≡ canonical_list (without_range start (end - start) rs))) × (length new ≤ length rs + 1)
-gone None rs k start end some fits is h new e = absurd h
-gone (Some r) rs k start end some fits is h new e = whole_goes rs k start end some fits r is h.0 h.1 new e
+    → new ≡ runs_below start all ++ runs_from (start + 1) all
+    → (IsKept new × (new ≡ canonical_list (without_range start (end - start) all))) × (length new ≤ length all + 1)
+gone None all k start end some fits is h new e = absurd h
+gone (Some r) all k start end some fits is h new e = whole_goes all k start end some fits r is h.0 h.1 new e
 
 whole : (c : After-remove) → (IsKept c.remove.new.self
     × (c.remove.new.self ≡ canonical_list (without_range c.args.start (c.args.end - c.args.start) c.args.self.now)))

@@ -1,5 +1,4 @@
-use Rattle.std.proofs.Common.{ℕ, ◌≡◌, ◌+◌, subst, sym, ◌∙◌, arith}
-use Rattle.std.proofs.lemmas.Bool.{eqb-true}
+use Rattle.std.proofs.Common.{ℕ, ◌≡◌, ◌+◌, subst, sym, ◌∙◌}
 use Rattle.vm_memory_base.specs.Change.{EndBelow, runs_below}
 use Rattle.vm_memory_base.specs.Table.{same_mapping}
 use Rattle.vm_memory_base.proofs.StoredLemmas.{known, ends_before_last, front_upto}
