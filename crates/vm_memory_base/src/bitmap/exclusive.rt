@@ -1,5 +1,5 @@
 //! A bitmap that one owner marks and harvests.
-ghost use Rattle.std.specs.Prelude.{◌≡◌, ◌≢◌, [], ℕ, Bool, false, ◌+◌, ◌-◌, ◌*◌, ◌^◌, ◌<◌, ◌≤◌, ◌&&◌, if◌then◌else◌, nat_le, nat_lt, ◌++◌, length, slice_index, take, drop, replicate, Some, IfOk, OnOk, OnErr};
+ghost use Rattle.std.specs.Prelude.{◌≡◌, ◌≢◌, [], ℕ, Bool, false, ◌+◌, ◌-◌, ◌*◌, ◌/◌, ◌^◌, ◌<◌, ◌≤◌, ◌&&◌, if◌then◌else◌, nat_le, nat_lt, ◌++◌, length, slice_index, take, drop, replicate, Some, IfOk, OnOk, OnErr};
 ghost use Rattle.std.specs.NonZero.{non_zero_usize_get};
 ghost use Rattle.std.specs.Int.{div_ceil, bit_at};
 ghost use Rattle.vm_memory_base.specs.Flags.{flag, flags_of, dirty_among, Gets};
@@ -89,10 +89,17 @@ impl ExclusiveBitmap {
         if len == 0 {
             return (0, 0);
         }
-        let last = start.saturating_add(len - 1) / self.page_size.get();
+        let page_size = self.page_size.get();
+        let first = start / page_size;
+        // Most ranges lie in one page, and need no second division.
+        let last = if len <= page_size - start % page_size {
+            first
+        } else {
+            start.saturating_add(len - 1) / page_size
+        };
         let count = self.count();
         let end = if last < count { last + 1 } else { count };
-        (end.min(start / self.page_size.get()), end)
+        (end.min(first), end)
     }
 
     /// Makes the pages clean that a mark of `len` bytes from `start` on would make dirty.
@@ -180,6 +187,21 @@ fn fill_words(words: &mut [u64], first: usize, end: usize, all: u64)
     words[first..end].fill(all);
 }
 
+// Gives the pages from one up to another this flag, where they lie in several words. It is called, so that a mark of
+// pages of one word needs few registers.
+#[inline(never)]
+fn set_across(words: &mut [u64], first: usize, end: usize, dirty: bool)
+    requires across { first / 64 < (end - 1) / 64 }
+    requires inside { end ≤ 64 * length words.old }
+    ensures len { length words.new ≡ length words.old }
+    ensures flags { Gets words.old words.new first end dirty }
+{
+    let (low, high) = (first / 64, (end - 1) / 64);
+    set_in_word(words, low, first % 64, 64, dirty);
+    set_words(words, low + 1, high, dirty);
+    set_in_word(words, high, 0, (end - 1) % 64 + 1, dirty);
+}
+
 // Gives the pages from one up to another this flag.
 #[inline]
 fn set_flags(words: &mut [u64], first: usize, end: usize, dirty: bool)
@@ -195,9 +217,7 @@ fn set_flags(words: &mut [u64], first: usize, end: usize, dirty: bool)
     if low == high {
         set_in_word(words, low, first % 64, (end - 1) % 64 + 1, dirty);
     } else {
-        set_in_word(words, low, first % 64, 64, dirty);
-        set_words(words, low + 1, high, dirty);
-        set_in_word(words, high, 0, (end - 1) % 64 + 1, dirty);
+        set_across(words, first, end, dirty);
     }
 }
 
