@@ -25,6 +25,11 @@ pub trait Calls {
 
     /// All that can be seen of what a call may change, and of what the last call that was done answered.
     fn seen(&mut self, number: usize) -> Result<String, Fail>;
+
+    /// Fails where a refusal that is told in some way of its own was not met.
+    fn expect_met(&self) -> Result<(), Fail> {
+        Ok(())
+    }
 }
 
 /// Keeps what a call made.

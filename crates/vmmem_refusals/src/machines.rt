@@ -1,5 +1,9 @@
 //! The commands of a machine, and the copy of a block that it keeps up to date.
 
+ghost use Rattle.std.specs.Prelude.{IfOk};
+ghost use Rattle.vm_memory_guest.specs.Collection.{regions_of};
+ghost use Rattle.vm_memory.specs.Parts.{HoldsRegions};
+
 use crate::calls::{Answer, Calls};
 use std::alloc::{AllocError, Global};
 use std::num::NonZeroUsize;
@@ -7,9 +11,9 @@ use std::slice;
 use std::sync::Arc;
 use std::test::Fail;
 use vm_memory::{
-    BitmapId, BlockId, BlockRange, ByteList, Command, ExclusiveBitmap, GuestAddress,
-    GuestRegionMmap, HostMemory, Machine, MmapRegion, NumberList, Permissions, Reply, SinkList,
-    SinkStep, SourceList, SourceStep, TableIommu, TlbId, Width, run,
+    BitmapId, BlockId, BlockRange, ByteList, Command, ExactBitmap, ExclusiveBitmap, GuestAddress,
+    GuestMemoryRegion, GuestRegionMmap, HostMemory, Iommu, Machine, MmapRegion, NumberList,
+    Permissions, Reply, SinkList, SinkStep, SourceList, SourceStep, TableIommu, TlbId, Width, run,
 };
 
 pub type TestMachine = Machine<GuestRegionMmap, TableIommu, ExclusiveBitmap>;
@@ -22,31 +26,53 @@ fn bitmap_of(alloc: Global, size: usize, page_size: usize) -> Result<ExclusiveBi
     Ok(ExclusiveBitmap::new(alloc, size, page_size)?)
 }
 
-// A machine of one block, a space and a table, and nothing made yet.
-fn bare_machine(alloc: Global) -> Result<TestMachine, Fail> {
+// A host of one block, a space and a table.
+fn host_of(alloc: Global) -> Result<HostMemory<ExclusiveBitmap>, Fail> {
     let mut host = HostMemory::new(alloc);
     let _ = host.new_space(bitmap_of(alloc, 0x6000, 0x10)?)?;
-    let block = host.new_block_with(SIZE, bitmap_of(alloc, SIZE, 4)?)?;
-    let table = host.new_table()?;
-    if host.shape().block_len(block).is_none() || !host.shape().has_table(table) {
-        return Err(Fail::new("the host has the block and the table"));
+    let _ = host.new_block_with(SIZE, bitmap_of(alloc, SIZE, 4)?)?;
+    let _ = host.new_table()?;
+    Ok(host)
+}
+
+// Three regions of a block.
+fn regions_at(
+    alloc: Global,
+    host: &HostMemory<ExclusiveBitmap>,
+    block: BlockId,
+) -> Result<Vec<Arc<GuestRegionMmap>>, Fail>
+    ensures { IfOk result (λ regions.
+        HoldsRegions ⟦<GuestRegionMmap as GuestMemoryRegion>⟧.region host.now (regions_of regions)) }
+{
+    if host.shape().block_len(block).is_none() {
+        return Err(Fail::new("the host has the block"));
     }
-    let mapping = MmapRegion::of_block(&host, block);
+    let mapping = MmapRegion::of_block(host, block);
     let first = GuestRegionMmap::new(mapping, GuestAddress(0)).ok_or("the region fits")?;
     let second = GuestRegionMmap::new(mapping, GuestAddress(0x1000)).ok_or("the region fits")?;
     let third = GuestRegionMmap::new(mapping, GuestAddress(0x2000)).ok_or("the region fits")?;
-    let regions = vec![in alloc;
+    Ok(vec![in alloc;
         Arc::new(alloc, first)?,
         Arc::new(alloc, second)?,
         Arc::new(alloc, third)?,
-    ]?;
+    ]?)
+}
+
+// A machine of one block, a space and a table, and nothing made yet.
+fn bare_machine(alloc: Global) -> Result<TestMachine, Fail> {
+    let host = host_of(alloc)?;
+    let regions = regions_at(alloc, &host, BlockId(0))?;
+    let table = TlbId(0);
+    if !host.shape().has_table(table) {
+        return Err(Fail::new("the host has the table"));
+    }
     let translators = vec![in alloc; Arc::new(alloc, TableIommu::new(table))?]?;
     Ok(Machine::new(alloc, host, regions, translators))
 }
 
 /// Runs commands, and adds their replies.
-pub fn run_on(
-    machine: &mut TestMachine,
+pub fn run_on<G: GuestMemoryRegion, I: Iommu, B: ExactBitmap>(
+    machine: &mut Machine<G, I, B>,
     commands: &[Command],
     replies: &mut Vec<Reply>,
 ) -> Result<(), AllocError> {

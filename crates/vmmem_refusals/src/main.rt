@@ -25,66 +25,58 @@ use std::test::Fail;
 use tables::Tables;
 
 // Tells of how many calls each request was refused.
-fn tell<C: Calls>(
+fn tell<C: Calls + Drop>(
     rt: &impl Print,
     famine: &mut Famine,
     name: &str,
-    ample: &mut C,
-    tried: &mut C,
+    ample: C,
+    tried: C,
 ) -> Result<(), Fail> {
-    let refused = expect_refusals(famine, name, ample, tried)?;
+    let (mut ample, mut tried) = (ample, tried);
+    let refused = expect_refusals(famine, name, &mut ample, &mut tried)?;
     if refused == 0 {
         return Err(Fail::new("no call was refused"));
     }
+    tried.expect_met()?;
     println!(rt; "{name}: {refused} of {} calls refused", tried.count())?;
     Ok(())
 }
 
 fn tell_bitmaps(rt: &impl Print, alloc: Global, famine: &mut Famine) -> Result<(), Fail> {
-    let mut ample = Bitmaps::new(alloc)?;
-    tell(rt, famine, "bitmaps", &mut ample, &mut Bitmaps::new(alloc)?)
+    let ample = Bitmaps::new(alloc)?;
+    tell(rt, famine, "bitmaps", ample, Bitmaps::new(alloc)?)
 }
 
 fn tell_tables(rt: &impl Print, alloc: Global, famine: &mut Famine) -> Result<(), Fail> {
-    let mut ample = Tables::new(alloc)?;
-    tell(
-        rt,
-        famine,
-        "I/O tables",
-        &mut ample,
-        &mut Tables::new(alloc)?,
-    )
+    let ample = Tables::new(alloc)?;
+    tell(rt, famine, "I/O tables", ample, Tables::new(alloc)?)
 }
 
 fn tell_memories(rt: &impl Print, alloc: Global, famine: &mut Famine) -> Result<(), Fail> {
-    let mut ample = Memories::new(alloc)?;
-    let mut tried = Memories::new(alloc)?;
-    tell(rt, famine, "hosts and layouts", &mut ample, &mut tried)?;
-    if !tried.had_parts() {
-        return Err(Fail::new("no refusal left the first of two parts"));
-    }
-    Ok(())
-}
-
-fn tell_machines(rt: &impl Print, alloc: Global, famine: &mut Famine) -> Result<(), Fail> {
-    let mut ample = Machines::new(alloc)?;
+    let ample = Memories::new(alloc)?;
     tell(
         rt,
         famine,
-        "a machine",
-        &mut ample,
-        &mut Machines::new(alloc)?,
+        "hosts and layouts",
+        ample,
+        Memories::new(alloc)?,
     )
 }
 
+fn tell_machines(rt: &impl Print, alloc: Global, famine: &mut Famine) -> Result<(), Fail> {
+    let ample = Machines::new(alloc)?;
+    tell(rt, famine, "a machine", ample, Machines::new(alloc)?)
+}
+
 fn tell_shared<R: Print + Wait>(rt: &R, alloc: Global, famine: &mut Famine) -> Result<(), Fail> {
-    let mut ample = Shared::new(rt, alloc)?;
-    let mut tried = Shared::new(rt, alloc)?;
-    tell(rt, famine, "what threads share", &mut ample, &mut tried)?;
-    if !tried.had_run() {
-        return Err(Fail::new("no command ran whose reply found no memory"));
-    }
-    Ok(())
+    let ample = Shared::new(rt, alloc)?;
+    tell(
+        rt,
+        famine,
+        "what threads share",
+        ample,
+        Shared::new(rt, alloc)?,
+    )
 }
 
 // The scripts on standard input, with an empty line between any two.

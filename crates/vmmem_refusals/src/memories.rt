@@ -35,11 +35,17 @@ fn bitmap_of(alloc: Global) -> Result<ExclusiveBitmap, AllocError> {
     ExclusiveBitmap::new(alloc, 0x100, NonZeroUsize::MIN)
 }
 
+// A layout of two blocks, and a region of a third.
+fn parts_of(alloc: Global, host: &mut Host) -> Result<(GuestMemoryMmap, GuestRegionMmap), Fail> {
+    let layout = GuestMemoryMmap::from_ranges(alloc, host, &RANGES)?;
+    let region = GuestRegionMmap::from_range(host, GuestAddress(0x1000), 0x400)?;
+    Ok((layout, region))
+}
+
 impl Memories {
     pub fn new(alloc: Global) -> Result<Memories, Fail> {
         let mut host = HostMemory::new(alloc);
-        let layout = GuestMemoryMmap::from_ranges(alloc, &mut host, &RANGES)?;
-        let region = GuestRegionMmap::from_range(&mut host, GuestAddress(0x1000), 0x400)?;
+        let (layout, region) = parts_of(alloc, &mut host)?;
         Ok(Memories {
             alloc,
             host,
@@ -51,11 +57,6 @@ impl Memories {
             other: HostMemory::new(alloc),
             regions: None,
         })
-    }
-
-    /// Whether a vector took the bytes of one region only, and a refusal left a block that no memory names.
-    pub fn had_parts(&self) -> bool {
-        self.was_cut && self.other.shape().block_len(BlockId(2)).is_some()
     }
 
     // The blocks that were made before a refusal stay.
@@ -220,5 +221,13 @@ impl Calls for Memories {
         )?;
         push_shape(&mut text, &self.host)?;
         Ok(text)
+    }
+
+    // A vector took the bytes of one region only, and a refusal left a block that no memory names.
+    fn expect_met(&self) -> Result<(), Fail> {
+        if self.was_cut && self.other.shape().block_len(BlockId(2)).is_some() {
+            return Ok(());
+        }
+        Err(Fail::new("no refusal left the first of two parts"))
     }
 }

@@ -6,9 +6,10 @@ use std::alloc::{AllocError, Global};
 use std::sync::{Arc, Wait};
 use std::test::Fail;
 use vm_memory::{
-    CallError, Command, ExclusiveBitmap, GuestAddress, GuestAddressSpace, GuestMemoryAtomic,
-    GuestMemoryBackend, GuestMemoryLoadGuard, GuestMemoryMmap, GuestRegionMmap, HostMemory,
-    Journal, Reply, SharedMachine, TableIommu,
+    CallError, Command, ExactBitmap, ExclusiveBitmap, GuestAddress, GuestAddressSpace,
+    GuestMemoryAtomic, GuestMemoryBackend, GuestMemoryLoadGuard, GuestMemoryMmap,
+    GuestMemoryRegion, GuestRegionMmap, HostMemory, Iommu, Journal, Reply, SharedMachine,
+    TableIommu,
 };
 
 type TestJournal = Journal<GuestRegionMmap, TableIommu, ExclusiveBitmap>;
@@ -17,11 +18,25 @@ type TestJournal = Journal<GuestRegionMmap, TableIommu, ExclusiveBitmap>;
 const SERVED: usize = 32;
 
 // Lets a journal serve so many commands.
-fn serve_all(journal: &mut TestJournal) -> Result<(), AllocError> {
+fn serve_all<G: GuestMemoryRegion, I: Iommu, B: ExactBitmap>(
+    journal: &mut Journal<G, I, B>,
+) -> Result<(), AllocError> {
     for _ in 0..SERVED {
-        journal.serve(Command::InvalidateAll(0))?;
+        if served(journal) != Answer::Done {
+            return Err(AllocError);
+        }
     }
     Ok(())
+}
+
+// Serves one command.
+fn served<G: GuestMemoryRegion, I: Iommu, B: ExactBitmap>(
+    journal: &mut Journal<G, I, B>,
+) -> Answer {
+    match journal.serve(Command::InvalidateAll(0)) {
+        Ok(_) => Answer::Done,
+        Err(_) => Answer::Refused,
+    }
 }
 
 /// A journal, a machine and a memory that threads share, and what was made of them.
@@ -42,38 +57,53 @@ pub struct Shared<'a, R: Wait> {
     snapshot: Option<GuestMemoryLoadGuard<GuestMemoryMmap>>,
 }
 
+// A layout of two blocks of a host that is gone: it is shared, and not accessed.
+fn layout_of(alloc: Global) -> Result<GuestMemoryMmap, Fail> {
+    let mut host = HostMemory::<()>::new(alloc);
+    let ranges = [(GuestAddress(0), 0x400), (GuestAddress(0x1000), 0x400)];
+    Ok(GuestMemoryMmap::from_ranges(alloc, &mut host, &ranges)?)
+}
+
+// A memory that threads share.
+fn space_of(
+    alloc: Global,
+    layout: &GuestMemoryMmap,
+) -> Result<GuestMemoryAtomic<GuestMemoryMmap>, AllocError> {
+    GuestMemoryAtomic::new(alloc, layout.clone()?)
+}
+
+// A machine that threads share, whose journal has no room left.
+fn full_machine(
+    alloc: Global,
+) -> Result<SharedMachine<GuestRegionMmap, TableIommu, ExclusiveBitmap>, Fail> {
+    let mut journal = Journal::new(machine_of(alloc)?);
+    serve_all(&mut journal)?;
+    Ok(SharedMachine::new(journal))
+}
+
 impl<'a, R: Wait> Shared<'a, R> {
     pub fn new(rt: &'a R, alloc: Global) -> Result<Shared<'a, R>, Fail> {
-        let mut host = HostMemory::<()>::new(alloc);
-        let ranges = [(GuestAddress(0), 0x400), (GuestAddress(0x1000), 0x400)];
-        let layout = GuestMemoryMmap::from_ranges(alloc, &mut host, &ranges)?;
-        let mut journal = Journal::new(machine_of(alloc)?);
-        serve_all(&mut journal)?;
+        let layout = layout_of(alloc)?;
+        let space = space_of(alloc, &layout)?;
+        let machine = full_machine(alloc)?;
+        let journal = Journal::new(machine_of(alloc)?);
         Ok(Shared {
             rt,
             alloc,
-            journal: Journal::new(machine_of(alloc)?),
-            machine: SharedMachine::new(journal),
+            journal,
+            machine,
             entry: 0,
             reply: None,
             ran: false,
-            space: GuestMemoryAtomic::new(alloc, layout.clone()?)?,
             layout,
+            space,
             made: None,
             snapshot: None,
         })
     }
 
-    /// Whether a command ran whose reply found no memory.
-    pub fn had_run(&self) -> bool {
-        self.ran
-    }
-
     fn serve(&mut self) -> Answer {
-        match self.journal.serve(Command::InvalidateAll(0)) {
-            Ok(_) => Answer::Done,
-            Err(_) => Answer::Refused,
-        }
+        served(&mut self.journal)
     }
 
     // A command that ran is not called again: its reply is to be fetched.
@@ -197,5 +227,12 @@ impl<R: Wait> Calls for Shared<'_, R> {
         self.push_reply(&mut text, self.entry)?;
         self.push_regions(&mut text)?;
         Ok(text)
+    }
+
+    fn expect_met(&self) -> Result<(), Fail> {
+        if self.ran {
+            return Ok(());
+        }
+        Err(Fail::new("no command ran whose reply found no memory"))
     }
 }
