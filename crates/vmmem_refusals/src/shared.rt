@@ -1,7 +1,7 @@
 //! The calls of what threads share.
 
 use crate::calls::{Answer, Calls, keep};
-use crate::machines::{TestMachine, answer_of, machine_of};
+use crate::machines::{answer_of, machine_of};
 use std::alloc::{AllocError, Global};
 use std::sync::{Arc, Wait};
 use std::test::Fail;
@@ -29,7 +29,7 @@ fn serve_all<G: GuestMemoryRegion, I: Iommu, B: ExactBitmap>(
     Ok(())
 }
 
-// Serves one command.
+// Serves one command. It names no types of the machine, whose model would be dear to prove with.
 fn served<G: GuestMemoryRegion, I: Iommu, B: ExactBitmap>(
     journal: &mut Journal<G, I, B>,
 ) -> Answer {

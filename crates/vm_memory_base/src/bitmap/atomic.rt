@@ -4,7 +4,7 @@ ghost use Rattle.std.specs.NonZero.{non_zero_usize_get};
 ghost use Rattle.std.specs.Int.{div_ceil};
 ghost use Rattle.vm_memory_base.specs.Words.{IsWithin, AreWithin};
 
-use super::{Bitmap, NewBitmap};
+use super::{Bitmap, NewBitmap, pages_between};
 use std::alloc::{AllocError, Global};
 use std::num::NonZeroUsize;
 use std::sync::atomic::{AtomicU64, Ordering};
@@ -118,14 +118,7 @@ impl AtomicBitmap {
         if len == 0 {
             return (0, 0);
         }
-        let page_size = self.page_size.get();
-        let first = start / page_size;
-        // Most ranges lie in one page, and need no second division.
-        let last = if len <= page_size - start % page_size {
-            first
-        } else {
-            start.saturating_add(len - 1) / page_size
-        };
+        let (first, last) = pages_between(start, len, self.page_size);
         let end = if last < self.size {
             last + 1
         } else {

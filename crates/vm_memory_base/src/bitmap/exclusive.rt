@@ -6,7 +6,7 @@ ghost use Rattle.vm_memory_base.specs.Flags.{flag, flags_of, dirty_among, Gets};
 ghost use Rattle.vm_memory_base.specs.Pages as page_set;
 ghost use Rattle.vm_memory_base.specs.Pages.{IsPageSet, pages_with};
 
-use super::{Bitmap, ExactBitmap, NewBitmap};
+use super::{Bitmap, ExactBitmap, NewBitmap, pages_between};
 use std::alloc::{AllocError, Global};
 use std::mem;
 use std::num::NonZeroUsize;
@@ -89,14 +89,7 @@ impl ExclusiveBitmap {
         if len == 0 {
             return (0, 0);
         }
-        let page_size = self.page_size.get();
-        let first = start / page_size;
-        // Most ranges lie in one page, and need no second division.
-        let last = if len <= page_size - start % page_size {
-            first
-        } else {
-            start.saturating_add(len - 1) / page_size
-        };
+        let (first, last) = pages_between(start, len, self.page_size);
         let count = self.count();
         let end = if last < count { last + 1 } else { count };
         (end.min(first), end)
