@@ -6,6 +6,7 @@ pub mod BlockLemmas
 pub mod CallLemmas
 pub mod CallsOfText
 pub mod CopyLemmas
+pub mod CutsOfText
 pub mod EffectLemmas
 pub mod HistoryLemmas
 pub mod JournalLemmas

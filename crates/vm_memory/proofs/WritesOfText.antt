@@ -17,11 +17,12 @@ use Rattle.vm_memory_guest.specs.Transfer.{ended}
 use Rattle.vm_memory_guest.specs.Window.{MarksAll, Window, Writes, cells, cells_of, span}
 use Rattle.vm_memory_guest.specs.declared.region.GuestMemoryError.{GuestMemoryError}
 use Rattle.vm_memory_guest.specs.declared.region.GuestMemoryError.TheVariants as errors
-use Rattle.vm_memory.specs.Queue.{AreWindowsOf, Entry, Moves, WritesText, extent_of}
+use Rattle.vm_memory.specs.Queue.{AreWindowsOf, Entry, Extent, Moves, WritesText, extent_of, text_windows}
 use Rattle.vm_memory.specs.QueueText.{Runs}
 use Rattle.vm_memory.specs.Reply.{reached_by}
 use Rattle.vm_memory.proofs.AccessLemmas.{ended_is}
 use Rattle.vm_memory.proofs.CallsOfText.{none_if_whole, some_if_short, ended_more, failed_at_once, rest_is, runs_rest, path_left, moves_left, path_stopped, moves_stopped, path_wanting, moves_wanting}
+use Rattle.vm_memory.proofs.CutsOfText.{text_windows-more, text_windows-take}
 use Rattle.vm_memory.proofs.QueueLemmas.{SoFar, so_far_more}
 
 -- ---- windows of paths
@@ -84,10 +85,26 @@ module _ {B : Type 0} (marks : B → ℕ → ℕ → B → Type 0) where
   Joined = (ws vs : List Window) (bytes more : List ℕ) (old mid new : Host B) → length bytes ≡ span ws
       → Writes marks ws bytes old mid → Writes marks vs more mid new → Writes marks (ws ++ vs) (bytes ++ more) old new
 
+  -- a call moved these bytes, in these windows
+  of_text : (m : Memory) (old new : Host B) (before : List Entry) (buffer : List ℕ) (x : Extent) (xs : List Reached)
+      (ws : List Window) (answer : Result ℕ GuestMemoryError) (left : List Entry)
+      → Moves m old.tables permissions.Write before (length buffer) x answer left → x.path ≡ xs
+      → length xs ≤ length buffer → ws ≡ text_windows (take (length buffer) before) xs → AreWindowsOf xs ws
+      → Writes marks ws buffer old new → WritesText marks m before buffer old answer left new
+  of_text m old new before buffer x xs ws answer left moves path_is short cut are wrote =
+      let same : ws ≡ text_windows before x.path =
+      cut ∙ text_windows-take (length buffer) before xs short ∙ ap (text_windows before) (sym path_is) in (
+        x,
+        moves,
+        subst (λ vs. AreWindowsOf x.path vs) same (subst (λ ys. AreWindowsOf ys ws) (sym path_is) are),
+        subst (λ vs. Writes marks vs buffer old new) same wrote,
+      )
+
   module _ (m : Memory) (old now : Host B) (before : List Entry) (buffer : List ℕ) (total : ℕ) (reached : List Reached)
       (ws : List Window) (at : List Entry)
       (h : SoFar m.regions (route m old.tables) permissions.Write (take (length buffer) before) total reached)
-      (are : AreWindowsOf reached ws) (wrote : Writes marks ws (take total buffer) old now)
+      (are : AreWindowsOf reached ws) (cut : ws ≡ text_windows (take (length buffer) before) reached)
+      (wrote : Writes marks ws (take total buffer) old now)
       (within : total ≤ length buffer) (place : at ≡ drop total before) where
     spans_now : span ws ≡ total
     spans_now = span-windows_of reached ws are ∙ h.count
@@ -97,14 +114,12 @@ module _ {B : Type 0} (marks : B → ℕ → ℕ → B → Type 0) where
         → WritesText marks m before buffer old (Ok total) left now
     write_left left none same =
         let rest : drop total (take (length buffer) before) ≡ [] =
-        rest_is before (length buffer) total within ∙ ap (take (length buffer - total)) (sym place) ∙ none in (
-          extent_of m old.tables permissions.Write (take (length buffer) before),
-          ws,
-          moves_left m old.tables permissions.Write before (length buffer) total reached h left rest (same ∙ place),
-          subst (λ xs. AreWindowsOf xs ws)
-              (sym (path_left m old.tables permissions.Write before (length buffer) total reached h rest)) are,
-          writes_whole ws buffer total old now (omega (arith, spans_now)) wrote,
-        )
+        rest_is before (length buffer) total within ∙ ap (take (length buffer - total)) (sym place) ∙ none in
+        of_text m old now before buffer (extent_of m old.tables permissions.Write (take (length buffer) before)) reached
+        ws (Ok total) left
+        (moves_left m old.tables permissions.Write before (length buffer) total reached h left rest (same ∙ place))
+        (path_left m old.tables permissions.Write before (length buffer) total reached h rest)
+        (omega (arith, h.count)) cut are (writes_whole ws buffer total old now (omega (arith, spans_now)) wrote)
 
     module _ (joined : Joined) (a n : ℕ) (new : Host B) (run : Runs a n (take (length buffer - total) at))
         (fits : n ≤ length buffer - total)
@@ -124,6 +139,17 @@ module _ {B : Type 0} (marks : B → ℕ → ℕ → B → Type 0) where
       both : AreWindowsOf (reached ++ (reached_by m old.tables a n permissions.Write).path)
           (ws ++ windows (reached_by m old.tables a n permissions.Write).path)
       both = windows_of-append reached (reached_by m old.tables a n permissions.Write).path ws _ are these
+
+      cut_more : ws ++ windows (reached_by m old.tables a n permissions.Write).path
+          ≡ text_windows (take (length buffer) before) (reached ++ (reached_by m old.tables a n permissions.Write).path)
+      cut_more = ap (λ vs. vs ++ windows (reached_by m old.tables a n permissions.Write).path) cut
+          ∙ sym (text_windows-more m.regions (route m old.tables) permissions.Write (take (length buffer) before) total
+          reached (reached_by m old.tables a n permissions.Write).path a n h runs_here at_most)
+
+      short_of_buffer : length (reached ++ (reached_by m old.tables a n permissions.Write).path) ≤ length buffer
+      short_of_buffer =
+          let count = length-append reached (reached_by m old.tables a n permissions.Write).path in
+          omega (arith, count, h.count, at_most, fits, within)
 
       -- the part of the buffer goes behind what was written
       wrote_more : Writes marks (windows (reached_by m old.tables a n permissions.Write).path)
@@ -163,6 +189,9 @@ module _ {B : Type 0} (marks : B → ℕ → ℕ → B → Type 0) where
           (reached ++ (reached_by m old.tables a n permissions.Write).path)
           × AreWindowsOf (reached ++ (reached_by m old.tables a n permissions.Write).path)
           (ws ++ windows (reached_by m old.tables a n permissions.Write).path)
+          × (ws ++ windows (reached_by m old.tables a n permissions.Write).path
+          ≡ text_windows (take (length buffer) before)
+          (reached ++ (reached_by m old.tables a n permissions.Write).path))
           × Writes marks (ws ++ windows (reached_by m old.tables a n permissions.Write).path)
           (take (total + count) buffer) old new
       write_more count told part whole =
@@ -177,6 +206,7 @@ module _ {B : Type 0} (marks : B → ℕ → ℕ → B → Type 0) where
                 reached a n h
                 runs_here none len),
             both,
+            cut_more,
             subst (λ k. Writes marks (ws ++ windows (reached_by m old.tables a n permissions.Write).path)
                 (take (total + k) buffer) old new) (sym (count_is ∙ len)) (wrote_more part),
           )
@@ -196,21 +226,18 @@ module _ {B : Type 0} (marks : B → ℕ → ℕ → B → Type 0) where
           )) in
           let told_here : Ok count ≡ ended count (Some (error_of stop.0)) =
           told ∙ ap (λ k. ended k (option_map error_of (reached_by m old.tables a n permissions.Write).fault))
-          (spans ∙ sym count_is) ∙ ap (λ o. ended count (option_map error_of o)) stop.1 in (
-            extent_of m old.tables permissions.Write (take (length buffer) before),
-            ws ++ windows (reached_by m old.tables a n permissions.Write).path,
-            moves_stopped m old.tables permissions.Write before (length buffer) total reached h a n runs_here stop.0
-                (Ok (total + count)) left stop.1
-                (ended_more total count (error_of stop.0) told_here
-                ∙ ap (λ k. ended (total + k) (Some (error_of stop.0))) count_is)
-                (passed ∙ ap (drop count) place ∙ drop-drop count total before
-                ∙ ap (λ k. drop (total + k) before) count_is),
-            subst (λ xs. AreWindowsOf xs (ws ++ windows (reached_by m old.tables a n permissions.Write).path))
-                (sym (path_stopped m old.tables permissions.Write before (length buffer) total reached h a n
-                runs_here stop.0 stop.1))
-                both,
-            wrote_all part,
-          )
+          (spans ∙ sym count_is) ∙ ap (λ o. ended count (option_map error_of o)) stop.1 in
+          of_text m old new before buffer (extent_of m old.tables permissions.Write (take (length buffer) before))
+          (reached ++ (reached_by m old.tables a n permissions.Write).path)
+          (ws ++ windows (reached_by m old.tables a n permissions.Write).path) (Ok (total + count)) left
+          (moves_stopped m old.tables permissions.Write before (length buffer) total reached h a n runs_here stop.0
+          (Ok (total + count)) left stop.1
+          (ended_more total count (error_of stop.0) told_here
+          ∙ ap (λ k. ended (total + k) (Some (error_of stop.0))) count_is)
+          (passed ∙ ap (drop count) place ∙ drop-drop count total before
+          ∙ ap (λ k. drop (total + k) before) count_is))
+          (path_stopped m old.tables permissions.Write before (length buffer) total reached h a n runs_here stop.0
+          stop.1) short_of_buffer cut_more both (wrote_all part)
 
       -- it failed
       pub write_failed : (e : GuestMemoryError) (answer : Result ℕ GuestMemoryError) (left : List Entry)
@@ -220,42 +247,34 @@ module _ {B : Type 0} (marks : B → ℕ → ℕ → B → Type 0) where
           × Writes marks (windows (reached_by m old.tables a n permissions.Write).path)
           (take (total + n - total) (drop total buffer)) now new) → answer ≡ ended total (Some e) → left ≡ at
           → WritesText marks m before buffer old answer left new
-      write_failed e answer left (inl (want, on, unchanged)) told stays = (
-        record {
-          path = take total (extent_of m old.tables permissions.Write (take (length buffer) before)).path;
-          error = Some errors.Memory;
-        },
-        ws,
-        subst (λ (r : Result ℕ GuestMemoryError). Moves m old.tables permissions.Write before (length buffer) (record {
-          path = take total (extent_of m old.tables permissions.Write (take (length buffer) before)).path;
-          error = Some errors.Memory;
-        }) r left) (sym (told ∙ ap (λ (f : GuestMemoryError). ended total (Some f)) want))
-            (moves_wanting m old.tables permissions.Write before (length buffer) total reached h a n runs_here left on.0
-            (stays ∙ place)),
-        subst (λ xs. AreWindowsOf xs ws)
-            (sym (path_wanting m old.tables permissions.Write before (length buffer) total reached h a n runs_here))
-            are,
-        subst (λ (k : Host B). Writes marks ws buffer old k) (sym unchanged)
-            (writes_whole ws buffer total old now (omega (arith, spans_now)) wrote),
-      )
+      write_failed e answer left (inl (want, on, unchanged)) told stays =
+          let x : Extent = record {
+            path = take total (extent_of m old.tables permissions.Write (take (length buffer) before)).path;
+            error = Some errors.Memory;
+          } in
+          of_text m old new before buffer x reached ws answer left
+          (subst (λ (r : Result ℕ GuestMemoryError). Moves m old.tables permissions.Write before (length buffer) x r left)
+          (sym (told ∙ ap (λ (f : GuestMemoryError). ended total (Some f)) want))
+          (moves_wanting m old.tables permissions.Write before (length buffer) total reached h a n runs_here left on.0
+          (stays ∙ place)))
+          (path_wanting m old.tables permissions.Write before (length buffer) total reached h a n runs_here)
+          (omega (arith, h.count, within)) cut are
+          (subst (λ (k : Host B). Writes marks ws buffer old k) (sym unchanged)
+          (writes_whole ws buffer total old now (omega (arith, spans_now)) wrote))
       write_failed e answer left (inr (failed, part)) told stays =
           let path_len = length (reached_by m old.tables a n permissions.Write).path in
           let stop = failed_at_once path_len (reached_by m old.tables a n permissions.Write).fault e
           (failed ∙ ap (λ k. ended k (option_map error_of (reached_by m old.tables a n permissions.Write).fault))
           spans) in
           let f = stop.1.0 in
-          let sum : total ≡ total + path_len = omega (arith, stop.0) in (
-            extent_of m old.tables permissions.Write (take (length buffer) before),
-            ws ++ windows (reached_by m old.tables a n permissions.Write).path,
-            moves_stopped m old.tables permissions.Write before (length buffer) total reached h a n runs_here f
-                answer left
-                stop.1.1
-                (told ∙ ap (λ (d : GuestMemoryError). ended total (Some d)) stop.1.2
-                ∙ ap (λ k. ended k (Some (error_of f))) sum)
-                (stays ∙ place ∙ ap (λ k. drop k before) sum),
-            subst (λ xs. AreWindowsOf xs (ws ++ windows (reached_by m old.tables a n permissions.Write).path))
-                (sym (path_stopped m old.tables permissions.Write before (length buffer) total reached h a n
-                runs_here f stop.1.1))
-                both,
-            wrote_all part,
-          )
+          let sum : total ≡ total + path_len = omega (arith, stop.0) in
+          of_text m old new before buffer (extent_of m old.tables permissions.Write (take (length buffer) before))
+          (reached ++ (reached_by m old.tables a n permissions.Write).path)
+          (ws ++ windows (reached_by m old.tables a n permissions.Write).path) answer left
+          (moves_stopped m old.tables permissions.Write before (length buffer) total reached h a n runs_here f answer
+          left stop.1.1
+          (told ∙ ap (λ (d : GuestMemoryError). ended total (Some d)) stop.1.2
+          ∙ ap (λ k. ended k (Some (error_of f))) sum)
+          (stays ∙ place ∙ ap (λ k. drop k before) sum))
+          (path_stopped m old.tables permissions.Write before (length buffer) total reached h a n runs_here f stop.1.1)
+          short_of_buffer cut_more both (wrote_all part)

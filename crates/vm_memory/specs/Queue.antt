@@ -1,11 +1,11 @@
 -- Chains of descriptors: the text of their segments, and what a call moves of it.
-use Rattle.std.specs.Prelude.{◌≡◌, ◌⊎◌, ℕ, zero, suc, ◌+◌, ◌<◌, ◌≤◌, ◌^◌, nat_le, Bool, true, false, not, ◌&&◌, if◌then◌else◌, List, [], ◌∷◌, ◌++◌, length, take, drop, filter, flat_map, sum_by, Option, Some, None, option_map, Result, All}
+use Rattle.std.specs.Prelude.{◌≡◌, ◌⊎◌, ℕ, zero, suc, ◌+◌, ◌<◌, ◌≤◌, ◌^◌, nat_le, Bool, true, false, not, ◌&&◌, if◌then◌else◌, List, [], ◌∷◌, ◌++◌, length, take, drop, filter, map, flat_map, sum_by, Option, Some, None, option_map, Result, All}
 use Rattle.std.specs.List.{list_any}
 use Rattle.std.specs.Option.{option_or}
 use Rattle.vm_memory_base.specs.Table.{Table}
 use Rattle.vm_memory_base.specs.declared.iotlb.Permissions.{Permissions}
 use Rattle.vm_memory_base.specs.declared.iotlb.Permissions.TheVariants as permissions
-use Rattle.vm_memory_guest.specs.Access.{AccessFault, Meets, Reached, Stops, allowed, refusal, meets, onto, or_fault}
+use Rattle.vm_memory_guest.specs.Access.{AccessFault, Meets, Reached, Stops, Stretch, allowed, refusal, meets, onto, or_fault, lengthened, window_of}
 use Rattle.vm_memory_guest.specs.Answer.{filled_buffer}
 use Rattle.vm_memory_guest.specs.Dirt.{path_cells, path_marks, window_marks}
 use Rattle.vm_memory_guest.specs.Error.{error_of}
@@ -144,9 +144,21 @@ pub record AreWindowsOf (xs : List Reached) (ws : List Window) : Type 0 where
   pub marks : flat_map window_marks ws ≡ path_marks xs
   pub fit : All (λ w. w.bitmap.base + w.size ≤ 2 ^ 64) ws
 
--- the front of a buffer went to the next addresses of a text, in windows that are marked one after the other
+-- the bytes that a call over a text reached, between cuts: those of an access, and one behind each segment
+unfoldable pub text_stretches : List Entry → List Reached → List Stretch
+text_stretches es [] = []
+text_stretches [] (x ∷ xs) = []
+text_stretches (e ∷ es) (x ∷ xs) = if e.ends then record { first = x; len = 1 } ∷ text_stretches es xs
+    else lengthened x (text_stretches es xs)
+
+-- their windows: those of one access a segment, in order
+abbrev pub text_windows : List Entry → List Reached → List Window
+text_windows es xs = map window_of (text_stretches es xs)
+
+-- the front of a buffer went to the next addresses of a text, in the windows of one access a segment, each of which
+-- is marked once, in order
 abbrev pub WritesText : {B : Type 0} → (B → ℕ → ℕ → B → Type 0) → Memory → List Entry → List ℕ → Host B
     → Result ℕ GuestMemoryError → List Entry → Host B → Type 0
-WritesText marks m es buffer old answer left new = (x : Extent) × (ws : List Window)
+WritesText marks m es buffer old answer left new = (x : Extent)
     × Moves m old.tables permissions.Write es (length buffer) x answer left
-    × AreWindowsOf x.path ws × Writes marks ws buffer old new
+    × AreWindowsOf x.path (text_windows es x.path) × Writes marks (text_windows es x.path) buffer old new

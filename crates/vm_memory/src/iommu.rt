@@ -200,7 +200,8 @@ impl<M: GuestMemoryBackend, I: Iommu> IommuMemory<M, I> {
         }
     }
 
-    /// The same memory over another backend: the IOMMU is shared once more, and the space stays.
+    /// The same memory over another backend: the IOMMU is shared once more, and the space and the switch stay.
+    /// `AllocError` where the IOMMU cannot be shared.
     pub fn with_replaced_backend(&self, new_backend: M) -> Result<IommuMemory<M, I>, AllocError>
         ensures { IfOk result (λ new. new ≡ record self.now { backend = new_backend }) }
     {

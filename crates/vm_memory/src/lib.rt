@@ -1,4 +1,5 @@
-//! Guest memory for virtual machine monitors: every public name of the crates below, and the machine.
+//! Guest memory for virtual machine monitors: every public name of the crates below but their modules of theorems,
+//! and the machine.
 #![tactic(auto)]
 
 mod iommu;
@@ -32,8 +33,9 @@ pub use vm_memory_base::{
     IoError, IommuError, Iotlb, IotlbFails, IotlbIterator, IovaRange, IovaRangeList, Items, Le16,
     Le32, Le64, LeSize, Lends, LittleEndian, LookupError, MS, MappedRange, MemoryRegionAddress,
     NewBitmap, Permissions, RETRIES, ReadExactFault, ReadVolatile, Reason, RefSlice, ScriptSink,
-    ScriptSource, SharedBitmap, SinkStep, SourceStep, VolatileMemoryError, VolatileMemoryResult,
-    WriteVolatile, event_law, is_interrupted, offer_again,
+    ScriptSource, SharedBitmap, SinkStep, SourceStep, SystemSink, SystemSource,
+    VolatileMemoryError, VolatileMemoryResult, WriteVolatile, event_law, is_interrupted,
+    offer_again,
 };
 pub use vm_memory_guest::{
     BlockId, Bytes, FromRangesError, GuestAddressSpace, GuestMemory, GuestMemoryAtomic,

@@ -1,5 +1,5 @@
-//! A machine: a host, a pool of regions, the layouts and memories that commands make, and the run of a
-//! list of commands.
+//! A machine: a host, pools of regions and of translators, the layouts and memories that commands make, and the run
+//! of a list of commands.
 ghost use Rattle.std.specs.Prelude.{◌≡◌, ℕ, List, ◌++◌, [], OnOk, OnErr};
 ghost use Rattle.vm_memory_guest.specs.Collection.{regions_of};
 ghost use Rattle.vm_memory.specs.History.{AtEachState, ReachesAsTold};
@@ -37,7 +37,8 @@ use vm_memory_base::ExactBitmap;
 use vm_memory_guest::host_laws::blocks_are_short;
 use vm_memory_guest::{GuestMemoryRegion, GuestRegionCollection, HostMemory};
 
-/// A host, a pool of regions, and the layouts and memories that commands made, each kind by number from 0.
+/// A host, pools of regions and of translators, and the layouts and memories that commands made, each kind by number
+/// from 0.
 #[derive(Drop)]
 pub struct Machine<R: GuestMemoryRegion, I: Iommu, B> {
     alloc: Global,

@@ -3,6 +3,9 @@
 //! A driver describes a request by segments of guest memory: those that the device reads, and behind them those
 //! that it writes. A [`ChainReader`] gives the bytes of the readable segments one after the other, and a
 //! [`ChainWriter`] fills the writable ones, over any guest memory, with an IOMMU or without.
+//!
+//! Behind an IOMMU that is on, an access may find no memory for its translation. Behind the first access of a call
+//! this ends the call with a short count, which nothing tells from that of an address with no byte.
 ghost use Rattle.std.specs.Prelude.{◌≡◌, length, None, Some, MatchResult};
 ghost use Rattle.vm_memory_guest.specs.Host.{shape_of, Holds};
 ghost use Rattle.vm_memory.specs.Queue.{ReadsText, WritesText, chain_fault, readable, text, writable};

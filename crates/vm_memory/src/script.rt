@@ -2,7 +2,8 @@
 //!
 //! A line is a word and its arguments, with one space between any two, and ends with a line feed, which
 //! the last line may lack. An empty line and a line that begins with `#` do nothing. `block SIZE PAGE`,
-//! `space SIZE PAGE`, `table`, `region B A` and `translator T` come first and fill the host and the pools; the first
+//! `space SIZE PAGE`, `table` with a limit of its ranges or without, `region B A` and `translator T` come first and
+//! fill the host and the pools; the first
 //! command makes the machine. On layouts the commands are `layout R ..` of none or more regions, `insert L R` and
 //! `remove L A N`; on memories `plain L`, `memory L X S SWITCH` with a translator `X` and a space `S`, `replace M L`
 //! and `enable M SWITCH`, where `SWITCH` is `on` or `off`; by address `read M A N`, `write M A BYTES`, and of all bytes

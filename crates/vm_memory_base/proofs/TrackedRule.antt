@@ -5,18 +5,19 @@ use Rattle.std.specs.Int.{bit_at}
 use Rattle.std.proofs.lemmas.Nat.{or_shr, or_mod}
 use Rattle.std.specs.Int.Bits.{or_zero_r}
 use Rattle.std.proofs.lemmas.Bool.Decides.{nat_tests}
-use Rattle.std.proofs.lemmas.Nat.Bits.{bit_at_or, bit_at-zero, bit_at-lt}
-use Rattle.std.proofs.lemmas.List.{length-replicate, set-get_or}
+use Rattle.std.proofs.lemmas.Nat.Bits.{bit_at_or, bit_at-zero, bit_at-lt, bit_at-pow_other}
+use Rattle.std.proofs.lemmas.List.{length-replicate, set-get_or, get_or_past}
 use mathlib.Core.Option.{some, none, some-injective, some-ne-none}
 use mathlib.Core.Logic.{dite}
 use native.Mathlib.Decide.{ℕ_discrete}
+use Rattle.std.proofs.Math.Decide.{dec_lt}
 use lib.ListN.{get_elem?}
 use Rattle.atomic_table.specs.Table.{step, keeps, Allows, Splits, Joins, Final, Seen}
 use Rattle.atomic_table.proofs.Lists.{at_set, at_snoc, at_longer, set_again}
 use Rattle.vm_memory_base.specs.Notes.{Note, note, IsNoted, rounds_of, greatest_of}
 use Rattle.vm_memory_base.proofs.NotesLemmas.{noted_left, noted_right, noted_either, greatest_both, greatest_left, greatest_right}
 use Rattle.vm_memory_base.specs.declared.bitmap.tracked.view.View.{View}
-use Rattle.vm_memory_base.specs.Tracked.{pages_of, round_of, rounds_before, seen_of, newcomer, note_of, both, IsPage, IsMarked, IsTrue, HasHarvests, IsKept, Holds, after_mark, after_look, after_harvest, Marks, Looks, Harvests, Counts, IsLeft, AreHarvested, AreSeen}
+use Rattle.vm_memory_base.specs.Tracked.{pages_of, round_of, rounds_before, seen_of, newcomer, note_of, both, words_for, IsWordBelow, AreWordsBelow, IsPage, IsMarked, IsTrue, HasHarvests, IsKept, Holds, after_mark, after_look, after_harvest, Marks, Looks, Harvests, Counts, IsLeft, AreLastPages, AreHarvested, AreSeen}
 
 -- ---- lists
 
@@ -68,6 +69,29 @@ or_pages n m h =
     let same : m % 2 ^ 32 ≡ m = omega arith in
     or_mod n m 32 ∙ ap (bit_or (n % 2 ^ 32)) same
 
+pub one_page : (count page m : ℕ) → page < count → m ≡ 2 ^ (page % 32) → IsWordBelow count (page / 32) m
+one_page count page m inside is p b =
+    dite (ℕ_discrete p (page % 32))
+    (λ (e : p ≡ page % 32). omega (arith, inside, e))
+    (λ ne. let none_set = ap (λ n. bit_at n p) is ∙ bit_at-pow_other (page % 32) p ne in absurd (omega arith))
+
+-- a word past the last is read as 0
+pub all_below : (count : ℕ) (pages : List ℕ) → ((k : ℕ) → k < length pages → IsWordBelow count k (slice_index pages k)) → AreWordsBelow count pages
+all_below count pages below w p b =
+    dite (dec_lt w (length pages)) (λ (h : w < length pages). below w h p b)
+    (λ out.
+    let none_set = ap (λ n. bit_at n p) (get_or_past pages w 0 (omega arith)) ∙ bit_at-zero p in absurd (omega arith))
+
+pub below_more : (count : ℕ) (pages : List ℕ) (i x : ℕ) → i < length pages → IsWordBelow count i x
+    → ((k : ℕ) → k < i → IsWordBelow count k (slice_index pages k))
+    → (k : ℕ) → k < i + 1 → IsWordBelow count k (slice_index (set pages i x) k)
+below_more count pages i x fits here below k h =
+    dite (ℕ_discrete k i)
+    (λ (e : k ≡ i).
+    subst (λ (y : ℕ × ℕ). IsWordBelow count y.0 y.1)
+    (λ j. (sym e j, sym (ap (slice_index (set pages i x)) e ∙ get_or-set_same pages i x 0 fits) j)) here)
+    (λ (ne : k ≢ i). subst (IsWordBelow count k) (sym (get_or-set_other pages i k x 0 ne)) (below k (omega arith)))
+
 -- ---- steps that leave the harvests as they are
 
 module _ (count : ℕ) (words : List ℕ) (views : List View) (kept : IsKept count words views) where
@@ -83,15 +107,20 @@ module _ (count : ℕ) (words : List ℕ) (views : List View) (kept : IsKept cou
         (id, u, set_at views id v u at, more (subst (λ (y : View). IsNoted w r p y.marks) was noted)))
         (λ (ne : j ≢ id). (j, x, set_off views id j u ne ∙ e, noted))
 
-  module _ (id : ℕ) (v u : View) (at : get_elem? views id ≡ some v) (same : u.harvests ≡ v.harvests) where
-    still_first : HasHarvests (set views id u) hs
+  module _ (id : ℕ) (v u : View) (at : get_elem? views id ≡ some v) (same : u.harvests ≡ v.harvests)
+      (same_count : id ≡ 0 → u.count ≡ v.count) where
+    still_first : HasHarvests count (set views id u) hs
     still_first =
         dite (ℕ_discrete id 0)
         (λ (e : id ≡ 0).
-        let was : v ≡ kept.first.0 = some-injective v kept.first.0 (sym at ∙ ap (get_elem? views) e ∙ kept.first.1) in
-        (u, subst (λ k. get_elem? (set views id u) k ≡ some u) e (set_at views id v u at), same ∙ ap (λ (x : View). x.harvests) was ∙ kept.first.2))
+        let was : v ≡ kept.first.0 = some-injective v kept.first.0 (sym at ∙ ap (get_elem? views) e ∙ kept.first.1) in (
+          u,
+          subst (λ k. get_elem? (set views id u) k ≡ some u) e (set_at views id v u at),
+          same ∙ ap (λ (x : View). x.harvests) was ∙ kept.first.2,
+          same_count e ∙ ap (λ (x : View). x.count) was ∙ kept.first.3,
+        ))
         (λ (ne : id ≢ 0).
-        (kept.first.0, set_off views id 0 u (λ e. ne (sym e)) ∙ kept.first.1, kept.first.2))
+        (kept.first.0, set_off views id 0 u (λ e. ne (sym e)) ∙ kept.first.1, kept.first.2, kept.first.3))
 
     still_alone : (j : ℕ) (x : View) → get_elem? (set views id u) j ≡ some x → j ≢ 0 → x.harvests ≡ []
     still_alone =
@@ -99,12 +128,12 @@ module _ (count : ℕ) (words : List ℕ) (views : List View) (kept : IsKept cou
         (λ j x _ e. kept.alone j x e)
 
     -- a step on the word i, which becomes n, by a seat whose view becomes u
-    module _ (i n : ℕ) (fits : i < count) (round_is : round_of n ≡ round_of (slice_index words i)) where
+    module _ (i n : ℕ) (fits : i < words_for count) (round_is : round_of n ≡ round_of (slice_index words i)) where
       abbrev pub old : ℕ
       old = slice_index words i
 
       inside : i < length words
-      inside = subst (λ (k : ℕ). i < k) (sym kept.count_is) fits
+      inside = subst (λ (k : ℕ). i < k) (sym kept.words_are) fits
 
       same_rounds : (w : ℕ) → round_of (slice_index (set words i n) w) ≡ round_of (slice_index words w)
       same_rounds = of_words words i n (λ w x. round_of x ≡ round_of (slice_index words w)) inside round_is (λ w _. refl)
@@ -127,7 +156,8 @@ module _ (count : ℕ) (words : List ℕ) (views : List View) (kept : IsKept cou
         -- a page of the new word is one of the old word, or in the new view's marks
         module _ (says : IsTrue (set words i n) hs u)
             (more : (w r p : ℕ) → IsNoted w r p v.marks → IsNoted w r p u.marks)
-            (new : (p : ℕ) → bit_at (pages_of n) p ≡ 1 → (bit_at (pages_of old) p ≡ 1) ⊎ IsNoted i (round_of old) p u.marks) where
+            (new : (p : ℕ) → bit_at (pages_of n) p ≡ 1 → (bit_at (pages_of old) p ≡ 1) ⊎ IsNoted i (round_of old) p u.marks)
+            (below : IsWordBelow count i (pages_of n)) where
           set_or_new : (w p : ℕ) → bit_at (pages_of (slice_index (set words i n) w)) p ≡ 1
               → (bit_at (pages_of (slice_index words w)) p ≡ 1) ⊎ ((w ≡ i) × IsNoted i (round_of old) p u.marks)
           set_or_new w p =
@@ -147,13 +177,14 @@ module _ (count : ℕ) (words : List ℕ) (views : List View) (kept : IsKept cou
 
           pub stepped_keeps : IsKept count (set words i n) (set views id u)
           stepped_keeps = record {
-            count_is = length-set words i n ∙ kept.count_is;
+            words_are = length-set words i n ∙ kept.words_are;
             harvests = hs;
             first = still_first;
             alone = still_alone;
             rounds = λ w. kept.rounds w ∙ ap rounds_before (sym (same_rounds w));
             true_of = of_views views id u (λ j x. IsTrue (set words i n) hs x) says (λ j x _ e. still_true x (kept.true_of j x e));
             marked = all_marked;
+            below = of_words words i n (λ w x. IsWordBelow count w (pages_of x)) inside below (λ w _. kept.below w);
           }
 
 -- ---- notes
@@ -188,20 +219,20 @@ not_yet w r p notes e h =
 
 -- ---- the three kinds of step
 
-module _ (count slots id i : ℕ) (fits : i < count) (v : View) (c : List (ℕ × Unit {0})) where
-  pub marks_allowed : (m : ℕ) → m < 2 ^ 32
+module _ (count slots id i : ℕ) (fits : i < words_for count) (v : View) (c : List (ℕ × Unit {0})) where
+  pub marks_allowed : (m : ℕ) → m < 2 ^ 32 → IsWordBelow count i m
       → Allows (Holds count) slots id (v, c) i (λ n. bit_or n m) (Marks (step slots i m 0 none) (v, c))
-  marks_allowed m small s kept homes at word_fits =
+  marks_allowed m small m_below s kept homes at word_fits =
       let n : ℕ = slice_index s.words i in
       let u : View = after_mark i (round_of n) m v in
       let own = kept.true_of id v at in
-      let inside : i < length s.words = subst (λ (k : ℕ). i < k) (sym kept.count_is) fits in
+      let inside : i < length s.words = subst (λ (k : ℕ). i < k) (sym kept.words_are) fits in
       let round_is : round_of (bit_or n m) ≡ round_of n = or_round n m small in
       let grows : (p : ℕ) → bit_at (pages_of n) p ≡ 1 → bit_at (pages_of (bit_or n m)) p ≡ 1 =
       λ p h. ap (λ x. bit_at x p) (or_pages n m small) ∙ omega (arith, bit_at_or (pages_of n) m p, bit_at-lt m p) in
       let adds : (p : ℕ) → bit_at m p ≡ 1 → bit_at (pages_of (bit_or n m)) p ≡ 1 =
       λ p h. ap (λ x. bit_at x p) (or_pages n m small) ∙ omega (arith, bit_at_or (pages_of n) m p, bit_at-lt (pages_of n) p) in
-      let was = still_true count s.words s.views kept id v u at refl i (bit_or n m) fits round_is grows v own in
+      let was = still_true count s.words s.views kept id v u at refl (λ _. refl) i (bit_or n m) fits round_is grows v own in
       let here : (p : ℕ) → bit_at m p ≡ 1 → IsPage (set s.words i (bit_or n m)) kept.harvests i (round_of n) p =
       λ p h.
       let e = get_or-set_same s.words i (bit_or n m) 0 inside in
@@ -218,16 +249,20 @@ module _ (count slots id i : ℕ) (fits : i < count) (v : View) (c : List (ℕ �
         rounds = λ w.
             more_seen w i (round_of n) v.rounds (round_of (slice_index (set s.words i (bit_or n m)) w)) (was.rounds w)
             (λ e. let k : round_of (slice_index (set s.words i (bit_or n m)) w) ≡ round_of n =
-            same_rounds count s.words s.views kept id v u at refl i (bit_or n m) fits round_is w ∙ ap (λ j. round_of (slice_index s.words j)) e in omega arith);
+            same_rounds count s.words s.views kept id v u at refl (λ _. refl) i (bit_or n m) fits round_is w ∙ ap (λ j. round_of (slice_index s.words j)) e in omega arith);
       } in (
         u,
         keeps,
         tt,
-        stepped_keeps count s.words s.views kept id v u at refl i (bit_or n m) fits round_is grows says (λ w r p k. inr k)
+        stepped_keeps count s.words s.views kept id v u at refl (λ _. refl) i (bit_or n m) fits round_is grows says (λ w r p k. inr k)
             (λ p h.
             let e : max (bit_at (pages_of n) p) (bit_at m p) ≡ 1 = sym (bit_at_or (pages_of n) m p) ∙ ap (λ x. bit_at x p) (sym (or_pages n m small)) ∙ h in
             dite (ℕ_discrete (bit_at (pages_of n) p) 1) (λ k. inl k)
-            (λ ne. inr (inl (refl, refl, omega (arith, bit_at-lt m p, bit_at-lt (pages_of n) p))))),
+            (λ ne. inr (inl (refl, refl, omega (arith, bit_at-lt m p, bit_at-lt (pages_of n) p)))))
+            (λ p h.
+            let e : max (bit_at (pages_of n) p) (bit_at m p) ≡ 1 = sym (bit_at_or (pages_of n) m p) ∙ ap (λ x. bit_at x p) (sym (or_pages n m small)) ∙ h in
+            dite (ℕ_discrete (bit_at (pages_of n) p) 1) (λ k. kept.below i p k)
+            (λ ne. m_below p (omega (arith, bit_at-lt m p, bit_at-lt (pages_of n) p)))),
         (own.rounds i, refl),
       )
 
@@ -236,8 +271,8 @@ module _ (count slots id i : ℕ) (fits : i < count) (v : View) (c : List (ℕ �
       let n : ℕ = slice_index s.words i in
       let u : View = after_look i n v in
       let own = kept.true_of id v at in
-      let inside : i < length s.words = subst (λ (k : ℕ). i < k) (sym kept.count_is) fits in
-      let was = still_true count s.words s.views kept id v u at refl i n fits refl (λ p h. h) v own in
+      let inside : i < length s.words = subst (λ (k : ℕ). i < k) (sym kept.words_are) fits in
+      let was = still_true count s.words s.views kept id v u at refl (λ _. refl) i n fits refl (λ p h. h) v own in
       let here : (p : ℕ) → bit_at (pages_of n) p ≡ 1 → IsPage (set s.words i n) kept.harvests i (round_of n) p =
       λ p h.
       let e = get_or-set_same s.words i n 0 inside in
@@ -254,7 +289,7 @@ module _ (count slots id i : ℕ) (fits : i < count) (v : View) (c : List (ℕ �
         rounds = λ w.
             more_seen w i (round_of n) v.rounds (round_of (slice_index (set s.words i n) w)) (was.rounds w)
             (λ e. let k : round_of (slice_index (set s.words i n) w) ≡ round_of n =
-            same_rounds count s.words s.views kept id v u at refl i n fits refl w ∙ ap (λ j. round_of (slice_index s.words j)) e in omega arith);
+            same_rounds count s.words s.views kept id v u at refl (λ _. refl) i n fits refl w ∙ ap (λ j. round_of (slice_index s.words j)) e in omega arith);
       } in
       -- no harvest of the open round is there yet
       let set_now : (p : ℕ) → IsPage s.words kept.harvests i (round_of n) p → bit_at (pages_of n) p ≡ 1 =
@@ -263,7 +298,7 @@ module _ (count slots id i : ℕ) (fits : i < count) (v : View) (c : List (ℕ �
         u,
         keeps,
         tt,
-        stepped_keeps count s.words s.views kept id v u at refl i n fits refl (λ p h. h) says (λ w r p k. k) (λ p h. inl h),
+        stepped_keeps count s.words s.views kept id v u at refl (λ _. refl) i n fits refl (λ p h. h) says (λ w r p k. k) (λ p h. inl h) (kept.below i),
         (own.rounds i, (λ p h. set_now p (⊎_elim (λ k. own.marks i (round_of n) p k) (λ k. own.sightings i (round_of n) p k) h)), refl),
       )
 
@@ -279,7 +314,7 @@ rounds_off w i r q hs ne = rw (ne_eqb i w ne) refl
 
 -- ---- a harvest
 
-module _ (count : ℕ) (words : List ℕ) (views : List View) (kept : IsKept count words views) (i : ℕ) (fits : i < count)
+module _ (count : ℕ) (words : List ℕ) (views : List View) (kept : IsKept count words views) (i : ℕ) (fits : i < words_for count)
     (v : View) (at : get_elem? views 0 ≡ some v) (m : ℕ) (m_is : m ≡ (round_of (slice_index words i) + 1) * 2 ^ 32) where
   abbrev pub found : ℕ
   found = slice_index words i
@@ -291,7 +326,7 @@ module _ (count : ℕ) (words : List ℕ) (views : List View) (kept : IsKept cou
   later = after_harvest i (round_of found) (pages_of found) v
 
   here : i < length words
-  here = subst (λ (k : ℕ). i < k) (sym kept.count_is) fits
+  here = subst (λ (k : ℕ). i < k) (sym kept.words_are) fits
 
   next : round_of m ≡ round_of found + 1
   next = omega (arith, m_is)
@@ -352,18 +387,27 @@ module _ (count : ℕ) (words : List ℕ) (views : List View) (kept : IsKept cou
             omega (arith, next));
       }
 
+  pub own_count : v.count ≡ count
+  own_count = ap (λ (x : View). x.count) (some-injective v kept.first.0 (sym at ∙ kept.first.1)) ∙ kept.first.3
+
   pub harvested_keeps : IsKept count (set words i m) (set views 0 later)
   harvested_keeps = record {
-    count_is = length-set words i m ∙ kept.count_is;
+    words_are = length-set words i m ∙ kept.words_are;
     harvests = taken;
-    first = (later, set_at views 0 v later at, ap (λ (l : List Note). note i (round_of found) (pages_of found) ∷ l) own_harvests);
+    first = (
+      later,
+      set_at views 0 v later at,
+      ap (λ (l : List Note). note i (round_of found) (pages_of found) ∷ l) own_harvests,
+      own_count,
+    );
     alone = of_views views 0 later (λ j x. j ≢ 0 → x.harvests ≡ []) (λ ne. absurd (ne refl)) (λ j x _ e. kept.alone j x e);
     rounds = rounds_now;
     true_of = of_views views 0 later (λ j x. IsTrue (set words i m) taken x) says_later (λ j x _ e. true_after x (kept.true_of j x e));
     marked = λ w r p h. still_marked count words views kept 0 v later at w r p (λ k. k) (kept.marked w r p (from_taken w r p h));
+    below = of_words words i m (λ w x. IsWordBelow count w (pages_of x)) here (λ p h. absurd (not_set p h)) (λ w _. kept.below w);
   }
 
-harvests_first : (count slots i : ℕ) → i < count → (v : View) (c : List (ℕ × Unit {0})) (m : ℕ) → m ≡ (length (rounds_of i v.harvests) + 1) * 2 ^ 32
+harvests_first : (count slots i : ℕ) → i < words_for count → (v : View) (c : List (ℕ × Unit {0})) (m : ℕ) → m ≡ (length (rounds_of i v.harvests) + 1) * 2 ^ 32
     → Allows (Holds count) slots 0 (v, c) i (λ _. m) (Harvests (step slots i m 0 none) (v, c))
 harvests_first count slots i fits v c m m_is s kept homes at word_fits =
     let n : ℕ = slice_index s.words i in
@@ -373,10 +417,15 @@ harvests_first count slots i fits v c m m_is s kept homes at word_fits =
       keeps,
       tt,
       harvested_keeps count s.words s.views kept i fits v at m (m_is ∙ ap (λ k. (k + 1) * 2 ^ 32) number),
-      (number, refl),
+      (
+        number,
+        subst (λ k. IsWordBelow k i (pages_of n))
+            (sym (own_count count s.words s.views kept i fits v at m (m_is ∙ ap (λ k. (k + 1) * 2 ^ 32) number))) (kept.below i),
+        refl,
+      ),
     )
 
-pub harvests_allowed : (count slots id i : ℕ) → id ≡ 0 → i < count → (v : View) (c : List (ℕ × Unit {0})) (m : ℕ)
+pub harvests_allowed : (count slots id i : ℕ) → id ≡ 0 → i < words_for count → (v : View) (c : List (ℕ × Unit {0})) (m : ℕ)
     → m ≡ (length (rounds_of i v.harvests) + 1) * 2 ^ 32
     → Allows (Holds count) slots id (v, c) i (λ _. m) (Harvests (step slots i m 0 none) (v, c))
 harvests_allowed count slots id i first fits v c m m_is =
@@ -390,31 +439,32 @@ zero_at zero w = refl
 zero_at (suc n) zero = refl
 zero_at (suc n) (suc w) = zero_at n w
 
-pub begins : (n : ℕ) → IsKept n (replicate n 0) (newcomer ∷ [])
-begins n =
-    let none_set : (w r p : ℕ) → IsPage (replicate n 0) [] w r p → ⊥ =
-    λ w r p h.
-    ⊎_elim
-    (λ (k : (r ≡ round_of (slice_index (replicate n 0) w)) × (bit_at (pages_of (slice_index (replicate n 0) w)) p ≡ 1)).
-    let e = ap (λ x. bit_at (pages_of x) p) (zero_at n w) ∙ bit_at-zero p in let b = k.1 in omega arith)
-    (λ k. absurd k) h in
-    record {
-      count_is = length-replicate n 0;
-      harvests = [];
-      first = (newcomer, refl, refl);
-      alone = λ id v e ne. absurd_first id v e ne;
-      rounds = λ w. ap (λ x. rounds_before (round_of x)) (sym (zero_at n w));
-      true_of = λ id v e. only_first n id v e;
-      marked = λ w r p h. absurd (none_set w r p h);
-    }
+starts_clean : (n w r p : ℕ) → IsPage (replicate n 0) [] w r p → ⊥
+starts_clean n w r p (inr noted) = absurd noted
+starts_clean n w r p (inl (e, b)) = not_set n w p b
   where
-    absurd_first : (id : ℕ) (v : View) → get_elem? (newcomer ∷ []) id ≡ some v → id ≢ 0 → v.harvests ≡ []
+    not_set : (n w p : ℕ) → bit_at (pages_of (slice_index (replicate n 0) w)) p ≡ 1 → ⊥
+    not_set n w p b = let e = ap (λ x. bit_at (pages_of x) p) (zero_at n w) ∙ bit_at-zero p in omega arith
+
+pub begins : (count : ℕ) → IsKept count (replicate (words_for count) 0) (newcomer count ∷ [])
+begins count = record {
+  words_are = length-replicate (words_for count) 0;
+  harvests = [];
+  first = (newcomer count, refl, refl, refl);
+  alone = λ id v e ne. absurd_first id v e ne;
+  rounds = λ w. ap (λ x. rounds_before (round_of x)) (sym (zero_at (words_for count) w));
+  true_of = λ id v e. only_first (words_for count) id v e;
+  marked = λ w r p h. absurd (starts_clean (words_for count) w r p h);
+  below = λ w p h. absurd (starts_clean (words_for count) w (round_of (slice_index (replicate (words_for count) 0) w)) p (inl (refl, h)));
+}
+  where
+    absurd_first : (id : ℕ) (v : View) → get_elem? (newcomer count ∷ []) id ≡ some v → id ≢ 0 → v.harvests ≡ []
     absurd_first zero v e ne = absurd (ne refl)
     absurd_first (suc id) v e ne = absurd (some-ne-none v (sym e))
 
-    only_first : (n id : ℕ) (v : View) → get_elem? (newcomer ∷ []) id ≡ some v → IsTrue (replicate n 0) [] v
+    only_first : (n id : ℕ) (v : View) → get_elem? (newcomer count ∷ []) id ≡ some v → IsTrue (replicate n 0) [] v
     only_first n zero v e =
-        subst (IsTrue (replicate n 0) []) (some-injective newcomer v e)
+        subst (IsTrue (replicate n 0) []) (some-injective (newcomer count) v e)
         (record { marks = λ w r p h. absurd h; sightings = λ w r p h. absurd h; rounds = λ w. omega arith })
     only_first n (suc id) v e = absurd (some-ne-none v (sym e))
 
@@ -423,9 +473,9 @@ begins n =
 module _ (count : ℕ) (words : List ℕ) (views : List View) (kept : IsKept count words views) (x : View) where
   pub added_keeps : x.harvests ≡ [] → IsTrue words kept.harvests x → IsKept count words (views ++ x ∷ [])
   added_keeps none_there is = record {
-    count_is = kept.count_is;
+    words_are = kept.words_are;
     harvests = kept.harvests;
-    first = (kept.first.0, at_longer views (x ∷ []) 0 kept.first.0 kept.first.1, kept.first.2);
+    first = (kept.first.0, at_longer views (x ∷ []) 0 kept.first.0 kept.first.1, kept.first.2, kept.first.3);
     alone = λ id v e ne.
         ⊎_elim (λ h. kept.alone id v h ne) (λ (h : x ≡ v). ap (λ (y : View). y.harvests) (sym h) ∙ none_there)
         (at_snoc views x v id e);
@@ -434,12 +484,13 @@ module _ (count : ℕ) (words : List ℕ) (views : List View) (kept : IsKept cou
         ⊎_elim (λ h. kept.true_of id v h) (λ (h : x ≡ v). subst (IsTrue words kept.harvests) h is) (at_snoc views x v id e);
     marked = λ w r p h.
         let m = kept.marked w r p h in (m.0, m.1, at_longer views (x ∷ []) m.0 m.1 m.2, m.3);
+    below = kept.below;
   }
 
-pub deals_allowed : (count id : ℕ) (v : View) → Splits {S = Unit {0}} (Holds count) id v v newcomer
+pub deals_allowed : (count id : ℕ) (v : View) → Splits {S = Unit {0}} (Holds count) id v v (newcomer v.count)
 deals_allowed count id v s kept at =
-    subst (λ (l : List View). IsKept count s.words (l ++ newcomer ∷ [])) (sym (set_again s.views id v at))
-    (added_keeps count s.words s.views kept newcomer refl
+    subst (λ (l : List View). IsKept count s.words (l ++ newcomer v.count ∷ [])) (sym (set_again s.views id v at))
+    (added_keeps count s.words s.views kept (newcomer v.count) refl
     (record { marks = λ w r p h. absurd h; sightings = λ w r p h. absurd h; rounds = λ w. omega arith }))
 
 pub notes_allowed : (count id : ℕ) (v : View) → Splits {S = Unit {0}} (Holds count) id v v (note_of v)
@@ -451,17 +502,19 @@ notes_allowed count id v s kept at =
 -- ---- two views made one
 
 module _ (count : ℕ) (words : List ℕ) (views : List View) (kept : IsKept count words views) (id : ℕ) (v u : View)
-    (at : get_elem? views id ≡ some v) (same : u.harvests ≡ v.harvests) (says : IsTrue words kept.harvests u)
+    (at : get_elem? views id ≡ some v) (same : u.harvests ≡ v.harvests) (same_count : u.count ≡ v.count)
+    (says : IsTrue words kept.harvests u)
     (more : (w r p : ℕ) → IsNoted w r p v.marks → IsNoted w r p u.marks) where
   told_keeps : IsKept count words (set views id u)
   told_keeps = record {
-    count_is = kept.count_is;
+    words_are = kept.words_are;
     harvests = kept.harvests;
-    first = still_first count words views kept id v u at same;
-    alone = still_alone count words views kept id v u at same;
+    first = still_first count words views kept id v u at same (λ _. same_count);
+    alone = still_alone count words views kept id v u at same (λ _. same_count);
     rounds = kept.rounds;
     true_of = of_views views id u (λ j x. IsTrue words kept.harvests x) says (λ j x _ e. kept.true_of j x e);
     marked = λ w r p h. still_marked count words views kept id v u at w r p (more w r p) (kept.marked w r p h);
+    below = kept.below;
   }
 
 both_true : (words : List ℕ) (hs : List Note) (v w : View) → IsTrue words hs v → IsTrue words hs w → IsTrue words hs (both v w)
@@ -471,27 +524,31 @@ both_true words harvests v w one two = record {
   rounds = λ k. greatest_both k (round_of (slice_index words k)) w.rounds v.rounds (two.rounds k) (one.rounds k);
 }
 
-pub joins_allowed : (count id other : ℕ) (v w : View) → w.harvests ≡ []
-    → Joins {S = Unit {0}} (Holds count) id v other w (both v w) newcomer
+-- the first seat's view is never spent: it takes in another, or the other knows no number of pages
+pub joins_allowed : (count id other : ℕ) (v w : View) → w.harvests ≡ [] → (id ≡ 0) ⊎ (w.count ≡ 0)
+    → Joins {S = Unit {0}} (Holds count) id v other w (both v w) (newcomer 0)
 unfolding told_keeps
-joins_allowed count id other v w plain s kept at apart there =
+joins_allowed count id other v w plain later s kept at apart there =
     let b : View = both v w in
     let views : List View = set s.views id b in
     let was : get_elem? s.views other ≡ some w = sym (set_off s.views id other b apart) ∙ there in
     let one : IsKept count s.words views =
-    told_keeps count s.words s.views kept id v b at refl
+    told_keeps count s.words s.views kept id v b at refl refl
     (both_true s.words kept.harvests v w (kept.true_of id v at) (kept.true_of other w was))
     (λ k r p h. noted_right k r p w.marks v.marks h) in
-    let none_there : newcomer.harvests ≡ w.harvests = sym plain in
-    let mine : get_elem? (set views other newcomer) id ≡ some b =
-    set_off views other id newcomer (λ e. apart (sym e)) ∙ set_at s.views id v b at in
+    let spent : View = newcomer 0 in
+    let none_there : spent.harvests ≡ w.harvests = sym plain in
+    let no_count : other ≡ 0 → spent.count ≡ w.count =
+    λ e. ⊎_elim (λ (first : id ≡ 0). absurd (apart (e ∙ sym first))) (λ (z : w.count ≡ 0). sym z) later in
+    let mine : get_elem? (set views other spent) id ≡ some b =
+    set_off views other id spent (λ e. apart (sym e)) ∙ set_at s.views id v b at in
     record {
-      count_is = kept.count_is;
+      words_are = kept.words_are;
       harvests = one.harvests;
-      first = still_first count s.words views one other w newcomer there none_there;
-      alone = still_alone count s.words views one other w newcomer there none_there;
+      first = still_first count s.words views one other w spent there none_there no_count;
+      alone = still_alone count s.words views one other w spent there none_there no_count;
       rounds = kept.rounds;
-      true_of = of_views views other newcomer (λ j x. IsTrue s.words one.harvests x)
+      true_of = of_views views other spent (λ j x. IsTrue s.words one.harvests x)
           (record { marks = λ k r p h. absurd h; sightings = λ k r p h. absurd h; rounds = λ k. omega arith })
           (λ j x _ e. one.true_of j x e);
       marked = λ k r p h.
@@ -506,7 +563,8 @@ joins_allowed count id other v w plain s kept at apart there =
           let is : m.1 ≡ v = some-injective m.1 v (sym m.2 ∙ ap (get_elem? s.views) e ∙ at) in
           (id, b, mine, noted_right k r p w.marks v.marks (subst (λ (y : View). IsNoted k r p y.marks) is m.3)))
           (λ (ne' : m.0 ≢ id).
-          (m.0, m.1, set_off views other m.0 newcomer ne ∙ (set_off s.views id m.0 b ne' ∙ m.2), m.3)));
+          (m.0, m.1, set_off views other m.0 spent ne ∙ (set_off s.views id m.0 b ne' ∙ m.2), m.3)));
+      below = kept.below;
     }
 
 -- ---- the end
@@ -544,6 +602,20 @@ closes count id first v words slots end pages reads w r p inside noted =
     inr (h.0 ∙ sym number, ap (λ n. bit_at n p) page ∙ h.1))
     (λ h. inl (subst (IsNoted w r p) (sym same) h))
     (⊎_elim (λ h. own.marks w r p h) (λ h. own.sightings w r p h) noted)
+
+pub closes_below : (count id : ℕ) (v : View) (words : List ℕ) (slots : List (Unit {0}))
+    → Final (Seen (Holds count) id v) words slots
+    → (pages : List ℕ) → ((k : ℕ) → k < length pages → slice_index pages k ≡ pages_of (slice_index words k)) → AreWordsBelow count pages
+closes_below count id v words slots end pages reads =
+    all_below count pages (λ w h.
+    let page : slice_index pages w ≡ pages_of (slice_index end.0.words w) = reads w h ∙ ap (λ l. pages_of (slice_index l w)) (sym end.2) in
+    subst (IsWordBelow count w) (sym page) (end.1.0.below w))
+
+pub closes_last : (count id : ℕ) → id ≡ 0 → (v : View) (words : List ℕ) (slots : List (Unit {0}))
+    → Final (Seen (Holds count) id v) words slots
+    → (pages : List ℕ) → ((k : ℕ) → k < length pages → slice_index pages k ≡ pages_of (slice_index words k)) → AreLastPages count v pages
+closes_last count id first v words slots end pages reads =
+    (end.0, end.1.0, ap (get_elem? end.0.views) (sym first) ∙ end.1.1, λ k h. reads k h ∙ ap (λ l. pages_of (slice_index l k)) (sym end.2))
 
 -- ---- a load that counts
 

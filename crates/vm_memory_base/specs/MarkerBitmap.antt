@@ -1,5 +1,5 @@
 -- What contracts see of a `MarkerBitmap`.
-use Rattle.std.specs.Prelude.{◌≡◌, ℕ, ◌<◌, length, Option, Some, None, option_map}
+use Rattle.std.specs.Prelude.{◌≡◌, ℕ, ◌/◌, ◌<◌, ◌≤◌, Bool, false, length, Option, Some, None, option_map}
 use Rattle.std.specs.Int.{div_ceil}
 use Rattle.vm_memory_base.specs.Markers.{count_of, page_size_of, marker_table, harvester_table, known_to, known_by}
 use Rattle.vm_memory_base.specs.Notes.{rounds_of}
@@ -19,6 +19,11 @@ MarksHeld None offset len new = new ≡ None
 MarksHeld (Some h) offset len new =
     (m : Marker) × (new ≡ Some (h.0, m)) × (marker_table m ≡ marker_table h.1)
     × MarksRange (page_size_of h.0) (count_of h.0) offset len (known_to h.1) (known_to m)
+
+-- a byte past the last page is told clean. Where there is no marker, each is
+abbrev pub TellsHeld : Option (TrackedBitmap × Marker) → ℕ → Bool → Type 0
+TellsHeld None offset told = told ≡ false
+TellsHeld (Some h) offset told = count_of h.0 ≤ offset / page_size_of h.0 → told ≡ false
 
 -- the marker meets the harvester. Where there is none, nothing is changed
 abbrev pub Meets : Option (TrackedBitmap × Marker) → Harvester

@@ -1,7 +1,8 @@
 -- What contracts see of a `TrackedBitmap`, its markers and its harvester.
-use Rattle.std.specs.Prelude.{◌≡◌, ℕ, List, All}
+use Rattle.std.specs.Prelude.{◌≡◌, ℕ, List, All, length}
 use Rattle.std.specs.NonZero.{non_zero_usize_get}
 use Rattle.atomic_table.specs.Seated.{TableId}
+use Rattle.vm_memory_base.specs.Notes.{rounds_of}
 use Rattle.vm_memory_base.specs.Tracked.{newcomer}
 use Rattle.vm_memory_base.specs.declared.bitmap.tracked.Harvester.{Harvester}
 use Rattle.vm_memory_base.specs.declared.bitmap.tracked.Marker.{Marker}
@@ -16,15 +17,15 @@ count_of b = b.count
 abbrev pub page_size_of : TrackedBitmap → ℕ
 page_size_of b = non_zero_usize_get b.page_size
 
--- the words of a bitmap, and of which words a marker and a harvester are
-abbrev pub table_of : TrackedBitmap → TableId
-table_of b = b.table.shared.table_id
+-- the words of a bitmap with the number of its pages, and of which a marker and a harvester are
+abbrev pub table_of : TrackedBitmap → TableId × ℕ
+table_of b = (b.table.shared.table_id, b.count)
 
-abbrev pub marker_table : Marker → TableId
-marker_table m = m.seat.table_id
+abbrev pub marker_table : Marker → TableId × ℕ
+marker_table m = (m.seat.table_id, m.seat.me.0.count)
 
-abbrev pub harvester_table : Harvester → TableId
-harvester_table h = h.seat.table_id
+abbrev pub harvester_table : Harvester → TableId × ℕ
+harvester_table h = (h.seat.table_id, h.seat.me.0.count)
 
 -- what a marker knows, and a harvester
 abbrev pub known_to : Marker → View
@@ -33,10 +34,10 @@ known_to m = m.seat.me.0
 abbrev pub known_by : Harvester → View
 known_by h = h.seat.me.0
 
--- how often a harvester harvested
+-- how often a harvester harvested: the number of its notes of the first word
 abbrev pub harvests_of : Harvester → ℕ
-harvests_of h = h.round
+harvests_of h = length (rounds_of 0 (known_by h).harvests)
 
--- markers of this table, which know nothing yet
-abbrev pub AreNew : TableId → List Marker → Type 0
-AreNew table markers = All (λ m. (marker_table m ≡ table) × (known_to m ≡ newcomer)) markers
+-- markers of this table, which know no more yet than the number of pages
+abbrev pub AreNew : TableId × ℕ → List Marker → Type 0
+AreNew table markers = All (λ m. (marker_table m ≡ table) × (known_to m ≡ newcomer table.1)) markers

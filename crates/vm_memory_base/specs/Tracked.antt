@@ -1,7 +1,7 @@
 -- The rule of a bitmap that several threads mark while one harvests, and what each step tells.
 -- The low half of a word has 32 pages as bits, and its high half the number of its harvests, its round.
-use Rattle.std.specs.Prelude.{ℕ, zero, suc, ◌+◌, ◌-◌, ◌/◌, ◌%◌, ◌^◌, ◌<◌, ◌≤◌, ◌≡◌, ◌≢◌, ◌⊎◌, List, [], ◌∷◌, ◌++◌, map, length, slice_index, min, Bool, false, ◌==◌, nat_lt, if◌then◌else◌}
-use Rattle.std.specs.Int.{bit_at}
+use Rattle.std.specs.Prelude.{ℕ, zero, suc, ◌+◌, ◌-◌, ◌*◌, ◌/◌, ◌%◌, ◌^◌, ◌<◌, ◌≤◌, ◌≡◌, ◌≢◌, ◌⊎◌, List, [], ◌∷◌, ◌++◌, map, length, slice_index, min, max, Bool, false, ◌==◌, nat_lt, if◌then◌else◌}
+use Rattle.std.specs.Int.{bit_at, div_ceil}
 use mathlib.Core.Option.{some}
 use lib.ListN.{get_elem?}
 use Rattle.atomic_table.specs.Table.{State, Me, Step}
@@ -20,13 +20,25 @@ abbrev pub rounds_before : ℕ → List ℕ
 rounds_before zero = []
 rounds_before (suc round) = round ∷ rounds_before round
 
--- who knows nothing yet
-abbrev pub newcomer : View
-newcomer = record { marks = []; sightings = []; harvests = []; rounds = [] }
+-- who knows no more yet than the number of pages
+abbrev pub newcomer : ℕ → View
+newcomer count = record { count = count; marks = []; sightings = []; harvests = []; rounds = [] }
 
 -- the greatest round that was seen of a word
 abbrev pub seen_of : ℕ → View → ℕ
 seen_of word v = greatest_of word v.rounds
+
+-- the number of words for so many pages. One there is always
+abbrev pub words_for : ℕ → ℕ
+words_for count = max 1 (div_ceil count 32)
+
+-- each of these pages of a word, which has this number, is below the number of pages
+abbrev pub IsWordBelow : ℕ → ℕ → ℕ → Type 0
+IsWordBelow count word pages = (page : ℕ) → bit_at pages page ≡ 1 → 32 * word + page < count
+
+-- and so of each of these words
+abbrev pub AreWordsBelow : ℕ → List ℕ → Type 0
+AreWordsBelow count words = (word : ℕ) → IsWordBelow count word (slice_index words word)
 
 -- the page was taken in this round of the word, or the round is open and the page is set
 abbrev pub IsPage : List ℕ → List Note → ℕ → ℕ → ℕ → Type 0
@@ -45,21 +57,23 @@ pub record IsTrue (words : List ℕ) (harvests : List Note) (v : View) : Type 0 
   pub sightings : (word round page : ℕ) → IsNoted word round page v.sightings → IsPage words harvests word round page
   pub rounds : (word : ℕ) → seen_of word v ≤ round_of (slice_index words word)
 
--- the first seat has these harvests
-abbrev pub HasHarvests : List View → List Note → Type 0
-HasHarvests views harvests = (v : View) × (get_elem? views 0 ≡ some v) × (v.harvests ≡ harvests)
+-- the first seat has these harvests, and knows the number of pages
+abbrev pub HasHarvests : ℕ → List View → List Note → Type 0
+HasHarvests count views harvests =
+    (v : View) × (get_elem? views 0 ≡ some v) × (v.harvests ≡ harvests) × (v.count ≡ count)
 
--- The first seat is the harvester's, and it alone harvests. A word's round is the number of its harvests, one in
--- each round before it. What was marked or seen is in the harvest of its round or still set, and each page that was
--- harvested or is set was marked in its round
+-- The rule of so many pages. The first seat is the harvester's, and it alone harvests. A word's round is the number
+-- of its harvests, one in each round before it. What was marked or seen is in the harvest of its round or still set,
+-- each page that was harvested or is set was marked in its round, and no page is set past the last
 pub record IsKept (count : ℕ) (words : List ℕ) (views : List View) : Type 0 where
-  pub count_is : length words ≡ count
+  pub words_are : length words ≡ words_for count
   pub harvests : List Note
-  pub first : HasHarvests views harvests
+  pub first : HasHarvests count views harvests
   pub alone : (id : ℕ) (v : View) → get_elem? views id ≡ some v → id ≢ 0 → v.harvests ≡ []
   pub rounds : (word : ℕ) → rounds_of word harvests ≡ rounds_before (round_of (slice_index words word))
   pub true_of : (id : ℕ) (v : View) → get_elem? views id ≡ some v → IsTrue words harvests v
   pub marked : (word round page : ℕ) → IsPage words harvests word round page → IsMarked views word round page
+  pub below : (word : ℕ) → IsWordBelow count word (pages_of (slice_index words word))
 
 abbrev pub Holds : ℕ → State (Unit {0}) View → Type 0
 Holds count s = IsKept count s.words s.views
@@ -102,12 +116,12 @@ Looks s me found after =
 -- a harvest of a word, by whom all its harvests were
 abbrev pub Harvests : Step (Unit {0}) → Me (Unit {0}) View → ℕ → Me (Unit {0}) View → Type 0
 Harvests s me found after =
-    (length (rounds_of s.word me.0.harvests) ≡ round_of found)
+    (length (rounds_of s.word me.0.harvests) ≡ round_of found) × IsWordBelow me.0.count s.word (pages_of found)
     × (after ≡ (after_harvest s.word (round_of found) (pages_of found) me.0, me.1))
 
--- what a note of the rounds that were seen tells
+-- what a note of the rounds that were seen tells, and no more
 abbrev pub note_of : View → View
-note_of v = record { marks = []; sightings = []; harvests = []; rounds = v.rounds }
+note_of v = record { count = 0; marks = []; sightings = []; harvests = []; rounds = v.rounds }
 
 -- what the first of two then knows
 abbrev pub both : View → View → View
@@ -177,3 +191,10 @@ IsLeft v words =
     (word round page : ℕ) → word < length words → IsNoted word round page v.marks ⊎ IsNoted word round page v.sightings
     → IsNoted word round page v.harvests
     ⊎ ((round ≡ length (rounds_of word v.harvests)) × (bit_at (slice_index words word) page ≡ 1))
+
+-- Some state keeps the rule, with this view at the harvester's seat, and these are the pages of its words, from the
+-- first on
+abbrev pub AreLastPages : ℕ → View → List ℕ → Type 0
+AreLastPages count v words =
+    (s : State (Unit {0}) View) × Holds count s × (get_elem? s.views 0 ≡ some v)
+    × ((word : ℕ) → word < length words → slice_index words word ≡ pages_of (slice_index s.words word))

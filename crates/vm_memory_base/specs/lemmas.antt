@@ -4,3 +4,4 @@ pub mod ByteCodes
 pub mod NewPages
 pub mod OptionalPages
 pub mod Turns
+pub mod Vectors

@@ -50,7 +50,8 @@ pub trait Bitmap {
     /// made for a length, nothing.
     ghost made: { ℕ → Self → Type 0 } = { λ _ _. ⊥ };
 
-    /// Marks `len` bytes from `offset` on as written.
+    /// Marks `len` bytes from `offset` on as written: none, where `len` is 0. Which pages of an exact bitmap these are
+    /// stands in docs/DEFINITIONS.md, "Page sets".
     fn mark_dirty(&mut self, offset: usize, len: usize)
         ensures { marks self.old offset len self.new };
 
@@ -109,7 +110,7 @@ pub trait ExactBitmap: Bitmap {
 
 /// A bitmap that can be made for a length in bytes.
 pub trait NewBitmap: Bitmap {
-    /// A clean bitmap for `len` bytes.
+    /// A clean bitmap for `len` bytes, which may be none. `AllocError` where there is no memory for it.
     fn with_len(alloc: Global, len: usize) -> Result<Self, AllocError>
         ensures { IfOk result (Self.made len) };
 }

@@ -76,7 +76,7 @@ pub trait ByteValued: ByteSized + Copy {
     // Values and lists of bytes stand for one another, so both round trips lead back.
     ghost laws: { IsByteCode Self.width is_value bytes value_of };
 
-    /// Copies the bytes of the value, from byte `from` on, over `out`.
+    /// Copies the bytes of the value, from byte `from` on, over `out`. The value has as many.
     #[inline]
     final fn copy_bytes(&self, from: usize, out: &mut [u8])
         requires inside { from + length out.old ≤ Self.width }
@@ -89,7 +89,7 @@ pub trait ByteValued: ByteSized + Copy {
         }
     }
 
-    /// Replaces the bytes of the value, from byte `from` on, by those of `data`.
+    /// Replaces the bytes of the value, from byte `from` on, by those of `data`. The value has as many.
     #[inline]
     final fn set_bytes(&mut self, from: usize, data: &[u8])
         requires inside { from + length «data».now ≤ Self.width }

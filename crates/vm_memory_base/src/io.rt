@@ -10,6 +10,7 @@ mod system;
 mod turns;
 
 pub use self::scripted::{ScriptSink, ScriptSource, SinkStep, SourceStep};
+pub use self::system::{SystemSink, SystemSource};
 use self::turns::read_again;
 pub use self::turns::{RETRIES, is_interrupted, offer_again};
 use std::fmt;
@@ -224,7 +225,8 @@ pub trait WriteVolatile {
     // What else is known of one write: of the sink before it, the bytes, its answer, and the sink after it.
     ghost writes: { Self → List ℕ → Answer → Self → Type 0 } = { λ s bytes answer t. ⊤ };
 
-    /// Takes the first bytes of the buffer, and answers how many.
+    /// Takes the first bytes of the buffer, and answers how many. An error is the sink's own; `Memory` says that it
+    /// wanted memory and took nothing.
     fn write_volatile(&mut self, buf: &[u8]) -> VolatileMemoryResult<usize>
         ensures count { IfOk result (λ count. count ≤ length buf.now) }
         ensures tells { TakesAs (may_want self.old) (sink self.old) (length buf.now) result (sink self.new) }

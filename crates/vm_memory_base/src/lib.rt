@@ -25,7 +25,8 @@ pub use bytes::{AtomicAccess, ByteSized, ByteValued, FixedInteger};
 pub use endian::{Be16, Be32, Be64, BeSize, BigEndian, Le16, Le32, Le64, LeSize, LittleEndian};
 pub use io::{
     IoError, RETRIES, ReadExactFault, ReadVolatile, ScriptSink, ScriptSource, SinkStep, SourceStep,
-    VolatileMemoryError, VolatileMemoryResult, WriteVolatile, is_interrupted, offer_again,
+    SystemSink, SystemSource, VolatileMemoryError, VolatileMemoryResult, WriteVolatile,
+    is_interrupted, offer_again,
 };
 pub use iotlb::{
     IommuError, Iotlb, IotlbFails, IotlbIterator, IovaRange, IovaRangeList, LookupError,

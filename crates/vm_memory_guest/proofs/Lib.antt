@@ -30,3 +30,4 @@ pub mod DealtLaws
 pub mod FilledLaws
 pub mod GivenLaws
 pub mod LentLaws
+pub mod VectorLaws

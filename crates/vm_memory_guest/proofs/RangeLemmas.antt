@@ -1,5 +1,5 @@
 -- Blocks that are made for ranges, one after another.
-use Rattle.std.proofs.Common.{◌≡◌, ◌⊎◌, ℕ, ◌+◌, ◌^◌, ◌<◌, ◌≤◌, ◌==◌, ◌||◌, nat_le, cond, Bool, true, false, unwrap_or, List, [], ◌∷◌, ◌++◌, length, get_or, slice_get, take, map, flat_map, Some, None}
+use Rattle.std.proofs.Common.{◌≡◌, ◌⊎◌, ℕ, ◌+◌, ◌<◌, ◌≤◌, List, [], ◌∷◌, ◌++◌, length, get_or, slice_get, take, map, flat_map, Some, None}
 use Rattle.std.proofs.Common.{refl, sym, ap, subst, ◌∙◌, inl, inr, length-append, replicate, arith}
 use Rattle.std.proofs.lemmas.List.{take_more, get_or_default, map-append}
 use Rattle.std.proofs.lemmas.List.Elements.{All-push}
@@ -7,35 +7,13 @@ use Rattle.std.proofs.lemmas.Option.{slice_get_read}
 use Rattle.vm_memory_base.specs.declared.address.GuestAddress.{GuestAddress}
 use Rattle.vm_memory_guest.specs.Host.{Host, Name, Holds, shape_of, with_block}
 use Rattle.vm_memory_guest.specs.Mmap.{mmap_region}
-use Rattle.vm_memory_guest.specs.Ranges.{RangeList, AllFit, HasBlocks, range_error, range_region, range_regions, refusal_of, refused_at}
+use Rattle.vm_memory_guest.specs.Ranges.{RangeList, AllFit, FoundNoMemory, HasBlocks, range_error, range_refusal, range_region, range_regions, refused_at}
 use Rattle.vm_memory_guest.specs.Region.{Region, region_names}
 use Rattle.vm_memory_guest.specs.declared.mmap.FromRangesError.{FromRangesError}
 use Rattle.vm_memory_guest.specs.declared.mmap.GuestRegionMmap.{GuestRegionMmap}
-use Rattle.vm_memory_guest.specs.declared.mmap.FromRangesError.TheVariants.{Collection, MmapRegion, InvalidGuestRegion}
+use Rattle.vm_memory_guest.specs.declared.mmap.FromRangesError.TheVariants.{Collection}
 use Rattle.vm_memory_guest.specs.declared.region.GuestRegionCollectionError.TheVariants as layout
-use Rattle.vm_memory_guest.specs.declared.host.MmapRegionError.TheVariants as block
 use Rattle.vm_memory_guest.proofs.HoldsLemmas.{Holds-each}
-
--- an error is a want of memory, or tells what it is
-pub refusal_of-either : (e : FromRangesError) → (refusal_of e ≡ None) ⊎ (refusal_of e ≡ Some e)
-refusal_of-either (Collection layout.Memory) = inl refl
-refusal_of-either (Collection layout.NoMemoryRegion) = inr refl
-refusal_of-either (Collection layout.MemoryRegionOverlap) = inr refl
-refusal_of-either (Collection layout.UnsortedMemoryRegions) = inr refl
-refusal_of-either (MmapRegion block.Memory) = inl refl
-refusal_of-either (MmapRegion block.InvalidSize) = inr refl
-refusal_of-either InvalidGuestRegion = inr refl
-
--- the error of a range tells its refusal, and want of memory where it has none
-pub range_told : (addr : GuestAddress) (size : ℕ) (e : FromRangesError)
-    → e ≡ unwrap_or (range_error addr size) (MmapRegion block.Memory) → range_error addr size ≡ refusal_of e
-range_told addr size e is = rw is (go (size == 0 || nat_le (2 ^ 63) size) (nat_le (2 ^ 64) (addr.0 + size)))
-  where
-    go : (b z : Bool) → let told = cond b (Some (MmapRegion block.InvalidSize)) (cond z (Some InvalidGuestRegion) None) in
-        told ≡ refusal_of (unwrap_or told (MmapRegion block.Memory))
-    go true z = refl
-    go false true = refl
-    go false false = refl
 
 -- one range more
 pub AllFit-more : (rs : RangeList) (r : GuestAddress × ℕ) → AllFit rs → range_error r.0 r.1 ≡ None
@@ -123,32 +101,28 @@ module _ {B : Type 0} (made : ℕ → B → Type 0) (ranges : RangeList) (old : 
 
     abbrev Refused : FromRangesError → Type 0
     Refused e = (k : ℕ) × (k ≤ length ranges) × AllFit (take k ranges) × HasBlocks made (take k ranges) old new
-        × ((refusal_of e ≡ None) ⊎ ((k < length ranges)
+        × (FoundNoMemory k e ⊎ ((k < length ranges)
         × (refused_at (slice_get ranges k) (range_regions (length old.blocks) ranges) ≡ Some e)))
 
     -- an error of the next range, before its block was made, or behind it for want of memory
     pub refused_at_next : (e : FromRangesError)
-        → ((new ≡ host) × (range_error r.0 r.1 ≡ refusal_of e))
-        ⊎ ((refusal_of e ≡ None) × (range_error r.0 r.1 ≡ None)
+        → ((new ≡ host) × (e ≡ range_refusal r.0 r.1))
+        ⊎ ((e ≡ Collection layout.Memory) × (range_error r.0 r.1 ≡ None)
         × ((bitmap : B) × made r.1 bitmap × (new ≡ with_block host r.1 bitmap)))
         → Refused e
     refused_at_next e why = elim why [
       | inl refused ↦
           let blocks = subst (λ (h : Host B). HasBlocks made (take n ranges) old h) (sym refused.0) so_far.blocks in
           let there = slice_get_read ranges (length ranges) n r refl within at in
-          let told : (refusal_of e ≡ None) ⊎ ((n < length ranges)
-          × (refused_at (slice_get ranges n) (range_regions (length old.blocks) ranges) ≡ Some e)) =
-          elim (refusal_of-either e) [
-            | inl want ↦ inl want
-            | inr tells ↦ inr (within, rw there (refused.1 ∙ tells))
-          ] in
-          (n, omega (arith, within), so_far.fit, blocks, told)
+          let told : refused_at (slice_get ranges n) (range_regions (length old.blocks) ranges) ≡ Some e =
+          rw there (ap (λ (f : FromRangesError). Some f) (sym refused.1)) in
+          (n, omega (arith, within), so_far.fit, blocks, inr (within, told))
       | inr want ↦ (
         n + 1,
         omega (arith, within),
         more_fit want.2.0 want.1 want.2.1 want.2.2,
         more_blocks want.2.0 want.1 want.2.1 want.2.2,
-        inl want.0,
+        inl (omega arith, want.0),
       )
     ]
 
@@ -176,11 +150,11 @@ module _ {B : Type 0} (made : ℕ → B → Type 0) (ranges : RangeList) (old : 
   -- or was refused
   pub refused_next : (regions : List Region) (d : GuestAddress × ℕ) (e : FromRangesError)
       → (so_far : IsMade made ranges old n host regions) → (within : n < length ranges)
-      → ((new ≡ host) × (range_error (get_or ranges n d).0 (get_or ranges n d).1 ≡ refusal_of e))
-      ⊎ ((refusal_of e ≡ None) × (range_error (get_or ranges n d).0 (get_or ranges n d).1 ≡ None)
+      → ((new ≡ host) × (e ≡ range_refusal (get_or ranges n d).0 (get_or ranges n d).1))
+      ⊎ ((e ≡ Collection layout.Memory) × (range_error (get_or ranges n d).0 (get_or ranges n d).1 ≡ None)
       × ((bitmap : B) × made (get_or ranges n d).1 bitmap × (new ≡ with_block host (get_or ranges n d).1 bitmap)))
       → (k : ℕ) × (k ≤ length ranges) × AllFit (take k ranges) × HasBlocks made (take k ranges) old new
-      × ((refusal_of e ≡ None) ⊎ ((k < length ranges)
+      × (FoundNoMemory k e ⊎ ((k < length ranges)
       × (refused_at (slice_get ranges k) (range_regions (length old.blocks) ranges) ≡ Some e)))
   refused_next regions d e so_far within why =
       let r = get_or ranges n d in

@@ -1,6 +1,6 @@
 -- Ranges of addresses, for each of which a new block is made.
-use Rattle.std.specs.Prelude.{◌≡◌, ℕ, ◌+◌, ◌^◌, nat_le, ◌==◌, ◌||◌, if◌then◌else◌, List, [], ◌∷◌}
-use Rattle.std.specs.Prelude.{Option, Some, None, option_map}
+use Rattle.std.specs.Prelude.{◌≡◌, ℕ, ◌+◌, ◌<◌, ◌^◌, nat_le, ◌==◌, ◌||◌, if◌then◌else◌, List, [], ◌∷◌}
+use Rattle.std.specs.Prelude.{Option, Some, None, option_map, unwrap_or}
 use Rattle.vm_memory_base.specs.declared.address.GuestAddress.{GuestAddress}
 use Rattle.vm_memory_guest.specs.Host.{Host, with_block}
 use Rattle.vm_memory_guest.specs.Region.{Region, layout_error}
@@ -15,11 +15,9 @@ range_error addr size =
     if size == 0 || nat_le (2 ^ 63) size then Some (MmapRegion block.InvalidSize)
     else if nat_le (2 ^ 64) (addr.0 + size) then Some InvalidGuestRegion else None
 
--- the refusal that an error tells: want of memory is none
-abbrev pub refusal_of : FromRangesError → Option FromRangesError
-refusal_of (Collection layout.Memory) = None
-refusal_of (MmapRegion block.Memory) = None
-refusal_of e = Some e
+-- what is told of a range that was refused: why it makes no region, or else that its block found no memory
+abbrev pub range_refusal : GuestAddress → ℕ → FromRangesError
+range_refusal addr size = unwrap_or (range_error addr size) (MmapRegion block.Memory)
 
 -- the region of a range, over the block of this number
 abbrev pub range_region : ℕ → GuestAddress → ℕ → Region
@@ -49,7 +47,11 @@ HasBlocks made [] old new = new ≡ old
 HasBlocks {B} made (r ∷ rs) old new =
     (bitmap : B) × made r.1 bitmap × HasBlocks made rs (with_block old r.1 bitmap) new
 
--- what stops at a range: its own refusal, or behind the last that the regions make no layout
+-- what is told where a range is refused, or behind the last that the regions make no layout
 abbrev pub refused_at : Option (GuestAddress × ℕ) → List Region → Option FromRangesError
-refused_at (Some r) rs = range_error r.0 r.1
+refused_at (Some r) rs = Some (range_refusal r.0 r.1)
 refused_at None rs = option_map Collection (layout_error rs)
+
+-- behind the blocks of so many ranges a region, or the collection of all, found no memory
+abbrev pub FoundNoMemory : ℕ → FromRangesError → Type 0
+FoundNoMemory blocks e = (0 < blocks) × (e ≡ Collection layout.Memory)

@@ -27,12 +27,12 @@ pub struct GuestMemoryAtomic<M: GuestMemory + Drop> {
 }
 
 impl<M: GuestMemory + Drop> GuestMemoryAtomic<M> {
-    /// Shares a memory.
+    /// Shares a memory. `AllocError` where there is no memory for it.
     pub fn new(alloc: Global, memory: M) -> Result<GuestMemoryAtomic<M>, AllocError> {
         GuestMemoryAtomic::from_arc(alloc, Arc::new(alloc, memory)?)
     }
 
-    /// Shares a memory that is shared already.
+    /// Shares a memory that is shared already. `AllocError` where there is no memory for its locks.
     pub fn from_arc(alloc: Global, memory: Arc<M>) -> Result<GuestMemoryAtomic<M>, AllocError> {
         let current = Current {
             memory: RwLock::new(memory),

@@ -38,7 +38,7 @@ pub trait Bytes<A>: Named {
     /// The error of an access in part, of the expected and the completed bytes.
     ghost partial: { ℕ → ℕ → Self.E };
 
-    /// The error that says that there was no memory. Then nothing changed.
+    /// The error that says that there was no memory. Then nothing changed, unless a sink or a source had moved bytes.
     ghost no_memory: { Self.E };
 
     /// When a call for so many bytes may want memory.
@@ -60,7 +60,9 @@ pub trait Bytes<A>: Named {
     /// How an error of a source or a sink is told.
     ghost failure: { VolatileMemoryError → Self.E };
 
-    /// Writes the beginning of the buffer that fits, and answers how many bytes that is.
+    /// Writes the beginning of the buffer that fits, and answers how many bytes that is. Where no byte fits, the error
+    /// says why. An empty buffer is answered with 0. Behind an IOMMU that is on, an access of some bytes may
+    /// find no memory, and then changes nothing.
     fn write<B: Bitmap>(
         &self,
         host: &mut HostMemory<B>,
@@ -75,7 +77,7 @@ pub trait Bytes<A>: Named {
         ensures at_most { IfOk result (λ count. count ≤ length buf.now) }
         ensures shape { shape_of host.new ≡ shape_of host.old };
 
-    /// Reads into the beginning of the buffer, and answers how many bytes that is.
+    /// Reads into the beginning of the buffer, and answers how many bytes that is. Errors come as in `write`.
     fn read<B: Bitmap>(
         &self,
         host: &HostMemory<B>,
@@ -89,8 +91,8 @@ pub trait Bytes<A>: Named {
             (buf.new ≡ filled_buffer host.now.blocks (cells r.windows) buf.old) result }
         ensures at_most { IfOk result (λ count. count ≤ length buf.old) };
 
-    /// Writes the whole buffer. Where that is not possible, its beginning that fits is written, and the error
-    /// says how long that is.
+    /// Writes the whole buffer. Where only its beginning fits, that is written, and the error says how long it is.
+    /// Where no byte fits, the error says why, as in `write`.
     fn write_slice<B: Bitmap>(
         &self,
         host: &mut HostMemory<B>,
@@ -104,8 +106,8 @@ pub trait Bytes<A>: Named {
             (Writes B.marks r.windows buf.now host.old host.new) result }
         ensures shape { shape_of host.new ≡ shape_of host.old };
 
-    /// Fills the whole buffer. Where that is not possible, its beginning is filled, and the error says how
-    /// long that is.
+    /// Fills the whole buffer. Where only its beginning can be filled, it is, and the error says how long it is.
+    /// Where no byte can be read, the error says why, as in `read`.
     fn read_slice<B: Bitmap>(
         &self,
         host: &HostMemory<B>,
@@ -146,7 +148,9 @@ pub trait Bytes<A>: Named {
             (Unit {0}) (Unit {0}) result };
 
     /// Stores a value as one atomic integer, in one window at a place that is a multiple of the value's
-    /// size. Every store is sequentially consistent, whichever order is asked for.
+    /// size. Every store is sequentially consistent, whichever order is asked for. A value that lies across two
+    /// windows or at another place is refused: in guest memory as `InvalidBackendAddress`, in a window as
+    /// `OutOfBounds`, `Overflow` or `Misaligned`. Other errors come as in `write`.
     fn store<T: AtomicAccess, B: Bitmap>(
         &self,
         host: &mut HostMemory<B>,
@@ -161,7 +165,7 @@ pub trait Bytes<A>: Named {
         ensures shape { shape_of host.new ≡ shape_of host.old };
 
     /// Loads a value as one atomic integer, from one window at a place that is a multiple of the value's
-    /// size. Every load is sequentially consistent, whichever order is asked for.
+    /// size. Every load is sequentially consistent, whichever order is asked for. Errors come as in `store`.
     fn load<T: AtomicAccess, B: Bitmap>(
         &self,
         host: &HostMemory<B>,
@@ -192,8 +196,9 @@ pub trait Bytes<A>: Named {
         ensures at_most { IfOk result (λ total. total ≤ count) }
         ensures shape { shape_of host.new ≡ shape_of host.old };
 
-    /// Fills `count` bytes from a source. Where it ends before, or not all bytes are there, the error says how
-    /// many came.
+    /// Fills `count` bytes from a source. In guest memory the error says how many bytes came, where the source ends
+    /// before, or the memory ends behind the first byte. Of a window that lacks some of the bytes nothing is filled;
+    /// where the source ends before, the error is `UnexpectedEof`.
     fn read_exact_volatile_from<F: ReadVolatile, B: Bitmap>(
         &self,
         host: &mut HostMemory<B>,
@@ -223,8 +228,9 @@ pub trait Bytes<A>: Named {
             (Takes F.sink F.taken F.may_want F.writes host.now.blocks sending) (λ total. total) dst.old result dst.new }
         ensures at_most { IfOk result (λ total. total ≤ count) };
 
-    /// Offers a sink `count` bytes until it has taken them. Where not all bytes are there, the error says how
-    /// many it took. No byte and no mark changes.
+    /// Offers a sink `count` bytes until it has taken them. In guest memory, where the memory ends behind the first
+    /// byte, the error says how many it took. Of a window that lacks some of the bytes none is offered; a sink that
+    /// takes none is `WriteZero`. No byte and no mark changes.
     fn write_all_volatile_to<F: WriteVolatile, B: Bitmap>(
         &self,
         host: &HostMemory<B>,
@@ -238,7 +244,7 @@ pub trait Bytes<A>: Named {
             (Takes F.sink F.taken F.may_want F.writes host.now.blocks UntilWhole) (all_of partial count)
             dst.old result dst.new };
 
-    /// A load or a store of so many bytes takes as many.
+    /// The window of a load or a store has exactly the size that was asked for.
     ghost place_has_all: { (m : Self) (tables : List Table) (addr : A) (n : ℕ) (access : Permissions)
         → IfOk (place m tables addr n access) (λ w. w.size ≡ n) };
 }

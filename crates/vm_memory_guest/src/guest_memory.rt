@@ -107,8 +107,8 @@ pub trait GuestMemory: Named {
     ghost memory: { Self → Memory };
 
     /// The windows of `count` bytes from an address on, and then the error of the first that is not there. An
-    /// access that the translation does not allow is refused at once. `Memory` comes only with an IOMMU that
-    /// is on, and for no access of no byte.
+    /// access that the translation does not allow is refused at once with `IommuError`, also where its end passes
+    /// 2^64 - 1. `Memory` comes only with an IOMMU that is on, and never for an access of no byte.
     fn get_slices<B: Bitmap>(
         &self,
         host: &HostMemory<B>,

@@ -250,7 +250,8 @@ impl<B> HostMemory<B> {
         Ok(block)
     }
 
-    /// Makes a space, the pages of which `bitmap` tracks: the answer is its number. Refused, nothing changes.
+    /// Makes a space, the pages of which `bitmap` tracks: the answer is its number. `AllocError` where there is no
+    /// memory for it, and then nothing changes.
     pub fn new_space(&mut self, bitmap: B) -> Result<SpaceId, AllocError>
     where
         B: Drop,
@@ -276,7 +277,8 @@ impl<B> HostMemory<B> {
         Ok(space)
     }
 
-    /// Makes a table that says nothing of any address: the answer is its number. Refused, nothing changes.
+    /// Makes a table that maps no address: the answer is its number. `AllocError` where there is no memory for it, and
+    /// then nothing changes.
     pub fn new_table(&mut self) -> Result<TlbId, AllocError>
         ensures number { IfOk result (λ table. table.0 ≡ length self.old.tables) }
         ensures ok { OnOk result (self.new ≡ with_table self.old) }
@@ -318,7 +320,7 @@ impl<B> HostMemory<B> {
     ghost use Rattle.vm_memory_base.specs.contracts.iotlb.table.Iotlb.{the_row as table_row};
     ghost use Rattle.vm_memory_guest.specs.Window.{with_bitmap, bitmap_name, bitmap_of};
 
-    /// The bitmap of a block, or of a space.
+    /// The bitmap of a block or of a space that the host holds.
     pub fn bitmap(&self, bitmap: BitmapId) -> &B
         requires { Holds (shape_of self.now) (bitmap_name bitmap ∷ []) }
         ensures { bitmap_of self.now bitmap ≡ Some result.now }
@@ -329,7 +331,7 @@ impl<B> HostMemory<B> {
         }
     }
 
-    /// The bitmap of a block or of a space, to change.
+    /// The bitmap of a block or of a space that the host holds, to change.
     pub fn bitmap_mut(&mut self, bitmap: BitmapId) -> &mut B
         requires { Holds (shape_of self.old) (bitmap_name bitmap ∷ []) }
         ensures* lends { sem 𝓛 (Lends (the_row B.row) B.row self.entry result (with_bitmap self.old bitmap)) }
@@ -341,7 +343,7 @@ impl<B> HostMemory<B> {
         }
     }
 
-    /// Lends the table of this number.
+    /// Lends the table of this number, which the host holds.
     pub fn table(&self, table: TlbId) -> &Iotlb
         requires { Holds (shape_of self.now) (names.Tlb table.0 ∷ []) }
         ensures { slice_get self.now.tables table.0 ≡ Some result.now }
@@ -349,7 +351,7 @@ impl<B> HostMemory<B> {
         &self.tables[table.0]
     }
 
-    /// Lends the table of this number to be changed.
+    /// Lends the table of this number, which the host holds, to be changed.
     pub fn table_mut(&mut self, table: TlbId) -> &mut Iotlb
         requires { Holds (shape_of self.old) (names.Tlb table.0 ∷ []) }
         ensures* lends { sem 𝓛

@@ -1,13 +1,13 @@
 //! Regions over whole blocks of a host.
 ghost use Rattle.std.specs.Prelude.{◌≡◌, ◌+◌, ◌^◌, ◌<◌, ◌≤◌, ◌↔◌, ◌⊎◌, List, [], ◌∷◌, ◌++◌, length};
 ghost use Rattle.std.specs.Prelude.{Some, None, IsSome, IfSome, IfOk, IfErr, OnOk, OnErr, IsErrOf};
-ghost use Rattle.std.specs.Prelude.{ℕ, MatchResult, map, flat_map, take, slice_get, unwrap_or};
+ghost use Rattle.std.specs.Prelude.{ℕ, MatchResult, map, flat_map, take, slice_get};
 ghost use Rattle.vm_memory_guest.specs.Host as names;
 ghost use Rattle.vm_memory_guest.specs.Host.{Name, shape_of, with_block, Holds, block_at};
 ghost use Rattle.vm_memory_guest.specs.Collection.{regions_of};
 ghost use Rattle.vm_memory_guest.specs.Mmap.{mmap_region, whole_window};
-ghost use Rattle.vm_memory_guest.specs.Ranges.{range_error, refusal_of, range_region, range_regions};
-ghost use Rattle.vm_memory_guest.specs.Ranges.{AllFit, HasBlocks, refused_at};
+ghost use Rattle.vm_memory_guest.specs.Ranges.{range_error, range_refusal, range_region, range_regions};
+ghost use Rattle.vm_memory_guest.specs.Ranges.{AllFit, FoundNoMemory, HasBlocks, refused_at};
 ghost use Rattle.vm_memory_guest.specs.Region.{slice_from, layout_error, region_names};
 ghost use Rattle.vm_memory_guest.specs.declared.mmap.FromRangesError.TheVariants as error;
 ghost use Rattle.vm_memory_guest.specs.declared.mmap.GuestRegionMmap.{GuestRegionMmap};
@@ -294,7 +294,7 @@ impl GuestRegionMmap {
         ensures region { MatchResult result
             (λ r. (range_error addr size ≡ None)
             × (mmap_region r ≡ range_region (length host.old.blocks) addr size))
-            (λ e. e ≡ unwrap_or (range_error addr size) (FromRangesError.MmapRegion MmapRegionError.Memory)) }
+            (λ e. e ≡ range_refusal addr size) }
         ensures ok { OnOk result ((bitmap : B) × B.made size bitmap
             × (host.new ≡ with_block host.old size bitmap)) }
         ensures err { OnErr result (host.new ≡ host.old) }
@@ -323,7 +323,8 @@ pub type GuestMemoryMmap = GuestRegionCollection<GuestRegionMmap>;
 impl GuestRegionCollection<GuestRegionMmap> {
     /// Guest memory of new blocks of zeroed bytes: each range has the first address and the size of one. The
     /// blocks are made in order, as `GuestRegionMmap::from_range` does, and then the regions are tested as
-    /// `from_regions` does. The blocks before a refusal stay in the host, and nothing names them.
+    /// `from_regions` does. Want of memory for a block is `MmapRegion`, and for what shares the regions and
+    /// collects them `Collection`. The blocks before a refusal stay in the host, and nothing names them.
     pub fn from_ranges<B: NewBitmap + Drop>(
         alloc: Global,
         host: &mut HostMemory<B>,
@@ -333,7 +334,7 @@ impl GuestRegionCollection<GuestRegionMmap> {
             (n : ℕ) × (n ≤ length ranges.now) × AllFit (take n ranges.now)
             × HasBlocks B.made (take n ranges.now) host.old host.new × MatchResult result
             (λ c. (n ≡ length ranges.now) × (layout_error regions ≡ None) × (map mmap_region c ≡ regions))
-            (λ e. (refusal_of e ≡ None) ⊎ (refused_at (slice_get ranges.now n) regions ≡ Some e)) }
+            (λ e. FoundNoMemory n e ⊎ (refused_at (slice_get ranges.now n) regions ≡ Some e)) }
         ensures held { IfOk result (λ c.
             Holds (shape_of host.new) (flat_map region_names (map mmap_region c))) }
         ensures kept { (names : List Name) →
@@ -354,7 +355,7 @@ fn ranges_in<B: NewBitmap + Drop>(
         (n : ℕ) × (n ≤ length ranges.now) × AllFit (take n ranges.now)
         × HasBlocks B.made (take n ranges.now) host.old host.new × MatchResult result
         (λ made. (n ≡ length ranges.now) × (map mmap_region (regions_of made) ≡ regions))
-        (λ e. (refusal_of e ≡ None) ⊎ ((n < length ranges.now)
+        (λ e. FoundNoMemory n e ⊎ ((n < length ranges.now)
         × (refused_at (slice_get ranges.now n) regions ≡ Some e))) }
     ensures held { IfOk result (λ made.
         Holds (shape_of host.new) (flat_map region_names (map mmap_region (regions_of made)))) }
@@ -381,8 +382,8 @@ fn add_range<B: NewBitmap + Drop>(
         × (mmap_region r ≡ range_region (length host.old.blocks) range.0 range.1)
         × Holds (shape_of host.new) (region_names (mmap_region r)))) }
     ensures err { IfErr result (λ e.
-        ((host.new ≡ host.old) × (range_error range.0 range.1 ≡ refusal_of e))
-        ⊎ ((refusal_of e ≡ None) × (range_error range.0 range.1 ≡ None)
+        ((host.new ≡ host.old) × (e ≡ range_refusal range.0 range.1))
+        ⊎ ((e ≡ FromRangesError.Collection GuestRegionCollectionError.Memory) × (range_error range.0 range.1 ≡ None)
         × ((bitmap : B) × B.made range.1 bitmap × (host.new ≡ with_block host.old range.1 bitmap)))) }
     ensures kept { (names : List Name) →
         Holds (shape_of host.old) names → Holds (shape_of host.new) names }

@@ -171,8 +171,8 @@ pub trait GuestMemoryRegion: Named + Drop {
         self.get_slice(MemoryRegionAddress(0), self.len() as usize)
     }
 
-    /// The window of `count` bytes from `offset` on: `InvalidBackendAddress` where it passes the region's
-    /// end, `HostAddressNotAvailable` where the region has no host bytes.
+    /// The window of `count` bytes from `offset` on: `HostAddressNotAvailable` where the region has no host bytes, else
+    /// `InvalidBackendAddress` where it passes the region's end.
     fn get_slice(
         &self,
         offset: MemoryRegionAddress,
@@ -236,7 +236,8 @@ impl<R: GuestMemoryRegion> GuestRegionCollection<R> {
         }
     }
 
-    /// The layout of these regions, in order, as `from_arc_regions` makes it.
+    /// The layout of these regions, in order, as `from_arc_regions` makes it. `Memory` may come before a fault of the
+    /// regions is found.
     pub fn from_regions(alloc: Global, regions: Vec<R>) -> Result<Self, GuestRegionCollectionError>
         ensures { MatchResult result
             (λ c. (layout_error (map R.region regions.items) ≡ None) × (c ≡ regions.items))
@@ -269,7 +270,8 @@ impl<R: GuestMemoryRegion> GuestRegionCollection<R> {
     }
 
     /// The layout with one region more, whose bytes it shares. The region stands before the first that starts
-    /// above it; then the regions are tested as `from_arc_regions` does. This layout stays as it is.
+    /// above it; then the regions are tested as `from_arc_regions` does. `Memory` may come before that. This layout
+    /// stays as it is.
     pub fn insert_region(&self, region: Arc<R>) -> Result<Self, GuestRegionCollectionError>
         ensures { let regions = inserted R.region self.now region.value in MatchResult result
             (λ c. (layout_error (map R.region regions) ≡ None) × (c ≡ regions))

@@ -1,6 +1,6 @@
 //! What a transfer of guest memory is, where the source or the sink tells what it does: each function here is a
 //! theorem, and does nothing. It calls the theorems that it follows from.
-ghost use Rattle.std.specs.Prelude.{◌≡◌, ◌⊎◌, ℕ, ◌+◌, ◌++◌, ◌≤◌, Bool, true, All, List, Option, Some, Result, Ok, Err, IfOk, IfErr, take};
+ghost use Rattle.std.specs.Prelude.{◌≡◌, ◌⊎◌, ℕ, ◌+◌, ◌++◌, ◌≤◌, Bool, true, All, List, Option, Some, Result, Ok, Err, IfOk, IfErr, length, take};
 ghost use Rattle.vm_memory_base.specs.Pages.{PageSet};
 ghost use Rattle.vm_memory_base.specs.Transfer.{Next, Sink};
 ghost use Rattle.vm_memory_base.specs.declared.io.VolatileMemoryError.{VolatileMemoryError};
@@ -129,4 +129,14 @@ pub fn sinks_take_the_first_bytes<S: WriteVolatile>()
         → InOrder of_window fault (Takes S.sink S.taken S.may_want S.writes blocks UntilWhole) ws total old answer new
         → (count : ℕ) × (count ≤ span ws) × (S.taken new ≡ Some (before ++ take count (bytes_at blocks (cells ws))))
         × IfOk answer (λ n. n ≡ total + count) }
+{}
+
+/// A transfer out to a vector: it has the bytes of the first windows more, each whole, and those of all windows where
+/// it is answered how many these were.
+pub fn vectors_take_whole_windows()
+    ensures { let w = ⟦<Vec<u8> as WriteVolatile>⟧ in (fault : Option GuestMemoryError) (ws : List Window) (total : ℕ)
+        (old new : _) (blocks : List (List ℕ)) (answer : Result ℕ GuestMemoryError)
+        → InOrder of_window fault (Takes w.sink w.taken w.may_want w.writes blocks UntilWhole) ws total old answer new
+        → (k : ℕ) × (new.items ≡ old.items ++ bytes_at blocks (cells (take k ws)))
+        × IfOk answer (λ n. k ≡ length ws) }
 {}

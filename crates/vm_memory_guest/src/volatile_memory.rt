@@ -41,7 +41,8 @@ pub trait VolatileMemory {
     fn len(&self) -> usize
         ensures { result ≡ size self.now };
 
-    /// The window of `count` bytes from `offset` on.
+    /// The window of `count` bytes from `offset` on: `Overflow` where their sum passes 2^64 - 1, `OutOfBounds` where it
+    /// passes the length.
     fn get_slice(&self, offset: usize, count: usize) -> VolatileMemoryResult<VolatileSlice>
         ensures { result ≡ slice self.now offset count };
 

@@ -5,9 +5,11 @@ ghost use Rattle.vm_memory_base.specs.Markers.{AreNew, table_of, harvester_table
 use crate::calls::{Answer, Calls, keep};
 use std::alloc::{AllocError, Global};
 use std::num::NonZeroUsize;
+use std::sync::Arc;
 use std::test::Fail;
 use vm_memory_base::{
-    AtomicBitmap, Bitmap, ExactBitmap, ExclusiveBitmap, Harvester, Marker, TrackedBitmap,
+    ArcSlice, AtomicBitmap, Bitmap, ExactBitmap, ExclusiveBitmap, Harvester, Marker, NewBitmap,
+    TrackedBitmap,
 };
 
 // A bitmap that threads mark, and what harvests it.
@@ -28,6 +30,8 @@ pub struct Bitmaps {
     made: Option<ExclusiveBitmap>,
     made_atomic: Option<AtomicBitmap>,
     copied: Option<AtomicBitmap>,
+    slice: ArcSlice<AtomicBitmap>,
+    slice_made: Option<ArcSlice<AtomicBitmap>>,
     tracked: Option<Tracked>,
     pages: Option<Vec<usize>>,
     words: Option<Vec<u64>>,
@@ -36,6 +40,13 @@ pub struct Bitmaps {
 
 // How many bytes a bitmap tracks, each of them a page.
 const PAGES: usize = 0x100;
+
+// A slice of a bitmap some of whose pages are dirty.
+fn slice_of(alloc: Global) -> Result<ArcSlice<AtomicBitmap>, AllocError> {
+    let bitmap = AtomicBitmap::new(alloc, PAGES, NonZeroUsize::MIN)?;
+    bitmap.set_addr_range(70, 9);
+    Ok(ArcSlice::new(Arc::new(alloc, bitmap)?, 20))
+}
 
 impl Bitmaps {
     pub fn new(alloc: Global) -> Result<Bitmaps, AllocError> {
@@ -47,6 +58,8 @@ impl Bitmaps {
             made: None,
             made_atomic: None,
             copied: None,
+            slice: slice_of(alloc)?,
+            slice_made: None,
             tracked: None,
             pages: None,
             words: None,
@@ -149,7 +162,7 @@ fn push_tracked(text: &mut String, tracked: &Option<Tracked>) -> Result<(), Allo
 
 impl Calls for Bitmaps {
     fn count(&self) -> usize {
-        11
+        14
     }
 
     fn make(&mut self, number: usize) -> Answer {
@@ -171,6 +184,15 @@ impl Calls for Bitmaps {
             8 => self.track(),
             9 => self.harvest_tracked(),
             10 => self.close(),
+            11 => keep(
+                ExclusiveBitmap::with_len(self.alloc, 0x100 * 0x1000),
+                &mut self.made,
+            ),
+            12 => keep(
+                AtomicBitmap::with_len(self.alloc, 0x100 * 0x1000),
+                &mut self.made_atomic,
+            ),
+            13 => keep(self.slice.slice_at(30), &mut self.slice_made),
             _ => Answer::Other,
         }
     }
@@ -189,6 +211,8 @@ impl Calls for Bitmaps {
         push_pages(&mut text, &self.atomic)?;
         push_pages(&mut text, &self.made_atomic)?;
         push_pages(&mut text, &self.copied)?;
+        push_pages(&mut text, &self.slice)?;
+        push_pages(&mut text, &self.slice_made)?;
         push_tracked(&mut text, &self.tracked)?;
         Ok(text)
     }

@@ -11,8 +11,33 @@ pub enum Answer {
     Done,
     /// It was refused for want of memory.
     Refused,
+    /// It did not run: what it is called with found no memory, or what calls it.
+    NotRun,
     /// Something else.
     Other,
+}
+
+/// How many calls were refused for want of memory, and how many found none before they ran.
+#[derive(Clone, Copy)]
+pub struct Refusals {
+    pub refused: usize,
+    pub not_run: usize,
+}
+
+impl Refusals {
+    /// None yet.
+    pub fn new() -> Refusals {
+        Refusals {
+            refused: 0,
+            not_run: 0,
+        }
+    }
+
+    /// Counts a call.
+    pub fn count(&mut self, is_refused: bool, is_not_run: bool) {
+        self.refused = self.refused.saturating_add(usize::from(is_refused));
+        self.not_run = self.not_run.saturating_add(usize::from(is_not_run));
+    }
 }
 
 /// Calls that want memory, by number from 0, and a state that they change.
@@ -47,27 +72,32 @@ fn wrong(name: &str, number: usize, what: &str) -> Fail {
     Fail::new(format_args!("{name}, call {number}: {what}"))
 }
 
-// Makes a call with no memory left, then with a little more, and so on until it is not refused. So each of its
-// requests is refused in turn. It tells whether the call was refused at all.
+// Makes a call with no memory left, then with a little more, and so on until it is done. So each of its requests is
+// refused in turn.
 fn refuse(
     famine: &mut Famine,
     name: &str,
     calls: &mut impl Calls,
     number: usize,
-) -> Result<bool, Fail> {
+    refusals: &mut Refusals,
+) -> Result<(), Fail> {
     let before = calls.seen(number)?;
+    let (mut is_refused, mut is_not_run) = (false, false);
     for step in 0..MOST / STEP {
         famine.begin(STEP * step)?;
         let answer = calls.make(number);
         famine.end();
         match answer {
-            Answer::Done => return Ok(step != 0),
-            Answer::Other => return Err(wrong(name, number, "it answered something else")),
-            Answer::Refused => {
-                if calls.seen(number)?.as_str() != before.as_str() {
-                    return Err(wrong(name, number, "a refusal changed something"));
-                }
+            Answer::Done => {
+                refusals.count(is_refused, is_not_run);
+                return Ok(());
             }
+            Answer::Other => return Err(wrong(name, number, "it answered something else")),
+            Answer::Refused => is_refused = true,
+            Answer::NotRun => is_not_run = true,
+        }
+        if calls.seen(number)?.as_str() != before.as_str() {
+            return Err(wrong(name, number, "a refusal changed something"));
         }
     }
     Err(wrong(name, number, "it is refused where there is memory"))
@@ -80,18 +110,16 @@ pub fn expect_refusals<C: Calls>(
     name: &str,
     ample: &mut C,
     tried: &mut C,
-) -> Result<usize, Fail> {
-    let mut refused = 0usize;
+) -> Result<Refusals, Fail> {
+    let mut refusals = Refusals::new();
     for number in 0..ample.count() {
         if ample.make(number) != Answer::Done {
             return Err(wrong(name, number, "it is not done with ample memory"));
         }
-        if refuse(famine, name, tried, number)? {
-            refused = refused.saturating_add(1);
-        }
+        refuse(famine, name, tried, number, &mut refusals)?;
         if tried.seen(number)?.as_str() != ample.seen(number)?.as_str() {
             return Err(wrong(name, number, "it left something else after refusals"));
         }
     }
-    Ok(refused)
+    Ok(refusals)
 }

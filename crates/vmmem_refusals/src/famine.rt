@@ -1,7 +1,6 @@
 //! Want of memory, made by hand.
 
-use std::alloc::Global;
-use std::test::Fail;
+use std::alloc::{AllocError, Global};
 
 // How many parts of the memory are kept back, and of how many bytes.
 const PARTS: usize = 0x400;
@@ -31,7 +30,7 @@ pub struct Famine {
 
 impl Famine {
     /// Takes all memory but what is kept back.
-    pub fn new(alloc: Global) -> Result<Famine, Fail> {
+    pub fn new(alloc: Global) -> Result<Famine, AllocError> {
         let mut famine = Famine {
             alloc,
             taken: Vec::with_capacity(alloc, ROOM)?,
@@ -45,9 +44,9 @@ impl Famine {
     }
 
     /// Takes what was kept back, too, and leaves about so many bytes.
-    pub fn begin(&mut self, left: usize) -> Result<(), Fail> {
+    pub fn begin(&mut self, left: usize) -> Result<(), AllocError> {
         self.spare.push(Vec::with_capacity(self.alloc, MOST)?)?;
-        take_by_halves(self.alloc, &mut self.filled, PART);
+        take_by_halves(self.alloc, &mut self.filled, PARTS * PART);
         // The allocator keeps small pieces that were given back apart, by their sizes.
         for step in 0..67usize {
             take(self.alloc, &mut self.filled, ROOM, 8 + 16 * step);

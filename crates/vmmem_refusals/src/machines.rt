@@ -6,28 +6,29 @@ ghost use Rattle.vm_memory.specs.Parts.{HoldsRegions};
 
 use crate::calls::{Answer, Calls};
 use std::alloc::{AllocError, Global};
+use std::fmt::Debug;
 use std::num::NonZeroUsize;
 use std::slice;
 use std::sync::Arc;
 use std::test::Fail;
 use vm_memory::{
-    BitmapId, BlockId, BlockRange, ByteList, Command, ExactBitmap, ExclusiveBitmap, GuestAddress,
-    GuestMemoryRegion, GuestRegionMmap, HostMemory, Iommu, Machine, MmapRegion, NumberList,
-    Permissions, Reply, SinkList, SinkStep, SourceList, SourceStep, TableIommu, TlbId, Width, run,
+    Bitmap, BitmapId, BlockId, BlockRange, ByteList, Command, Ending, ExactBitmap, ExclusiveBitmap,
+    GuestAddress, GuestMemoryRegion, GuestRegionMmap, HostMemory, Iommu, Machine, MmapRegion,
+    NumberList, Permissions, Reply, TableIommu, TlbId, VolatileMemory, Width, run,
 };
 
 pub type TestMachine = Machine<GuestRegionMmap, TableIommu, ExclusiveBitmap>;
 
 // The number of bytes of the block, which lies at 0, 0x1000 and 0x2000.
-const SIZE: usize = 0x40;
+pub const SIZE: usize = 0x40;
 
 fn bitmap_of(alloc: Global, size: usize, page_size: usize) -> Result<ExclusiveBitmap, Fail> {
     let page_size = NonZeroUsize::new(page_size).ok_or("a page has bytes")?;
     Ok(ExclusiveBitmap::new(alloc, size, page_size)?)
 }
 
-// A host of one block, a space and a table.
-fn host_of(alloc: Global) -> Result<HostMemory<ExclusiveBitmap>, Fail> {
+/// A host of one block, a space and a table.
+pub fn host_of(alloc: Global) -> Result<HostMemory<ExclusiveBitmap>, Fail> {
     let mut host = HostMemory::new(alloc);
     let _ = host.new_space(bitmap_of(alloc, 0x6000, 0x10)?)?;
     let _ = host.new_block_with(SIZE, bitmap_of(alloc, SIZE, 4)?)?;
@@ -121,8 +122,8 @@ fn set_of(iova: u64, map_to: u64, length: usize) -> Command {
 // Where memory 0, which is behind the IOMMU, is accessed, and where memory 1 is: here both pieces have bytes.
 const PLACES: [GuestAddress; 2] = [GuestAddress(0x501c), GuestAddress(0xc)];
 
-// Commands that move bytes of a memory.
-fn push_transfers(
+// Commands that write bytes to a memory.
+fn push_writes(
     alloc: Global,
     commands: &mut Vec<Command>,
     memory: usize,
@@ -134,50 +135,7 @@ fn push_transfers(
         addr,
         bytes,
     })?;
-    let bytes = bytes_of(alloc, &[9, 10, 11, 12, 13, 14])?;
-    commands.push(Command::WriteSlice {
-        memory,
-        addr,
-        bytes,
-    })?;
-    let source = source_of(alloc, &[15, 16, 17])?;
-    commands.push(Command::ReadFrom {
-        memory,
-        addr,
-        count: 3,
-        source,
-    })?;
-    let source = source_of(alloc, &[18, 19])?;
-    commands.push(Command::ReadExactFrom {
-        memory,
-        addr,
-        count: 2,
-        source,
-    })?;
-    let sink = sink_of(alloc)?;
-    commands.push(Command::WriteTo {
-        memory,
-        addr,
-        count: 8,
-        sink,
-    })?;
-    let sink = sink_of(alloc)?;
-    commands.push(Command::WriteAllTo {
-        memory,
-        addr,
-        count: 8,
-        sink,
-    })?;
     Ok(())
-}
-
-fn source_of(alloc: Global, bytes: &[u8]) -> Result<SourceList, AllocError> {
-    let step = SourceStep::Give(bytes_of(alloc, bytes)?);
-    Ok(SourceList::from_vec(vec![in alloc; step]?))
-}
-
-fn sink_of(alloc: Global) -> Result<SinkList, AllocError> {
-    Ok(SinkList::from_vec(vec![in alloc; SinkStep::Take(8)]?))
 }
 
 // Commands that access a memory, and hold no list.
@@ -325,7 +283,7 @@ fn commands_of(alloc: Global) -> Result<Vec<Command>, AllocError> {
     let mut commands = Vec::new(alloc);
     push_all(alloc, &mut commands, makers_of())?;
     for memory in 0..2 {
-        push_transfers(alloc, &mut commands, memory, PLACES[memory])?;
+        push_writes(alloc, &mut commands, memory, PLACES[memory])?;
         push_all(alloc, &mut commands, accesses_of(memory, PLACES[memory]))?;
     }
     push_all(alloc, &mut commands, others_of())?;
@@ -353,19 +311,33 @@ fn looks_of(alloc: Global) -> Result<Vec<Command>, AllocError> {
     Ok(looks)
 }
 
-// The table and both bitmaps of a machine.
-fn told_of_host(alloc: Global, host: &HostMemory<ExclusiveBitmap>) -> Result<String, Fail> {
+/// Writes all bytes of the block of a host, its table, and the bitmaps of its block and its space.
+pub fn push_host<B: Bitmap + Debug>(text: &mut String, host: &HostMemory<B>) -> Result<(), Fail> {
     let (block, space, table) = (BitmapId::Block(0), BitmapId::Space(0), TlbId(0));
     let shape = host.shape();
     if !shape.has_bitmap(block) || !shape.has_bitmap(space) || !shape.has_table(table) {
         return Err(Fail::new("the host has its parts"));
     }
-    Ok(format!(in alloc;
+    writeln!(
+        text,
         "{:?} {:?} {:?}",
         host.bitmap(block),
         host.bitmap(space),
         host.table(table)
-    )?)
+    )?;
+    push_block(text, host)
+}
+
+fn push_block<B: Bitmap>(text: &mut String, host: &HostMemory<B>) -> Result<(), Fail> {
+    if host.shape().block_len(BlockId(0)).is_none() {
+        return Err(Fail::new("the host has the block"));
+    }
+    let window = MmapRegion::of_block(host, BlockId(0)).as_volatile_slice();
+    if !host.holds(&window) {
+        return Err(Fail::new("the host holds the block"));
+    }
+    writeln!(text, "{:?}", host.bytes(&window))?;
+    Ok(())
 }
 
 /// A machine, commands on it, and a copy of its block.
@@ -407,6 +379,10 @@ pub fn answer_of(reply: &Reply) -> Answer {
     match reply {
         Reply::Memory => Answer::Refused,
         Reply::Fault(_) | Reply::NoSuch | Reply::BadRange | Reply::Truth(false) => Answer::Other,
+        Reply::Sent {
+            ending: Ending::Fault(_),
+            ..
+        } => Answer::Other,
         _ => Answer::Done,
     }
 }
@@ -423,7 +399,7 @@ impl Calls for Machines {
         };
         let mut replies = Vec::new(self.alloc);
         if run_on(&mut self.machine, slice::from_ref(command), &mut replies).is_err() {
-            return Answer::Refused;
+            return Answer::NotRun;
         }
         let Some(reply) = replies.pop() else {
             return Answer::Other;
@@ -438,7 +414,8 @@ impl Calls for Machines {
     fn seen(&mut self, _number: usize) -> Result<String, Fail> {
         let mut replies = Vec::new(self.alloc);
         run_on(&mut self.machine, self.looks.as_slice(), &mut replies)?;
-        let host = told_of_host(self.alloc, self.machine.host())?;
-        Ok(format!(in self.alloc; "{:?} {:?} {replies:?} {host}", self.reply, self.image)?)
+        let mut text = format!(in self.alloc; "{:?} {:?} {replies:?}\n", self.reply, self.image)?;
+        push_host(&mut text, self.machine.host())?;
+        Ok(text)
     }
 }

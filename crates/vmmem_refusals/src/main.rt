@@ -1,7 +1,8 @@
-//! Refuses calls their memory, request by request, and fails where a call that was refused changed something, or where a
-//! call is refused though there is memory. It takes all memory of its process, and writes to next to none of it.
+//! Refuses calls their memory, request by request, and fails where a call that was refused changed something, or where
+//! a call is refused though there is memory. It takes all memory of its process, and writes to next to none of it.
 #![tactic(auto)]
 
+mod behind;
 mod bitmaps;
 mod calls;
 mod famine;
@@ -11,12 +12,13 @@ mod scripts;
 mod shared;
 mod tables;
 
+use behind::Behind;
 use bitmaps::Bitmaps;
-use calls::{Calls, expect_refusals};
+use calls::{Calls, Refusals, expect_refusals};
 use famine::Famine;
 use machines::Machines;
 use memories::Memories;
-use scripts::expect_script;
+use scripts::{expect_lines, expect_script};
 use shared::Shared;
 use std::alloc::Global;
 use std::io;
@@ -33,12 +35,13 @@ fn tell<C: Calls + Drop>(
     tried: C,
 ) -> Result<(), Fail> {
     let (mut ample, mut tried) = (ample, tried);
-    let refused = expect_refusals(famine, name, &mut ample, &mut tried)?;
+    let Refusals { refused, not_run } = expect_refusals(famine, name, &mut ample, &mut tried)?;
     if refused == 0 {
         return Err(Fail::new("no call was refused"));
     }
     tried.expect_met()?;
-    println!(rt; "{name}: {refused} of {} calls refused", tried.count())?;
+    let count = tried.count();
+    println!(rt; "{name}: {count} calls, {refused} refused, {not_run} refused before they ran")?;
     Ok(())
 }
 
@@ -63,6 +66,11 @@ fn tell_memories(rt: &impl Print, alloc: Global, famine: &mut Famine) -> Result<
     )
 }
 
+fn tell_behind(rt: &impl Print, alloc: Global, famine: &mut Famine) -> Result<(), Fail> {
+    let ample = Behind::new(alloc)?;
+    tell(rt, famine, "behind an IOMMU", ample, Behind::new(alloc)?)
+}
+
 fn tell_machines(rt: &impl Print, alloc: Global, famine: &mut Famine) -> Result<(), Fail> {
     let ample = Machines::new(alloc)?;
     tell(rt, famine, "a machine", ample, Machines::new(alloc)?)
@@ -79,15 +87,21 @@ fn tell_shared<R: Print + Wait>(rt: &R, alloc: Global, famine: &mut Famine) -> R
     )
 }
 
-// The scripts on standard input, with an empty line between any two.
+// The scripts on standard input, with a line of four dashes between any two.
 fn tell_scripts<R: Input + Print>(rt: &R, alloc: Global, famine: &mut Famine) -> Result<(), Fail> {
     let text = io::read_to_string(alloc, rt.reader())?;
-    let mut scripts = 0usize;
-    for script in text.as_str().split("\n\n") {
+    let (mut scripts, mut lines) = (0usize, 0usize);
+    let mut refusals = Refusals::new();
+    for script in text.as_str().split("----\n") {
         expect_script(famine, alloc, script)?;
+        let tried = expect_lines(famine, alloc, script, &mut refusals)?;
         scripts = scripts.saturating_add(1);
+        lines = lines.saturating_add(tried);
     }
-    println!(rt; "scripts: {scripts}")?;
+    let Refusals { refused, not_run } = refusals;
+    println!(rt;
+        "{scripts} scripts: {lines} lines, {refused} refused, {not_run} ended their script"
+    )?;
     Ok(())
 }
 
@@ -97,6 +111,7 @@ fn main(rt: HostRuntime) -> Result<(), Fail> {
     tell_bitmaps(&rt, alloc, &mut famine)?;
     tell_tables(&rt, alloc, &mut famine)?;
     tell_memories(&rt, alloc, &mut famine)?;
+    tell_behind(&rt, alloc, &mut famine)?;
     tell_machines(&rt, alloc, &mut famine)?;
     tell_shared(&rt, alloc, &mut famine)?;
     tell_scripts(&rt, alloc, &mut famine)

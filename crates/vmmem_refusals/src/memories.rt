@@ -5,10 +5,11 @@ use std::alloc::{AllocError, Global};
 use std::num::NonZeroUsize;
 use std::sync::Arc;
 use std::test::Fail;
-use vm_memory_base::{ExclusiveBitmap, GuestAddress, Iotlb, Permissions};
+use vm_memory_base::{Bitmap, ExclusiveBitmap, GuestAddress, Iotlb, Permissions};
 use vm_memory_guest::{
     BlockId, Bytes, FromRangesError, GuestMemory, GuestMemoryError, GuestMemoryMmap,
-    GuestRegionCollectionError, GuestRegionMmap, HostMemory, MmapRegionError, SpaceId, TlbId,
+    GuestMemoryResult, GuestRegionCollectionError, GuestRegionMmap, HostMemory, MmapRegionError,
+    SpaceId, TlbId,
 };
 
 type Host = HostMemory<ExclusiveBitmap>;
@@ -24,6 +25,8 @@ pub struct Memories {
     layout: GuestMemoryMmap,
     region: GuestRegionMmap,
     made: Option<GuestMemoryMmap>,
+    // What the layout's bytes are, and those that a sink took.
+    bytes: Vec<u8>,
     sink: Vec<u8>,
     was_cut: bool,
     // A host of layouts that are made together with their blocks, and how many regions such a layout has.
@@ -42,16 +45,56 @@ fn parts_of(alloc: Global, host: &mut Host) -> Result<(GuestMemoryMmap, GuestReg
     Ok((layout, region))
 }
 
+/// So many bytes, no two parts of which are alike.
+pub fn different_bytes(alloc: Global, count: usize) -> Result<Vec<u8>, AllocError> {
+    let mut bytes = Vec::new(alloc);
+    for number in 0..count {
+        bytes.push((number % 251) as u8)?;
+    }
+    Ok(bytes)
+}
+
+/// Writes bytes from address 0 on.
+pub fn fill<M: GuestMemory, B: Bitmap>(
+    memory: &M,
+    host: &mut HostMemory<B>,
+    bytes: &[u8],
+) -> Result<(), Fail> {
+    if !host.holds(memory) {
+        return Err(Fail::new("the host holds the memory"));
+    }
+    memory.write_slice(host, bytes, GuestAddress(0))?;
+    Ok(())
+}
+
+// The bytes of a memory of so many, from address 0 on.
+fn push_bytes<M: GuestMemory, B: Bitmap>(
+    text: &mut String,
+    memory: &M,
+    host: &HostMemory<B>,
+    bytes: &mut [u8],
+) -> Result<(), Fail> {
+    if !host.holds(memory) {
+        return Err(Fail::new("the host holds the memory"));
+    }
+    memory.read_slice(host, bytes, GuestAddress(0))?;
+    writeln!(text, "{bytes:?}")?;
+    Ok(())
+}
+
 impl Memories {
     pub fn new(alloc: Global) -> Result<Memories, Fail> {
         let mut host = HostMemory::new(alloc);
         let (layout, region) = parts_of(alloc, &mut host)?;
+        let bytes = different_bytes(alloc, 0x800)?;
+        fill(&layout, &mut host, bytes.as_slice())?;
         Ok(Memories {
             alloc,
             host,
             layout,
             region,
             made: None,
+            bytes,
             sink: Vec::new(alloc),
             was_cut: false,
             other: HostMemory::new(alloc),
@@ -74,21 +117,21 @@ impl Memories {
 
     fn make_block(&mut self) -> Answer {
         let Ok(bitmap) = bitmap_of(self.alloc) else {
-            return Answer::Refused;
+            return Answer::NotRun;
         };
         block_answer(self.host.new_block_with(0x100, bitmap))
     }
 
     fn make_space(&mut self) -> Answer {
         let Ok(bitmap) = bitmap_of(self.alloc) else {
-            return Answer::Refused;
+            return Answer::NotRun;
         };
         answer_of(self.host.new_space(bitmap).is_ok())
     }
 
     fn insert(&mut self) -> Answer {
         let Ok(region) = Arc::new(self.alloc, self.region) else {
-            return Answer::Refused;
+            return Answer::NotRun;
         };
         keep_layout(self.layout.insert_region(region), &mut self.made)
     }
@@ -102,26 +145,18 @@ impl Memories {
 
     // Sends both regions to a vector. It grows once for each, and has the bytes of the first where it cannot grow for
     // the second.
-    fn send(&mut self) -> Answer {
+    fn send(&mut self, sends_all: bool) -> Answer {
         let mut sink = Vec::new(self.alloc);
-        if !self.host.holds(&self.layout) {
-            return Answer::Other;
-        }
-        match self
-            .layout
-            .write_volatile_to(&self.host, GuestAddress(0), &mut sink, 0x800)
-        {
-            Ok(0x800) => {
-                self.sink = sink;
-                Answer::Done
-            }
-            Err(GuestMemoryError::Memory) if sink.is_empty() => Answer::Refused,
-            Err(GuestMemoryError::Memory) if sink.len() == 0x400 => {
+        let answer = send_to(&self.layout, &self.host, sends_all, &mut sink);
+        match answer {
+            Answer::Done if sink.as_slice() == self.bytes.as_slice() => self.sink = sink,
+            Answer::Refused if sink.is_empty() => {}
+            Answer::Refused if Some(sink.as_slice()) == self.bytes.as_slice().get(..0x400) => {
                 self.was_cut = true;
-                Answer::Refused
             }
-            _ => Answer::Other,
+            _ => return Answer::Other,
         }
+        answer
     }
 
     // It takes no memory where none is translated.
@@ -137,6 +172,37 @@ impl Memories {
             Err(GuestMemoryError::Memory) => Answer::Refused,
             _ => Answer::Other,
         }
+    }
+}
+
+// Sends 0x800 bytes to a vector.
+fn send_to<M: GuestMemory, B: Bitmap>(
+    memory: &M,
+    host: &HostMemory<B>,
+    sends_all: bool,
+    sink: &mut Vec<u8>,
+) -> Answer {
+    if !host.holds(memory) {
+        return Answer::Other;
+    }
+    let start = GuestAddress(0);
+    if sends_all {
+        return count_answer(
+            memory
+                .write_all_volatile_to(host, start, sink, 0x800)
+                .map(|_| 0x800),
+            0x800,
+        );
+    }
+    count_answer(memory.write_volatile_to(host, start, sink, 0x800), 0x800)
+}
+
+/// What a call answers that moves so many bytes.
+pub fn count_answer(answer: GuestMemoryResult<usize>, wanted: usize) -> Answer {
+    match answer {
+        Ok(count) if count == wanted => Answer::Done,
+        Err(GuestMemoryError::Memory) => Answer::Refused,
+        _ => Answer::Other,
     }
 }
 
@@ -180,7 +246,7 @@ fn push_shape(text: &mut String, host: &Host) -> Result<(), AllocError> {
 
 impl Calls for Memories {
     fn count(&self) -> usize {
-        12
+        13
     }
 
     fn make(&mut self, number: usize) -> Answer {
@@ -199,14 +265,15 @@ impl Calls for Memories {
                     GuestMemoryMmap::from_regions(self.alloc, regions),
                     &mut self.made,
                 ),
-                Err(_) => Answer::Refused,
+                Err(_) => Answer::NotRun,
             },
             6 => self.insert(),
             7 => self.remove(),
             8 => keep(self.layout.clone(), &mut self.made),
             9 => self.check(),
             10 => self.make_ranges(),
-            _ => self.send(),
+            11 => self.send(false),
+            _ => self.send(true),
         }
     }
 
@@ -220,6 +287,12 @@ impl Calls for Memories {
             self.other.shape().has_table(TlbId(0))
         )?;
         push_shape(&mut text, &self.host)?;
+        push_bytes(
+            &mut text,
+            &self.layout,
+            &self.host,
+            vec![in self.alloc; 0u8; 0x800]?.as_mut_slice(),
+        )?;
         Ok(text)
     }
 

@@ -7,9 +7,8 @@ use std::sync::{Arc, Wait};
 use std::test::Fail;
 use vm_memory::{
     CallError, Command, ExactBitmap, ExclusiveBitmap, GuestAddress, GuestAddressSpace,
-    GuestMemoryAtomic, GuestMemoryBackend, GuestMemoryLoadGuard, GuestMemoryMmap,
-    GuestMemoryRegion, GuestRegionMmap, HostMemory, Iommu, Journal, Reply, SharedMachine,
-    TableIommu,
+    GuestMemoryAtomic, GuestMemoryLoadGuard, GuestMemoryMmap, GuestMemoryRegion, GuestRegionMmap,
+    HostMemory, Iommu, Journal, Lends, Reply, SharedMachine, TableIommu,
 };
 
 type TestJournal = Journal<GuestRegionMmap, TableIommu, ExclusiveBitmap>;
@@ -35,8 +34,20 @@ fn served<G: GuestMemoryRegion, I: Iommu, B: ExactBitmap>(
 ) -> Answer {
     match journal.serve(Command::InvalidateAll(0)) {
         Ok(_) => Answer::Done,
-        Err(_) => Answer::Refused,
+        Err(_) => Answer::NotRun,
     }
+}
+
+// All entries of a journal.
+fn push_entries<G: GuestMemoryRegion, I: Iommu, B: ExactBitmap>(
+    text: &mut String,
+    journal: &Journal<G, I, B>,
+) -> Result<(), AllocError> {
+    for number in 0..journal.len() {
+        let (command, reply) = (journal.command(number), journal.reply(number));
+        writeln!(text, "{command:?} {reply:?}")?;
+    }
+    Ok(())
 }
 
 /// A journal, a machine and a memory that threads share, and what was made of them.
@@ -48,6 +59,8 @@ pub struct Shared<'a, R: Wait> {
     machine: SharedMachine<GuestRegionMmap, TableIommu, ExclusiveBitmap>,
     // The last entry of the machine that was done.
     entry: usize,
+    // How many entries of the machine tell want of memory.
+    refused: usize,
     reply: Option<Reply>,
     // Whether a command ran whose reply found no memory.
     ran: bool,
@@ -55,6 +68,7 @@ pub struct Shared<'a, R: Wait> {
     space: GuestMemoryAtomic<GuestMemoryMmap>,
     made: Option<GuestMemoryAtomic<GuestMemoryMmap>>,
     snapshot: Option<GuestMemoryLoadGuard<GuestMemoryMmap>>,
+    copied: Option<GuestMemoryLoadGuard<GuestMemoryMmap>>,
 }
 
 // A layout of two blocks of a host that is gone: it is shared, and not accessed.
@@ -93,12 +107,14 @@ impl<'a, R: Wait> Shared<'a, R> {
             journal,
             machine,
             entry: 0,
+            refused: 0,
             reply: None,
             ran: false,
             layout,
             space,
             made: None,
             snapshot: None,
+            copied: None,
         })
     }
 
@@ -111,8 +127,9 @@ impl<'a, R: Wait> Shared<'a, R> {
         match self.machine.call(self.rt, command) {
             Ok((entry, reply)) => {
                 let answer = answer_of(&reply);
-                if answer == Answer::Done {
-                    self.entry = entry;
+                match answer {
+                    Answer::Refused => self.refused = self.refused.saturating_add(1),
+                    _ => self.entry = entry,
                 }
                 answer
             }
@@ -121,7 +138,7 @@ impl<'a, R: Wait> Shared<'a, R> {
                 self.ran = true;
                 Answer::Done
             }
-            Err(CallError::Memory) => Answer::Refused,
+            Err(CallError::Memory) => Answer::NotRun,
         }
     }
 
@@ -156,24 +173,42 @@ impl<'a, R: Wait> Shared<'a, R> {
         }
     }
 
-    fn push_reply(&self, text: &mut String, entry: usize) -> Result<(), Fail> {
-        let reply = self.machine.fetch(self.rt, entry)?;
-        writeln!(text, "{reply:?}")?;
+    // The replies of all entries of the machine, and that there are no more. Those that tell want of memory are to be
+    // as many as calls that did.
+    fn push_replies(&self, text: &mut String) -> Result<(), Fail> {
+        let mut refused = 0usize;
+        for entry in 0..4 * SERVED {
+            match self.machine.fetch(self.rt, entry)? {
+                Some(Reply::Memory) => refused = refused.saturating_add(1),
+                Some(reply) => writeln!(text, "{reply:?}")?,
+                None => {}
+            }
+        }
+        writeln!(text, "{}", refused == self.refused)?;
         Ok(())
     }
 
-    // How many regions there are now, in the snapshot and in what was made.
+    // The regions that there are now, in the snapshots and in what was made.
     fn push_regions(&self, text: &mut String) -> Result<(), Fail> {
-        push_count(text, &self.space.memory(self.rt, self.alloc)?)?;
-        match &self.snapshot {
-            Some(snapshot) => push_count(text, snapshot)?,
-            None => text.push('-')?,
+        push_layout(text, &self.space.memory(self.rt, self.alloc)?)?;
+        for snapshot in [&self.snapshot, &self.copied] {
+            match snapshot {
+                Some(snapshot) => push_layout(text, snapshot)?,
+                None => text.push('-')?,
+            }
         }
         match &self.made {
-            Some(made) => push_count(text, &made.memory(self.rt, self.alloc)?)?,
+            Some(made) => push_layout(text, &made.memory(self.rt, self.alloc)?)?,
             None => text.push('-')?,
         }
         Ok(())
+    }
+
+    fn copy_snapshot(&mut self) -> Answer {
+        match &self.snapshot {
+            Some(snapshot) => keep(snapshot.clone(), &mut self.copied),
+            None => Answer::Other,
+        }
     }
 
     fn replace(&mut self) -> Answer {
@@ -191,17 +226,17 @@ impl<'a, R: Wait> Shared<'a, R> {
     }
 }
 
-fn push_count(
+fn push_layout(
     text: &mut String,
     snapshot: &GuestMemoryLoadGuard<GuestMemoryMmap>,
 ) -> Result<(), Fail> {
-    writeln!(text, "{}", snapshot.num_regions())?;
+    writeln!(text, "{:?}", snapshot.lend())?;
     Ok(())
 }
 
 impl<R: Wait> Calls for Shared<'_, R> {
     fn count(&self) -> usize {
-        8
+        10
     }
 
     fn make(&mut self, number: usize) -> Answer {
@@ -217,14 +252,16 @@ impl<R: Wait> Calls for Shared<'_, R> {
             4 => self.share(),
             5 => self.share_shared(),
             6 => keep(self.space.memory(self.rt, self.alloc), &mut self.snapshot),
-            _ => self.replace(),
+            7 => self.replace(),
+            8 => keep(self.space.clone(), &mut self.made),
+            _ => self.copy_snapshot(),
         }
     }
 
     fn seen(&mut self, _number: usize) -> Result<String, Fail> {
-        let mut text = format!(in self.alloc; "{} {:?}\n", self.journal.len(), self.reply)?;
-        self.push_reply(&mut text, SERVED)?;
-        self.push_reply(&mut text, self.entry)?;
+        let mut text = format!(in self.alloc; "{:?}\n", self.reply)?;
+        push_entries(&mut text, &self.journal)?;
+        self.push_replies(&mut text)?;
         self.push_regions(&mut text)?;
         Ok(text)
     }

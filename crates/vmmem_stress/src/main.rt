@@ -10,12 +10,11 @@ use rand_core::{Rng, SeedableRng};
 use rand_xoshiro::Xoshiro256PlusPlus;
 use std::alloc::Global;
 use std::env;
-use std::num::NonZeroUsize;
 use std::sync::Wait;
 use std::test::Fail;
 use std::thread::Threads;
 use std::time::{Clock, Instant};
-use vmmem_vectors::threads::{
+use thread_vectors::{
     Marks, expect_added, expect_atomic, expect_calls, expect_cleared, expect_layouts,
     expect_tracked,
 };
@@ -27,18 +26,20 @@ fn below(rng: &mut Xoshiro256PlusPlus, limit: u64) -> usize
     (rng.next_u64() % limit) as usize
 }
 
-// Up to 50,000 pages, in lots of fewer than 100.
+// Up to 50,000 pages, in lots of fewer than 100, of which threads share some.
 fn random_marks(rng: &mut Xoshiro256PlusPlus) -> Marks {
     Marks {
         pages: below(rng, 50_001),
-        lot: NonZeroUsize::new(below(rng, 100)).unwrap_or(NonZeroUsize::MIN),
+        lot: below(rng, 100),
+        width: below(rng, 5).saturating_add(1),
+        threads: 4,
     }
 }
 
 // Each of the structures once.
 fn round<R: Sync + Threads + Wait>(rt: &R, alloc: Global, marks: &Marks) -> Result<(), Fail> {
-    expect_tracked(rt, alloc, marks)?;
-    expect_atomic(rt, alloc, marks)?;
+    let _taken = expect_tracked(rt, alloc, marks)?;
+    let _taken = expect_atomic(rt, alloc, marks)?;
     expect_cleared(rt, alloc, marks)?;
     expect_layouts(rt, alloc)?;
     expect_added(rt, alloc)?;

@@ -53,7 +53,7 @@ pub enum Command {
         addr: GuestAddress,
         bytes: ByteList,
     },
-    /// Reads `count` bytes of a memory: all of them, or none is told.
+    /// Reads exactly `count` bytes of a memory, or returns none.
     ReadSlice {
         memory: usize,
         addr: GuestAddress,
@@ -120,7 +120,7 @@ pub enum Command {
         from: BlockRange,
         to: BlockRange,
     },
-    /// Lets `length` I/O addresses of a table lead to as many from `map_to` on.
+    /// Maps `length` I/O addresses of a table, from `iova` on, to those from `map_to` on.
     Set {
         table: usize,
         iova: GuestAddress,
@@ -128,13 +128,13 @@ pub enum Command {
         length: usize,
         perm: Permissions,
     },
-    /// Lets `length` I/O addresses of a table lead nowhere.
+    /// Takes back the mappings of `length` I/O addresses of a table, from `iova` on.
     Invalidate {
         table: usize,
         iova: GuestAddress,
         length: usize,
     },
-    /// Lets every I/O address of a table lead nowhere.
+    /// Takes back all mappings of a table.
     InvalidateAll(usize),
     /// Asks where `length` I/O addresses of a table lead, for an access.
     Lookup {
@@ -167,7 +167,7 @@ pub enum Width {
 }
 
 impl Width {
-    /// Whether a value has no more bytes.
+    /// Whether a value has no more bytes than this.
     pub fn fits(self, value: u64) -> bool
         ensures { result ≡ fits_width (integer_of self) value }
     {
@@ -248,7 +248,8 @@ pub enum Reply {
     Fault(Fault),
     /// A number of the command names nothing.
     NoSuch,
-    /// A range of the command passes its block or the greatest address, or its value has too many bytes.
+    /// A range of the command passes its block; or, of `Set` and `Invalidate`, its start plus its length passes
+    /// 2^64 - 1; or its value has too many bytes.
     BadRange,
     /// There was no memory for the command.
     Memory,

@@ -37,6 +37,7 @@ impl<R: GuestMemoryRegion, I: Iommu, B: ExactBitmap> SharedMachine<R, I, B> {
     }
 
     /// A copy of the reply of an entry, if there is one of this number. It waits while another thread calls.
+    /// `AllocError` where there is no memory for the copy.
     pub fn fetch(&self, rt: &impl Wait, number: usize) -> Result<Option<Reply>, AllocError>
         ensures { IfOk result (λ o. IfSome o (λ reply. (command : Command) × IsEntry number command reply)) }
     {

@@ -11,7 +11,7 @@ use std::sync::atomic::{AtomicU64, Ordering};
 
 /// A bitmap that can be marked through a shared reference.
 pub trait SharedBitmap: Bitmap {
-    /// Marks `len` bytes from `offset` on as written.
+    /// Marks `len` bytes from `offset` on as written, as `mark_dirty` does.
     fn mark_shared(&self, offset: usize, len: usize)
         ensures { Self.marks self.now offset len self.now };
 }
@@ -127,7 +127,8 @@ impl AtomicBitmap {
         (first, end)
     }
 
-    /// Makes the pages of `len` bytes from `start` on dirty, one after another. Pages past the last are no pages.
+    /// Makes the pages of `len` bytes from `start` on dirty, one after another: none, where `len` is 0. A range
+    /// that passes 2^64 - 1 ends there, and pages past the last are no pages.
     pub fn set_addr_range(&self, start: usize, len: usize) {
         let (first, end) = self.taken(start, len);
         let map = self.map.as_slice();
@@ -140,7 +141,7 @@ impl AtomicBitmap {
         }
     }
 
-    /// Makes the pages clean, one after another, that a mark of `len` bytes from `start` on would make dirty.
+    /// Makes the pages clean, one after another, that `set_addr_range` would make dirty.
     pub fn reset_addr_range(&self, start: usize, len: usize) {
         let (first, end) = self.taken(start, len);
         for page in first..end {

@@ -95,7 +95,8 @@ impl ExclusiveBitmap {
         (end.min(first), end)
     }
 
-    /// Makes the pages clean that a mark of `len` bytes from `start` on would make dirty.
+    /// Makes the pages clean that a mark of `len` bytes from `start` on would make dirty: none, where `len`
+    /// is 0.
     pub fn reset_addr_range(&mut self, start: usize, len: usize)
         ensures pages { Some (pages_of self.new) ≡ page_set.unmarked start len (Some (pages_of self.old)) }
         ensures bytes { bytes_of self.new ≡ bytes_of self.old }

@@ -1,5 +1,5 @@
 //! A bitmap that several threads mark while one harvests.
-ghost use Rattle.std.specs.Prelude.{◌≡◌, ℕ, ◌+◌, ◌-◌, ◌/◌, ◌^◌, ◌<◌, ◌≤◌, ◌↔◌, [], false, max, length, IfOk, OnErr, Err};
+ghost use Rattle.std.specs.Prelude.{◌≡◌, ℕ, ◌+◌, ◌-◌, ◌/◌, ◌^◌, ◌<◌, ◌≤◌, ◌↔◌, [], false, length, IfOk, OnErr, Err};
 ghost use Rattle.std.specs.NonZero.{non_zero_usize_get};
 ghost use Rattle.std.specs.Int.{div_ceil};
 ghost use Rattle.vm_memory_base.specs.Notes.{rounds_of};
@@ -23,8 +23,8 @@ pub struct TrackedBitmap {
     table: Table<(), View, usize, Rounds, Global>,
     count: usize,
     page_size: NonZeroUsize,
-    ghost fits: { (table.shared.key ≡ table.shared.table_id.words)
-        × (table.shared.table_id.words ≡ max 1 (div_ceil count 32))
+    ghost fits: { (table.shared.key ≡ count)
+        × (table.shared.table_id.words ≡ tracked.words_for count)
         × (table.shared.table_id.slots ≡ 0) },
 }
 
@@ -51,7 +51,7 @@ pub enum HarvestError {
     /// There was no memory for the pages.
     #[error("out of memory")]
     Memory,
-    /// Every round that a word has room for was harvested.
+    /// Each word was harvested 2^32 - 1 times, and has no room for the number of another round.
     #[error("rounds spent")]
     RoundsSpent,
 }
@@ -81,14 +81,14 @@ impl TrackedBitmap {
         ensures pages { IfOk result (λ r. (count_of r.0 ≡ div_ceil byte_size (non_zero_usize_get page_size))
             × (page_size_of r.0 ≡ non_zero_usize_get page_size)) }
         ensures harvester { IfOk result (λ r. (harvester_table r.1 ≡ table_of r.0)
-            × (known_by r.1 ≡ tracked.newcomer)) }
+            × (known_by r.1 ≡ tracked.newcomer (count_of r.0))) }
         ensures markers { IfOk result (λ r. (length r.2.items ≡ markers)
             × AreNew (table_of r.0) r.2.items) }
     {
         let count = byte_size.div_ceil(page_size.get());
         let words = count.div_ceil(32).max(1);
         let zeros = vec![in alloc; 0u64; words]?;
-        let (table, mut seat) = Table::of_words(alloc, &zeros, &words)?;
+        let (table, mut seat) = Table::of_words(alloc, &zeros, &count)?;
         let markers = Marker::deal(alloc, &table.shared, &mut seat, markers)?;
         let bitmap = TrackedBitmap {
             table,
@@ -130,6 +130,7 @@ impl TrackedBitmap {
     }
 
     /// Marks the pages of `len` bytes from `addr` on, ascending, each by one step. Past the last page there is none.
+    /// The marker is one of this bitmap's.
     pub fn mark(&self, marker: &mut Marker, addr: usize, len: usize)
         requires own { marker_table marker.old ≡ table_of self.now }
         ensures same { marker_table marker.new ≡ marker_table marker.old }
@@ -169,8 +170,11 @@ impl TrackedBitmap {
         (pages_of(found) >> (page % 32)) & 1 == 1
     }
 
-    /// Whether the page of the byte at `addr` was set at some moment. It takes no marker, and promises nothing.
-    pub fn glance(&self, addr: usize) -> bool {
+    /// Whether the page of the byte at `addr` was set at some moment. It takes no marker, and promises no more than
+    /// that past the last page there is none.
+    pub fn glance(&self, addr: usize) -> bool
+        ensures { count_of self.now ≤ addr / page_size_of self.now → result ≡ false }
+    {
         let page = addr / self.page_size.get();
         if page >= self.len() {
             return false;
@@ -180,12 +184,13 @@ impl TrackedBitmap {
 
     // Takes the pages of one word, and opens its next round.
     fn harvest_word(&self, seat: &mut Seat<(), View>, word: usize, round: u64) -> u32
-        requires own { seat.old.table_id ≡ table_of self.now }
+        requires own { (seat.old.table_id, seat.old.me.0.count) ≡ table_of self.now }
         requires first { seat.old.id ≡ 0 }
-        requires inside { word < (table_of self.now).words }
+        requires inside { word < (table_of self.now).0.words }
         requires round { (round ≡ length (rounds_of word seat.old.me.0.harvests)) × (round + 1 < 2 ^ 32) }
         ensures same { (seat.new.table_id ≡ seat.old.table_id) × (seat.new.id ≡ seat.old.id) }
         ensures takes { seat.new.me.0 ≡ tracked.after_harvest word round result seat.old.me.0 }
+        ensures within { tracked.IsWordBelow (count_of self.now) word result }
     {
         let found = self
             .table
@@ -195,7 +200,8 @@ impl TrackedBitmap {
     }
 
     /// Takes the pages of every word, in order: page `n` is bit `n % 32` of number `n / 32`. Each word is taken and
-    /// opened for its next round by one step. Where it is refused, nothing is changed.
+    /// opened for its next round by one step. `RoundsSpent` where there is a word that was harvested 2^32 - 1 times,
+    /// `Memory` where there is none for the answer, and then nothing is changed. The harvester is this bitmap's.
     pub fn get_and_reset(
         &self,
         harvester: &mut Harvester,
@@ -206,6 +212,7 @@ impl TrackedBitmap {
         ensures taken { IfOk result (λ words. (length words.items ≡ div_ceil (count_of self.now) 32)
             × (known_by harvester.new
             ≡ tracked.after_harvests (harvests_of harvester.old) words.items (known_by harvester.old))) }
+        ensures within { IfOk result (λ words. tracked.AreWordsBelow (count_of self.now) words.items) }
         ensures refused { OnErr result (harvester.new ≡ harvester.old) }
         ensures spent { (result ≡ Err RoundsSpent) ↔ ((0 < count_of self.now)
             × (harvests_of harvester.old ≡ 2 ^ 32 - 1)) }
@@ -226,14 +233,15 @@ impl TrackedBitmap {
 
     // Takes the pages of every word, in order.
     fn harvest_words(&self, seat: &mut Seat<(), View>, round: &mut u64, pages: &mut [u32])
-        requires own { seat.old.table_id ≡ table_of self.now }
+        requires own { (seat.old.table_id, seat.old.me.0.count) ≡ table_of self.now }
         requires first { seat.old.id ≡ 0 }
-        requires room { length pages.old ≡ (table_of self.now).words }
+        requires room { length pages.old ≡ (table_of self.now).0.words }
         requires rounds { (round.old + 1 < 2 ^ 32)
-            × tracked.AreHarvested (table_of self.now).words round.old seat.old.me.0.harvests }
+            × tracked.AreHarvested (table_of self.now).0.words round.old seat.old.me.0.harvests }
         ensures same { (seat.new.table_id ≡ seat.old.table_id) × (seat.new.id ≡ seat.old.id) }
         ensures room { length pages.new ≡ length pages.old }
         ensures takes { seat.new.me.0 ≡ tracked.after_harvests round.old pages.new seat.old.me.0 }
+        ensures within { tracked.AreWordsBelow (count_of self.now) pages.new }
         ensures next { round.new ≡ round.old + 1 }
     {
         for word in 0..pages.len() {
@@ -242,7 +250,7 @@ impl TrackedBitmap {
         *round += 1;
     }
 
-    /// Hands what a marker knows to the harvester.
+    /// Hands what a marker knows to the harvester. Both are this bitmap's.
     pub fn join(&self, harvester: &mut Harvester, marker: Marker)
         requires own { (harvester_table harvester.old ≡ table_of self.now)
             × (marker_table marker ≡ table_of self.now) }
@@ -255,7 +263,7 @@ impl TrackedBitmap {
             .join_seat::<Both>(&mut harvester.seat, seat);
     }
 
-    /// From then on the marker has seen each round at which the harvester stands.
+    /// From then on the marker has seen each round at which the harvester stands. Both are this bitmap's.
     pub fn meet(&self, marker: &mut Marker, harvester: &mut Harvester)
         requires own { (marker_table marker.old ≡ table_of self.now)
             × (harvester_table harvester.old ≡ table_of self.now) }
@@ -284,6 +292,8 @@ impl TrackedBitmap {
         requires own { harvester_table harvester ≡ table_of self }
         ensures left { IfOk result (λ words. (length words.items ≡ div_ceil (count_of self) 32)
             × tracked.IsLeft (known_by harvester) words.items) }
+        ensures last { IfOk result (λ words. tracked.AreLastPages (count_of self) (known_by harvester) words.items) }
+        ensures within { IfOk result (λ words. tracked.AreWordsBelow (count_of self) words.items) }
         ensures refused { OnErr result (result ≡ Err (self, harvester)) }
     {
         let words = self.len().div_ceil(32);
@@ -308,7 +318,7 @@ impl TrackedBitmap {
 impl Marker {
     ghost use Rattle.vm_memory_base.specs.Markers.{AreNew};
 
-    // So many markers that know nothing yet.
+    // So many markers that know no more yet than the number of pages.
     fn deal(
         alloc: Global,
         shared: &Shared<(), View, usize, Rounds>,
@@ -320,7 +330,7 @@ impl Marker {
         ensures same { (seat.new.table_id ≡ seat.old.table_id) × (seat.new.id ≡ seat.old.id)
             × (seat.new.me ≡ seat.old.me) }
         ensures markers { IfOk result (λ markers. (length markers.items ≡ count)
-            × AreNew shared.now.table_id markers.items) }
+            × AreNew (shared.now.table_id, seat.old.me.0.count) markers.items) }
     {
         let mut markers = Vec::with_capacity(alloc, count)?;
         for _ in 0..count {

@@ -1,7 +1,7 @@
 //! Bytes in memory as sources and sinks.
 ghost use Rattle.std.specs.Prelude.{◌≡◌, ◌+◌, ◌-◌, ◌≤◌, min, length, take, drop, [], Some, None, IfOk, ⊤};
 ghost use Rattle.std.specs.Io.Cursor.{cursor_inner, cursor_position};
-ghost use Rattle.vm_memory_base.specs.InMemory.{giving_from, room_from, put_from};
+ghost use Rattle.vm_memory_base.specs.InMemory.{giving_from, room_from, put_from, WritesWhole};
 ghost use Rattle.vm_memory_base.specs.Transfer.{giving, over_front, ReadsAs, TakesAs, Keeps, count_of};
 
 use super::{ReadVolatile, VolatileMemoryError, VolatileMemoryResult, WriteVolatile};
@@ -90,7 +90,8 @@ impl ReadVolatile for Cursor<&mut [u8]> {
     }
 }
 
-// Bytes take as many as they have, and what is left of them takes the next.
+// Bytes take as many as they have, and what is left of them takes the next. Those that were taken lie outside what is
+// left, where no clause here sees them: a cursor over the same bytes tells them.
 impl WriteVolatile for &mut [u8] {
     ghost sink = { λ s. room_from s.now 0 };
 
@@ -112,13 +113,15 @@ impl WriteVolatile for &mut [u8] {
     }
 }
 
-// A vector takes all bytes, unless it finds no memory.
+// A vector takes all bytes, or none where it finds no memory for them.
 impl WriteVolatile for Vec<u8> {
     ghost sink = { λ v. Some (record { next = []; room = None }) };
 
     ghost taken = { λ v. Some v.items };
 
     ghost may_want = { λ v. ⊤ };
+
+    ghost writes = { λ v bytes answer t. WritesWhole v.items bytes answer t.items };
 
     fn write_volatile(&mut self, buf: &[u8]) -> VolatileMemoryResult<usize> {
         match self.extend_from_slice(buf) {

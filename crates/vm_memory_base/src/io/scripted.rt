@@ -126,7 +126,7 @@ impl<'a> Model for ScriptSink<'a> {
 
 impl<'a> ScriptSink<'a> {
     /// A sink that follows these steps, with room for so many bytes, which is reserved. Room for none takes no
-    /// memory.
+    /// memory. `AllocError` where there is none.
     pub fn new(
         alloc: Global,
         steps: &'a [SinkStep],

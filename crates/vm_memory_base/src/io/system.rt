@@ -1,4 +1,6 @@
-//! Files, sockets and the standard output as sources and sinks. They tell nothing of their bytes.
+//! Files, sockets and the standard output as sources and sinks. They tell nothing of their bytes. That a try is one
+//! call with the whole buffer, and tells what that call answered, no clause can say: those of `Read` and `Write` hold
+//! of two calls, or of a part of the buffer, as well.
 ghost use Rattle.std.specs.Prelude.{◌≡◌, None};
 ghost use Rattle.vm_memory_base.specs.System.{ReadsOnce, WritesOnce, told_as};
 
@@ -8,7 +10,7 @@ use std::io::{self, Read, Stdout, Write};
 use std::net::TcpStream;
 use std::os::unix::net::UnixStream;
 
-/// A reader of the system, which is a source.
+/// A reader of the system, or one that a crate declares to be such: it is a source that tells nothing of its bytes.
 pub trait SystemSource: Read {}
 
 impl SystemSource for File {}
@@ -29,7 +31,7 @@ impl SystemSource for &UnixStream {}
 
 impl SystemSource for &mut UnixStream {}
 
-/// A writer of the system, which is a sink.
+/// A writer of the system, or one that a crate declares to be such: it is a sink that tells nothing of its bytes.
 pub trait SystemSink: Write {}
 
 impl SystemSink for File {}

@@ -78,7 +78,7 @@ pub enum LookupError {
     /// A part of the range is not mapped, or its mapping does not permit the access.
     #[error("lookup failed")]
     Fails(IotlbFails),
-    /// It failed, and there was no memory to say where.
+    /// There was no memory to say where it failed, or, in `lookup_all`, for the pieces.
     #[error("out of memory")]
     Memory,
 }

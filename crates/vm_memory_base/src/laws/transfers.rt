@@ -1,10 +1,14 @@
 //! Sources and sinks in small cases, by computation.
 #![tactic(auto, unfolding(crate::specs::Transfer::again_upto, crate::specs::Transfer::rest_of))]
 
-ghost use Rattle.std.specs.Prelude.{◌≡◌, ◌++◌, false, [], ◌∷◌, replicate, Some, None};
-ghost use Rattle.vm_memory_base.specs.Transfer.{Gives, Fails, tried, again, lending, lent_once, filled_whole, Takes, Refuses, offered, Whole, Dry, sent, sent_as};
+ghost use Rattle.std.specs.Prelude.{◌≡◌, ℕ, ◌++◌, false, List, [], ◌∷◌, replicate, Result, Some, None};
+ghost use Rattle.vm_memory_base.specs.InMemory.{HasAllOrNone};
+ghost use Rattle.vm_memory_base.specs.Transfer.{Gives, Fails, tried, again, lending, lent_once, filled_whole, Takes, Refuses, offered, Whole, Dry, sent, sent_as, SendsBy};
 ghost use Rattle.vm_memory_base.specs.declared.io.VolatileMemoryError.TheVariants.{IOError};
+ghost use Rattle.vm_memory_base.specs.declared.io.VolatileMemoryError.{VolatileMemoryError};
 ghost use Rattle.std.specs.declared.io.ErrorKind.TheVariants.{Interrupted, Other, UnexpectedEof, WriteZero};
+
+use crate::io::WriteVolatile;
 
 /// What a source does not give at one try it gives at the next, and after a failure its scribble stays. 64
 /// interruptions in a row are tried again, and the 65th is answered. A buffer is filled by as many tries as that
@@ -65,4 +69,12 @@ pub fn what_sinks_take()
         (again (offered 2) (record { next = next; room = None })).answer ≡ Ok 2 }
     ensures one_more { let next = replicate 65 (Refuses (IOError Interrupted)) in
         (again (offered 2) (record { next = next; room = None })).answer ≡ Err (IOError Interrupted) }
+{}
+
+/// A vector that bytes are sent to has all of them more, or none where it found no memory for them. So it holds whole
+/// pieces.
+pub fn vectors_take_whole_pieces()
+    ensures { let w = ⟦<Vec<u8> as WriteVolatile>⟧ in (old new : _) (bytes : List ℕ) (count : ℕ)
+        (answer : Result (Unit {0}) VolatileMemoryError) → SendsBy w.writes old bytes count answer new
+        → HasAllOrNone old.items bytes answer new.items }
 {}

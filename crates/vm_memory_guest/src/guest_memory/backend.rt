@@ -117,7 +117,7 @@ pub trait GuestMemoryBackend: Named + Drop {
         ends_well(self.get_slices(base, len))
     }
 
-    /// Handles `count` bytes from an address on by a callback: docs/DEFINITIONS.md, "Accesses by a callback".
+    /// Handles `count` bytes from an address on by a callback.
     ///
     /// It is called with the bytes handled so far, how many of the rest lie in the region of the next address,
     /// the offset there and the region, and answers how many it handled. The access ends where it answers 0 or
@@ -202,7 +202,7 @@ pub trait GuestMemoryBackend: Named + Drop {
     ghost names_regions: { (m : Self) → Self.names m ≡ flat_map region_names (map Self.R.region (regions m)) };
 }
 
-/// The walk through a backend: docs/DEFINITIONS.md, "Walks". After its end or an error it stays ended.
+/// The walk through a backend: docs/DEFINITIONS.md, "Accesses". After its end or an error it stays ended.
 #[derive(Debug, Drop)]
 pub struct GuestMemoryBackendSliceIterator<'a, M: GuestMemoryBackend> {
     mem: &'a M,

@@ -13,7 +13,7 @@ use crate::volatile_memory::slice::VolatileSlice;
 use vm_memory_base::{Bitmap, BitmapId, BitmapRef, ByteValued};
 
 impl<B> HostMemory<B> {
-    /// The bytes of a window.
+    /// The bytes of a window that the host holds.
     #[inline]
     pub fn bytes(&self, window: &VolatileSlice) -> &[u8]
         requires { Holds (shape_of self.now) (window_names window.now) }

@@ -97,7 +97,7 @@ impl<T: ByteValued> VolatileArrayRef<T> {
         self.slice
     }
 
-    /// The value of this number, counted from 0.
+    /// The value of this number, counted from 0 and below the length.
     #[inline]
     pub fn ref_at(&self, index: usize) -> VolatileRef<T>
         requires { index < self.now.count }
@@ -131,7 +131,8 @@ impl<T: ByteValued> VolatileArrayRef<T> {
         self.ref_at(index).store(host, value);
     }
 
-    /// Copies values out, from the first on, as many as the buffer has room for, and answers how many.
+    /// Copies values out, from the first on, as many as the buffer has room for, and answers how many. A value has at
+    /// least one byte.
     #[inline]
     pub fn copy_to<B: Bitmap>(&self, host: &HostMemory<B>, buf: &mut [T]) -> usize
         requires held { Holds (shape_of host.now) (window_names self.now.window) }
@@ -145,7 +146,8 @@ impl<T: ByteValued> VolatileArrayRef<T> {
         count
     }
 
-    /// Copies values in, from the first on, as many as there is room for, and marks their bytes.
+    /// Copies values in, from the first on, as many as there is room for, and marks their bytes. A value has at least
+    /// one byte.
     #[inline]
     pub fn copy_from<B: Bitmap>(&self, host: &mut HostMemory<B>, buf: &[T])
         requires held { Holds (shape_of host.old) (window_names self.now.window) }

@@ -452,7 +452,7 @@ impl VolatileSlice {
     }
 
     /// Copies values out of its first bytes, as many as it has whole and the buffer has room for, and answers
-    /// how many.
+    /// how many. A value has at least one byte.
     #[inline]
     pub fn copy_to<T: ByteValued, B: Bitmap>(&self, host: &HostMemory<B>, buf: &mut [T]) -> usize
         requires held { Holds (shape_of host.now) (window_names self.now) }
@@ -467,7 +467,8 @@ impl VolatileSlice {
         count
     }
 
-    /// Copies the bytes of values to its front, as many as it has room for whole, and marks these bytes.
+    /// Copies the bytes of values to its front, as many as it has room for whole, and marks these bytes. A value has at
+    /// least one byte.
     #[inline]
     pub fn copy_from<T: ByteValued, B: Bitmap>(&self, host: &mut HostMemory<B>, buf: &[T])
         requires held { Holds (shape_of host.old) (window_names self.now) }

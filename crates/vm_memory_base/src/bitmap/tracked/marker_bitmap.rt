@@ -1,5 +1,6 @@
 //! A marker with its bitmap, as the bitmap of a host.
 ghost use Rattle.std.specs.Prelude.{◌≡◌, ⊤, Some, None, IfSome, MatchOption};
+ghost use Rattle.vm_memory_base.specs.Markers.{table_of, marker_table, harvester_table};
 
 use super::{Harvester, Marker, TrackedBitmap};
 use crate::bitmap::Bitmap;
@@ -9,7 +10,7 @@ use std::sync::Arc;
 struct Held {
     bitmap: Arc<TrackedBitmap>,
     marker: Marker,
-    ghost belongs: { marker.seat.table_id ≡ bitmap.value.table.shared.table_id },
+    ghost belongs: { marker_table marker ≡ table_of bitmap.value },
 }
 
 /// Marks a `TrackedBitmap` that others may mark too, until its marker is handed back.
@@ -20,7 +21,6 @@ pub struct MarkerBitmap {
 
 impl MarkerBitmap {
     ghost use Rattle.vm_memory_base.specs.MarkerBitmap.{held_of, Meets};
-    ghost use Rattle.vm_memory_base.specs.Markers.{table_of, marker_table, harvester_table};
 
     /// Marks `bitmap` with `marker`.
     pub fn new(bitmap: Arc<TrackedBitmap>, marker: Marker) -> MarkerBitmap
@@ -56,14 +56,13 @@ impl MarkerBitmap {
     }
 }
 
-/// Not exact: others mark it too. What it tells of a byte is no promise.
+/// Not exact: others mark it too. A byte past the last page is told clean, and what it tells of another is no promise.
 impl Bitmap for MarkerBitmap {
-    ghost use Rattle.vm_memory_base.specs.MarkerBitmap.{held_of, MarksHeld};
-    ghost use Rattle.std.specs.Prelude.{false};
+    ghost use Rattle.vm_memory_base.specs.MarkerBitmap.{held_of, MarksHeld, TellsHeld};
 
     ghost marks = { λ old offset len new. MarksHeld (held_of old) offset len (held_of new) };
 
-    ghost tells = { λ b offset told. held_of b ≡ None → told ≡ false };
+    ghost tells = { λ b offset told. TellsHeld (held_of b) offset told };
 
     fn mark_dirty(&mut self, offset: usize, len: usize) {
         if let Some(held) = &mut self.held {

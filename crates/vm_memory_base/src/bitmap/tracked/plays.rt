@@ -6,11 +6,11 @@ use atomic_table::{Join, Play, Split, TableRule};
 
 pub struct Rounds;
 
-// The key is the number of words.
+// The key is the number of pages.
 impl TableRule<(), View, usize> for Rounds {
     ghost holds = { tracked.Holds };
 
-    ghost first = { λ _. tracked.newcomer };
+    ghost first = { tracked.newcomer };
 }
 
 pub struct Marks;
@@ -37,13 +37,13 @@ impl Play<(), View> for Counts {
     ghost then = { tracked.Counts };
 }
 
-// A seat that knows nothing.
+// A seat that knows no more than the number of pages.
 pub struct Newcomer;
 
 impl Split<View> for Newcomer {
     ghost left = { λ v. v };
 
-    ghost right = { λ _. tracked.newcomer };
+    ghost right = { λ v. tracked.newcomer v.count };
 }
 
 // A note of the rounds that were seen.
@@ -60,5 +60,5 @@ pub struct Both;
 impl Join<View> for Both {
     ghost both = { tracked.both };
 
-    ghost spent = { tracked.newcomer };
+    ghost spent = { tracked.newcomer 0 };
 }

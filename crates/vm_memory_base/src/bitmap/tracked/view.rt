@@ -1,5 +1,6 @@
 // What a marker or the harvester knows.
-ghost use Rattle.std.specs.Prelude.{List};
+ghost use Rattle.std.specs.Prelude.{ℕ, List};
+ghost use base.Stored.{coded_ℕ};
 ghost use Rattle.std.specs.Borrow.{ftrue};
 ghost use Rattle.vm_memory_base.specs.Notes.{Note, notes_coded};
 
@@ -7,6 +8,8 @@ use std::marker::Model;
 
 // No value of it is made.
 pub struct View {
+    // The number of pages that there are.
+    pub ghost count: { ℕ } by { coded_ℕ },
     // The pages that it marked.
     pub ghost marks: { List Note } by { notes_coded },
     // The pages that it saw set.

@@ -1,10 +1,9 @@
 use Rattle.std.proofs.Common.{inl}
 use Rattle.std.proofs.lemmas.Result.{err_from_is_err_and}
-use Rattle.vm_memory_guest.proofs.RangeLemmas.{range_told}
 use Rattle.vm_memory_guest.proofs.mmap.add_range.Goals as goal
 
 pub returns-in_err-region-clause-err : goal.returns-in_err-region-clause-err
 returns-in_err-region-clause-err g c =
     let p = err_from_is_err_and c.from_residual.result c.from_residual.ensures.1 in
     let why = c.in_err-region.ensures in
-    rw (p.1, p.2) (inl (why.err, range_told c.args.range.0 c.args.range.1 c.in_err-region.field-0.0 why.region))
+    rw (p.1, p.2) (inl (why.err, why.region))

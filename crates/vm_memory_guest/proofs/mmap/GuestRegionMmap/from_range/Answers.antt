@@ -2,7 +2,7 @@ use Rattle.std.proofs.Common.{◌≡◌, ℕ, ◌-◌, ◌^◌, ◌<◌, ◌≤�
 use Rattle.std.proofs.lemmas.Bool.Decides.{nat_tests}
 use Rattle.std.proofs.lemmas.Result.{err_from_is_err_and}
 use Rattle.vm_memory_base.specs.declared.address.GuestAddress.{GuestAddress}
-use Rattle.vm_memory_guest.specs.Ranges.{range_error}
+use Rattle.vm_memory_guest.specs.Ranges.{range_error, range_refusal}
 use Rattle.vm_memory_guest.specs.declared.mmap.FromRangesError.{FromRangesError}
 use Rattle.vm_memory_guest.specs.declared.mmap.FromRangesError.TheVariants.{MmapRegion}
 use Rattle.vm_memory_guest.specs.declared.host.MmapRegionError.{MmapRegionError}
@@ -11,7 +11,7 @@ use Rattle.vm_memory_guest.proofs.mmap.GuestRegionMmap.from_range.Goals as goal
 
 -- of a range that makes a region only memory can be wanting
 told : (addr : GuestAddress) (size : ℕ) (e : MmapRegionError) → (e ≡ block.InvalidSize → ⊥)
-    → range_error addr size ≡ None → MmapRegion e ≡ unwrap_or (range_error addr size) (MmapRegion block.Memory)
+    → range_error addr size ≡ None → MmapRegion e ≡ range_refusal addr size
 told addr size block.InvalidSize other none = absurd (other refl)
 told addr size block.Memory other none =
     ap (λ (o : Option FromRangesError). unwrap_or o (MmapRegion block.Memory)) (sym none)

@@ -1,4 +1,4 @@
-use Rattle.std.proofs.Common.{◌≡◌, ◌∙◌, ◌+◌, ◌-◌, ◌≤◌, [], ◌++◌, length, take, drop, Ok, Err, option_map, ap, subst, arith, refl, ◌⊎◌}
+use Rattle.std.proofs.Common.{◌≡◌, ◌∙◌, ◌+◌, ◌-◌, ◌≤◌, [], ◌++◌, length, take, drop, Ok, Err, option_map, ap, subst, arith, refl, sym, ◌⊎◌}
 use Rattle.std.proofs.lemmas.List.{drop-drop}
 use Rattle.vm_memory_base.specs.declared.iotlb.Permissions.TheVariants as permissions
 use Rattle.vm_memory_guest.specs.Access.{windows}
@@ -12,6 +12,7 @@ use Rattle.vm_memory.specs.QueueText.{entries}
 use Rattle.vm_memory.specs.Reply.{reached_by}
 use Rattle.vm_memory.proofs.QueueLemmas.{so_far_none, runs-some}
 use Rattle.vm_memory.proofs.CallsOfText.{part_len}
+use Rattle.vm_memory.proofs.CutsOfText.{text_windows-none}
 use Rattle.vm_memory.proofs.WritesOfText.{windows_of_none, writes_none, write_left, write_more, write_short, write_failed}
 use Rattle.vm_memory.proofs.queue.text.Text.write.Goals as goal
 
@@ -30,6 +31,7 @@ loop-addr-init g c =
         so_far_none m.regions (route m c.args.host.now.tables) permissions.Write
             (take (length c.args.buf.now) before),
         windows_of_none,
+        sym (text_windows-none (take (length c.args.buf.now) before)),
         writes_none g.B.Bitmap.marks (take 0 c.args.buf.now) c.args.host.now,
       );
     }
@@ -42,7 +44,7 @@ returns-clause-wrote g c =
     let i = l.invariant in
     write_left g.B.Bitmap.marks (g.M.GuestMemory.memory c.args.mem.now) c.args.host.now l.host
     (entries s.addr s.rest s.behind.now) c.args.buf.now l.total i.moved.0 i.moved.1
-    (entries l.self.addr l.self.rest l.self.behind.now) i.moved.2 i.moved.3 i.moved.4 i.within i.place
+    (entries l.self.addr l.self.rest l.self.behind.now) i.moved.2 i.moved.3 i.moved.4 i.moved.5 i.within i.place
     (entries next.addr next.rest next.behind.now) c.in_default.ensures.next c.next_access.ensures.same
 
 pub returns-then-written-most-clause-wrote : goal.returns-then-written-most-clause-wrote
@@ -77,7 +79,7 @@ returns-then-written-most-clause-wrote g c =
     (rw len at c.in-Ok.ensures.answer) in
     let after = c.pass.new.self in
     write_short g.B.Bitmap.marks m old l.host before c.args.buf.now l.total i.moved.0 i.moved.1
-    (entries l.self.addr l.self.rest l.self.behind.now) i.moved.2 i.moved.3 i.moved.4 i.within i.place
+    (entries l.self.addr l.self.rest l.self.behind.now) i.moved.2 i.moved.3 i.moved.4 i.moved.5 i.within i.place
     c.writes_keep_shapes.ensures.joined a n c.write.new.host asked.0 asked.1 these at_most all c.in-Ok.written
     (entries after.addr after.rest after.behind.now) given.0 given.1 c.if-written-most.true
     (c.pass.ensures ∙ ap (drop c.in-Ok.written) c.next_access.ensures.same)
@@ -122,7 +124,7 @@ loop-addr-preserved g c =
     let count : c.in-Ok.written ≤ n = rw len at c.in-Ok.ensures.at_most in
     let after = c.pass.new.self in
     let more = write_more g.B.Bitmap.marks m old l.host before c.args.buf.now l.total i.moved.0 i.moved.1
-    (entries l.self.addr l.self.rest l.self.behind.now) i.moved.2 i.moved.3 i.moved.4 i.within i.place
+    (entries l.self.addr l.self.rest l.self.behind.now) i.moved.2 i.moved.3 i.moved.4 i.moved.5 i.within i.place
     c.writes_keep_shapes.ensures.joined a n c.write.new.host asked.0 asked.1 these at_most all c.in-Ok.written
     given.0 given.1 c.if-written-most.false in
     record {
@@ -138,6 +140,7 @@ loop-addr-preserved g c =
         more.0,
         more.1,
         more.2,
+        more.3,
       );
     }
 
@@ -173,7 +176,7 @@ returns-in-Err-clause-wrote g c =
     (take (l.total + n - l.total) (drop l.total c.args.buf.now)) l.host c.write.new.host)) i.tables
     (rw len at c.in-Err.ensures.answer) in
     write_failed g.B.Bitmap.marks m old l.host before c.args.buf.now l.total i.moved.0 i.moved.1
-    (entries l.self.addr l.self.rest l.self.behind.now) i.moved.2 i.moved.3 i.moved.4 i.within i.place
+    (entries l.self.addr l.self.rest l.self.behind.now) i.moved.2 i.moved.3 i.moved.4 i.moved.5 i.within i.place
     c.writes_keep_shapes.ensures.joined a n c.write.new.host asked.0 asked.1 these at_most all
     c.in-Err.error c.stopped.result (entries next.addr next.rest next.behind.now) given c.stopped.ensures
     c.next_access.ensures.same

@@ -4,7 +4,7 @@ use Rattle.vm_memory_guest.specs.Access.{Reached}
 use Rattle.vm_memory_guest.specs.Host.{shape_of}
 use Rattle.vm_memory_guest.specs.Memory.{route}
 use Rattle.vm_memory_guest.specs.Window.{Window, Writes}
-use Rattle.vm_memory.specs.Queue.{AreWindowsOf}
+use Rattle.vm_memory.specs.Queue.{AreWindowsOf, text_windows}
 use Rattle.vm_memory.specs.QueueText.{entries}
 use Rattle.vm_memory.proofs.QueueLemmas.{SoFar}
 use Rattle.vm_memory.proofs.queue.text.Text.write.Given as goal
@@ -20,7 +20,8 @@ invariant-loop-addr g l =
       tables : l.host.tables ≡ l.fn.host.tables;
       moved : (reached : List Reached) × (ws : List Window)
           × SoFar m.regions (route m l.fn.host.tables) permissions.Write (take (length l.buf) before) l.total reached
-          × AreWindowsOf reached ws × Writes g.B.Bitmap.marks ws (take l.total l.buf) l.fn.host l.host;
+          × AreWindowsOf reached ws × (ws ≡ text_windows (take (length l.buf) before) reached)
+          × Writes g.B.Bitmap.marks ws (take l.total l.buf) l.fn.host l.host;
     }
 
 abbrev pub decreases-loop-addr : goal.decreases-loop-addr

@@ -2,15 +2,16 @@ use Rattle.std.proofs.Common.{◌≡◌, ℕ, ◌+◌, length-append, List, [], 
 use Rattle.std.proofs.lemmas.List.Elements.{All-push}
 use Rattle.atomic_table.specs.Seated.{TableId}
 use Rattle.vm_memory_base.specs.declared.bitmap.tracked.Marker.{Marker}
+use Rattle.vm_memory_base.specs.declared.bitmap.tracked.view.View.{View}
 use Rattle.vm_memory_base.specs.Tracked.{newcomer}
 use Rattle.vm_memory_base.specs.Markers.{AreNew}
 use Rattle.vm_memory_base.proofs.TrackedRule.{deals_allowed}
 use Rattle.vm_memory_base.proofs.bitmap.tracked.Marker.deal.Goals as goal
 
-one_more : (table : TableId) (markers : List Marker) (m : Marker) → AreNew table markers
-    → (m.seat.table_id ≡ table) × (m.seat.me.0 ≡ newcomer) → AreNew table (markers ++ m ∷ [])
+one_more : (table : TableId × ℕ) (markers : List Marker) (m : Marker) → AreNew table markers
+    → ((m.seat.table_id, m.seat.me.0.count) ≡ table) × (m.seat.me.0 ≡ newcomer table.1) → AreNew table (markers ++ m ∷ [])
 one_more table markers m all is =
-    All-push (λ (y : Marker). (y.seat.table_id ≡ table) × (y.seat.me.0 ≡ newcomer)) markers m all is
+    All-push (λ (y : Marker). ((y.seat.table_id, y.seat.me.0.count) ≡ table) × (y.seat.me.0 ≡ newcomer table.1)) markers m all is
 
 pub split_seat-requires : goal.split_seat-requires
 split_seat-requires c =
@@ -20,11 +21,18 @@ pub loop-preserved : goal.loop-preserved
 loop-preserved c =
     let inv = c.loop.invariant in
     let s = c.split_seat.ensures in
-    let items = c.in_ok-push.ensures.items in (
+    let items = c.in_ok-push.ensures.items in
+    let count : ℕ = c.args.seat.now.me.0.count in
+    let table : TableId × ℕ = (c.args.shared.now.table_id, count) in
+    let view : c.split_seat.result.me.0 ≡ newcomer count =
+    ap (λ m. m.0) s.4 ∙ ap (λ (m : View × List _). newcomer m.0.count) inv.2 in (
       s.0 ∙ inv.0,
       s.1 ∙ inv.1,
       s.2 ∙ inv.2,
       ap length items ∙ length-append c.loop.markers.items _ ∙ ap (λ (n : ℕ). n + 1) inv.3,
-      subst (AreNew c.args.shared.now.table_id) (sym items)
-          (one_more c.args.shared.now.table_id c.loop.markers.items _ inv.4 (s.3 ∙ (inv.0 ∙ c.requires.own), ap (λ m. m.0) s.4)),
+      subst (AreNew table) (sym items)
+          (one_more table c.loop.markers.items _ inv.4 (
+            (λ i. ((s.3 ∙ (inv.0 ∙ c.requires.own)) i, ap (λ (v : View). v.count) view i)),
+            view,
+          )),
     )

@@ -5,4 +5,4 @@ use Rattle.vm_memory_base.proofs.bitmap.tracked.Marker.deal.Given as goal
 abbrev pub invariant-loop : goal.invariant-loop
 invariant-loop l =
     (l.seat.table_id ≡ l.initial.seat.table_id) × (l.seat.id ≡ l.initial.seat.id) × (l.seat.me ≡ l.initial.seat.me)
-    × (length l.markers.items ≡ l.counter) × AreNew l.shared.table_id l.markers.items
+    × (length l.markers.items ≡ l.counter) × AreNew (l.shared.table_id, l.initial.seat.me.0.count) l.markers.items

@@ -1,6 +1,7 @@
-use Rattle.std.proofs.Common.{◌≡◌, ℕ, ap, ◌∙◌, arith}
+use Rattle.std.proofs.Common.{◌≡◌, ℕ, ap, subst, ◌∙◌, arith}
 use Rattle.std.specs.Int.{div_ceil}
-use Rattle.vm_memory_base.proofs.TrackedRule.{length-set, reads_more, closes}
+use Rattle.vm_memory_base.specs.Tracked.{AreLastPages, AreWordsBelow}
+use Rattle.vm_memory_base.proofs.TrackedRule.{length-set, reads_more, closes, closes_last, closes_below}
 use Rattle.vm_memory_base.proofs.bitmap.tracked.TrackedBitmap.close.Goals as goal
 
 pub loop-word-preserved : goal.loop-word-preserved
@@ -24,3 +25,21 @@ returns-clause-left c =
           c.loop-word.pages.items
           (λ k h. inv.1 k (omega (arith, inv.0, least, h))),
     )
+
+pub returns-clause-last : goal.returns-clause-last
+returns-clause-last c =
+    let inv = c.loop-word.invariant in
+    let least = c.loop-word-test.false in
+    subst (λ n. AreLastPages n c.args.harvester.seat.me.0 c.loop-word.pages.items) c.args.self.fits.0
+    (closes_last c.args.self.table.shared.key c.args.harvester.seat.id c.args.harvester.harvests_all.0 c.args.harvester.seat.me.0
+    c.close_with-closed.result.words.items c.close_with-closed.result.slots.items c.close_with-closed.ensures.values.2
+    c.loop-word.pages.items (λ k h. inv.1 k (omega (arith, inv.0, least, h))))
+
+pub returns-clause-within : goal.returns-clause-within
+returns-clause-within c =
+    let inv = c.loop-word.invariant in
+    let least = c.loop-word-test.false in
+    subst (λ n. AreWordsBelow n c.loop-word.pages.items) c.args.self.fits.0
+    (closes_below c.args.self.table.shared.key c.args.harvester.seat.id c.args.harvester.seat.me.0
+    c.close_with-closed.result.words.items c.close_with-closed.result.slots.items c.close_with-closed.ensures.values.2
+    c.loop-word.pages.items (λ k h. inv.1 k (omega (arith, inv.0, least, h))))

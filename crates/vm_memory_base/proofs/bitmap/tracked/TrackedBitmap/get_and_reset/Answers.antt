@@ -2,15 +2,29 @@ use Rattle.std.proofs.Common.{◌≡◌, ℕ, ◌+◌, ◌<◌, ◌≤◌, map, 
 use Rattle.std.specs.Int.{div_ceil}
 use Rattle.std.proofs.lemmas.List.{length-map}
 use Rattle.vm_memory_base.specs.declared.bitmap.tracked.view.View.{View}
-use Rattle.vm_memory_base.specs.Notes.{rounds_of}
-use Rattle.vm_memory_base.specs.Tracked.{after_harvests, seen_of}
+use Rattle.atomic_table.specs.Seated.{TableId}
+use Rattle.vm_memory_base.specs.declared.bitmap.tracked.Harvester.{Harvester}
+use Rattle.vm_memory_base.specs.declared.bitmap.tracked.TrackedBitmap.{TrackedBitmap}
+use Rattle.vm_memory_base.specs.Markers.{table_of, harvester_table}
+use Rattle.vm_memory_base.specs.Notes.{Note, rounds_of}
+use Rattle.vm_memory_base.specs.Tracked.{AreHarvested, words_for, after_harvests, seen_of}
 use Rattle.vm_memory_base.proofs.NotesLemmas.{gathered-each, gathered-seen}
 use Rattle.vm_memory_base.proofs.bitmap.tracked.TrackedBitmap.get_and_reset.Goals as goal
+
+-- the round that is counted is the number of notes of each word, and there is always a first
+counted : (table : TableId) (count round : ℕ) (harvests : List Note) → table.words ≡ words_for count
+    → AreHarvested table.words round harvests → length (rounds_of 0 harvests) ≡ round
+counted table count round harvests words all = all 0 (omega (arith, words))
+
+module _ (b : TrackedBitmap) (h : Harvester) (own : harvester_table h ≡ table_of b) where
+  round_is : length (rounds_of 0 h.seat.me.0.harvests) ≡ h.round
+  round_is =
+      counted h.seat.table_id b.count h.round h.seat.me.0.harvests (ap (λ t. t.0.words) own ∙ b.fits.1) h.harvests_all.2
 
 pub returns-then-words-eq0-clause-taken : goal.returns-then-words-eq0-clause-taken
 returns-then-words-eq0-clause-taken c =
     let v : View = c.args.harvester.now.seat.me.0 in
-    let round : ℕ = c.args.harvester.now.round in
+    let round : ℕ = length (rounds_of 0 v.harvests) in
     let none_there : 0 ≡ div_ceil c.args.self.now.count 32 =
     sym c.if-words-eq0.true ∙ c.div_ceil-words.ensures ∙ ap (λ (n : ℕ). div_ceil n 32) c.len.ensures in
     subst (λ (l : List ℕ). (length l ≡ div_ceil c.args.self.now.count 32) × (v ≡ after_harvests round l v)) (sym c.new.ensures.items)
@@ -33,7 +47,7 @@ invariant_of-harvester c =
     → length (rounds_of word c.harvest_words.new.seat.me.0.harvests) ≡ c.harvest_words.new.round =
     λ word inside.
     let here : word < c.args.harvester.now.seat.table_id.words = subst (λ t. word < t.words) h.same.0 inside in
-    let there : word < c.args.self.now.table.shared.table_id.words = subst (λ t. word < t.words) c.requires.own here in
+    let there : word < c.args.self.now.table.shared.table_id.words = subst (λ t. word < t.0.words) c.requires.own here in
     ap (λ (x : View). length (rounds_of word x.harvests)) h.takes
     ∙ gathered-each 0 round pages v.harvests word (omega arith) (omega (arith, size))
     ∙ ap (λ (n : ℕ). n + 1) (was.2 word here)
@@ -42,7 +56,7 @@ invariant_of-harvester c =
     → c.harvest_words.new.round ≤ seen_of word c.harvest_words.new.seat.me.0 =
     λ word inside.
     let here : word < c.args.harvester.now.seat.table_id.words = subst (λ t. word < t.words) h.same.0 inside in
-    let there : word < c.args.self.now.table.shared.table_id.words = subst (λ t. word < t.words) c.requires.own here in
+    let there : word < c.args.self.now.table.shared.table_id.words = subst (λ t. word < t.0.words) c.requires.own here in
     let zeros : List ℕ = map (λ (_ : ℕ). 0) pages in
     let count : length zeros ≡ length pages = length-map {B = ℕ} pages (λ (_ : ℕ). 0) in
     let least : round + 1 ≤ seen_of word (after_harvests round pages v) =

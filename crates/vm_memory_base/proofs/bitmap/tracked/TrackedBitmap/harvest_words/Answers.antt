@@ -4,8 +4,20 @@ use Rattle.vm_memory_base.specs.declared.bitmap.tracked.view.View.{View}
 use Rattle.vm_memory_base.specs.Notes.{rounds_of}
 use Rattle.vm_memory_base.specs.Tracked.{after_harvest, after_harvests}
 use Rattle.vm_memory_base.proofs.NotesLemmas.{gathered-above, after_harvests-more}
-use Rattle.vm_memory_base.proofs.TrackedRule.{length-set}
+use Rattle.vm_memory_base.proofs.TrackedRule.{length-set, all_below, below_more}
 use Rattle.vm_memory_base.proofs.bitmap.tracked.TrackedBitmap.harvest_words.Goals as goal
+
+pub harvest_word-requires-clause-own : goal.harvest_word-requires-clause-own
+harvest_word-requires-clause-own c =
+    let inv = c.loop-word.invariant in
+    let count : c.loop-word.seat.me.0.count ≡ c.args.seat.now.me.0.count = ap (λ (x : View). x.count) inv.4 in
+    λ i. ((inv.0 ∙ ap (λ t. t.0) c.requires.own) i, (count ∙ ap (λ t. t.1) c.requires.own) i)
+
+pub returns-clause-within : goal.returns-clause-within
+returns-clause-within c =
+    let inv = c.loop-word.invariant in
+    let least = c.loop-word-test.false in
+    all_below c.args.self.now.count c.loop-word.pages (λ k h. inv.5 k (omega (arith, least, h)))
 
 pub harvest_word-requires-clause-round : goal.harvest_word-requires-clause-round
 harvest_word-requires-clause-round c =
@@ -44,4 +56,5 @@ loop-word-preserved c =
           ∙ ap (λ (w : ℕ). after_harvest w round x (after_harvests round pages v)) (sym size)
           ∙ sym (after_harvests-more round pages x v)
           ∙ ap (λ (l : List ℕ). after_harvests round l v) (sym next),
+      below_more c.args.self.now.count c.loop-word.pages word x (omega (arith, inside)) c.harvest_word.ensures.within inv.5,
     )

@@ -1,4 +1,4 @@
-use Rattle.std.proofs.Common.{ℕ, sym, ap, ◌∙◌, subst, arith}
+use Rattle.std.proofs.Common.{ℕ, inl, sym, ap, ◌∙◌, subst, arith}
 use Rattle.atomic_table.specs.Seated.{TableId}
 use Rattle.vm_memory_base.specs.declared.bitmap.tracked.view.View.{View}
 use Rattle.vm_memory_base.specs.Tracked.{AreHarvested, AreSeen}
@@ -9,12 +9,12 @@ pub join_seat-requires : goal.join_seat-requires
 join_seat-requires c =
     let fits = c.args.self.now.fits in
     let plain = c.args.marker.marks_only in (
-      c.requires.own.0,
-      c.requires.own.1,
+      ap (λ t. t.0) c.requires.own.0,
+      ap (λ t. t.0) c.requires.own.1,
       plain.0,
       omega (arith, fits.1),
       joins_allowed c.args.self.now.table.shared.key c.args.harvester.now.seat.id c.args.marker.seat.id
-          c.args.harvester.now.seat.me.0 c.args.marker.seat.me.0 plain.1,
+          c.args.harvester.now.seat.me.0 c.args.marker.seat.me.0 plain.1 (inl c.args.harvester.now.harvests_all.0),
     )
 
 pub invariant_of-harvester : goal.invariant_of-harvester

@@ -1,4 +1,4 @@
-use Rattle.std.proofs.Common.{◌≡◌, ℕ, ◌<◌, ◌≤◌, List, length, sym, ap, ◌∙◌, subst, arith}
+use Rattle.std.proofs.Common.{◌≡◌, ℕ, ◌<◌, ◌≤◌, List, length, inl, inr, sym, ap, ◌∙◌, subst, arith}
 use Rattle.atomic_table.specs.Seated.{TableId}
 use Rattle.vm_memory_base.specs.declared.bitmap.tracked.view.View.{View}
 use Rattle.vm_memory_base.specs.Notes.{rounds_of}
@@ -9,25 +9,25 @@ use Rattle.vm_memory_base.proofs.bitmap.tracked.TrackedBitmap.meet.Goals as goal
 pub split_seat-told-requires : goal.split_seat-told-requires
 split_seat-told-requires c =
     let fits = c.args.self.now.fits in
-    (c.requires.own.0, omega (arith, fits.1), notes_allowed c.args.self.now.table.shared.key c.args.marker.now.seat.id c.args.marker.now.seat.me.0)
+    (ap (λ t. t.0) c.requires.own.0, omega (arith, fits.1), notes_allowed c.args.self.now.table.shared.key c.args.marker.now.seat.id c.args.marker.now.seat.me.0)
 
 pub join_seat-requires : goal.join_seat-requires
 join_seat-requires c =
     let fits = c.args.self.now.fits in
     let note = c.split_seat-told.ensures in (
-      c.requires.own.1,
-      note.3 ∙ c.requires.own.0,
+      ap (λ t. t.0) c.requires.own.1,
+      note.3 ∙ ap (λ t. t.0) c.requires.own.0,
       ap (λ m. m.1) note.4,
       omega (arith, fits.1),
       joins_allowed c.args.self.now.table.shared.key c.args.harvester.now.seat.id c.split_seat-told.result.id
-          c.args.harvester.now.seat.me.0 c.split_seat-told.result.me.0 (ap (λ m. m.0.harvests) note.4),
+          c.args.harvester.now.seat.me.0 c.split_seat-told.result.me.0 (ap (λ m. m.0.harvests) note.4) (inl c.args.harvester.now.harvests_all.0),
     )
 
 pub load-requires : goal.load-requires
 load-requires c =
     let fits = c.args.self.now.fits in
     let joined = c.join_seat.ensures in (
-      joined.0 ∙ c.requires.own.1,
+      joined.0 ∙ ap (λ t. t.0) c.requires.own.1,
       omega (arith, fits.1),
       counts_allowed c.args.self.now.table.shared.key c.args.self.now.table.shared.table_id.slots c.join_seat.new.seat.id 0
           (joined.1 ∙ c.args.harvester.now.harvests_all.0) c.join_seat.new.seat.me.0 c.join_seat.new.seat.me.1,
@@ -36,7 +36,7 @@ load-requires c =
 pub split_seat-told-requires-2 : goal.split_seat-told-requires-2
 split_seat-told-requires-2 c =
     let fits = c.args.self.now.fits in (
-      c.load.ensures.0 ∙ (c.join_seat.ensures.0 ∙ c.requires.own.1),
+      c.load.ensures.0 ∙ (c.join_seat.ensures.0 ∙ ap (λ t. t.0) c.requires.own.1),
       omega (arith, fits.1),
       notes_allowed c.args.self.now.table.shared.key c.load.new.seat.id c.load.new.seat.me.0,
     )
@@ -45,12 +45,12 @@ pub join_seat-requires-2 : goal.join_seat-requires-2
 join_seat-requires-2 c =
     let fits = c.args.self.now.fits in
     let note = c.split_seat-told-2.ensures in (
-      c.split_seat-told.ensures.0 ∙ c.requires.own.0,
-      note.3 ∙ (c.load.ensures.0 ∙ (c.join_seat.ensures.0 ∙ c.requires.own.1)),
+      c.split_seat-told.ensures.0 ∙ ap (λ t. t.0) c.requires.own.0,
+      note.3 ∙ (c.load.ensures.0 ∙ (c.join_seat.ensures.0 ∙ ap (λ t. t.0) c.requires.own.1)),
       ap (λ m. m.1) note.4,
       omega (arith, fits.1),
       joins_allowed c.args.self.now.table.shared.key c.split_seat-told.new.seat.id c.split_seat-told-2.result.id
-          c.split_seat-told.new.seat.me.0 c.split_seat-told-2.result.me.0 (ap (λ m. m.0.harvests) note.4),
+          c.split_seat-told.new.seat.me.0 c.split_seat-told-2.result.me.0 (ap (λ m. m.0.harvests) note.4) (inr (ap (λ m. m.0.count) note.4)),
     )
 
 pub returns-clause-seen : goal.returns-clause-seen
@@ -69,7 +69,7 @@ returns-clause-seen c word inside =
     let four : c.join_seat-2.new.seat.me.0 ≡ both mine (note_of joined) =
     ap (λ m. m.0) c.join_seat-2.ensures.2 ∙ (λ i. both (kept i) (note i)) in
     let here : word < c.args.harvester.now.seat.table_id.words =
-    subst (λ t. word < t.words) (sym c.requires.own.1) (omega (arith, fits.1, inside)) in
+    subst (λ t. word < t.words) (sym (ap (λ t. t.0) c.requires.own.1)) (omega (arith, fits.1, inside)) in
     let number : length (rounds_of word his.harvests) ≡ c.args.harvester.now.round = was.2 word here in
     let least : length (rounds_of word his.harvests) ≤ seen_of word his = let k = was.3 word here in omega (arith, number, k) in
     let most : seen_of word joined ≤ length (rounds_of word his.harvests) =

@@ -1,0 +1,11 @@
+//! Tests of sizes well past small ones, where memory is ample: none of these calls wants any.
+#![tactic(auto)]
+
+#[cfg(test)]
+mod calls;
+#[cfg(test)]
+mod moved;
+#[cfg(test)]
+mod runs;
+#[cfg(test)]
+mod snapshots;

@@ -1,0 +1,379 @@
+//! Bitmaps that are marked through shared references.
+
+use std::alloc::Global;
+use std::num::NonZeroUsize;
+use std::test::Fail;
+use vm_memory_base::{AtomicBitmap, Bitmap, NewBitmap, SharedBitmap, event_law};
+
+// What is done to a bitmap.
+#[derive(Clone, Copy)]
+enum Step {
+    SetRange(usize, usize),
+    ResetRange(usize, usize),
+    Mark(usize, usize),
+    MarkShared(usize, usize),
+    Set(usize),
+    Reset(usize),
+    ResetAll,
+    Enlarge(usize),
+}
+
+// A bitmap of so many bytes in pages of this size, what is done to it, its length and size then, and its words.
+struct Case {
+    bytes: usize,
+    page_size: usize,
+    steps: &'static [Step],
+    told: (usize, usize),
+    words: &'static [u64],
+}
+
+const CASES: [Case; 21] = [
+    Case {
+        bytes: 1025,
+        page_size: 128,
+        steps: &[Step::SetRange(0, usize::MAX), Step::Set(9), Step::Set(64)],
+        told: (9, 1025),
+        words: &[0x1ff],
+    },
+    Case {
+        bytes: 1024,
+        page_size: 128,
+        steps: &[Step::SetRange(128, 129)],
+        told: (8, 1024),
+        words: &[0b110],
+    },
+    Case {
+        bytes: 1024,
+        page_size: 128,
+        steps: &[Step::SetRange(128, 129), Step::ResetRange(128, 129)],
+        told: (8, 1024),
+        words: &[0],
+    },
+    Case {
+        bytes: 1024,
+        page_size: 128,
+        steps: &[
+            Step::SetRange(0, 1024),
+            Step::ResetRange(255, 2),
+            Step::Reset(7),
+            Step::Reset(8),
+        ],
+        told: (8, 1024),
+        words: &[0b111_1001],
+    },
+    Case {
+        bytes: 1024,
+        page_size: 128,
+        steps: &[
+            Step::SetRange(128, 129),
+            Step::ResetAll,
+            Step::SetRange(0, 0),
+        ],
+        told: (8, 1024),
+        words: &[0],
+    },
+    // A mark goes no further than the last page.
+    Case {
+        bytes: 1024,
+        page_size: 1,
+        steps: &[Step::SetRange(768, 512)],
+        told: (1024, 1024),
+        words: &[
+            0,
+            0,
+            0,
+            0,
+            0,
+            0,
+            0,
+            0,
+            0,
+            0,
+            0,
+            0,
+            u64::MAX,
+            u64::MAX,
+            u64::MAX,
+            u64::MAX,
+        ],
+    },
+    Case {
+        bytes: 200,
+        page_size: 1,
+        steps: &[
+            Step::SetRange(60, 10),
+            Step::SetRange(190, usize::MAX),
+            Step::SetRange(200, 1),
+        ],
+        told: (200, 200),
+        words: &[0xf000_0000_0000_0000, 0x3f, 0xc000_0000_0000_0000, 0xff],
+    },
+    Case {
+        bytes: 200,
+        page_size: 1,
+        steps: &[
+            Step::SetRange(0, 200),
+            Step::ResetRange(64, 64),
+            Step::ResetRange(199, usize::MAX),
+        ],
+        told: (200, 200),
+        words: &[u64::MAX, 0, u64::MAX, 0x7f],
+    },
+    // More pages are clean, and those that were there stay as they are.
+    Case {
+        bytes: 0x2000,
+        page_size: 128,
+        steps: &[
+            Step::SetRange(128, 129),
+            Step::Set(64),
+            Step::Enlarge(0x2000),
+        ],
+        told: (128, 0x4000),
+        words: &[0b110, 0],
+    },
+    Case {
+        bytes: 0x2000,
+        page_size: 128,
+        steps: &[
+            Step::Enlarge(0x2000),
+            Step::Set(55),
+            Step::SetRange(65 * 128, 0x4000),
+        ],
+        told: (128, 0x4000),
+        words: &[1 << 55, u64::MAX - 1],
+    },
+    Case {
+        bytes: 0x2000,
+        page_size: 128,
+        steps: &[
+            Step::Enlarge(0x2000),
+            Step::SetRange(0, 0x4000),
+            Step::ResetRange(0, 0x4000),
+        ],
+        told: (128, 0x4000),
+        words: &[0, 0],
+    },
+    // The last page has room for 127 bytes more.
+    Case {
+        bytes: 1025,
+        page_size: 128,
+        steps: &[Step::SetRange(1024, 1), Step::Enlarge(127)],
+        told: (9, 1152),
+        words: &[0x100],
+    },
+    Case {
+        bytes: 130,
+        page_size: 1,
+        steps: &[Step::SetRange(0, 200), Step::Enlarge(3), Step::Set(131)],
+        told: (133, 133),
+        words: &[u64::MAX, u64::MAX, 0b1011],
+    },
+    Case {
+        bytes: 0,
+        page_size: 1,
+        steps: &[Step::SetRange(0, 1), Step::Set(0), Step::ResetRange(0, 1)],
+        told: (0, 0),
+        words: &[],
+    },
+    // Pages that there are not yet are not marked, and none of them shows later.
+    Case {
+        bytes: 130,
+        page_size: 1,
+        steps: &[
+            Step::Set(129),
+            Step::Set(130),
+            Step::Set(131),
+            Step::SetRange(130, 9),
+            Step::Enlarge(9),
+        ],
+        told: (139, 139),
+        words: &[0, 0, 0b10],
+    },
+    // A page that is marked twice is dirty, and a clean one that is cleared is clean.
+    Case {
+        bytes: 130,
+        page_size: 1,
+        steps: &[
+            Step::SetRange(60, 10),
+            Step::SetRange(65, 10),
+            Step::Set(66),
+            Step::Set(66),
+            Step::Reset(3),
+            Step::ResetRange(80, 4),
+            Step::ResetRange(63, 2),
+        ],
+        told: (130, 130),
+        words: &[0x7000_0000_0000_0000, 0x7fe, 0],
+    },
+    // What lies beside pages that are cleared stays, within a word and across words.
+    Case {
+        bytes: 200,
+        page_size: 1,
+        steps: &[
+            Step::SetRange(0, 200),
+            Step::ResetRange(10, 33),
+            Step::ResetRange(64, 63),
+            Step::ResetRange(190, 5),
+        ],
+        told: (200, 200),
+        words: &[
+            0xffff_f800_0000_03ff,
+            0x8000_0000_0000_0000,
+            0x3fff_ffff_ffff_ffff,
+            0xf8,
+        ],
+    },
+    // Marks and resets of no byte.
+    Case {
+        bytes: 200,
+        page_size: 3,
+        steps: &[
+            Step::SetRange(0, 0),
+            Step::SetRange(100, 0),
+            Step::Set(20),
+            Step::ResetRange(60, 0),
+            Step::SetRange(199, 0),
+        ],
+        told: (67, 200),
+        words: &[1 << 20, 0],
+    },
+    // A mark whose end is no offset goes on to the last page.
+    Case {
+        bytes: 200,
+        page_size: 100,
+        steps: &[
+            Step::MarkShared(199, usize::MAX),
+            Step::MarkShared(usize::MAX, 3),
+        ],
+        told: (2, 200),
+        words: &[0b10],
+    },
+    Case {
+        bytes: 200,
+        page_size: 100,
+        steps: &[
+            Step::Mark(99, 1),
+            Step::MarkShared(0, 0),
+            Step::Mark(100, 0),
+        ],
+        told: (2, 200),
+        words: &[0b1],
+    },
+    // Offsets and lengths past 2^32.
+    Case {
+        bytes: 0x30_0000_0000,
+        page_size: 0x4000_0000,
+        steps: &[
+            Step::SetRange(0x7_ffff_ffff, 2),
+            Step::MarkShared(0x10_0000_0000, 0x2_0000_0000),
+            Step::Mark(0x20_0000_0000, 0x1_0000_0000),
+            Step::ResetRange(0x20_4000_0000, 0x1_0000_0000),
+        ],
+        told: (192, 0x30_0000_0000),
+        words: &[0x1_8000_0000, 0xff, 0x1],
+    },
+];
+
+fn make(bitmap: &mut AtomicBitmap, step: Step) -> Result<(), Fail> {
+    match step {
+        Step::SetRange(start, len) => bitmap.set_addr_range(start, len),
+        Step::ResetRange(start, len) => bitmap.reset_addr_range(start, len),
+        Step::Mark(start, len) => bitmap.mark_dirty(start, len),
+        Step::MarkShared(start, len) => bitmap.mark_shared(start, len),
+        Step::Set(index) => bitmap.set_bit(index),
+        Step::Reset(index) => bitmap.reset_bit(index),
+        Step::ResetAll => bitmap.reset(),
+        Step::Enlarge(more) => {
+            if bitmap.byte_size().checked_add(more).is_none() {
+                return Err(Fail::new("the size is one of 64 bits"));
+            }
+            bitmap.enlarge(more)?;
+        }
+    }
+    Ok(())
+}
+
+// Fails where a bit is not that of the words, up to a place well past them, or a byte's is not that of its page.
+fn expect_bits(bitmap: &AtomicBitmap, page_size: NonZeroUsize, words: &[u64]) -> Result<(), Fail> {
+    for page in 0..0x500usize {
+        let word = words.get(page / 64);
+        let told = word.is_some_and(|word| *word & (1 << (page % 64)) != 0);
+        if bitmap.is_bit_set(page) != told {
+            return Err(Fail::new(format_args!("bit {page} of {words:?}")));
+        }
+        let first = page.saturating_mul(page_size.get());
+        for addr in [first, first.saturating_add(page_size.get() - 1)] {
+            if bitmap.is_addr_set(addr) != told || bitmap.dirty_at(addr) != told {
+                return Err(Fail::new(format_args!("byte {addr} of {words:?}")));
+            }
+        }
+    }
+    Ok(())
+}
+
+fn expect_case(alloc: Global, case: &Case) -> Result<(), Fail> {
+    let page_size = NonZeroUsize::new(case.page_size).ok_or("pages have bytes")?;
+    let mut bitmap = AtomicBitmap::new(alloc, case.bytes, page_size)?;
+    for step in case.steps {
+        make(&mut bitmap, *step)?;
+    }
+    if (bitmap.len(), bitmap.byte_size()) != case.told {
+        return Err(Fail::new(format_args!("{} pages", bitmap.len())));
+    }
+    let copy = bitmap.clone()?;
+    expect_bits(&bitmap, page_size, case.words)?;
+    for one in [&bitmap, &copy] {
+        let words = one.get_and_reset(alloc)?;
+        let left = one.get_and_reset(alloc)?;
+        let is_clean = left.len() == case.words.len() && left.iter().all(|word| *word == 0);
+        if words.as_slice() != case.words || !is_clean {
+            return Err(Fail::new(format_args!("{words:?}, and then {left:?}")));
+        }
+    }
+    Ok(())
+}
+
+#[test]
+fn bits_of_ranges(rt: HostRuntime) -> Result<(), Fail> {
+    event_law();
+    for case in CASES.iter() {
+        expect_case(rt.alloc(), case)?;
+    }
+    let bitmap = AtomicBitmap::with_len(rt.alloc(), 0x2001)?;
+    assert!(rt; bitmap.len() == 3);
+    let mut bitmap = AtomicBitmap::new(rt.alloc(), 0x2000, NonZeroUsize::new(128).ok_or("bytes")?)?;
+    assert!(rt; bitmap.len() == 64);
+    bitmap.set_addr_range(0, usize::MAX);
+    assert!(rt; bitmap.byte_size() == 0x2000);
+    bitmap.enlarge(0x2000)?;
+    assert!(rt; bitmap.len() == 128 && bitmap.byte_size() == 0x4000);
+    for page in 0..200usize {
+        assert!(rt; bitmap.is_bit_set(page) == (page < 64));
+    }
+    Ok(())
+}
+
+// Marks and takes so many pages of one byte, of which the last is left out once and taken once.
+#[test]
+fn many_pages(rt: HostRuntime) -> Result<(), Fail> {
+    let count = 0x10_0001;
+    let bitmap = AtomicBitmap::new(rt.alloc(), count, NonZeroUsize::MIN)?;
+    bitmap.set_addr_range(0, count - 1);
+    let words = bitmap.get_and_reset(rt.alloc())?;
+    assert!(rt; words.len() == 0x4001 && words.last() == Some(&0));
+    assert!(rt; words.iter().take(0x4000).all(|word| *word == u64::MAX));
+    bitmap.set_addr_range(0x1_0001, usize::MAX);
+    bitmap.reset_addr_range(0x1_0041, 0xe_ffbf);
+    bitmap.set_bit(count);
+    assert!(rt; bitmap.is_addr_set(0x1_0001) && bitmap.is_bit_set(count - 1));
+    let words = bitmap.get_and_reset(rt.alloc())?;
+    for (number, word) in words.iter().enumerate() {
+        let wanted = match number {
+            0x400 => u64::MAX - 1,
+            0x401 | 0x4000 => 1,
+            _ => 0,
+        };
+        assert!(rt; *word == wanted, "word {number}");
+    }
+    Ok(())
+}

@@ -1,0 +1,213 @@
+//! Bytes in memory and scripts as sources and sinks.
+
+use crate::told::{fills, reads, writes};
+use std::alloc::Global;
+use std::fmt::Write;
+use std::io::Cursor;
+use std::test::Fail;
+use test_text::expect_text;
+use vm_memory_base::{ByteList, ReadVolatile, ScriptSink, ScriptSource, SinkStep, SourceStep};
+
+// What a source does at a try.
+#[derive(Clone, Copy)]
+enum Did {
+    Give(&'static [u8]),
+    Interrupted(&'static [u8]),
+    Fail(&'static [u8]),
+}
+
+// What a source that does this reads by one try, and then by as many as it takes.
+fn reads_by(alloc: Global, tries: &[Did], out: &mut String) -> Result<(), Fail> {
+    let mut steps = Vec::new(alloc);
+    for did in tries {
+        let (Did::Give(bytes) | Did::Interrupted(bytes) | Did::Fail(bytes)) = did;
+        let bytes = ByteList::from_vec(bytes.to_vec(alloc)?);
+        steps.push(match did {
+            Did::Give(_) => SourceStep::Give(bytes),
+            Did::Interrupted(_) => SourceStep::Interrupted(bytes),
+            Did::Fail(_) => SourceStep::Fail(bytes),
+        })?;
+    }
+    let mut source = ScriptSource::new(steps.as_slice());
+    reads(&mut source, out)?;
+    fills(&mut source, out)
+}
+
+const READ_SCRIPTS: [&[Did]; 3] = [
+    &[Did::Give(&[1, 2]), Did::Give(&[3, 4, 5])],
+    &[
+        Did::Interrupted(&[9]),
+        Did::Give(&[1]),
+        Did::Interrupted(&[9]),
+    ],
+    &[Did::Give(&[1]), Did::Give(&[2]), Did::Fail(&[8, 7])],
+];
+
+const READS: &str = "\
+Ok(2) [1, 2, 0, 0, 0]
+touched 0 UnexpectedEof [0, 0, 0, 0, 0]
+Ok(4) [1, 2, 3, 4, 0]
+whole [5, 6, 7, 8, 0]
+Ok(3) [3, 4, 5, 0, 0]
+touched 0 UnexpectedEof [0, 0, 0, 0, 0]
+Ok(0) [0, 0, 0, 0, 0]
+touched 0 UnexpectedEof [0, 0, 0, 0, 0]
+Ok(2) [1, 2, 0, 0, 0]
+touched 3 UnexpectedEof [3, 4, 5, 0, 0]
+Interrupted [9, 0, 0, 0, 0]
+touched 4 UnexpectedEof [1, 9, 0, 0, 0]
+Ok(1) [1, 0, 0, 0, 0]
+touched 4 Other [2, 8, 7, 0, 0]
+";
+
+#[test]
+fn sources_give_what_they_have(rt: HostRuntime) -> Result<(), Fail> {
+    let alloc = rt.alloc();
+    let mut out = String::new(alloc);
+    for count in [2usize, 11] {
+        let bytes = [1u8, 2, 3, 4, 5, 6, 7, 8, 9, 10, 11];
+        let mut source = &bytes[..count];
+        reads(&mut source, &mut out)?;
+        fills(&mut source, &mut out)?;
+    }
+    for position in [2, 9] {
+        let mut cursor = Cursor::new(&[1u8, 2, 3, 4, 5][..]);
+        cursor.set_position(position);
+        reads(&mut cursor, &mut out)?;
+        fills(&mut cursor, &mut out)?;
+    }
+    for script in READ_SCRIPTS {
+        reads_by(alloc, script, &mut out)?;
+    }
+    expect_text(0, out.as_str(), READS)
+}
+
+// Seven bytes behind a cursor as a source: two tries, all that is wanted twice, and both past their end.
+fn reads_behind<T>(cursor: &mut Cursor<T>, out: &mut String) -> Result<(), Fail>
+where
+    Cursor<T>: ReadVolatile,
+{
+    reads(cursor, out)?;
+    reads(cursor, out)?;
+    writeln!(out, "at {}", cursor.position())?;
+    cursor.set_position(0);
+    fills(cursor, out)?;
+    fills(cursor, out)?;
+    writeln!(out, "at {}", cursor.position())?;
+    cursor.set_position(u64::MAX);
+    reads(cursor, out)?;
+    fills(cursor, out)?;
+    writeln!(out, "at {}", cursor.position())?;
+    Ok(())
+}
+
+const BEHIND_A_CURSOR: &str = "\
+Ok(4) [1, 2, 3, 4, 0]
+Ok(3) [5, 6, 7, 0, 0]
+at 7
+whole [1, 2, 3, 4, 0]
+touched 0 UnexpectedEof [0, 0, 0, 0, 0]
+at 4
+Ok(0) [0, 0, 0, 0, 0]
+touched 0 UnexpectedEof [0, 0, 0, 0, 0]
+at 18446744073709551615
+";
+
+#[test]
+fn cursors_give_the_bytes_behind_them(rt: HostRuntime) -> Result<(), Fail> {
+    let mut bytes = [1u8, 2, 3, 4, 5, 6, 7];
+    let mut out = String::new(rt.alloc());
+    reads_behind(&mut Cursor::new(&bytes[..]), &mut out)?;
+    expect_text(0, out.as_str(), BEHIND_A_CURSOR)?;
+    let mut out = String::new(rt.alloc());
+    reads_behind(&mut Cursor::new(&mut bytes[..]), &mut out)?;
+    expect_text(1, out.as_str(), BEHIND_A_CURSOR)?;
+    assert!(rt; bytes == [1, 2, 3, 4, 5, 6, 7]);
+    Ok(())
+}
+
+// What bytes answer as a sink, and what is left of them: or behind a cursor from a position on, and where it is then.
+fn writes_into(place: &mut [u8], position: Option<u64>, out: &mut String) -> Result<(), Fail> {
+    let Some(position) = position else {
+        let mut sink = place;
+        writes(&mut sink, out)?;
+        writeln!(out, "left {sink:?}")?;
+        return Ok(());
+    };
+    let mut cursor = Cursor::new(place);
+    cursor.set_position(position);
+    writes(&mut cursor, out)?;
+    write!(out, "at {} ", cursor.position())?;
+    Ok(())
+}
+
+// What a sink of so much room answers that does this, and what it took.
+fn writes_by(alloc: Global, steps: &[SinkStep], room: usize, out: &mut String) -> Result<(), Fail> {
+    let mut sink = ScriptSink::new(alloc, steps, room)?;
+    writes(&mut sink, out)?;
+    writeln!(out, "{:?}", sink.taken())?;
+    writeln!(out, "{:?}", sink.into_taken().as_slice())?;
+    Ok(())
+}
+
+const WRITES: &str = "\
+Ok(4) Ok(())
+at 8 [1, 2, 3, 4, 1, 2, 3, 4, 9]
+Ok(4) WriteZero
+at 9 [9, 9, 1, 2, 3, 4, 1, 2, 3]
+Ok(2) WriteZero
+at 9 [9, 9, 9, 9, 9, 9, 9, 1, 2]
+Ok(0) WriteZero
+at 10 [9, 9, 9, 9, 9, 9, 9, 9, 9]
+Ok(0) WriteZero
+at 18446744073709551615 [9, 9, 9, 9, 9, 9, 9, 9, 9]
+Ok(3) WriteZero
+left []
+[1, 2, 3, 9, 9, 9, 9, 9, 9, 9]
+Ok(4) WriteZero
+left []
+[1, 2, 3, 4, 1, 2, 3, 9, 9, 9]
+Ok(4) Ok(())
+left [9]
+[1, 2, 3, 4, 1, 2, 3, 4, 9, 9]
+Ok(4) Ok(())
+[1, 2, 3, 4, 1, 2, 3, 4]
+Ok(3) Ok(())
+[1, 2, 3, 1, 2, 3, 4]
+[1, 2, 3, 1, 2, 3, 4]
+Ok(3) WriteZero
+[1, 2, 3, 1, 2, 3]
+[1, 2, 3, 1, 2, 3]
+Interrupted Other
+[1]
+[1]
+";
+
+#[test]
+fn sinks_take_what_they_can(rt: HostRuntime) -> Result<(), Fail> {
+    let alloc = rt.alloc();
+    let mut out = String::new(alloc);
+    for position in [0, 2, 7, 10, u64::MAX] {
+        let mut place = [9u8; 9];
+        writes_into(&mut place, Some(position), &mut out)?;
+        writeln!(out, "{place:?}")?;
+    }
+    for room in [3usize, 7, 9] {
+        let mut place = [9u8; 10];
+        writes_into(&mut place[..room], None, &mut out)?;
+        writeln!(out, "{place:?}")?;
+    }
+    let mut sink: Vec<u8> = Vec::new(alloc);
+    writes(&mut sink, &mut out)?;
+    writeln!(out, "{:?}", sink.as_slice())?;
+    writes_by(alloc, &[SinkStep::Take(3)], 10, &mut out)?;
+    writes_by(alloc, &[SinkStep::Take(3)], 6, &mut out)?;
+    let steps = [
+        SinkStep::Interrupted,
+        SinkStep::Take(1),
+        SinkStep::Interrupted,
+        SinkStep::Fail,
+    ];
+    writes_by(alloc, &steps, 10, &mut out)?;
+    expect_text(0, out.as_str(), WRITES)
+}

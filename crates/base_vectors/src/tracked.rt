@@ -1,0 +1,228 @@
+//! A bitmap that several threads mark while one harvests.
+ghost use Rattle.std.specs.Prelude.{IfSome};
+ghost use Rattle.base_vectors.specs.Markers.{IsMarkerOf, IsHarvesterOf, AreNewOf};
+
+use std::alloc::Global;
+use std::num::NonZeroUsize;
+use std::sync::Arc;
+use std::test::Fail;
+use vm_memory_base::{Bitmap, Harvester, Marker, MarkerBitmap, TrackedBitmap};
+
+// Takes one of the markers.
+fn next_marker(bitmap: &TrackedBitmap, markers: &mut Vec<Marker>) -> Option<Marker>
+    requires { AreNewOf markers.old.items bitmap.now }
+    ensures marker { IfSome result (λ m. IsMarkerOf m bitmap.now) }
+    ensures others { AreNewOf markers.new.items bitmap.now }
+{
+    markers.pop()
+}
+
+// Fails where a byte is not told as it should be, to the marker and at a glance.
+fn expect_told(
+    bitmap: &TrackedBitmap,
+    marker: &mut Marker,
+    addr: usize,
+    wanted: bool,
+) -> Result<(), Fail>
+    requires { IsMarkerOf marker.old bitmap.now }
+    ensures { IsMarkerOf marker.new bitmap.now }
+{
+    if bitmap.is_addr_set(marker, addr) == wanted && bitmap.glance(addr) == wanted {
+        Ok(())
+    } else {
+        Err(Fail::new(format_args!("byte {addr} is not told {wanted}")))
+    }
+}
+
+// Fails where words are not so many, of which these have these numbers and all others are 0.
+fn expect_words(words: &[u32], count: usize, wanted: &[(usize, u32)]) -> Result<(), Fail> {
+    if words.len() != count {
+        return Err(Fail::new("these are not so many words"));
+    }
+    for (number, word) in words.iter().enumerate() {
+        let found = wanted.iter().find(|place| place.0 == number);
+        if *word != found.map_or(0, |place| place.1) {
+            return Err(Fail::new(format_args!("word {number} is {word:#x}")));
+        }
+    }
+    Ok(())
+}
+
+// Harvests, and fails where these are not the words.
+fn expect_taken(
+    alloc: Global,
+    bitmap: &TrackedBitmap,
+    harvester: &mut Harvester,
+    count: usize,
+    wanted: &[(usize, u32)],
+) -> Result<(), Fail>
+    requires { IsHarvesterOf harvester.old bitmap.now }
+    ensures { IsHarvesterOf harvester.new bitmap.now }
+{
+    match bitmap.get_and_reset(harvester, alloc) {
+        Ok(words) => expect_words(words.as_slice(), count, wanted),
+        Err(error) => Err(Fail::from(error)),
+    }
+}
+
+// Ends the bitmap, and fails where these are not the words left.
+fn expect_left(
+    alloc: Global,
+    bitmap: TrackedBitmap,
+    harvester: Harvester,
+    count: usize,
+    wanted: &[(usize, u32)],
+) -> Result<(), Fail>
+    requires { IsHarvesterOf harvester bitmap }
+{
+    match bitmap.close(harvester, alloc) {
+        Ok(words) => expect_words(words.as_slice(), count, wanted),
+        Err(_) => Err(Fail::new("there was no memory")),
+    }
+}
+
+// Marks, looks and harvests of one marker.
+fn expect_rounds(
+    alloc: Global,
+    bitmap: &TrackedBitmap,
+    harvester: &mut Harvester,
+    marker: &mut Marker,
+) -> Result<(), Fail>
+    requires marker { IsMarkerOf marker.old bitmap.now }
+    requires harvester { IsHarvesterOf harvester.old bitmap.now }
+    ensures marker { IsMarkerOf marker.new bitmap.now }
+    ensures harvester { IsHarvesterOf harvester.new bitmap.now }
+{
+    bitmap.mark(marker, 60, 10);
+    expect_told(bitmap, marker, 59, false)?;
+    expect_told(bitmap, marker, 60, true)?;
+    expect_told(bitmap, marker, 64, false)?;
+    expect_taken(alloc, bitmap, harvester, 2, &[(1, 0xf000_0000)])?;
+    bitmap.mark(marker, 60, 1);
+    expect_told(bitmap, marker, 60, true)?;
+    expect_told(bitmap, marker, 61, false)?;
+    bitmap.mark(marker, 31, 2);
+    expect_told(bitmap, marker, 31, true)?;
+    expect_told(bitmap, marker, 32, true)?;
+    expect_told(bitmap, marker, 33, false)?;
+    expect_told(bitmap, marker, usize::MAX, false)
+}
+
+#[test]
+fn rounds_of_one_marker(rt: HostRuntime) -> Result<(), Fail> {
+    let (bitmap, mut harvester, mut markers) = TrackedBitmap::new(
+        rt.alloc(),
+        64,
+        NonZeroUsize::MIN,
+        1,
+    )?;
+    let Some(mut marker) = next_marker(&bitmap, &mut markers) else {
+        return Err(Fail::new("there is a marker"));
+    };
+    expect_rounds(rt.alloc(), &bitmap, &mut harvester, &mut marker)?;
+    bitmap.join(&mut harvester, marker);
+    let wanted = [(0, 0x8000_0000), (1, 0x1000_0001)];
+    expect_left(rt.alloc(), bitmap, harvester, 2, &wanted)
+}
+
+#[test]
+fn a_marker_sees_the_mark_of_another(rt: HostRuntime) -> Result<(), Fail> {
+    let (bitmap, mut harvester, mut markers) = TrackedBitmap::new(
+        rt.alloc(),
+        64,
+        NonZeroUsize::MIN,
+        2,
+    )?;
+    let Some(mut one) = next_marker(&bitmap, &mut markers) else {
+        return Err(Fail::new("there is a marker"));
+    };
+    let Some(mut other) = next_marker(&bitmap, &mut markers) else {
+        return Err(Fail::new("there is another"));
+    };
+    bitmap.mark(&mut one, 3, 1);
+    expect_told(&bitmap, &mut other, 3, true)?;
+    bitmap.meet(&mut one, &mut harvester);
+    expect_taken(rt.alloc(), &bitmap, &mut harvester, 2, &[(0, 8)])?;
+    expect_told(&bitmap, &mut other, 3, false)
+}
+
+// Marks and harvests of 2^20 + 1 pages.
+fn expect_many(
+    alloc: Global,
+    bitmap: &TrackedBitmap,
+    harvester: &mut Harvester,
+    one: &mut Marker,
+    other: &mut Marker,
+) -> Result<(), Fail>
+    requires one { IsMarkerOf one.old bitmap.now }
+    requires other { IsMarkerOf other.old bitmap.now }
+    requires harvester { IsHarvesterOf harvester.old bitmap.now }
+    ensures harvester { IsHarvesterOf harvester.new bitmap.now }
+{
+    bitmap.mark(one, 0xffff, 2);
+    bitmap.mark(other, 0x1_0000, 1);
+    expect_told(bitmap, one, 0x1_0000, true)?;
+    expect_taken(
+        alloc,
+        bitmap,
+        harvester,
+        0x8001,
+        &[(0x7ff, 0x8000_0000), (0x800, 1)],
+    )?;
+    bitmap.mark(other, 0x10_0000, usize::MAX);
+    bitmap.mark(one, 0x3_0021, 0);
+    expect_told(bitmap, one, 0x10_0000, true)?;
+    expect_told(bitmap, one, 0x1_0000, false)?;
+    expect_told(bitmap, one, 0x10_0001, false)
+}
+
+#[test]
+fn many_pages_of_many_markers(rt: HostRuntime) -> Result<(), Fail> {
+    let (bitmap, mut harvester, mut markers) = TrackedBitmap::new(
+        rt.alloc(),
+        0x10_0001,
+        NonZeroUsize::MIN,
+        65,
+    )?;
+    assert!(rt; markers.len() == 65 && bitmap.len() == 0x10_0001);
+    let Some(mut one) = next_marker(&bitmap, &mut markers) else {
+        return Err(Fail::new("there is a marker"));
+    };
+    let Some(mut other) = next_marker(&bitmap, &mut markers) else {
+        return Err(Fail::new("there is another"));
+    };
+    expect_many(rt.alloc(), &bitmap, &mut harvester, &mut one, &mut other)?;
+    expect_left(rt.alloc(), bitmap, harvester, 0x8001, &[(0x8000, 1)])
+}
+
+// Marks until the marker is handed back.
+#[test]
+fn a_marker_marks_for_a_bitmap_until_it_retires(rt: HostRuntime) -> Result<(), Fail> {
+    let (bitmap, mut harvester, mut markers) = TrackedBitmap::new(
+        rt.alloc(),
+        640,
+        NonZeroUsize::new(10).ok_or("pages have bytes")?,
+        1,
+    )?;
+    let marker = next_marker(&bitmap, &mut markers).ok_or("there is a marker")?;
+    let shared = Arc::new(rt.alloc(), bitmap)?;
+    let mut marked = MarkerBitmap::new(shared, marker);
+    marked.mark_dirty(319, 2);
+    for (addr, wanted) in [(309, false), (310, true), (329, true), (330, false)] {
+        assert!(rt; marked.dirty_at(addr) == wanted);
+    }
+    marked.meet(&mut harvester);
+    let (shared, marker) = marked.retire().ok_or("there is a marker")?;
+    assert!(rt; marked.retire().is_none());
+    marked.mark_dirty(0, 1);
+    assert!(rt; !marked.dirty_at(310));
+    let bitmap = Arc::into_inner(shared).ok_or("nobody else has the bitmap")?;
+    bitmap.join(&mut harvester, marker);
+    expect_left(
+        rt.alloc(),
+        bitmap,
+        harvester,
+        2,
+        &[(0, 0x8000_0000), (1, 1)],
+    )
+}

@@ -1,0 +1,76 @@
+//! Layouts of a thousand regions.
+
+use std::alloc::Global;
+use std::sync::Arc;
+use std::test::Fail;
+use test_regions::{CountingRegion, TestRegion};
+use vm_memory_base::GuestAddress;
+use vm_memory_guest::{GuestMemoryBackend, GuestMemoryRegion, GuestRegionCollection};
+
+// A thousand regions of 0x1000 addresses, with as many addresses between any two.
+fn thousand(alloc: Global) -> Result<Vec<Arc<CountingRegion>>, Fail> {
+    let mut regions = Vec::with_capacity(alloc, 1000)?;
+    for number in 0..1000u64 {
+        let region = CountingRegion::new(GuestAddress(0x2000 * number), 0x1000);
+        regions.push(Arc::new(alloc, region.ok_or("the region fits")?)?)?;
+    }
+    Ok(regions)
+}
+
+// Whether searches for the first and the last of each 0x1000 addresses find each of the thousand regions but one, and
+// none between, by at most ten probes.
+fn finds_all_but(layout: &GuestRegionCollection<CountingRegion>, left_out: u64) -> bool {
+    (0..4002u64).all(|number| {
+        let page = number / 2;
+        let addr = GuestAddress(0x1000 * page + 0xfff * (number % 2));
+        let (region, probes) = layout.find_region_counted(addr);
+        let found = region.map(|region| region.last_addr().0);
+        let searched = layout.find_region(addr).map(|region| region.last_addr().0);
+        let is_there = page % 2 == 0 && page < 2000 && page / 2 != left_out;
+        let wanted = is_there.then_some(0x1000 * page + 0xfff);
+        probes <= 10 && found == wanted && searched == wanted
+    })
+}
+
+// Making a layout asks a region for its start at most twice, and a search asks none.
+#[test]
+fn a_search_among_a_thousand_regions_makes_ten_probes(rt: HostRuntime) -> Result<(), Fail> {
+    let regions = thousand(rt.alloc())?;
+    let mut again = Vec::new(rt.alloc());
+    for region in &regions {
+        again.push(region.clone()?)?;
+    }
+    let layout = GuestRegionCollection::from_arc_regions(again)?;
+    assert!(rt; regions.iter().all(|region| region.asked() <= 2));
+    assert!(rt; finds_all_but(&layout, 1000));
+    assert!(rt; regions.iter().all(|region| region.asked() <= 2));
+    Ok(())
+}
+
+#[test]
+fn a_layout_of_a_thousand_regions_is_changed(rt: HostRuntime) -> Result<(), Fail> {
+    let layout = GuestRegionCollection::from_arc_regions(thousand(rt.alloc())?)?;
+    let copy = layout.clone()?;
+    let (rest, region) = copy.remove_region(GuestAddress(0x2000 * 500), 0x1000)?;
+    assert!(rt; rest.num_regions() == 999 && finds_all_but(&rest, 500));
+    let again = rest.insert_region(region)?;
+    assert!(rt; again.num_regions() == 1000 && finds_all_but(&again, 1000));
+    assert!(rt; layout.num_regions() == 1000 && finds_all_but(&layout, 1000));
+    Ok(())
+}
+
+#[test]
+fn a_thousand_regions_are_moved_into_a_layout(rt: HostRuntime) -> Result<(), Fail> {
+    let all = (0..1000u64).filter_map(|number| TestRegion::bare(
+        GuestAddress(number.wrapping_mul(0x10)),
+        0x10,
+    ));
+    let regions: Vec<TestRegion> = all.collect(rt.alloc())?;
+    let layout = GuestRegionCollection::from_regions(rt.alloc(), regions)?;
+    let starts = (0..1000usize).map(|number| layout.region_at(number));
+    let is_each = starts.enumerate().all(|(number, region)| region.is_some_and(|region| {
+        region.start_addr().0 == (number as u64).wrapping_mul(0x10) && region.len() == 0x10
+    }));
+    assert!(rt; is_each && layout.num_regions() == 1000 && layout.last_addr().0 == 0x3e7f);
+    Ok(())
+}

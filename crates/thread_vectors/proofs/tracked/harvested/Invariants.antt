@@ -1,0 +1,5 @@
+use Rattle.thread_vectors.specs.Markers.{IsHarvesterOf}
+use Rattle.thread_vectors.proofs.tracked.harvested.Given as goal
+
+abbrev pub invariant-loop : goal.invariant-loop
+invariant-loop l = IsHarvesterOf l.harvester l.bitmap

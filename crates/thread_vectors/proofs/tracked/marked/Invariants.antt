@@ -1,0 +1,5 @@
+use Rattle.thread_vectors.specs.Markers.{IsMarkerOf}
+use Rattle.thread_vectors.proofs.tracked.marked.Given as goal
+
+abbrev pub invariant-loop-number : goal.invariant-loop-number
+invariant-loop-number l = IsMarkerOf l.marker l.bitmap

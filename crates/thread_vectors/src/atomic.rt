@@ -1,0 +1,163 @@
+//! An `AtomicBitmap` of which four threads change pages, while one harvests or none.
+
+use crate::marks::{DONE, HARVESTS, MET, Marks, Tally, meet};
+use std::alloc::Global;
+use std::num::NonZeroUsize;
+use std::sync::atomic::{AtomicUsize, Ordering};
+use std::test::Fail;
+use std::thread::{self, Threads};
+use vm_memory::AtomicBitmap;
+
+// How a thread changes its pages: it sets them or clears them, by lots or one by one.
+#[derive(Clone, Copy)]
+enum Change {
+    SetLots,
+    SetEach,
+    ClearLots,
+    ClearEach,
+}
+
+use Change::{ClearEach, ClearLots, SetEach, SetLots};
+
+// Changes the pages of a thread.
+fn change_pages(
+    bitmap: &AtomicBitmap,
+    change: Change,
+    thread: usize,
+    marks: &Marks,
+    gate: &AtomicUsize,
+) {
+    meet(gate, MET);
+    for number in 0..marks.count(thread) {
+        let start = marks.start(thread, number);
+        let end = start.saturating_add(marks.len());
+        match change {
+            SetLots => bitmap.set_addr_range(start, marks.len()),
+            ClearLots => bitmap.reset_addr_range(start, marks.len()),
+            SetEach => (start..end).for_each(|page| bitmap.set_bit(page)),
+            ClearEach => (start..end).for_each(|page| bitmap.reset_bit(page)),
+        }
+    }
+    gate.fetch_add(1, Ordering::SeqCst);
+}
+
+// Changes the pages of the four threads.
+fn change_all<R: Sync + Threads>(
+    rt: &R,
+    bitmap: &AtomicBitmap,
+    changes: [Change; 4],
+    marks: &Marks,
+    gate: &AtomicUsize,
+) {
+    let [first, second, third, fourth] = changes;
+    thread::join(
+        rt,
+        || {
+            thread::join(
+                rt,
+                || change_pages(bitmap, first, 0, marks, gate),
+                || change_pages(bitmap, second, 1, marks, gate),
+            )
+        },
+        || {
+            thread::join(
+                rt,
+                || change_pages(bitmap, third, 2, marks, gate),
+                || change_pages(bitmap, fourth, 3, marks, gate),
+            )
+        },
+    );
+}
+
+// Harvests until all threads have marked their pages.
+fn harvested(alloc: Global, bitmap: &AtomicBitmap, mut tally: Tally, gate: &AtomicUsize) -> Tally {
+    meet(gate, MET);
+    for _ in 0..HARVESTS {
+        if gate.load(Ordering::SeqCst) >= DONE {
+            break;
+        }
+        match bitmap.get_and_reset(alloc) {
+            Ok(words) => tally.add_words(words.as_slice(), gate.load(Ordering::SeqCst) < DONE),
+            Err(_) => tally.failed = true,
+        }
+    }
+    tally
+}
+
+/// How many harvests took pages while threads marked. Fails where an `AtomicBitmap`, marked by four threads while one
+/// harvests, loses or invents a page, or gives one too often.
+pub fn expect_atomic<R: Sync + Threads>(
+    rt: &R,
+    alloc: Global,
+    marks: &Marks,
+) -> Result<usize, Fail> {
+    let bitmap = AtomicBitmap::new(alloc, marks.pages, NonZeroUsize::MIN)?;
+    let tally = Tally::new(alloc, marks.pages)?;
+    let gate = AtomicUsize::new(0);
+    let changes = [SetLots, SetEach, SetLots, SetEach];
+    let (_, mut tally) = thread::join(
+        rt,
+        || change_all(rt, &bitmap, changes, marks, &gate),
+        || harvested(alloc, &bitmap, tally, &gate),
+    );
+    tally.add_words(bitmap.get_and_reset(alloc)?.as_slice(), false);
+    tally.expect(marks, false)?;
+    Ok(tally.taken)
+}
+
+/// Fails where an `AtomicBitmap`, of which two threads clear pages while two set others, loses or invents a page. All
+/// pages that neither sets are set before, also those right before and behind the cleared ones.
+pub fn expect_cleared<R: Sync + Threads>(rt: &R, alloc: Global, marks: &Marks) -> Result<(), Fail> {
+    let bitmap = AtomicBitmap::new(alloc, marks.pages, NonZeroUsize::MIN)?;
+    for page in 0..marks.pages {
+        if marks.is_set_at_first(page) {
+            bitmap.set_bit(page);
+        }
+    }
+    let changes = [ClearLots, ClearEach, SetLots, SetEach];
+    change_all(rt, &bitmap, changes, marks, &AtomicUsize::new(1));
+    let mut tally = Tally::new(alloc, marks.pages)?;
+    tally.add_words(bitmap.get_and_reset(alloc)?.as_slice(), false);
+    tally.expect(marks, true)
+}
+
+// Bitmaps, and lots of them. One round meets few of the moments in which a page can be lost, so there are many.
+#[cfg(test)]
+const MARKS: [Marks; 4] = [
+    Marks {
+        pages: 30_000,
+        lot: 1,
+        width: 1,
+        threads: 4,
+    },
+    Marks {
+        pages: 10_001,
+        lot: 3,
+        width: 3,
+        threads: 4,
+    },
+    Marks {
+        pages: 5000,
+        lot: 70,
+        width: 1,
+        threads: 4,
+    },
+    Marks {
+        pages: 20_000,
+        lot: 1,
+        width: 4,
+        threads: 4,
+    },
+];
+
+#[test]
+fn words_lose_no_page(rt: HostRuntime) -> Result<(), Fail> {
+    let mut taken = 0usize;
+    for round in 0..24 {
+        let marks = &MARKS[round % MARKS.len()];
+        taken = taken.saturating_add(expect_atomic(&rt, rt.alloc(), marks)?);
+        expect_cleared(&rt, rt.alloc(), marks)?;
+    }
+    assert!(rt; taken > 0, "harvests take pages while threads mark");
+    Ok(())
+}

@@ -1,0 +1,140 @@
+//! Four threads that command one machine.
+
+use crate::marks::meet;
+use std::alloc::{AllocError, Global};
+use std::slice;
+use std::sync::Wait;
+use std::sync::atomic::AtomicUsize;
+use std::test::Fail;
+use std::thread::{self, Threads};
+use test_machines::{
+    TestJournal, TestMachine, TestShared, layout_of, machine_of, read_of, run_on, write_of,
+};
+use test_regions::Place;
+use test_text::expect_text;
+use vm_memory::{Command, Journal, Reply, SharedMachine};
+
+// How many commands a thread calls.
+const CALLS: u8 = 250;
+
+// Writes two bytes, or reads what all threads wrote. No two threads have a command in common.
+fn command_of(alloc: Global, caller: u8, number: u8) -> Result<Command, AllocError> {
+    if number % 2 == 0 {
+        let addr = u64::from(number) * 7 % 0x1d + u64::from(caller);
+        write_of(alloc, 0, addr, &[caller, number])
+    } else {
+        Ok(read_of(0, u64::from(caller), 0x1d))
+    }
+}
+
+type Answers = Result<Vec<(usize, Reply)>, AllocError>;
+
+// What a thread is answered.
+fn answers_of<R: Wait>(
+    rt: &R,
+    alloc: Global,
+    machine: &TestShared,
+    caller: u8,
+    gate: &AtomicUsize,
+) -> Answers {
+    meet(gate, 4);
+    let mut answers = Vec::new(alloc);
+    for number in 0..CALLS {
+        let command = command_of(alloc, caller, number)?;
+        let answer = machine.call(rt, command).map_err(|_| AllocError)?;
+        answers.push(answer)?;
+    }
+    Ok(answers)
+}
+
+fn answers_of_two<R: Sync + Threads + Wait>(
+    rt: &R,
+    alloc: Global,
+    machine: &TestShared,
+    caller: u8,
+    gate: &AtomicUsize,
+) -> (Answers, Answers) {
+    thread::join(
+        rt,
+        || answers_of(rt, alloc, machine, caller, gate),
+        || answers_of(rt, alloc, machine, caller.wrapping_add(1), gate),
+    )
+}
+
+// Fails where the entries of the answers do not follow one another, or have other commands or replies.
+fn expect_answered(
+    alloc: Global,
+    journal: &TestJournal,
+    caller: u8,
+    answers: &[(usize, Reply)],
+) -> Result<(), Fail> {
+    let mut next = 0usize;
+    for (place, (number, reply)) in answers.iter().enumerate() {
+        let command = command_of(alloc, caller, (place % 256) as u8)?;
+        let told = format!(in alloc; "{command:?} {reply:?}")?;
+        let entry = (journal.command(*number), journal.reply(*number));
+        let (Some(command), Some(reply)) = entry else {
+            return Err(Fail::new(format_args!("there is no entry {number}")));
+        };
+        let wanted = format!(in alloc; "{command:?} {reply:?}")?;
+        expect_text(*number, told.as_str(), wanted.as_str())?;
+        if *number < next {
+            return Err(Fail::new(format_args!("entry {number} is before {next}")));
+        }
+        next = number.saturating_add(1);
+    }
+    if answers.len() != usize::from(CALLS) {
+        return Err(Fail::new("there is an answer for each call"));
+    }
+    Ok(())
+}
+
+/// A machine with a memory of one region of so many bytes.
+pub fn set_up(alloc: Global, size: usize) -> Result<TestMachine, Fail> {
+    let mut machine = machine_of(alloc, &[Place::Block(0, size)])?;
+    let commands = vec![in alloc; layout_of(alloc, &[0])?, Command::Plain(0)]?;
+    run_on(&mut machine, commands.as_slice(), &mut Vec::new(alloc))?;
+    Ok(machine)
+}
+
+// Fails where the commands of a journal, run again, have other replies.
+fn expect_replayed(alloc: Global, journal: &TestJournal) -> Result<(), Fail> {
+    let mut machine = set_up(alloc, 0x20)?;
+    let mut replies = Vec::new(alloc);
+    for number in 0..journal.len() {
+        let command = journal.command(number).ok_or("a command")?;
+        run_on(&mut machine, slice::from_ref(command), &mut replies)?;
+        let reply = journal.reply(number).ok_or("a reply")?;
+        let told = format!(in alloc; "{reply:?}")?;
+        let again = replies.pop().ok_or("a reply")?;
+        let wanted = format!(in alloc; "{again:?}")?;
+        expect_text(number, told.as_str(), wanted.as_str())?;
+    }
+    Ok(())
+}
+
+/// Fails where what four threads are answered by one machine is not what its journal has, all of it.
+pub fn expect_calls<R: Sync + Threads + Wait>(rt: &R, alloc: Global) -> Result<(), Fail> {
+    let machine = SharedMachine::new(Journal::new(set_up(alloc, 0x20)?));
+    let gate = AtomicUsize::new(0);
+    let ((a, b), (c, d)) = thread::join(
+        rt,
+        || answers_of_two(rt, alloc, &machine, 0, &gate),
+        || answers_of_two(rt, alloc, &machine, 2, &gate),
+    );
+    let journal = machine.into_journal();
+    let mut caller = 0u8;
+    for answers in [a, b, c, d] {
+        expect_answered(alloc, &journal, caller, answers?.as_slice())?;
+        caller = caller.wrapping_add(1);
+    }
+    if journal.len() != 4 * usize::from(CALLS) {
+        return Err(Fail::new(format_args!("{} entries", journal.len())));
+    }
+    expect_replayed(alloc, &journal)
+}
+
+#[test]
+fn calls_of_threads_are_one_run(rt: HostRuntime) -> Result<(), Fail> {
+    expect_calls(&rt, rt.alloc())
+}

@@ -1,0 +1,130 @@
+//! A bitmap that is harvested while another thread has the lock of its host.
+ghost use Rattle.thread_vectors.specs.Markers.{IsMarkerOf, IsHarvesterOf};
+
+use crate::tracked::next_marker;
+use std::alloc::Global;
+use std::num::NonZeroUsize;
+use std::sync::atomic::{AtomicBool, Ordering};
+use std::sync::{Arc, Mutex, Wait};
+use std::test::Fail;
+use std::thread::{self, Threads};
+use vm_memory::{
+    BitmapId, BlockId, Bytes, GuestAddress, GuestMemoryMmap, GuestRegionMmap, Harvester,
+    HostMemory, Marker, MarkerBitmap, MmapRegion, TrackedBitmap,
+};
+
+type MarkedHost = HostMemory<MarkerBitmap>;
+
+// A host of one block of 0x400 bytes, which a marker of the bitmap marks.
+fn marked_host(
+    alloc: Global,
+    bitmap: &Arc<TrackedBitmap>,
+    marker: Marker,
+) -> Result<MarkedHost, Fail>
+    requires { IsMarkerOf marker bitmap.now.value }
+{
+    let mut host = HostMemory::new(alloc);
+    let marked = MarkerBitmap::new(bitmap.clone()?, marker);
+    if host.new_block_with(0x400, marked).is_err() {
+        return Err(Fail::new("there was no memory"));
+    }
+    Ok(host)
+}
+
+// A memory of the block, from 0x1000 on.
+fn memory_of_block(alloc: Global, host: &MarkedHost) -> Result<GuestMemoryMmap, Fail> {
+    if !host.shape().has_bitmap(BitmapId::Block(0)) {
+        return Err(Fail::new("there is a block"));
+    }
+    let block = MmapRegion::of_block(host, BlockId(0));
+    let region = GuestRegionMmap::new(block, GuestAddress(0x1000)).ok_or("the region fits")?;
+    let regions = vec![in alloc; Arc::new(alloc, region)?]?;
+    Ok(GuestMemoryMmap::from_arc_regions(regions)?)
+}
+
+// What two threads tell each other: that one has the lock, and that the other harvested.
+#[derive(Drop)]
+struct Signals {
+    locked: AtomicBool,
+    harvested: AtomicBool,
+}
+
+// Whether a signal comes in so many turns.
+fn comes(signal: &AtomicBool) -> bool {
+    for _ in 0..100_000_000 {
+        if signal.load(Ordering::SeqCst) {
+            return true;
+        }
+    }
+    false
+}
+
+// Writes, and keeps the lock of the host until the other thread harvested.
+fn write_and_keep_the_lock<R: Wait>(
+    rt: &R,
+    host: &Mutex<MarkedHost>,
+    memory: &GuestMemoryMmap,
+    signals: &Signals,
+) -> bool {
+    let mut host = host.lock(rt);
+    let wrote = host.holds(memory)
+        && matches!(memory.write(&mut *host, &[7], GuestAddress(0x1123)), Ok(1));
+    signals.locked.store(true, Ordering::SeqCst);
+    comes(&signals.harvested) && wrote
+}
+
+// Whether a harvest takes the page that was written, while the other thread has the lock.
+fn harvest_beside_the_lock(
+    alloc: Global,
+    bitmap: &TrackedBitmap,
+    mut harvester: Harvester,
+    signals: &Signals,
+) -> bool
+    requires { IsHarvesterOf harvester bitmap.now }
+{
+    let locked = comes(&signals.locked);
+    let is_right = match bitmap.get_and_reset(&mut harvester, alloc) {
+        Ok(words) => words.as_slice() == [0x4_0000, 0].as_slice(),
+        Err(_) => false,
+    };
+    signals.harvested.store(true, Ordering::SeqCst);
+    locked && is_right
+}
+
+// Whether a host that is locked is harvested.
+fn is_harvested_while_locked<R: Sync + Threads + Wait>(
+    rt: &R,
+    alloc: Global,
+    bitmap: &Arc<TrackedBitmap>,
+    harvester: Harvester,
+    marker: Marker,
+) -> Result<bool, Fail>
+    requires harvester { IsHarvesterOf harvester bitmap.now.value }
+    requires marker { IsMarkerOf marker bitmap.now.value }
+{
+    let host = marked_host(alloc, bitmap, marker)?;
+    let memory = memory_of_block(alloc, &host)?;
+    let host = Mutex::new(host);
+    let signals = Signals {
+        locked: AtomicBool::new(false),
+        harvested: AtomicBool::new(false),
+    };
+    let (harvested, kept) = thread::join(
+        rt,
+        || -> bool
+            requires { IsHarvesterOf harvester bitmap.now.value }
+        { harvest_beside_the_lock(alloc, &**bitmap, harvester, &signals) },
+        || write_and_keep_the_lock(rt, &host, &memory, &signals),
+    );
+    Ok(harvested && kept)
+}
+
+#[test]
+fn a_harvest_does_not_wait_for_the_lock_of_a_host(rt: HostRuntime) -> Result<(), Fail> {
+    let size = NonZeroUsize::new(16).ok_or("pages have bytes")?;
+    let (bitmap, harvester, mut markers) = TrackedBitmap::new(rt.alloc(), 0x400, size, 1)?;
+    let marker = next_marker(&bitmap, &mut markers).ok_or("there is a marker")?;
+    let shared = Arc::new(rt.alloc(), bitmap)?;
+    assert!(rt; is_harvested_while_locked(&rt, rt.alloc(), &shared, harvester, marker)?);
+    Ok(())
+}

@@ -1,0 +1,172 @@
+//! The pages that each of several threads changes, where the threads meet, and how often each page was harvested.
+
+use std::alloc::{AllocError, Global};
+use std::sync::atomic::{AtomicUsize, Ordering};
+use std::test::Fail;
+use std::thread;
+
+/// Pages that up to four threads change, by lots: of twelve lots in a row thread `k` has `width`, from the lot `2k` on.
+///
+/// With a width of 1 no two threads have a page in common, and between two threads' lots lies one that none has. With
+/// 3 neighbours share a lot, and with 4 two. Where a lot is short, all threads share each word.
+#[derive(Clone, Copy)]
+pub struct Marks {
+    /// The number of pages.
+    pub pages: usize,
+    /// The number of pages of a lot. None counts as one.
+    pub lot: usize,
+    /// The number of lots that a thread changes at once, up to 5.
+    pub width: usize,
+    /// The number of threads that change pages.
+    pub threads: usize,
+}
+
+impl Marks {
+    // How many of these threads change a page.
+    fn owners(&self, page: usize, from: usize, to: usize) -> usize {
+        let lot = page / self.lot.max(1) % 12;
+        let mut owners = 0usize;
+        for thread in from..to.min(self.threads) {
+            let first = thread.saturating_mul(2);
+            if first <= lot && lot < first.saturating_add(self.width) {
+                owners = owners.saturating_add(1);
+            }
+        }
+        owners
+    }
+
+    /// Whether a page is set before the first two threads clear theirs and the others set theirs: the others' are not.
+    pub fn is_set_at_first(&self, page: usize) -> bool {
+        self.owners(page, 2, 4) == 0
+    }
+
+    // How often a page is harvested where each thread marks its pages once, at least and at most. A page that two mark
+    // is taken once or twice. Where the first two threads clear, one that another sets too may stay either way.
+    fn bounds(&self, page: usize, clears: bool) -> (usize, usize) {
+        if page >= self.pages {
+            return (0, 0);
+        }
+        if !clears {
+            let owners = self.owners(page, 0, 4);
+            return (owners.min(1), owners);
+        }
+        let is_cleared = self.owners(page, 0, 2) > 0;
+        let may_be_set = !is_cleared || self.owners(page, 2, 4) > 0;
+        (usize::from(!is_cleared), usize::from(may_be_set))
+    }
+
+    /// How often a thread changes so many pages as `len` tells.
+    pub fn count(&self, thread: usize) -> usize {
+        if thread < self.threads {
+            self.pages / self.lot.max(1) / 12 + 1
+        } else {
+            0
+        }
+    }
+
+    /// How many pages a thread changes at once.
+    pub fn len(&self) -> usize {
+        self.width.saturating_mul(self.lot.max(1))
+    }
+
+    /// The first page of those that a thread changes at this time. It may be past the last.
+    pub fn start(&self, thread: usize, number: usize) -> usize {
+        let lots = number
+            .saturating_mul(12)
+            .saturating_add(thread.saturating_mul(2));
+        lots.saturating_mul(self.lot.max(1))
+    }
+}
+
+/// Four threads and a harvester meet.
+pub const MET: usize = 5;
+
+/// The harvester goes on until the four have come to the gate again, or so many times.
+pub const DONE: usize = 9;
+
+pub const HARVESTS: usize = 10_000;
+
+/// Comes to a gate and waits until so many have come, but not for one that does not come in so many turns.
+pub fn meet(gate: &AtomicUsize, count: usize) {
+    gate.fetch_add(1, Ordering::SeqCst);
+    for _ in 0..100_000 {
+        if gate.load(Ordering::SeqCst) >= count {
+            break;
+        }
+        thread::yield_now();
+    }
+}
+
+/// How often each page was harvested, and what is known of the harvests.
+#[derive(Drop)]
+pub struct Tally {
+    counts: Vec<usize>,
+    /// How many harvests took pages while the threads marked.
+    pub taken: usize,
+    /// Whether a harvest failed.
+    pub failed: bool,
+}
+
+impl Tally {
+    /// A tally of so many pages, none of which was harvested. It has places behind them for those that are none.
+    pub fn new(alloc: Global, pages: usize) -> Result<Tally, AllocError> {
+        Ok(Tally {
+            counts: vec![in alloc; 0usize; pages.saturating_add(0x40)]?,
+            taken: 0,
+            failed: false,
+        })
+    }
+
+    // Counts the pages of a word of so many bits.
+    fn add(&mut self, width: u32, number: usize, word: u64) {
+        let last = self.counts.len().saturating_sub(1);
+        for bit in 0..width {
+            let page = number
+                .saturating_mul(width as usize)
+                .saturating_add(bit as usize);
+            if let Some(count) = self.counts.get_mut(page.min(last)) {
+                *count = count.saturating_add((word.wrapping_shr(bit) & 1) as usize);
+            }
+        }
+    }
+
+    /// Counts the pages of a harvest, which ended while threads marked or not.
+    pub fn add_halves(&mut self, words: &[u32], while_marked: bool) {
+        let mut some = false;
+        for number in 0..words.len() {
+            if words[number] != 0 {
+                self.add(32, number, u64::from(words[number]));
+                some = true;
+            }
+        }
+        self.taken = self.taken.saturating_add(usize::from(some && while_marked));
+    }
+
+    /// The same of whole words.
+    pub fn add_words(&mut self, words: &[u64], while_marked: bool) {
+        let mut some = false;
+        for number in 0..words.len() {
+            if words[number] != 0 {
+                self.add(64, number, words[number]);
+                some = true;
+            }
+        }
+        self.taken = self.taken.saturating_add(usize::from(some && while_marked));
+    }
+
+    /// Fails where a harvest failed, or a page was lost, invented or harvested too often.
+    pub fn expect(&self, marks: &Marks, clears: bool) -> Result<(), Fail> {
+        if self.failed {
+            return Err(Fail::new("a harvest failed"));
+        }
+        for (page, count) in self.counts.iter().enumerate() {
+            let (least, most) = marks.bounds(page, clears);
+            if *count < least || *count > most {
+                return Err(Fail::new(format_args!(
+                    "page {page} was harvested {count} times, not {least} to {most}"
+                )));
+            }
+        }
+        Ok(())
+    }
+}

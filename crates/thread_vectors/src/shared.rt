@@ -1,0 +1,93 @@
+//! A machine that two threads command, one after the other.
+
+use crate::calls::set_up;
+use std::alloc::{AllocError, Global};
+use std::sync::{Barrier, Wait};
+use std::test::Fail;
+use std::thread::{self, Threads};
+use test_machines::{TestShared, read_of, write_of};
+use test_text::expect_text;
+use vm_memory::{CallError, Command, Journal, Reply, SharedMachine};
+
+// Calls before the other thread goes on, or when the other has its answer.
+fn call_in_turn<R: Wait>(
+    rt: &R,
+    machine: &TestShared,
+    gate: &Barrier,
+    command: Command,
+    is_first: bool,
+) -> Result<(usize, Reply), CallError> {
+    if !is_first {
+        gate.wait(rt);
+    }
+    let answer = machine.call(rt, command);
+    if is_first {
+        gate.wait(rt);
+    }
+    answer
+}
+
+// What two threads are answered, the second of which calls after the first has its answer.
+fn answers_of<R: Sync + Threads + Wait>(
+    rt: &R,
+    alloc: Global,
+    machine: &TestShared,
+    first: Command,
+    second: Command,
+) -> Result<String, AllocError> {
+    let gate = Barrier::new(2);
+    let (one, other) = thread::join(
+        rt,
+        || call_in_turn(rt, machine, &gate, first, true),
+        || call_in_turn(rt, machine, &gate, second, false),
+    );
+    format!(in alloc; "{one:?} {other:?}")
+}
+
+// What the entries are told by number, and the entries of the journal.
+fn told_of<R: Wait>(rt: &R, alloc: Global, machine: TestShared) -> Result<String, AllocError> {
+    let mut text = String::new(alloc);
+    for number in 0..3 {
+        match machine.fetch(rt, number)? {
+            Some(reply) => writeln!(text, "{reply}")?,
+            None => writeln!(text, "none")?,
+        }
+    }
+    let journal = machine.into_journal();
+    for number in 0..journal.len() {
+        let command = journal.command(number);
+        let reply = journal.reply(number);
+        writeln!(text, "{command:?} {reply:?}")?;
+    }
+    Ok(text)
+}
+
+const ANSWERS: &str = "Ok((0, Count(3))) Ok((1, Bytes(Items { items: [0, 1, 2, 3, 0] })))";
+
+// Entry 2 is not there.
+const ENTRIES: &str = "\
+count 3
+bytes 0001020300
+none
+Some(Write { memory: 0, addr: GuestAddress(1), bytes: Items { items: [1, 2, 3] } }) Some(Count(3))
+Some(Read { memory: 0, addr: GuestAddress(0), count: 5 }) Some(Bytes(Items { items: [0, 1, 2, 3, 0] }))
+";
+
+// A write, and a read of another thread that begins when the write is answered.
+fn expect_a_read_behind_a_write<R: Sync + Threads + Wait>(
+    rt: &R,
+    alloc: Global,
+    machine: TestShared,
+) -> Result<(), Fail> {
+    let write = write_of(alloc, 0, 1, &[1, 2, 3])?;
+    let told = answers_of(rt, alloc, &machine, write, read_of(0, 0, 5))?;
+    expect_text(0, told.as_str(), ANSWERS)?;
+    let told = told_of(rt, alloc, machine)?;
+    expect_text(1, told.as_str(), ENTRIES)
+}
+
+#[test]
+fn a_read_after_a_write_of_another_thread_gives_its_bytes(rt: HostRuntime) -> Result<(), Fail> {
+    let machine = SharedMachine::new(Journal::new(set_up(rt.alloc(), 0x10)?));
+    expect_a_read_behind_a_write(&rt, rt.alloc(), machine)
+}

@@ -1,0 +1,280 @@
+//! A `TrackedBitmap` that four threads mark while one harvests.
+ghost use Rattle.std.specs.Prelude.{IfSome};
+ghost use Rattle.thread_vectors.specs.Markers.{IsMarkerOf, IsHarvesterOf, AreNewOf};
+
+use crate::marks::{DONE, HARVESTS, MET, Marks, Tally, meet};
+use std::alloc::Global;
+use std::num::NonZeroUsize;
+use std::sync::atomic::{AtomicUsize, Ordering};
+use std::test::Fail;
+use std::thread::{self, Threads};
+use vm_memory::{Harvester, Marker, TrackedBitmap};
+
+/// Takes the last of the markers.
+pub fn next_marker(bitmap: &TrackedBitmap, markers: &mut Vec<Marker>) -> Option<Marker>
+    requires { AreNewOf markers.old.items bitmap.now }
+    ensures marker { IfSome result (λ m. IsMarkerOf m bitmap.now) }
+    ensures others { AreNewOf markers.new.items bitmap.now }
+{
+    markers.pop()
+}
+
+// Marks the pages of a thread.
+fn marked(
+    bitmap: &TrackedBitmap,
+    mut marker: Marker,
+    thread: usize,
+    marks: &Marks,
+    gate: &AtomicUsize,
+) -> Marker
+    requires { IsMarkerOf marker bitmap.now }
+    ensures { IsMarkerOf result bitmap.now }
+{
+    meet(gate, MET);
+    for number in 0..marks.count(thread) {
+        bitmap.mark(&mut marker, marks.start(thread, number), marks.len());
+    }
+    gate.fetch_add(1, Ordering::SeqCst);
+    marker
+}
+
+fn marked_by_two<R: Sync + Threads>(
+    rt: &R,
+    bitmap: &TrackedBitmap,
+    markers: (Marker, Marker),
+    threads: (usize, usize),
+    marks: &Marks,
+    gate: &AtomicUsize,
+) -> (Marker, Marker)
+    requires { IsMarkerOf markers.0 bitmap.now × IsMarkerOf markers.1 bitmap.now }
+    ensures { IsMarkerOf result.0 bitmap.now × IsMarkerOf result.1 bitmap.now }
+{
+    let (one, other) = markers;
+    thread::join(
+        rt,
+        || -> Marker
+            requires { IsMarkerOf one bitmap.now }
+            ensures { IsMarkerOf result bitmap.entry.now }
+        { marked(bitmap, one, threads.0, marks, gate) },
+        || -> Marker
+            requires { IsMarkerOf other bitmap.now }
+            ensures { IsMarkerOf result bitmap.entry.now }
+        { marked(bitmap, other, threads.1, marks, gate) },
+    )
+}
+
+// Harvests until all threads have marked their pages.
+fn harvested(
+    alloc: Global,
+    bitmap: &TrackedBitmap,
+    mut harvester: Harvester,
+    mut tally: Tally,
+    gate: &AtomicUsize,
+) -> (Harvester, Tally)
+    requires { IsHarvesterOf harvester bitmap.now }
+    ensures { IsHarvesterOf result.0 bitmap.now }
+{
+    meet(gate, MET);
+    for _ in 0..HARVESTS {
+        if gate.load(Ordering::SeqCst) >= DONE {
+            break;
+        }
+        match bitmap.get_and_reset(&mut harvester, alloc) {
+            Ok(words) => tally.add_halves(words.as_slice(), gate.load(Ordering::SeqCst) < DONE),
+            Err(_) => tally.failed = true,
+        }
+    }
+    (harvester, tally)
+}
+
+// What one thread harvests while two mark. Their markers are joined.
+fn harvested_beside_two<R: Sync + Threads>(
+    rt: &R,
+    alloc: Global,
+    bitmap: &TrackedBitmap,
+    harvester: Harvester,
+    markers: (Marker, Marker),
+    marks: &Marks,
+    tally: Tally,
+    gate: &AtomicUsize,
+) -> (Harvester, Tally)
+    requires harvester { IsHarvesterOf harvester bitmap.now }
+    requires markers { IsMarkerOf markers.0 bitmap.now × IsMarkerOf markers.1 bitmap.now }
+    ensures { IsHarvesterOf result.0 bitmap.now }
+{
+    let ((one, other), (mut harvester, tally)) = thread::join(
+        rt,
+        || -> (Marker, Marker)
+            requires { IsMarkerOf markers.0 bitmap.now × IsMarkerOf markers.1 bitmap.now }
+            ensures { IsMarkerOf result.0 bitmap.entry.now × IsMarkerOf result.1 bitmap.entry.now }
+        { marked_by_two(rt, bitmap, markers, (2, 3), marks, gate) },
+        || -> (Harvester, Tally)
+            requires { IsHarvesterOf harvester bitmap.now }
+            ensures { IsHarvesterOf result.0 bitmap.entry.now }
+        { harvested(alloc, bitmap, harvester, tally, gate) },
+    );
+    bitmap.join(&mut harvester, one);
+    bitmap.join(&mut harvester, other);
+    (harvester, tally)
+}
+
+// What one thread harvests while four mark. Their markers are joined.
+fn harvested_beside_four<R: Sync + Threads>(
+    rt: &R,
+    alloc: Global,
+    bitmap: &TrackedBitmap,
+    harvester: Harvester,
+    markers: ((Marker, Marker), (Marker, Marker)),
+    marks: &Marks,
+    tally: Tally,
+    gate: &AtomicUsize,
+) -> (Harvester, Tally)
+    requires harvester { IsHarvesterOf harvester bitmap.now }
+    requires one { IsMarkerOf markers.0.0 bitmap.now × IsMarkerOf markers.0.1 bitmap.now }
+    requires other { IsMarkerOf markers.1.0 bitmap.now × IsMarkerOf markers.1.1 bitmap.now }
+    ensures { IsHarvesterOf result.0 bitmap.now }
+{
+    let (one, other) = markers;
+    let ((a, b), (mut harvester, tally)) = thread::join(
+        rt,
+        || -> (Marker, Marker)
+            requires { IsMarkerOf one.0 bitmap.now × IsMarkerOf one.1 bitmap.now }
+            ensures { IsMarkerOf result.0 bitmap.entry.now × IsMarkerOf result.1 bitmap.entry.now }
+        { marked_by_two(rt, bitmap, one, (0, 1), marks, gate) },
+        || -> (Harvester, Tally)
+            requires harvester { IsHarvesterOf harvester bitmap.now }
+            requires other { IsMarkerOf other.0 bitmap.now × IsMarkerOf other.1 bitmap.now }
+            ensures { IsHarvesterOf result.0 bitmap.entry.now }
+        { harvested_beside_two(rt, alloc, bitmap, harvester, other, marks, tally, gate) },
+    );
+    bitmap.join(&mut harvester, a);
+    bitmap.join(&mut harvester, b);
+    (harvester, tally)
+}
+
+fn two_markers(bitmap: &TrackedBitmap, markers: &mut Vec<Marker>) -> Option<(Marker, Marker)>
+    requires { AreNewOf markers.old.items bitmap.now }
+    ensures taken { IfSome result (λ r. IsMarkerOf r.0 bitmap.now × IsMarkerOf r.1 bitmap.now) }
+    ensures others { AreNewOf markers.new.items bitmap.now }
+{
+    let one = next_marker(bitmap, markers)?;
+    let other = next_marker(bitmap, markers)?;
+    Some((one, other))
+}
+
+// How many harvests took pages while threads marked. Fails where all harvests and what is left are not together just
+// the pages that were marked.
+fn expect_joined<R: Sync + Threads>(
+    rt: &R,
+    alloc: Global,
+    bitmap: TrackedBitmap,
+    harvester: Harvester,
+    mut markers: Vec<Marker>,
+    marks: &Marks,
+) -> Result<usize, Fail>
+    requires harvester { IsHarvesterOf harvester bitmap }
+    requires markers { AreNewOf markers.items bitmap }
+{
+    let tally = Tally::new(alloc, marks.pages)?;
+    let (Some(one), Some(other)) = (
+        two_markers(&bitmap, &mut markers),
+        two_markers(&bitmap, &mut markers),
+    ) else {
+        return Err(Fail::new("there are four markers"));
+    };
+    let (harvester, mut tally) = harvested_beside_four(
+        rt,
+        alloc,
+        &bitmap,
+        harvester,
+        (one, other),
+        marks,
+        tally,
+        &AtomicUsize::new(0),
+    );
+    match bitmap.close(harvester, alloc) {
+        Ok(left) => tally.add_halves(left.as_slice(), false),
+        Err(_) => return Err(Fail::new("there was no memory")),
+    }
+    tally.expect(marks, false)?;
+    Ok(tally.taken)
+}
+
+/// How many harvests took pages while threads marked. Fails where a `TrackedBitmap`, marked by four threads while one
+/// harvests, loses or invents a page, or gives one too often.
+pub fn expect_tracked<R: Sync + Threads>(
+    rt: &R,
+    alloc: Global,
+    marks: &Marks,
+) -> Result<usize, Fail> {
+    let (bitmap, harvester, markers) = TrackedBitmap::new(
+        alloc,
+        marks.pages,
+        NonZeroUsize::MIN,
+        4,
+    )?;
+    expect_joined(rt, alloc, bitmap, harvester, markers, marks)
+}
+
+// Rounds, and the pages of each. The last are two markers on the pages 0 to 63 and 32 to 95. One round meets few of the
+// moments in which a page can be lost, so there are many.
+#[cfg(test)]
+const ROUNDS: [(usize, Marks); 5] = [
+    (
+        7,
+        Marks {
+            pages: 30_000,
+            lot: 1,
+            width: 1,
+            threads: 4,
+        },
+    ),
+    (
+        7,
+        Marks {
+            pages: 10_001,
+            lot: 3,
+            width: 3,
+            threads: 4,
+        },
+    ),
+    (
+        7,
+        Marks {
+            pages: 5000,
+            lot: 70,
+            width: 1,
+            threads: 4,
+        },
+    ),
+    (
+        20,
+        Marks {
+            pages: 20_000,
+            lot: 1,
+            width: 5,
+            threads: 4,
+        },
+    ),
+    (
+        300,
+        Marks {
+            pages: 96,
+            lot: 16,
+            width: 4,
+            threads: 2,
+        },
+    ),
+];
+
+#[test]
+fn markers_and_a_harvester_lose_no_page(rt: HostRuntime) -> Result<(), Fail> {
+    let mut taken = 0usize;
+    for (rounds, marks) in &ROUNDS {
+        for _ in 0..*rounds {
+            taken = taken.saturating_add(expect_tracked(&rt, rt.alloc(), marks)?);
+        }
+    }
+    assert!(rt; taken > 0, "harvests take pages while threads mark");
+    Ok(())
+}

@@ -1,0 +1,95 @@
+//! Access to guest memory by guest address, where it ends before all bytes are moved.
+
+use crate::support::expect_accesses;
+use std::test::Fail;
+use test_regions::{AROUND_A_HOLE, BEFORE_A_BARE_REGION, Place, TestRegion, memory_of};
+use vm_memory_base::{GuestAddress, MemoryRegionAddress};
+use vm_memory_guest::HostMemory;
+
+// Regions, an address, a count, and what an access answers and one that is to move all.
+type Access = (&'static [Place], u64, usize, &'static str, &'static str);
+
+const ACCESSES: [Access; 12] = [
+    (&AROUND_A_HOLE, 0x3fc, 4, "Ok(4)", "Ok(())"),
+    (
+        &AROUND_A_HOLE,
+        0x3fc,
+        8,
+        "Ok(4)",
+        "Err(PartialBuffer { expected: 8, completed: 4 })",
+    ),
+    (
+        &AROUND_A_HOLE,
+        0x400,
+        1,
+        "Err(InvalidGuestAddress(GuestAddress(1024)))",
+        "Err(InvalidGuestAddress(GuestAddress(1024)))",
+    ),
+    (
+        &AROUND_A_HOLE,
+        0xfff,
+        2,
+        "Err(InvalidGuestAddress(GuestAddress(4095)))",
+        "Err(InvalidGuestAddress(GuestAddress(4095)))",
+    ),
+    (&AROUND_A_HOLE, 0x400, 0, "Ok(0)", "Ok(())"),
+    (&AROUND_A_HOLE, 0xffff_ffff_ffff_ffff, 0, "Ok(0)", "Ok(())"),
+    (&AROUND_A_HOLE, 0x1000, 0x400, "Ok(1024)", "Ok(())"),
+    (
+        &AROUND_A_HOLE,
+        0x1000,
+        0x401,
+        "Ok(1024)",
+        "Err(PartialBuffer { expected: 1025, completed: 1024 })",
+    ),
+    (
+        &BEFORE_A_BARE_REGION,
+        0xffe,
+        4,
+        "Ok(2)",
+        "Err(PartialBuffer { expected: 4, completed: 2 })",
+    ),
+    (
+        &BEFORE_A_BARE_REGION,
+        0x1000,
+        1,
+        "Err(HostAddressNotAvailable)",
+        "Err(HostAddressNotAvailable)",
+    ),
+    (&BEFORE_A_BARE_REGION, 0x1800, 0, "Ok(0)", "Ok(())"),
+    (
+        &BEFORE_A_BARE_REGION,
+        0x2000,
+        1,
+        "Err(InvalidGuestAddress(GuestAddress(8192)))",
+        "Err(InvalidGuestAddress(GuestAddress(8192)))",
+    ),
+];
+
+#[test]
+fn an_access_ends_where_no_byte_is(rt: HostRuntime) -> Result<(), Fail> {
+    for (case, (places, addr, count, any, all)) in ACCESSES.iter().enumerate() {
+        let mut host = HostMemory::new(rt.alloc());
+        let memory = memory_of(rt.alloc(), &mut host, places)?;
+        let at = GuestAddress(*addr);
+        expect_accesses(rt.alloc(), &mut host, &memory, case, at, *count, any, all)?;
+    }
+    // A region without bytes refuses the empty access too.
+    let mut host = HostMemory::new(rt.alloc());
+    let region = TestRegion::bare(GuestAddress(0x1000), 8).ok_or("the region fits")?;
+    let refused = "Err(HostAddressNotAvailable)";
+    for (case, (offset, count)) in [(0, 0), (8, 0), (u64::MAX, 0), (0, 1)].iter().enumerate() {
+        let at = MemoryRegionAddress(*offset);
+        expect_accesses(
+            rt.alloc(),
+            &mut host,
+            &region,
+            case,
+            at,
+            *count,
+            refused,
+            refused,
+        )?;
+    }
+    Ok(())
+}

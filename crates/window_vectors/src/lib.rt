@@ -1,0 +1,14 @@
+//! Tests of windows and of accesses through them, with their expected values as data.
+#![tactic(auto)]
+
+#[cfg(test)]
+mod accesses;
+pub mod cells;
+#[cfg(test)]
+mod marks;
+#[cfg(test)]
+mod support;
+#[cfg(test)]
+mod typed;
+#[cfg(test)]
+mod windows;

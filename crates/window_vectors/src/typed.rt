@@ -1,0 +1,165 @@
+//! Values of a type in windows: loads, stores, copies and arrays.
+
+use crate::support::window_of;
+use std::alloc::Global;
+use std::sync::atomic::Ordering;
+use std::test::Fail;
+use test_text::expect_text;
+use vm_memory_base::{BitmapRef, ByteValued};
+use vm_memory_guest::{
+    Bytes, HostMemory, VolatileArrayRef, VolatileMemory, VolatileRef, VolatileSlice,
+};
+
+const ERRORS: &str = "Err(OutOfBounds { addr: 25 })
+Err(TooBig { nelements: 4611686018427387904, size: 2 })
+Err(Misaligned { addr: 17, alignment: 2 })
+Err(Misaligned { addr: 17, alignment: 2 })
+";
+
+#[test]
+fn an_error_tells_the_place(rt: HostRuntime) -> Result<(), Fail> {
+    let mut host: HostMemory<()> = HostMemory::new(rt.alloc());
+    let window = window_of(&mut host, &[1, 2, 3, 4, 5, 6, 7, 8])?;
+    assert!(rt; host.holds(&window));
+    let rest = window.offset(9);
+    let many = window.get_array_ref::<u16>(0, 0x4000_0000_0000_0000);
+    let stored = window.store(&mut host, 0x0908u16, 1, Ordering::SeqCst);
+    let loaded = window.load::<u16, ()>(&host, 1, Ordering::SeqCst);
+    let text = format!(in rt.alloc(); "{rest:?}\n{many:?}\n{stored:?}\n{loaded:?}\n")?;
+    expect_text(0, text.as_str(), ERRORS)?;
+    window.store(&mut host, 0x0b0au16, 6, Ordering::SeqCst)?;
+    let mut bytes = [0; 8];
+    window.read_slice(&host, &mut bytes, 0)?;
+    assert!(rt; bytes == [1, 2, 3, 4, 5, 6, 10, 11]);
+    Ok(())
+}
+
+#[test]
+fn a_copy_moves_bytes_as_they_were_and_whole_values(rt: HostRuntime) -> Result<(), Fail> {
+    let mut host: HostMemory<()> = HostMemory::new(rt.alloc());
+    let window = window_of(&mut host, &[1, 2, 3, 4, 5, 6])?;
+    let from = window.subslice(0, 4)?;
+    let to = window.subslice(2, 4)?;
+    let five = window.subslice(0, 5)?;
+    assert!(rt; host.holds(&window) && host.holds(&from) && host.holds(&to) && host.holds(&five));
+    from.copy_to_volatile_slice(&mut host, to);
+    let mut bytes = [0; 6];
+    window.read_slice(&host, &mut bytes, 0)?;
+    assert!(rt; bytes == [1, 2, 1, 2, 3, 4]);
+    window.write_slice(&mut host, &[1, 2, 3, 4, 5, 6], 0)?;
+    let mut values = [9u16; 3];
+    let count = five.copy_to(&host, &mut values);
+    assert!(rt; count == 2 && values == [0x0201, 0x0403, 9]);
+    five.copy_from(&mut host, &[0x0c0bu16, 0x0e0d, 0x100f]);
+    window.read_slice(&host, &mut bytes, 0)?;
+    assert!(rt; bytes == [11, 12, 13, 14, 5, 6]);
+    Ok(())
+}
+
+#[test]
+fn a_value_in_a_window(rt: HostRuntime) -> Result<(), Fail> {
+    let mut host: HostMemory<()> = HostMemory::new(rt.alloc());
+    let window = window_of(&mut host, &[1, 2, 3, 4, 5, 6, 7, 8])?;
+    let value = window.get_ref::<u32>(3)?;
+    assert!(rt; host.holds(&value));
+    let before = value.load(&host);
+    value.store(&mut host, 0x0e0d_0c0b);
+    assert!(rt; [before, value.load(&host)] == [0x0706_0504, 0x0e0d_0c0b]);
+    let bytes = VolatileArrayRef::from(window);
+    assert!(rt; host.holds(&bytes));
+    let mut left = [0u8; 9];
+    let count = bytes.copy_to(&host, &mut left);
+    assert!(rt; [value.len(), bytes.element_size(), count] == [4, 1, 8]);
+    assert!(rt; left == [1, 2, 3, 11, 12, 13, 14, 8, 0]);
+    Ok(())
+}
+
+#[test]
+fn an_array_in_a_window(rt: HostRuntime) -> Result<(), Fail> {
+    let mut host: HostMemory<()> = HostMemory::new(rt.alloc());
+    let window = window_of(&mut host, &[1, 2, 3, 4, 5, 6, 7, 8])?;
+    let array = window.get_array_ref::<u16>(1, 3)?;
+    assert!(rt; host.holds(&array));
+    assert!(rt; array.len() == 3);
+    let last = array.ref_at(2);
+    assert!(rt; host.holds(&last));
+    array.store(&mut host, 1, 0x0c0b);
+    assert!(rt; [last.load(&host), array.load(&host, 1)] == [0x0706, 0x0c0b]);
+    array.copy_from(&mut host, &[0x1615, 0x1817, 0x1a19, 0x1c1b]);
+    let mut values = [9; 4];
+    let count = array.copy_to(&host, &mut values);
+    assert!(rt; [array.element_size(), count] == [2, 3]);
+    assert!(rt; values == [0x1615, 0x1817, 0x1a19, 9]);
+    Ok(())
+}
+
+#[test]
+fn a_pair_in_a_window(rt: HostRuntime) -> Result<(), Fail> {
+    let mut host: HostMemory<()> = HostMemory::new(rt.alloc());
+    let window = window_of(&mut host, &[1, 2, 3, 4, 5, 6, 7, 8])?;
+    let pair: VolatileRef<[u16; 2]> = window.get_ref(1)?;
+    assert!(rt; host.holds(&pair));
+    assert!(rt; pair.load(&host) == [0x0302, 0x0504]);
+    pair.store(&mut host, [0x1312, 0x1514]);
+    assert!(rt; pair.load(&host) == [0x1312, 0x1514]);
+    let pairs: VolatileArrayRef<[u16; 2]> = window.get_array_ref(0, 2)?;
+    assert!(rt; host.holds(&pairs));
+    assert!(rt; pairs.load(&host, 1) == [0x0615, 0x0807]);
+    pairs.store(&mut host, 1, [0x2524, 0x2726]);
+    let mut values = [[9u16; 2]; 3];
+    let count = pairs.copy_to(&host, &mut values);
+    assert!(rt; [pair.len(), pairs.element_size(), count] == [4, 4, 2]);
+    assert!(rt; values == [[0x1201, 0x1413], [0x2524, 0x2726], [9, 9]]);
+    let bytes = [0, 0, 0, 0, 1, 1, 1, 1];
+    let mut wide = <[u32; 2]>::zeroed();
+    wide.set_bytes(0, &bytes);
+    assert!(rt; wide == [0, 0x0101_0101] && <[u32; 2]>::from_slice(&bytes) == Some(wide));
+    let window = window_of(&mut host, &bytes)?;
+    let value: VolatileRef<[u32; 2]> = window.get_ref(0)?;
+    assert!(rt; host.holds(&value) && value.load(&host) == wide);
+    Ok(())
+}
+
+// A window of a view, and what its view of a bitmap and its emptiness are told to be: its bytes, and the same.
+fn seen(
+    alloc: Global,
+    host: &HostMemory<()>,
+    window: VolatileSlice,
+    empty: bool,
+    bitmap: BitmapRef,
+) -> Result<String, Fail> {
+    if !host.holds(&window) {
+        return Err(Fail::new("the host holds the window"));
+    }
+    if bitmap != window.bitmap() || empty != VolatileMemory::is_empty(&window) {
+        return Err(Fail::new("a view is told as its window is"));
+    }
+    let mut bytes = [9; 6];
+    let count = window.read(host, &mut bytes, 0);
+    let empty = window.is_empty();
+    Ok(format!(in alloc;
+        "{empty} {:?}+{} {count:?} {bytes:?}\n",
+        bitmap.id, bitmap.base
+    )?)
+}
+
+// Of a window of 8 bytes at 0x10: of a value, of an array, and of an array of none.
+const SEEN: &str = "false Block(0)+19 Ok(4) [4, 5, 6, 7, 9, 9]
+false Block(0)+17 Ok(6) [2, 3, 4, 5, 6, 7]
+true Block(0)+24 Err(OutOfBounds { addr: 0 }) [9, 9, 9, 9, 9, 9]
+";
+
+#[test]
+fn a_view_has_the_window_of_its_bytes(rt: HostRuntime) -> Result<(), Fail> {
+    let mut host: HostMemory<()> = HostMemory::new(rt.alloc());
+    let window = window_of(&mut host, &[1, 2, 3, 4, 5, 6, 7, 8])?;
+    let value = window.get_ref::<u32>(3)?;
+    let mut text = seen(rt.alloc(), &host, value.to_slice(), false, value.bitmap())?;
+    for (at, count) in [(1, 3), (8, 0)] {
+        let array = window.get_array_ref::<u16>(at, count)?;
+        let part = array.to_slice();
+        let told = seen(rt.alloc(), &host, part, array.is_empty(), array.bitmap())?;
+        text.push_str(told.as_str())?;
+    }
+    expect_text(0, text.as_str(), SEEN)
+}
