@@ -1,0 +1,123 @@
+//! Requests to a block device, over plain memory and behind an IOMMU.
+
+use crate::block_device::Disk;
+use anyhow::{Context, bail};
+use std::alloc::Global;
+use std::sync::Arc;
+use vm_memory::{
+    Bytes, Chain, ExclusiveBitmap, GuestAddress, GuestMemory, GuestMemoryMmap, HostMemory,
+    IommuMemory, NewBitmap, Permissions, Segment, TableIommu,
+};
+
+type Host = HostMemory<ExclusiveBitmap>;
+
+// An address, a length in bytes, and whether the device writes there.
+type Part = (u64, u32, bool);
+
+// Requests whose header stands at the address 0 or 0x10.
+const REQUESTS: [&[Part]; 9] = [
+    &[(0, 16, false), (0x200, 512, false), (0x800, 1, true)],
+    // Header and data may be cut anywhere.
+    &[
+        (0, 5, false),
+        (5, 11, false),
+        (0x200, 1000, false),
+        (0x200, 24, false),
+        (0x800, 1, true),
+    ],
+    // A header that is cut off, one that is not there, and one of another kind.
+    &[(0, 15, false), (0x800, 1, true)],
+    &[(0x1000, 16, false), (0x800, 1, true)],
+    &[(0x10, 16, false), (0x800, 1, true)],
+    // Data that ends in a hole, and data that passes the end of the disk.
+    &[(0, 16, false), (0xf00, 512, false), (0x800, 1, true)],
+    &[(0, 16, false), (0x200, 1536, false), (0x800, 1, true)],
+    // No byte for the status, and one that cannot be written.
+    &[(0, 16, false), (0x200, 512, false)],
+    &[(0, 16, false), (0x200, 512, false), (0x1000, 1, true)],
+];
+
+// Guest memory with a hole, in a new host.
+fn layout(alloc: Global, host: &mut Host) -> anyhow::Result<GuestMemoryMmap> {
+    let regions = [(GuestAddress(0), 0x1000), (GuestAddress(0x2000), 0x1000)];
+    Ok(GuestMemoryMmap::from_ranges(alloc, host, &regions)?)
+}
+
+// Puts two headers, data and a status that no device tells into memory.
+fn prepare<M: GuestMemory>(host: &mut Host, memory: &M) -> anyhow::Result<()> {
+    if !host.holds(memory) {
+        bail!("the host holds no such memory");
+    }
+    let header = [1, 0, 0, 0, 0, 0, 0, 0, 1, 0, 0, 0, 0, 0, 0, 0];
+    let other = [7, 0, 0, 0, 0, 0, 0, 0, 1, 0, 0, 0, 0, 0, 0, 0];
+    memory.write_slice(host, &header, GuestAddress(0))?;
+    memory.write_slice(host, &other, GuestAddress(0x10))?;
+    memory.write_slice(host, &[171; 1536], GuestAddress(0x200))?;
+    memory.write_slice(host, &[255], GuestAddress(0x800))?;
+    Ok(())
+}
+
+// Serves one request with a disk of its own. Tells the answer, the status byte, and how each sector begins then.
+fn serve_one<M: GuestMemory>(
+    rt: &impl Print,
+    alloc: Global,
+    host: &mut Host,
+    memory: &M,
+    parts: &[Part],
+) -> anyhow::Result<()> {
+    let mut segments = Vec::new(alloc);
+    for (addr, len, writable) in parts {
+        segments.push(Segment {
+            addr: GuestAddress(*addr),
+            len: *len,
+            writable: *writable,
+        })?;
+    }
+    let chain = Chain::new(segments)?;
+    if !host.holds(memory) {
+        bail!("the host holds no such memory");
+    }
+    let mut disk = Disk::new(alloc, 3)?;
+    let answer = disk.serve(memory, host, &chain);
+    let status = memory.read_obj::<u8, _>(host, GuestAddress(0x800))?;
+    let first = disk.first_byte(0).context("there is a sector")?;
+    let second = disk.first_byte(1).context("there is a sector")?;
+    let third = disk.first_byte(2).context("there is a sector")?;
+    println!(rt; "{answer:?} {status} [{first}, {second}, {third}]")?;
+    Ok(())
+}
+
+// All requests over plain memory.
+fn serve_plain(rt: &impl Print, alloc: Global) -> anyhow::Result<()> {
+    for parts in REQUESTS {
+        let mut host = HostMemory::new(alloc);
+        let memory = layout(alloc, &mut host)?;
+        prepare(&mut host, &memory)?;
+        serve_one(rt, alloc, &mut host, &memory, parts)?;
+    }
+    Ok(())
+}
+
+// All requests behind an IOMMU, where the first page leads to itself.
+fn serve_translated(rt: &impl Print, alloc: Global) -> anyhow::Result<()> {
+    for parts in REQUESTS {
+        let mut host = HostMemory::new(alloc);
+        let backend = layout(alloc, &mut host)?;
+        let table = host.new_table()?;
+        let space = host.new_space(ExclusiveBitmap::with_len(alloc, 0x10000)?)?;
+        let zero = GuestAddress(0);
+        host.table_mut(table)
+            .set_mapping(zero, zero, 0x1000, Permissions::ReadWrite)?;
+        let iommu = Arc::new(alloc, TableIommu::new(table))?;
+        let memory = IommuMemory::new(alloc, backend, iommu, true, space);
+        prepare(&mut host, &memory)?;
+        serve_one(rt, alloc, &mut host, &memory, parts)?;
+    }
+    Ok(())
+}
+
+/// Serves each request over both.
+pub fn serve_requests(rt: &impl Print, alloc: Global) -> anyhow::Result<()> {
+    serve_plain(rt, alloc)?;
+    serve_translated(rt, alloc)
+}
