@@ -2,8 +2,9 @@
 ghost use Rattle.std.specs.Prelude.{◌≡◌};
 ghost use Rattle.vm_memory_guest.specs.Host.{shape_of, Holds};
 
+use crate::header::Header;
 use std::alloc::{AllocError, Global};
-use vm_memory::{Bitmap, Bytes, Chain, GuestMemory, GuestMemoryResult, HostMemory};
+use vm_memory::{Bitmap, ByteValued, Bytes, Chain, GuestMemory, GuestMemoryResult, HostMemory};
 
 const SECTOR: usize = 512;
 
@@ -65,12 +66,14 @@ impl Disk {
         requires { Holds (shape_of host.now) (M.names mem.now) }
     {
         let mut reader = chain.reader();
-        let mut header = [0; 16];
-        if !matches!(reader.read(mem, host, &mut header), Ok(16)) {
+        let mut bytes = [0; 16];
+        if !matches!(reader.read(mem, host, &mut bytes), Ok(16)) {
             return Status::Failed;
         }
-        let [k0, k1, k2, k3, _, _, _, _, s0, s1, s2, s3, s4, s5, s6, s7] = header;
-        if u32::from_le_bytes([k0, k1, k2, k3]) != OUT {
+        let Some(header) = Header::from_slice(&bytes) else {
+            return Status::Failed;
+        };
+        if header.kind != OUT {
             return Status::Unsupported;
         }
         let len = reader.left();
@@ -78,12 +81,7 @@ impl Disk {
             return Status::Failed;
         };
         match reader.read(mem, host, data.as_mut_slice()) {
-            Ok(count) if count == len => {
-                self.write(
-                    u64::from_le_bytes([s0, s1, s2, s3, s4, s5, s6, s7]),
-                    data.as_slice(),
-                )
-            }
+            Ok(count) if count == len => self.write(header.sector, data.as_slice()),
             _ => Status::Failed,
         }
     }

@@ -4,6 +4,7 @@
 mod bitmaps;
 mod block_device;
 mod files;
+mod header;
 mod hot_plug;
 mod iommu;
 mod premise;
@@ -13,6 +14,7 @@ mod writers;
 
 fn main(rt: HostRuntime) -> anyhow::Result<()> {
     typed::typed_values(&rt, rt.alloc())?;
+    header::a_struct_of_ones_own(&rt, rt.alloc())?;
     files::from_a_file(&rt)?;
     bitmaps::pages_of_a_window(&rt, rt.alloc())?;
     bitmaps::marks_of_threads(&rt, rt.alloc())?;

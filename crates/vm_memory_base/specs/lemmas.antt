@@ -3,5 +3,6 @@ pub mod ArrayCodes
 pub mod ByteCodes
 pub mod NewPages
 pub mod OptionalPages
+pub mod PairCodes
 pub mod Turns
 pub mod Vectors

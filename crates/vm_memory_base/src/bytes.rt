@@ -8,6 +8,7 @@ ghost use Rattle.vm_memory_base.specs.Bytes.{IsByteCode};
 mod arrays;
 mod atomic;
 mod integers;
+mod pairs;
 mod pieces;
 
 pub use self::atomic::AtomicAccess;
@@ -24,7 +25,9 @@ pub trait ByteSized {
 
 /// Types whose values stand one for one for the lists of a fixed number of bytes.
 ///
-/// The integers hold their lowest byte first. An array holds its elements one after the other.
+/// The integers hold their lowest byte first. An array holds its elements one after the other, and a pair
+/// of an integer and a value the bytes of the integer before those of the value. So a struct of fixed fields
+/// is a value by a nest of pairs.
 ///
 /// ```rust
 /// use vm_memory_base::ByteValued;

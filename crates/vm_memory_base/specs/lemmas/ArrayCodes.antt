@@ -6,18 +6,18 @@ use Rattle.std.proofs.lemmas.List.{length-drop, length-take-le, take-append-drop
 use Rattle.std.proofs.Math.Seq.{take-append_seam, drop-append_seam}
 use Rattle.vm_memory_base.specs.Bytes.{AreBytes, IsByteCode, IsArrayOf, values_of}
 
-append_are_bytes : (s t : List ℕ) → AreBytes s → AreBytes t → AreBytes (s ++ t)
+pub append_are_bytes : (s t : List ℕ) → AreBytes s → AreBytes t → AreBytes (s ++ t)
 append_are_bytes [] t a b i = b i
 append_are_bytes (x ∷ s) t a b zero = a 0
 append_are_bytes (x ∷ s) t a b (suc i) = append_are_bytes s t (λ j. a (suc j)) b i
 
-take_are_bytes : (n : ℕ) (s : List ℕ) → AreBytes s → AreBytes (take n s)
+pub take_are_bytes : (n : ℕ) (s : List ℕ) → AreBytes s → AreBytes (take n s)
 take_are_bytes zero s a i = omega arith
 take_are_bytes (suc n) [] a i = omega arith
 take_are_bytes (suc n) (x ∷ s) a zero = a 0
 take_are_bytes (suc n) (x ∷ s) a (suc i) = take_are_bytes n s (λ j. a (suc j)) i
 
-drop_are_bytes : (n : ℕ) (s : List ℕ) → AreBytes s → AreBytes (drop n s)
+pub drop_are_bytes : (n : ℕ) (s : List ℕ) → AreBytes s → AreBytes (drop n s)
 drop_are_bytes zero s a i = a i
 drop_are_bytes (suc n) [] a i = omega arith
 drop_are_bytes (suc n) (x ∷ s) a i = drop_are_bytes n s (λ j. a (suc j)) i
@@ -27,10 +27,10 @@ All_cons P x xs p ps zero d h = p
 All_cons P x xs p ps (suc k) d h = ps k d (omega arith)
 
 -- the first and the other bytes of a piece and what follows
-front_of : (s t : List ℕ) (w : ℕ) → length s ≡ w → take w (s ++ t) ≡ s
+pub front_of : (s t : List ℕ) (w : ℕ) → length s ≡ w → take w (s ++ t) ≡ s
 front_of s t w h = ap (λ n. take n (s ++ t)) (sym h) ∙ take-append_seam s t
 
-rest_of : (s t : List ℕ) (w : ℕ) → length s ≡ w → drop w (s ++ t) ≡ t
+pub rest_of : (s t : List ℕ) (w : ℕ) → length s ≡ w → drop w (s ++ t) ≡ t
 rest_of s t w h = ap (λ n. drop n (s ++ t)) (sym h) ∙ drop-append_seam s t
 
 module _ {V : Type 0} (width : ℕ) (bytes : V → List ℕ) (sized : (x : V) → length (bytes x) ≡ width) where
