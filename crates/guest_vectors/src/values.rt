@@ -1,6 +1,5 @@
 //! Values of a type in guest memory: loads and stores, and values that lie over two blocks.
 
-use std::alloc::Global;
 use std::sync::atomic::Ordering;
 use std::test::Fail;
 use test_regions::{Place, TestRegion, memory_of};
@@ -67,34 +66,25 @@ const VALUES: [(u64, &str, &str, [u8; 12], &str); 7] = [
     ),
 ];
 
-// What a store, a load, and a value written and read answer at an address, and the bytes that reads have after both.
-fn value_text(
-    alloc: Global,
-    host: &mut HostMemory<()>,
-    memory: &Layout,
-    at: GuestAddress,
-) -> Result<String, Fail> {
-    if !host.holds(memory) {
-        return Err(Fail::new("the host holds the memory"));
-    }
-    memory.write_slice(host, &[9; 12], GuestAddress(0x3fc))?;
-    let stored = memory.store(host, 0x0102_0304u32, at, Ordering::SeqCst);
-    let loaded = memory.load::<u32, ()>(host, at, Ordering::SeqCst);
-    let mut left = [0; 12];
-    memory.read_slice(host, &mut left, GuestAddress(0x3fc))?;
-    let wrote = memory.write_obj(host, 0x0807_0605_0403_0201u64, at);
-    let had = memory.read_obj::<u64, ()>(host, at);
-    let mut bytes = [0; 8];
-    let count = memory.read(host, &mut bytes, at);
-    Ok(format!(in alloc; "{stored:?} {loaded:?} {wrote:?} {had:?} {left:?} {count:?} {bytes:?}")?)
-}
-
 #[test]
 fn a_store_takes_one_window_and_a_value_any_number(rt: HostRuntime) -> Result<(), Fail> {
     let mut host = HostMemory::new(rt.alloc());
     let memory = memory_of(rt.alloc(), &mut host, &TWO_BLOCKS)?;
     for (case, (addr, stores, values, left, bytes)) in VALUES.iter().enumerate() {
-        let text = value_text(rt.alloc(), &mut host, &memory, GuestAddress(*addr))?;
+        assert!(rt; host.holds(&memory));
+        let at = GuestAddress(*addr);
+        memory.write_slice(&mut host, &[9; 12], GuestAddress(0x3fc))?;
+        let stored = memory.store(&mut host, 0x0102_0304u32, at, Ordering::SeqCst);
+        let loaded = memory.load::<u32, ()>(&host, at, Ordering::SeqCst);
+        let mut seen = [0; 12];
+        memory.read_slice(&host, &mut seen, GuestAddress(0x3fc))?;
+        let wrote = memory.write_obj(&mut host, 0x0807_0605_0403_0201u64, at);
+        let had = memory.read_obj::<u64, ()>(&host, at);
+        let mut eight = [0; 8];
+        let count = memory.read(&host, &mut eight, at);
+        let text = format!(in rt.alloc();
+            "{stored:?} {loaded:?} {wrote:?} {had:?} {seen:?} {count:?} {eight:?}"
+        )?;
         let wanted = format!(in rt.alloc(); "{stores} {values} {left:?} {bytes}")?;
         expect_text(case, text.as_str(), wanted.as_str())?;
         // A value without a byte is there at any address.

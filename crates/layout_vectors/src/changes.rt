@@ -1,14 +1,10 @@
 //! Layouts that are changed, one region at a time.
 
-use std::alloc::Global;
 use std::test::Fail;
 use test_regions::{Place, TestRegion, memory_of, regions_of};
 use test_text::expect_text;
 use vm_memory_base::GuestAddress;
-use vm_memory_guest::{
-    GuestMemoryBackend, GuestMemoryRegion, GuestRegionCollection, GuestRegionCollectionError,
-    HostMemory,
-};
+use vm_memory_guest::{GuestMemoryBackend, GuestMemoryRegion, GuestRegionCollection, HostMemory};
 
 type Layout = GuestRegionCollection<TestRegion>;
 
@@ -68,27 +64,6 @@ const TO_NONE: [Changed; 3] = [
     (Remove(0x1000, 0x1000), "NoMemoryRegion", &[]),
 ];
 
-// The layout after a change, or the text of the error.
-fn changed(
-    alloc: Global,
-    host: &mut HostMemory<()>,
-    layout: &Layout,
-    change: Change,
-) -> Result<Result<Layout, GuestRegionCollectionError>, Fail> {
-    match change {
-        Insert(start) => {
-            let mut regions = regions_of(alloc, host, &[Place::Block(start, 0x1000)])?;
-            let region = regions.pop().ok_or("there is a region")?;
-            Ok(layout.insert_region(region))
-        }
-        Remove(base, size) => match layout.remove_region(GuestAddress(base), size) {
-            Ok((rest, region)) if region.start_addr().0 == base => Ok(Ok(rest)),
-            Ok(_) => Err(Fail::new("the region that was removed")),
-            Err(error) => Ok(Err(error)),
-        },
-    }
-}
-
 // Whether a layout has regions of these starts, by their numbers and by their addresses, and no more.
 fn has_starts(layout: &Layout, starts: &[u64]) -> bool {
     let last = starts.last().map_or(0, |start| start.wrapping_add(0xfff));
@@ -116,7 +91,21 @@ fn layouts_are_changed(rt: HostRuntime) -> Result<(), Fail> {
         let mut host = HostMemory::new(rt.alloc());
         let mut layout = memory_of(rt.alloc(), &mut host, places)?;
         for (case, (change, error, starts)) in changes.iter().enumerate() {
-            match changed(rt.alloc(), &mut host, &layout, *change)? {
+            let next = match change {
+                Insert(start) => {
+                    let places = [Place::Block(*start, 0x1000)];
+                    let mut regions = regions_of(rt.alloc(), &mut host, &places)?;
+                    layout.insert_region(regions.pop().ok_or("there is a region")?)
+                }
+                Remove(base, size) => match layout.remove_region(GuestAddress(*base), *size) {
+                    Ok((rest, region)) => {
+                        assert!(rt; region.start_addr().0 == *base, "case {case}");
+                        Ok(rest)
+                    }
+                    Err(error) => Err(error),
+                },
+            };
+            match next {
                 Ok(next) => {
                     expect_text(case, "", error)?;
                     layout = next;

@@ -90,7 +90,11 @@ fn regions_make_a_layout_or_an_error(rt: HostRuntime) -> Result<(), Fail> {
     for (case, (places, wanted)) in LAYOUTS.iter().enumerate() {
         let mut host = HostMemory::new(alloc);
         let regions = regions_of(alloc, &mut host, places)?;
-        let own = regions.iter().map(|region| **region).collect(alloc)?;
+        let own = regions_of(alloc, &mut host, places)?;
+        let own = own
+            .into_iter()
+            .filter_map(|region| Arc::into_inner(region))
+            .collect(alloc)?;
         let made = GuestRegionCollection::from_regions(alloc, own);
         let text = layout_text(alloc, &made, places)?;
         expect_text(case, text.as_str(), wanted)?;

@@ -20,7 +20,7 @@ const SIZES: [(usize, &str); 5] = [
 ];
 
 #[test]
-fn a_block_has_a_size(rt: HostRuntime) -> Result<(), Fail> {
+fn a_block_has_a_size_and_a_number(rt: HostRuntime) -> Result<(), Fail> {
     for (case, (size, wanted)) in SIZES.iter().enumerate() {
         let mut host: HostMemory<()> = HostMemory::new(rt.alloc());
         let block = host.new_block(*size).err();
@@ -30,11 +30,7 @@ fn a_block_has_a_size(rt: HostRuntime) -> Result<(), Fail> {
         let wanted = format!(in rt.alloc(); "{wanted} {wanted} {wanted}")?;
         expect_text(case, told.as_str(), wanted.as_str())?;
     }
-    Ok(())
-}
-
-#[test]
-fn blocks_spaces_and_tables_go_by_number(rt: HostRuntime) -> Result<(), Fail> {
+    // Spaces and tables have numbers of their own.
     let mut host: HostMemory<()> = HostMemory::new(rt.alloc());
     for number in 0..1000usize {
         let blocks = [host.new_block(3)?, host.new_block_with(5, ())?];
@@ -140,49 +136,39 @@ const RANGES: [Ranges; 10] = [
     ),
 ];
 
-// Fails where ranges do not make a memory of just these, or do not make this error, and other blocks.
-fn expect_ranges(
-    alloc: Global,
-    ranges: &[(u64, usize)],
-    wanted: &str,
-    sizes: &[usize],
-) -> Result<(), Fail> {
-    let mut host: HostMemory<()> = HostMemory::new(alloc);
-    let all = ranges
-        .iter()
-        .map(|(start, size)| (GuestAddress(*start), *size))
-        .collect(alloc)?;
-    let all: Vec<(GuestAddress, usize)> = all;
-    match GuestMemoryMmap::from_ranges(alloc, &mut host, all.as_slice()) {
-        Ok(memory) => {
-            let regions = memory
-                .iter()
-                .map(|region| (region.start_addr(), region.get_mmap().size()));
-            let regions: Vec<(GuestAddress, usize)> = regions.collect(alloc)?;
-            if regions.as_slice() != all.as_slice() || !host.holds(&memory) {
-                return Err(Fail::new("the memory has its ranges, and the host holds it"));
-            }
-            expect_text(0, "", wanted)?;
-        }
-        Err(refused) => {
-            let text = format!(in alloc; "{refused:?}")?;
-            expect_text(0, text.as_str(), wanted)?;
-        }
-    }
-    if sizes_of(alloc, &host)?.as_slice() != sizes {
-        return Err(Fail::new(format_args!("{ranges:?} leave other blocks")));
-    }
-    Ok(())
-}
-
+// Ranges make a memory of just these, or the error, and these blocks.
 #[test]
 fn ranges_make_a_memory_or_an_error(rt: HostRuntime) -> Result<(), Fail> {
-    for (ranges, error, sizes) in RANGES.iter() {
-        expect_ranges(rt.alloc(), ranges, error, sizes)?;
-    }
+    let alloc = rt.alloc();
     let many: Vec<(u64, usize)> = (0..500u64)
         .map(|number| (number.wrapping_mul(0x20), 0x10))
-        .collect(rt.alloc())?;
-    let sizes = vec![in rt.alloc(); 0x10usize; 500]?;
-    expect_ranges(rt.alloc(), many.as_slice(), "", sizes.as_slice())
+        .collect(alloc)?;
+    let many_sizes = vec![in alloc; 0x10usize; 500]?;
+    for case in 0..RANGES.len().saturating_add(1) {
+        let (ranges, wanted, sizes) = match RANGES.get(case) {
+            Some(ranges) => *ranges,
+            None => (many.as_slice(), "", many_sizes.as_slice()),
+        };
+        let mut host: HostMemory<()> = HostMemory::new(alloc);
+        let all = ranges
+            .iter()
+            .map(|(start, size)| (GuestAddress(*start), *size));
+        let all: Vec<(GuestAddress, usize)> = all.collect(alloc)?;
+        match GuestMemoryMmap::from_ranges(alloc, &mut host, all.as_slice()) {
+            Ok(memory) => {
+                let regions = memory
+                    .iter()
+                    .map(|region| (region.start_addr(), region.get_mmap().size()));
+                let regions: Vec<(GuestAddress, usize)> = regions.collect(alloc)?;
+                assert!(rt; regions.as_slice() == all.as_slice() && host.holds(&memory));
+                expect_text(case, "", wanted)?;
+            }
+            Err(refused) => {
+                let text = format!(in alloc; "{refused:?}")?;
+                expect_text(case, text.as_str(), wanted)?;
+            }
+        }
+        assert!(rt; sizes_of(alloc, &host)?.as_slice() == sizes, "case {case}");
+    }
+    Ok(())
 }

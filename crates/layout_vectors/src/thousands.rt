@@ -1,25 +1,14 @@
 //! Layouts of a thousand regions.
 
-use std::alloc::Global;
 use std::sync::Arc;
 use std::test::Fail;
-use test_regions::{CountingRegion, TestRegion};
+use test_regions::TestRegion;
 use vm_memory_base::GuestAddress;
 use vm_memory_guest::{GuestMemoryBackend, GuestMemoryRegion, GuestRegionCollection};
 
-// A thousand regions of 0x1000 addresses, with as many addresses between any two.
-fn thousand(alloc: Global) -> Result<Vec<Arc<CountingRegion>>, Fail> {
-    let mut regions = Vec::with_capacity(alloc, 1000)?;
-    for number in 0..1000u64 {
-        let region = CountingRegion::new(GuestAddress(0x2000 * number), 0x1000);
-        regions.push(Arc::new(alloc, region.ok_or("the region fits")?)?)?;
-    }
-    Ok(regions)
-}
-
 // Whether searches for the first and the last of each 0x1000 addresses find each of the thousand regions but one, and
 // none between, by at most ten probes.
-fn finds_all_but(layout: &GuestRegionCollection<CountingRegion>, left_out: u64) -> bool {
+fn finds_all_but(layout: &GuestRegionCollection<TestRegion>, left_out: u64) -> bool {
     (0..4002u64).all(|number| {
         let page = number / 2;
         let addr = GuestAddress(0x1000 * page + 0xfff * (number % 2));
@@ -32,24 +21,22 @@ fn finds_all_but(layout: &GuestRegionCollection<CountingRegion>, left_out: u64) 
     })
 }
 
-// Making a layout asks a region for its start at most twice, and a search asks none.
+// Regions of 0x1000 addresses, with as many addresses between any two. Making a layout asks a region for its start at
+// most twice, and a search asks none.
 #[test]
-fn a_search_among_a_thousand_regions_makes_ten_probes(rt: HostRuntime) -> Result<(), Fail> {
-    let regions = thousand(rt.alloc())?;
-    let mut again = Vec::new(rt.alloc());
-    for region in &regions {
+fn a_layout_of_a_thousand_regions_is_searched_and_changed(rt: HostRuntime) -> Result<(), Fail> {
+    let mut regions = Vec::with_capacity(rt.alloc(), 1000)?;
+    let mut again = Vec::with_capacity(rt.alloc(), 1000)?;
+    for number in 0..1000u64 {
+        let region = TestRegion::bare(GuestAddress(0x2000 * number), 0x1000);
+        let region = Arc::new(rt.alloc(), region.ok_or("the region fits")?)?;
         again.push(region.clone()?)?;
+        regions.push(region)?;
     }
     let layout = GuestRegionCollection::from_arc_regions(again)?;
     assert!(rt; regions.iter().all(|region| region.asked() <= 2));
     assert!(rt; finds_all_but(&layout, 1000));
     assert!(rt; regions.iter().all(|region| region.asked() <= 2));
-    Ok(())
-}
-
-#[test]
-fn a_layout_of_a_thousand_regions_is_changed(rt: HostRuntime) -> Result<(), Fail> {
-    let layout = GuestRegionCollection::from_arc_regions(thousand(rt.alloc())?)?;
     let copy = layout.clone()?;
     let (rest, region) = copy.remove_region(GuestAddress(0x2000 * 500), 0x1000)?;
     assert!(rt; rest.num_regions() == 999 && finds_all_but(&rest, 500));

@@ -5,7 +5,6 @@ use Rattle.vm_memory_guest.specs.Region.{Region, IsRegion}
 use Rattle.vm_memory_guest.specs.Mmap.{mmap_region, mmap_fits}
 use Rattle.test_regions.specs.declared.regions.MovedRegion.{MovedRegion}
 use Rattle.test_regions.specs.declared.regions.BareRegion.{BareRegion}
-use Rattle.test_regions.specs.declared.regions.CountingRegion.{CountingRegion}
 use Rattle.test_regions.specs.declared.regions.TestRegion.{TestRegion}
 use Rattle.test_regions.specs.declared.regions.TestRegion.TheVariants.{Moved, Bare}
 
@@ -14,9 +13,6 @@ moved_region r = record (mmap_region r.bytes) { start = r.start.0 }
 
 abbrev pub bare_region : BareRegion → Region
 bare_region r = record { start = r.start.0; len = r.len; place = None }
-
-abbrev pub counting_region : CountingRegion → Region
-counting_region r = bare_region r.region
 
 abbrev pub test_region : TestRegion → Region
 test_region (Moved r) = moved_region r
@@ -38,6 +34,3 @@ bare_fits r =
 pub test_fits : (r : TestRegion) → IsRegion (test_region r)
 test_fits (Moved r) = moved_fits r
 test_fits (Bare r) = bare_fits r
-
-pub counting_fits : (r : CountingRegion) → IsRegion (counting_region r)
-counting_fits r = bare_fits r.region

@@ -1,11 +1,14 @@
-//! Regions by where they lie, and memories of them.
+//! Regions by where they lie, memories of them, and a window.
 
 use crate::regions::TestRegion;
 use std::alloc::Global;
 use std::sync::Arc;
 use std::test::Fail;
-use vm_memory_base::GuestAddress;
-use vm_memory_guest::{GuestRegionCollection, HostMemory, MmapRegion};
+use vm_memory_base::{GuestAddress, MemoryRegionAddress};
+use vm_memory_guest::{
+    Bytes, GuestMemoryRegion, GuestRegionCollection, GuestRegionMmap, HostMemory, MmapRegion,
+    VolatileSlice,
+};
 
 /// A region of a test.
 #[derive(Clone, Copy)]
@@ -59,4 +62,17 @@ pub fn memory_of(
 ) -> Result<GuestRegionCollection<TestRegion>, Fail> {
     let regions = regions_of(alloc, host, places)?;
     Ok(GuestRegionCollection::from_arc_regions(regions)?)
+}
+
+/// A window at 0x10 of a new block, part of a window that begins before it, that holds these bytes.
+pub fn window_of(host: &mut HostMemory<()>, bytes: &[u8]) -> Result<VolatileSlice, Fail> {
+    let mapping = MmapRegion::new(host, 0x100)?;
+    let region = GuestRegionMmap::new(mapping, GuestAddress(0)).ok_or("the region fits")?;
+    let outer = region.get_slice(MemoryRegionAddress(0xc), 0x40)?;
+    let window = outer.subslice(4, bytes.len())?;
+    if !host.holds(&window) {
+        return Err(Fail::new("the host holds the window"));
+    }
+    window.write_slice(host, bytes, 0)?;
+    Ok(window)
 }

@@ -2,7 +2,7 @@
 ghost use Rattle.std.specs.Prelude.{◌+◌, ◌^◌, ◌<◌, ◌≤◌};
 ghost use Rattle.vm_memory_guest.specs.Mmap.{mmap_region};
 
-use std::cell::Cell;
+use std::sync::atomic::{AtomicUsize, Ordering};
 use vm_memory_base::{BitmapId, BitmapRef, GuestAddress, GuestUsize, MemoryRegionAddress};
 use vm_memory_guest::{
     GuestMemoryError, GuestMemoryRegion, GuestMemoryRegionBytes, GuestMemoryResult,
@@ -17,98 +17,22 @@ pub struct MovedRegion {
     ghost fits: { start.0 + (mmap_region bytes).len ≤ 2 ^ 64 },
 }
 
-/// Addresses without host bytes.
-#[derive(Clone, Copy, Debug)]
+/// Addresses without host bytes, which count how often they are asked for the first.
+#[derive(Drop)]
 pub struct BareRegion {
     start: GuestAddress,
     len: u64,
+    asked: AtomicUsize,
     ghost some: { 0 < len },
     ghost short: { len < 2 ^ 64 },
     ghost fits: { start.0 + len ≤ 2 ^ 64 },
 }
 
 /// A region with bytes, or without.
-#[derive(Clone, Copy, Debug)]
+#[derive(Drop)]
 pub enum TestRegion {
     Moved(MovedRegion),
     Bare(BareRegion),
-}
-
-/// Addresses without host bytes, which count how often they are asked for the first.
-#[derive(Drop)]
-pub struct CountingRegion {
-    region: BareRegion,
-    asked: Cell<usize>,
-}
-
-impl CountingRegion {
-    /// Addresses without host bytes: one or more, which end at the greatest address or before.
-    pub fn new(start: GuestAddress, len: u64) -> Option<CountingRegion> {
-        let region = bare(start, len)?;
-        Some(CountingRegion {
-            region,
-            asked: Cell::new(0),
-        })
-    }
-
-    /// How often it was asked for its first address.
-    pub fn asked(&self) -> usize {
-        self.asked.get()
-    }
-}
-
-fn bare(start: GuestAddress, len: u64) -> Option<BareRegion> {
-    start.0.checked_add(len.checked_sub(1)?)?;
-    Some(BareRegion { start, len })
-}
-
-impl Named for CountingRegion {
-    ghost use Rattle.std.specs.Prelude.{[]};
-
-    ghost names = { λ r. [] };
-
-    fn held_by(&self, _shape: &HostShape) -> bool {
-        true
-    }
-}
-
-impl GuestMemoryRegion for CountingRegion {
-    ghost use Rattle.std.specs.Prelude.{refl};
-    ghost use Rattle.test_regions.specs.Regions.{counting_region, counting_fits};
-
-    ghost region = { counting_region };
-
-    ghost fits = { counting_fits };
-
-    ghost names_place = { λ r. refl };
-
-    fn len(&self) -> GuestUsize {
-        self.region.len
-    }
-
-    fn start_addr(&self) -> GuestAddress {
-        self.asked.set(self.asked.get().saturating_add(1));
-        self.region.start
-    }
-
-    fn last_addr(&self) -> GuestAddress {
-        GuestAddress(self.region.start.0 + (self.region.len - 1))
-    }
-
-    fn bitmap(&self) -> BitmapRef {
-        BitmapRef {
-            id: BitmapId::Block(0),
-            base: 0,
-        }
-    }
-
-    fn get_slice(
-        &self,
-        _offset: MemoryRegionAddress,
-        _count: usize,
-    ) -> GuestMemoryResult<VolatileSlice> {
-        Err(GuestMemoryError::HostAddressNotAvailable)
-    }
 }
 
 impl TestRegion {
@@ -121,7 +45,20 @@ impl TestRegion {
 
     /// Addresses without host bytes: one or more, which end at the greatest address or before.
     pub fn bare(start: GuestAddress, len: u64) -> Option<TestRegion> {
-        Some(TestRegion::Bare(bare(start, len)?))
+        start.0.checked_add(len.checked_sub(1)?)?;
+        Some(TestRegion::Bare(BareRegion {
+            start,
+            len,
+            asked: AtomicUsize::new(0),
+        }))
+    }
+
+    /// How often it was asked for its first address. One with host bytes does not count that.
+    pub fn asked(&self) -> usize {
+        match self {
+            TestRegion::Moved(_) => 0,
+            TestRegion::Bare(region) => region.asked.load(Ordering::SeqCst),
+        }
     }
 }
 
@@ -161,7 +98,10 @@ impl GuestMemoryRegion for TestRegion {
     fn start_addr(&self) -> GuestAddress {
         match self {
             TestRegion::Moved(region) => region.start,
-            TestRegion::Bare(region) => region.start,
+            TestRegion::Bare(region) => {
+                region.asked.fetch_add(1, Ordering::SeqCst);
+                region.start
+            }
         }
     }
 

@@ -1,55 +1,15 @@
 //! A host whose block is marked by a marker of a bitmap that others harvest.
 ghost use Rattle.std.specs.Prelude.{IfSome, IfOk};
-ghost use Rattle.transfer_vectors.specs.Markers.{IsMarkerOf, AreNewOf, AreMarkersOf};
+ghost use Rattle.test_regions.specs.Markers.{IsMarkerOf, AreMarkersOf};
 
 use std::alloc::Global;
 use std::num::NonZeroUsize;
 use std::sync::Arc;
 use std::test::Fail;
+use test_regions::{MarkedHost, marked_host, memory_of_block, next_marker};
 use test_text::expect_text;
-use vm_memory_base::{BitmapId, GuestAddress, Marker, MarkerBitmap, TrackedBitmap};
-use vm_memory_guest::{
-    BlockId, Bytes, GuestMemoryError, GuestMemoryMmap, GuestMemoryResult, GuestRegionMmap,
-    HostMemory, MmapRegion,
-};
-
-// A new marker of the bitmap.
-fn next_marker(bitmap: &TrackedBitmap, markers: &mut Vec<Marker>) -> Option<Marker>
-    requires { AreNewOf markers.old.items bitmap.now }
-    ensures { IfSome result (λ m. IsMarkerOf m bitmap.now) }
-{
-    markers.pop()
-}
-
-type MarkedHost = HostMemory<MarkerBitmap>;
-
-// A host of one block of 0x400 bytes, which a marker of the bitmap marks.
-fn marked_host(
-    alloc: Global,
-    bitmap: &Arc<TrackedBitmap>,
-    marker: Marker,
-) -> Result<MarkedHost, Fail>
-    requires { IsMarkerOf marker bitmap.now.value }
-    ensures { IfOk result (λ h. AreMarkersOf bitmap.now.value h.bitmaps) }
-{
-    let mut host = HostMemory::new(alloc);
-    let marked = MarkerBitmap::new(bitmap.clone()?, marker);
-    if host.new_block_with(0x400, marked).is_err() {
-        return Err(Fail::new("there was no memory"));
-    }
-    Ok(host)
-}
-
-// A memory of the block, from 0x1000 on.
-fn memory_of_block(alloc: Global, host: &MarkedHost) -> Result<GuestMemoryMmap, Fail> {
-    if !host.shape().has_bitmap(BitmapId::Block(0)) {
-        return Err(Fail::new("there is a block"));
-    }
-    let block = MmapRegion::of_block(host, BlockId(0));
-    let region = GuestRegionMmap::new(block, GuestAddress(0x1000)).ok_or("the region fits")?;
-    let regions = vec![in alloc; Arc::new(alloc, region)?]?;
-    Ok(GuestMemoryMmap::from_arc_regions(regions)?)
-}
+use vm_memory_base::{BitmapId, GuestAddress, Marker, TrackedBitmap};
+use vm_memory_guest::{Bytes, GuestMemoryError, GuestMemoryMmap, GuestMemoryResult};
 
 // Writes so many bytes.
 fn write_bytes(

@@ -294,27 +294,22 @@ const COME_IN: [(Place, Amount, Source, &str); 18] = [
     ),
 ];
 
-fn script_of(alloc: Global, tries: &[Did]) -> Result<Vec<SourceStep>, Fail> {
-    let mut steps = Vec::new(alloc);
-    for did in tries {
-        let (Did::Give(bytes) | Did::Interrupted(bytes) | Did::Fail(bytes)) = did;
-        let bytes = ByteList::from_vec(bytes.to_vec(alloc)?);
-        steps.push(match did {
-            Did::Give(_) => SourceStep::Give(bytes),
-            Did::Interrupted(_) => SourceStep::Interrupted(bytes),
-            Did::Fail(_) => SourceStep::Fail(bytes),
-        })?;
-    }
-    Ok(steps)
-}
-
 #[test]
 fn transfers_come_in(rt: HostRuntime) -> Result<(), Fail> {
     let alloc = rt.alloc();
     for (case, (place, amount, source, wanted)) in COME_IN.iter().enumerate() {
         let told = match source {
             Script(tries) => {
-                let steps = script_of(alloc, tries)?;
+                let mut steps = Vec::new(alloc);
+                for did in *tries {
+                    let (Did::Give(bytes) | Did::Interrupted(bytes) | Did::Fail(bytes)) = did;
+                    let bytes = ByteList::from_vec(bytes.to_vec(alloc)?);
+                    steps.push(match did {
+                        Did::Give(_) => SourceStep::Give(bytes),
+                        Did::Interrupted(_) => SourceStep::Interrupted(bytes),
+                        Did::Fail(_) => SourceStep::Fail(bytes),
+                    })?;
+                }
                 let mut source = ScriptSource::new(steps.as_slice());
                 comes_in(alloc, *place, *amount, &mut source)?
             }

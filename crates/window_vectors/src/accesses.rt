@@ -1,10 +1,40 @@
 //! Access to guest memory by guest address, where it ends before all bytes are moved.
 
-use crate::support::expect_accesses;
+use std::alloc::Global;
+use std::fmt;
 use std::test::Fail;
 use test_regions::{AROUND_A_HOLE, BEFORE_A_BARE_REGION, Place, TestRegion, memory_of};
+use test_text::expect_text;
 use vm_memory_base::{GuestAddress, MemoryRegionAddress};
-use vm_memory_guest::HostMemory;
+use vm_memory_guest::{Bytes, HostMemory};
+
+/// Tries a write, a read, a write of all and a read of all of so many bytes, and fails where they do not answer so.
+pub fn expect_accesses<A: Copy, M: Bytes<A>>(
+    alloc: Global,
+    host: &mut HostMemory<()>,
+    place: &M,
+    case: usize,
+    at: A,
+    count: usize,
+    any: &str,
+    all: &str,
+) -> Result<(), Fail>
+where
+    M::E: fmt::Debug + Drop,
+{
+    if !host.holds(place) {
+        return Err(Fail::new("the host holds the place"));
+    }
+    let bytes = vec![in alloc; 5u8; count]?;
+    let mut buffer = vec![in alloc; 0u8; count]?;
+    let wrote = place.write(host, bytes.as_slice(), at);
+    let wrote_all = place.write_slice(host, bytes.as_slice(), at);
+    let had = place.read(host, buffer.as_mut_slice(), at);
+    let had_all = place.read_slice(host, buffer.as_mut_slice(), at);
+    let told = format!(in alloc; "{wrote:?} {had:?} {wrote_all:?} {had_all:?}")?;
+    let wanted = format!(in alloc; "{any} {any} {all} {all}")?;
+    expect_text(case, told.as_str(), wanted.as_str())
+}
 
 // Regions, an address, a count, and what an access answers and one that is to move all.
 type Access = (&'static [Place], u64, usize, &'static str, &'static str);

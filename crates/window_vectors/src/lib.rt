@@ -5,10 +5,4 @@
 mod accesses;
 pub mod cells;
 #[cfg(test)]
-mod marks;
-#[cfg(test)]
-mod support;
-#[cfg(test)]
-mod typed;
-#[cfg(test)]
 mod windows;

@@ -1,8 +1,9 @@
 //! Windows: parts and views of them, and access to their bytes.
 
+use crate::accesses::expect_accesses;
 use crate::cells::Cells;
-use crate::support::{expect_accesses, window_of};
 use std::test::Fail;
+use test_regions::window_of;
 use test_text::expect_text;
 use vm_memory_guest::{Bytes, HostMemory, VolatileMemory};
 
@@ -192,6 +193,14 @@ fn an_access_reaches_to_the_end_of_its_window(rt: HostRuntime) -> Result<(), Fai
     for (case, (cell, count, any, all)) in CELLS.iter().enumerate() {
         expect_accesses(alloc, &mut host, &cells, case, *cell, *count, any, all)?;
     }
+    // Beside a part of a window nothing is written.
+    let whole = window_of(&mut host, &[0; 8])?;
+    let part = whole.subslice(2, 4)?;
+    assert!(rt; host.holds(&part) && host.holds(&whole));
+    let count = part.write(&mut host, &[1, 2, 3, 4, 5, 6], 1)?;
+    let mut buffer = [9; 8];
+    whole.read_slice(&host, &mut buffer, 0)?;
+    assert!(rt; count == 3 && buffer == [0, 0, 0, 1, 2, 3, 0, 0]);
     Ok(())
 }
 
@@ -214,17 +223,4 @@ fn a_type_of_its_own_gives_access_to_bytes(rt: HostRuntime) -> Result<(), Fail> 
     window.read_slice(&host, &mut bytes, 0)?;
     let told = format!(in rt.alloc(); "{wrote:?} {whole:?} {past:?} {behind:?} {bytes:?}")?;
     expect_text(0, told.as_str(), CELL_VALUES)
-}
-
-#[test]
-fn a_write_stays_in_its_window(rt: HostRuntime) -> Result<(), Fail> {
-    let mut host: HostMemory<()> = HostMemory::new(rt.alloc());
-    let whole = window_of(&mut host, &[0; 8])?;
-    let window = whole.subslice(2, 4)?;
-    assert!(rt; host.holds(&window) && host.holds(&whole));
-    let count = window.write(&mut host, &[1, 2, 3, 4, 5, 6], 1)?;
-    let mut buffer = [9; 8];
-    whole.read_slice(&host, &mut buffer, 0)?;
-    assert!(rt; count == 3 && buffer == [0, 0, 0, 1, 2, 3, 0, 0]);
-    Ok(())
 }

@@ -10,7 +10,7 @@ use Rattle.vm_memory_base.specs.MarkerBitmap.{held_of, MarksHeld}
 use Rattle.vm_memory_guest.specs.Answer.{Outcome}
 use Rattle.vm_memory_guest.specs.Host.{Host, written}
 use Rattle.vm_memory_guest.specs.Window.{cells, Marks, MarksWindow, MarksAll, Writes, Window}
-use Rattle.transfer_vectors.specs.Markers.{IsHeldOf, AreMarkersOf}
+use Rattle.test_regions.specs.Markers.{IsHeldOf, AreMarkersOf}
 use Rattle.transfer_vectors.proofs.tracked.write_bytes.Goals as goal
 
 -- what holds of each element holds of one by its number

@@ -1,14 +1,11 @@
 //! Values of a type in windows: loads, stores, copies and arrays.
 
-use crate::support::window_of;
-use std::alloc::Global;
 use std::sync::atomic::Ordering;
 use std::test::Fail;
+use test_regions::window_of;
 use test_text::expect_text;
-use vm_memory_base::{BitmapRef, ByteValued};
-use vm_memory_guest::{
-    Bytes, HostMemory, VolatileArrayRef, VolatileMemory, VolatileRef, VolatileSlice,
-};
+use vm_memory_base::ByteValued;
+use vm_memory_guest::{Bytes, HostMemory, VolatileArrayRef, VolatileMemory, VolatileRef};
 
 const ERRORS: &str = "Err(OutOfBounds { addr: 25 })
 Err(TooBig { nelements: 4611686018427387904, size: 2 })
@@ -17,7 +14,7 @@ Err(Misaligned { addr: 17, alignment: 2 })
 ";
 
 #[test]
-fn an_error_tells_the_place(rt: HostRuntime) -> Result<(), Fail> {
+fn a_value_in_a_window(rt: HostRuntime) -> Result<(), Fail> {
     let mut host: HostMemory<()> = HostMemory::new(rt.alloc());
     let window = window_of(&mut host, &[1, 2, 3, 4, 5, 6, 7, 8])?;
     assert!(rt; host.holds(&window));
@@ -31,34 +28,7 @@ fn an_error_tells_the_place(rt: HostRuntime) -> Result<(), Fail> {
     let mut bytes = [0; 8];
     window.read_slice(&host, &mut bytes, 0)?;
     assert!(rt; bytes == [1, 2, 3, 4, 5, 6, 10, 11]);
-    Ok(())
-}
 
-#[test]
-fn a_copy_moves_bytes_as_they_were_and_whole_values(rt: HostRuntime) -> Result<(), Fail> {
-    let mut host: HostMemory<()> = HostMemory::new(rt.alloc());
-    let window = window_of(&mut host, &[1, 2, 3, 4, 5, 6])?;
-    let from = window.subslice(0, 4)?;
-    let to = window.subslice(2, 4)?;
-    let five = window.subslice(0, 5)?;
-    assert!(rt; host.holds(&window) && host.holds(&from) && host.holds(&to) && host.holds(&five));
-    from.copy_to_volatile_slice(&mut host, to);
-    let mut bytes = [0; 6];
-    window.read_slice(&host, &mut bytes, 0)?;
-    assert!(rt; bytes == [1, 2, 1, 2, 3, 4]);
-    window.write_slice(&mut host, &[1, 2, 3, 4, 5, 6], 0)?;
-    let mut values = [9u16; 3];
-    let count = five.copy_to(&host, &mut values);
-    assert!(rt; count == 2 && values == [0x0201, 0x0403, 9]);
-    five.copy_from(&mut host, &[0x0c0bu16, 0x0e0d, 0x100f]);
-    window.read_slice(&host, &mut bytes, 0)?;
-    assert!(rt; bytes == [11, 12, 13, 14, 5, 6]);
-    Ok(())
-}
-
-#[test]
-fn a_value_in_a_window(rt: HostRuntime) -> Result<(), Fail> {
-    let mut host: HostMemory<()> = HostMemory::new(rt.alloc());
     let window = window_of(&mut host, &[1, 2, 3, 4, 5, 6, 7, 8])?;
     let value = window.get_ref::<u32>(3)?;
     assert!(rt; host.holds(&value));
@@ -74,9 +44,26 @@ fn a_value_in_a_window(rt: HostRuntime) -> Result<(), Fail> {
     Ok(())
 }
 
+// Copies move bytes as they were, and whole values.
 #[test]
 fn an_array_in_a_window(rt: HostRuntime) -> Result<(), Fail> {
     let mut host: HostMemory<()> = HostMemory::new(rt.alloc());
+    let window = window_of(&mut host, &[1, 2, 3, 4, 5, 6])?;
+    let (from, to) = (window.subslice(0, 4)?, window.subslice(2, 4)?);
+    let five = window.subslice(0, 5)?;
+    assert!(rt; host.holds(&window) && host.holds(&from) && host.holds(&to) && host.holds(&five));
+    from.copy_to_volatile_slice(&mut host, to);
+    let mut bytes = [0; 6];
+    window.read_slice(&host, &mut bytes, 0)?;
+    assert!(rt; bytes == [1, 2, 1, 2, 3, 4]);
+    window.write_slice(&mut host, &[1, 2, 3, 4, 5, 6], 0)?;
+    let mut values = [9u16; 3];
+    let count = five.copy_to(&host, &mut values);
+    assert!(rt; count == 2 && values == [0x0201, 0x0403, 9]);
+    five.copy_from(&mut host, &[0x0c0bu16, 0x0e0d, 0x100f]);
+    window.read_slice(&host, &mut bytes, 0)?;
+    assert!(rt; bytes == [11, 12, 13, 14, 5, 6]);
+
     let window = window_of(&mut host, &[1, 2, 3, 4, 5, 6, 7, 8])?;
     let array = window.get_array_ref::<u16>(1, 3)?;
     assert!(rt; host.holds(&array));
@@ -120,29 +107,6 @@ fn a_pair_in_a_window(rt: HostRuntime) -> Result<(), Fail> {
     Ok(())
 }
 
-// A window of a view, and what its view of a bitmap and its emptiness are told to be: its bytes, and the same.
-fn seen(
-    alloc: Global,
-    host: &HostMemory<()>,
-    window: VolatileSlice,
-    empty: bool,
-    bitmap: BitmapRef,
-) -> Result<String, Fail> {
-    if !host.holds(&window) {
-        return Err(Fail::new("the host holds the window"));
-    }
-    if bitmap != window.bitmap() || empty != VolatileMemory::is_empty(&window) {
-        return Err(Fail::new("a view is told as its window is"));
-    }
-    let mut bytes = [9; 6];
-    let count = window.read(host, &mut bytes, 0);
-    let empty = window.is_empty();
-    Ok(format!(in alloc;
-        "{empty} {:?}+{} {count:?} {bytes:?}\n",
-        bitmap.id, bitmap.base
-    )?)
-}
-
 // Of a window of 8 bytes at 0x10: of a value, of an array, and of an array of none.
 const SEEN: &str = "false Block(0)+19 Ok(4) [4, 5, 6, 7, 9, 9]
 false Block(0)+17 Ok(6) [2, 3, 4, 5, 6, 7]
@@ -154,12 +118,24 @@ fn a_view_has_the_window_of_its_bytes(rt: HostRuntime) -> Result<(), Fail> {
     let mut host: HostMemory<()> = HostMemory::new(rt.alloc());
     let window = window_of(&mut host, &[1, 2, 3, 4, 5, 6, 7, 8])?;
     let value = window.get_ref::<u32>(3)?;
-    let mut text = seen(rt.alloc(), &host, value.to_slice(), false, value.bitmap())?;
-    for (at, count) in [(1, 3), (8, 0)] {
-        let array = window.get_array_ref::<u16>(at, count)?;
-        let part = array.to_slice();
-        let told = seen(rt.alloc(), &host, part, array.is_empty(), array.bitmap())?;
-        text.push_str(told.as_str())?;
+    let array = window.get_array_ref::<u16>(1, 3)?;
+    let none = window.get_array_ref::<u16>(8, 0)?;
+    let mut text = String::new(rt.alloc());
+    for (window, empty, bitmap) in [
+        (value.to_slice(), false, value.bitmap()),
+        (array.to_slice(), array.is_empty(), array.bitmap()),
+        (none.to_slice(), none.is_empty(), none.bitmap()),
+    ] {
+        assert!(rt; host.holds(&window));
+        assert!(rt; bitmap == window.bitmap() && empty == VolatileMemory::is_empty(&window));
+        let mut bytes = [9; 6];
+        let count = window.read(&host, &mut bytes, 0);
+        let empty = window.is_empty();
+        writeln!(
+            text,
+            "{empty} {:?}+{} {count:?} {bytes:?}",
+            bitmap.id, bitmap.base
+        )?;
     }
     expect_text(0, text.as_str(), SEEN)
 }
