@@ -1,6 +1,5 @@
 //! Bitmaps that are marked through shared references.
 
-use std::alloc::Global;
 use std::num::NonZeroUsize;
 use std::test::Fail;
 use vm_memory_base::{AtomicBitmap, Bitmap, NewBitmap, SharedBitmap, event_law};
@@ -294,40 +293,23 @@ fn make(bitmap: &mut AtomicBitmap, step: Step) -> Result<(), Fail> {
 }
 
 // Fails where a bit is not that of the words, up to a place well past them, or a byte's is not that of its page.
-fn expect_bits(bitmap: &AtomicBitmap, page_size: NonZeroUsize, words: &[u64]) -> Result<(), Fail> {
+fn expect_bits(
+    case: usize,
+    bitmap: &AtomicBitmap,
+    page_size: NonZeroUsize,
+    words: &[u64],
+) -> Result<(), Fail> {
     for page in 0..0x500usize {
         let word = words.get(page / 64);
         let told = word.is_some_and(|word| *word & (1 << (page % 64)) != 0);
         if bitmap.is_bit_set(page) != told {
-            return Err(Fail::new(format_args!("bit {page} of {words:?}")));
+            return Err(Fail::new(format_args!("case {case}: bit {page}")));
         }
         let first = page.saturating_mul(page_size.get());
         for addr in [first, first.saturating_add(page_size.get() - 1)] {
             if bitmap.is_addr_set(addr) != told || bitmap.dirty_at(addr) != told {
-                return Err(Fail::new(format_args!("byte {addr} of {words:?}")));
+                return Err(Fail::new(format_args!("case {case}: byte {addr}")));
             }
-        }
-    }
-    Ok(())
-}
-
-fn expect_case(alloc: Global, case: &Case) -> Result<(), Fail> {
-    let page_size = NonZeroUsize::new(case.page_size).ok_or("pages have bytes")?;
-    let mut bitmap = AtomicBitmap::new(alloc, case.bytes, page_size)?;
-    for step in case.steps {
-        make(&mut bitmap, *step)?;
-    }
-    if (bitmap.len(), bitmap.byte_size()) != case.told {
-        return Err(Fail::new(format_args!("{} pages", bitmap.len())));
-    }
-    let copy = bitmap.clone()?;
-    expect_bits(&bitmap, page_size, case.words)?;
-    for one in [&bitmap, &copy] {
-        let words = one.get_and_reset(alloc)?;
-        let left = one.get_and_reset(alloc)?;
-        let is_clean = left.len() == case.words.len() && left.iter().all(|word| *word == 0);
-        if words.as_slice() != case.words || !is_clean {
-            return Err(Fail::new(format_args!("{words:?}, and then {left:?}")));
         }
     }
     Ok(())
@@ -336,8 +318,26 @@ fn expect_case(alloc: Global, case: &Case) -> Result<(), Fail> {
 #[test]
 fn bits_of_ranges(rt: HostRuntime) -> Result<(), Fail> {
     event_law();
-    for case in CASES.iter() {
-        expect_case(rt.alloc(), case)?;
+    for (number, case) in CASES.iter().enumerate() {
+        let page_size = NonZeroUsize::new(case.page_size).ok_or("pages have bytes")?;
+        let mut bitmap = AtomicBitmap::new(rt.alloc(), case.bytes, page_size)?;
+        for step in case.steps {
+            make(&mut bitmap, *step)?;
+        }
+        let told = (bitmap.len(), bitmap.byte_size());
+        assert!(rt; told == case.told, "case {number}: {told:?}");
+        let copy = bitmap.clone()?;
+        expect_bits(number, &bitmap, page_size, case.words)?;
+        for one in [&bitmap, &copy] {
+            let words = one.get_and_reset(rt.alloc())?;
+            let left = one.get_and_reset(rt.alloc())?;
+            assert!(rt; words.as_slice() == case.words, "case {number}: {words:?}");
+            assert!(rt; left.len() == words.len(), "case {number}: {left:?}");
+            assert!(rt;
+                left.iter().all(|word| *word == 0),
+                "case {number}: {left:?}"
+            );
+        }
     }
     let bitmap = AtomicBitmap::with_len(rt.alloc(), 0x2001)?;
     assert!(rt; bitmap.len() == 3);

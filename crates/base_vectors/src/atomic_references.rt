@@ -53,28 +53,8 @@ fn step(
     Ok(None)
 }
 
-// Fails where both do not have the same dirty pages, or tell other things of a page and of a byte.
-fn expect_same(
-    alloc: Global,
-    fast: &AtomicBitmap,
-    slow: &Flags,
-    (number, offset): (usize, usize),
-) -> Result<(), Fail> {
-    let copy = fast.clone()?;
-    let told = copy.get_and_reset(alloc)?;
-    let wanted = slow.words(alloc)?;
-    let page = offset / slow.page_size.get();
-    let dirty = slow.flags.get(page) == Some(&true);
-    let is_told = fast.is_addr_set(offset) == dirty
-        && fast.dirty_at(offset) == dirty
-        && fast.is_bit_set(page) == dirty;
-    if told.as_slice() != wanted.as_slice() || !is_told || fast.len() != slow.flags.len() {
-        return Err(Fail::new(format_args!("step {number}")));
-    }
-    Ok(())
-}
-
-// Makes a step, and compares what is taken and what is there then.
+// Makes a step, and fails where other pages are taken, or where both do not have the same dirty pages then, or tell
+// other things of a page and of a byte.
 fn expect_step(
     alloc: Global,
     fast: &mut AtomicBitmap,
@@ -94,7 +74,18 @@ fn expect_step(
         let pages = fast.byte_size().div_ceil(slow.page_size.get());
         slow.flags.resize(pages, false)?;
     }
-    expect_same(alloc, fast, slow, (number, call.1))
+    let copy = fast.clone()?;
+    let told = copy.get_and_reset(alloc)?;
+    let wanted = slow.words(alloc)?;
+    let page = call.1 / slow.page_size.get();
+    let dirty = slow.flags.get(page) == Some(&true);
+    let is_told = fast.is_addr_set(call.1) == dirty
+        && fast.dirty_at(call.1) == dirty
+        && fast.is_bit_set(page) == dirty;
+    if told.as_slice() != wanted.as_slice() || !is_told || fast.len() != slow.flags.len() {
+        return Err(Fail::new(format_args!("step {number}")));
+    }
+    Ok(())
 }
 
 #[test]

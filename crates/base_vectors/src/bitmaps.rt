@@ -6,37 +6,30 @@ use std::process::Abort;
 use std::test::Fail;
 use vm_memory_base::{Bitmap, BitmapId, BitmapRef, ExactBitmap, ExclusiveBitmap, NewBitmap};
 
-// Marks a bitmap of pages of 0x1000 bytes and takes the dirty pages.
-fn marks_and_harvests<B: ExactBitmap>(
+// Makes marks of a clean bitmap of this page size and number of pages, and takes the dirty pages: the first ones, so
+// many. The bytes before and behind their end are told as they are.
+fn harvests_first<B: ExactBitmap>(
     rt: &impl Abort,
     bitmap: &mut B,
     alloc: Global,
+    shape: (usize, usize),
+    (marks, count): (&[(usize, usize)], usize),
 ) -> Result<(), AllocError> {
-    bitmap.mark_dirty(0xfff, 2);
-    bitmap.mark_dirty(0x2000, 0);
-    assert!(rt; bitmap.dirty_at(0x1fff));
-    assert!(rt; !bitmap.dirty_at(0x2000));
-    assert!(rt; bitmap.shape() == Some((0x1000, 3)));
-    let pages = bitmap.dirty_pages(alloc)?;
-    assert!(rt; pages.as_slice() == [0, 1].as_slice());
-    let pages = bitmap.harvest(alloc)?;
-    assert!(rt; pages.as_slice() == [0, 1].as_slice());
-    let pages = bitmap.harvest(alloc)?;
-    assert!(rt; pages.len() == 0);
-    Ok(())
-}
-
-// Marks each of so many pages, and takes them all.
-fn harvests_all<B: ExactBitmap>(
-    rt: &impl Abort,
-    bitmap: &mut B,
-    alloc: Global,
-    count: usize,
-) -> Result<(), AllocError> {
-    bitmap.mark_dirty(0, count);
+    for (offset, len) in marks {
+        bitmap.mark_dirty(*offset, *len);
+    }
+    assert!(rt; bitmap.shape() == Some(shape));
+    let end = shape.0.saturating_mul(count);
+    assert!(rt;
+        bitmap.dirty_at(end.saturating_sub(1)) && !bitmap.dirty_at(end),
+        "{count} pages"
+    );
     let told = bitmap.dirty_pages(alloc)?;
     let taken = bitmap.harvest(alloc)?;
-    assert!(rt; told.len() == count && taken.as_slice() == told.as_slice());
+    assert!(rt;
+        told.len() == count && taken.as_slice() == told.as_slice(),
+        "{count} pages"
+    );
     assert!(rt;
         taken
             .iter()
@@ -44,7 +37,7 @@ fn harvests_all<B: ExactBitmap>(
             .all(|(number, page)| *page == number)
     );
     let left = bitmap.harvest(alloc)?;
-    assert!(rt; left.len() == 0);
+    assert!(rt; left.len() == 0, "{count} pages");
     Ok(())
 }
 
@@ -52,7 +45,8 @@ fn harvests_all<B: ExactBitmap>(
 fn many_pages_are_harvested(rt: HostRuntime) -> Result<(), Fail> {
     for count in [0x1_0000, 0x10_0001] {
         let mut bitmap = ExclusiveBitmap::new(rt.alloc(), count, NonZeroUsize::MIN)?;
-        harvests_all(&rt, &mut bitmap, rt.alloc(), count)?;
+        let whole = [(0, count)];
+        harvests_first(&rt, &mut bitmap, rt.alloc(), (1, count), (&whole, count))?;
         bitmap.mark_dirty(0, 0x1_0000);
         bitmap.mark_dirty(count - 1, usize::MAX);
         let words = bitmap.get_and_reset(rt.alloc())?;
@@ -65,7 +59,13 @@ fn many_pages_are_harvested(rt: HostRuntime) -> Result<(), Fail> {
             assert!(rt; *word == wanted, "word {number}");
         }
         assert!(rt; words.len() == count.div_ceil(64));
-        harvests_all(&rt, &mut Some(bitmap), rt.alloc(), count)?;
+        harvests_first(
+            &rt,
+            &mut Some(bitmap),
+            rt.alloc(),
+            (1, count),
+            (&whole, count),
+        )?;
     }
     let large = ExclusiveBitmap::with_len(rt.alloc(), 0x4000_0000)?;
     assert!(rt; large.len() == 0x4_0000 && large.byte_size() == 0x4000_0000);
@@ -98,8 +98,9 @@ fn words_and_numbers_of_marks(rt: HostRuntime) -> Result<(), Fail> {
     bitmap.reset();
     assert!(rt; !bitmap.dirty_at(5));
     let mut bitmap = ExclusiveBitmap::with_len(rt.alloc(), 0x2001)?;
-    marks_and_harvests(&rt, &mut bitmap, rt.alloc())?;
-    marks_and_harvests(&rt, &mut Some(bitmap), rt.alloc())?;
+    let marks = [(0xfff, 2), (0x2000, 0)];
+    harvests_first(&rt, &mut bitmap, rt.alloc(), (0x1000, 3), (&marks, 2))?;
+    harvests_first(&rt, &mut Some(bitmap), rt.alloc(), (0x1000, 3), (&marks, 2))?;
     let mut none: Option<ExclusiveBitmap> = None;
     none.mark_dirty(0, 1);
     assert!(rt; !none.dirty_at(0));

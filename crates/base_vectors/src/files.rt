@@ -8,36 +8,7 @@ use std::test::Fail;
 use test_text::expect_text;
 use vm_memory_base::{IoError, ReadVolatile, VolatileMemoryError, WriteVolatile};
 
-const FILE: &str = "base-vectors-test";
-
-// A file that took these bytes at one try, and what its handles read of it.
-fn goes_through_a_file(rt: &HostRuntime, bytes: &[u8], out: &mut String) -> Result<(), Fail> {
-    let mut file = File::create(rt, FILE)?;
-    tell(&file.write_volatile(bytes), out)?;
-    let back = fs::read(rt, FILE)?;
-    writeln!(out, " {:?}", back.as_slice())?;
-    let mut file = File::open(rt, FILE)?;
-    fs::remove_file(rt, FILE)?;
-    reads(&mut file, out)?;
-    file.rewind()?;
-    reads(&mut &file, out)?;
-    file.rewind()?;
-    reads(&mut &mut file, out)?;
-    file.rewind()?;
-    fills(&mut file, out)
-}
-
-// A file that was opened to be written is no source, and one that was opened to be read no sink.
-fn refuse(sink: &mut File, source: &mut File, out: &mut String) -> Result<(), Fail> {
-    reads(sink, out)?;
-    reads(&mut &*sink, out)?;
-    reads(&mut &mut *sink, out)?;
-    fills(sink, out)?;
-    writes(source, out)?;
-    writes(&mut &*source, out)?;
-    writes(&mut &mut *source, out)
-}
-
+// Of files that took bytes at one try, and what their handles read of them.
 const THROUGH_A_FILE: &str = "\
 Ok(2) [1, 2]
 Ok(2) [1, 2, 0, 0, 0]
@@ -54,6 +25,33 @@ Ok(4) [5, 6, 7, 8, 0]
 Ok(4) [5, 6, 7, 8, 0]
 Ok(4) [5, 6, 7, 8, 0]
 whole [5, 6, 7, 8, 0]
+";
+
+#[test]
+fn files_tell_how_much_they_moved(rt: HostRuntime) -> Result<(), Fail> {
+    let path = "base-vectors-test";
+    let mut out = String::new(rt.alloc());
+    let cases: [&[u8]; 3] = [&[1, 2], &[1, 2, 3, 4], &[5, 6, 7, 8, 9]];
+    for bytes in cases {
+        let mut file = File::create(&rt, path)?;
+        tell(&file.write_volatile(bytes), &mut out)?;
+        let back = fs::read(&rt, path)?;
+        writeln!(out, " {:?}", back.as_slice())?;
+        let mut file = File::open(&rt, path)?;
+        fs::remove_file(&rt, path)?;
+        reads(&mut file, &mut out)?;
+        file.rewind()?;
+        reads(&mut &file, &mut out)?;
+        file.rewind()?;
+        reads(&mut &mut file, &mut out)?;
+        file.rewind()?;
+        fills(&mut file, &mut out)?;
+    }
+    expect_text(0, out.as_str(), THROUGH_A_FILE)
+}
+
+// Of a file that was opened to be written as a source, and of one that was opened to be read as a sink.
+const THE_OTHER_WAY: &str = "\
 Uncategorized [0, 0, 0, 0, 0]
 Uncategorized [0, 0, 0, 0, 0]
 Uncategorized [0, 0, 0, 0, 0]
@@ -64,18 +62,20 @@ Uncategorized Uncategorized
 ";
 
 #[test]
-fn files_tell_how_much_they_moved(rt: HostRuntime) -> Result<(), Fail> {
+fn files_are_read_or_written(rt: HostRuntime) -> Result<(), Fail> {
     let mut out = String::new(rt.alloc());
-    let cases: [&[u8]; 3] = [&[1, 2], &[1, 2, 3, 4], &[5, 6, 7, 8, 9]];
-    for bytes in cases {
-        goes_through_a_file(&rt, bytes, &mut out)?;
-    }
     let path = "base-vectors-direction-test";
     let mut sink = File::create(&rt, path)?;
     let mut source = File::open(&rt, path)?;
     fs::remove_file(&rt, path)?;
-    refuse(&mut sink, &mut source, &mut out)?;
-    expect_text(0, out.as_str(), THROUGH_A_FILE)?;
+    reads(&mut sink, &mut out)?;
+    reads(&mut &sink, &mut out)?;
+    reads(&mut &mut sink, &mut out)?;
+    fills(&mut sink, &mut out)?;
+    writes(&mut source, &mut out)?;
+    writes(&mut &source, &mut out)?;
+    writes(&mut &mut source, &mut out)?;
+    expect_text(0, out.as_str(), THE_OTHER_WAY)?;
     expect_passed(0, &mut sink, &mut source)?;
     expect_passed(1, &mut &sink, &mut &source)?;
     expect_passed(2, &mut &mut sink, &mut &mut source)?;
@@ -86,26 +86,21 @@ fn files_tell_how_much_they_moved(rt: HostRuntime) -> Result<(), Fail> {
     expect_text(3, text.as_str(), wanted)
 }
 
-// The greatest position of a file, of which there are many.
-fn last_position(file: &mut File) -> Result<u64, Fail> {
-    let mut at = 0u64;
+// What a file tells of four bytes where it has room for two, by a handle or by the call of the system, and how long it
+// is then. Some systems refuse all four. The greatest position is sought first, bit by bit, of which there are many.
+fn cut(case: usize, file: &mut File, out: &mut String) -> Result<(), Fail> {
+    let mut last = 0u64;
     let mut step = 0x4000_0000_0000_0000u64;
     for _ in 0..63 {
-        if file.seek(SeekFrom::Start(at | step)).is_ok() {
-            at |= step;
+        if file.seek(SeekFrom::Start(last | step)).is_ok() {
+            last |= step;
         }
         step /= 2;
     }
-    if at < 0x7fff_ffff {
-        return Err(Fail::new(format_args!("{at} is the last position")));
+    if last < 0x7fff_ffff {
+        return Err(Fail::new(format_args!("{last} is the last position")));
     }
-    Ok(at)
-}
-
-// What a file tells of four bytes where it has room for two, by a handle or by the call of the system, and how long it
-// is then. Some systems refuse all four.
-fn cut(case: usize, file: &mut File, out: &mut String) -> Result<(), Fail> {
-    let start = last_position(file)?.saturating_sub(2);
+    let start = last.saturating_sub(2);
     file.set_len(0)?;
     file.seek(SeekFrom::Start(start))?;
     let bytes = [1u8, 2, 3, 4];

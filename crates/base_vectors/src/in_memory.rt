@@ -1,7 +1,6 @@
 //! Bytes in memory and scripts as sources and sinks.
 
 use crate::told::{fills, reads, writes};
-use std::alloc::Global;
 use std::fmt::Write;
 use std::io::Cursor;
 use std::test::Fail;
@@ -16,23 +15,7 @@ enum Did {
     Fail(&'static [u8]),
 }
 
-// What a source that does this reads by one try, and then by as many as it takes.
-fn reads_by(alloc: Global, tries: &[Did], out: &mut String) -> Result<(), Fail> {
-    let mut steps = Vec::new(alloc);
-    for did in tries {
-        let (Did::Give(bytes) | Did::Interrupted(bytes) | Did::Fail(bytes)) = did;
-        let bytes = ByteList::from_vec(bytes.to_vec(alloc)?);
-        steps.push(match did {
-            Did::Give(_) => SourceStep::Give(bytes),
-            Did::Interrupted(_) => SourceStep::Interrupted(bytes),
-            Did::Fail(_) => SourceStep::Fail(bytes),
-        })?;
-    }
-    let mut source = ScriptSource::new(steps.as_slice());
-    reads(&mut source, out)?;
-    fills(&mut source, out)
-}
-
+// Each source is asked by one try, and then for all that is wanted.
 const READ_SCRIPTS: [&[Did]; 3] = [
     &[Did::Give(&[1, 2]), Did::Give(&[3, 4, 5])],
     &[
@@ -77,7 +60,19 @@ fn sources_give_what_they_have(rt: HostRuntime) -> Result<(), Fail> {
         fills(&mut cursor, &mut out)?;
     }
     for script in READ_SCRIPTS {
-        reads_by(alloc, script, &mut out)?;
+        let mut steps = Vec::new(alloc);
+        for did in script {
+            let (Did::Give(bytes) | Did::Interrupted(bytes) | Did::Fail(bytes)) = did;
+            let bytes = ByteList::from_vec(bytes.to_vec(alloc)?);
+            steps.push(match did {
+                Did::Give(_) => SourceStep::Give(bytes),
+                Did::Interrupted(_) => SourceStep::Interrupted(bytes),
+                Did::Fail(_) => SourceStep::Fail(bytes),
+            })?;
+        }
+        let mut source = ScriptSource::new(steps.as_slice());
+        reads(&mut source, &mut out)?;
+        fills(&mut source, &mut out)?;
     }
     expect_text(0, out.as_str(), READS)
 }
@@ -126,30 +121,22 @@ fn cursors_give_the_bytes_behind_them(rt: HostRuntime) -> Result<(), Fail> {
     Ok(())
 }
 
-// What bytes answer as a sink, and what is left of them: or behind a cursor from a position on, and where it is then.
-fn writes_into(place: &mut [u8], position: Option<u64>, out: &mut String) -> Result<(), Fail> {
-    let Some(position) = position else {
-        let mut sink = place;
-        writes(&mut sink, out)?;
-        writeln!(out, "left {sink:?}")?;
-        return Ok(());
-    };
-    let mut cursor = Cursor::new(place);
-    cursor.set_position(position);
-    writes(&mut cursor, out)?;
-    write!(out, "at {} ", cursor.position())?;
-    Ok(())
-}
+// What sinks do at their tries, and how many bytes they have room for.
+const SINK_SCRIPTS: [(&[SinkStep], usize); 3] = [
+    (&[SinkStep::Take(3)], 10),
+    (&[SinkStep::Take(3)], 6),
+    (
+        &[
+            SinkStep::Interrupted,
+            SinkStep::Take(1),
+            SinkStep::Interrupted,
+            SinkStep::Fail,
+        ],
+        10,
+    ),
+];
 
-// What a sink of so much room answers that does this, and what it took.
-fn writes_by(alloc: Global, steps: &[SinkStep], room: usize, out: &mut String) -> Result<(), Fail> {
-    let mut sink = ScriptSink::new(alloc, steps, room)?;
-    writes(&mut sink, out)?;
-    writeln!(out, "{:?}", sink.taken())?;
-    writeln!(out, "{:?}", sink.into_taken().as_slice())?;
-    Ok(())
-}
-
+// Of cursors where they are then, of places how much is left of them, and of all what they took.
 const WRITES: &str = "\
 Ok(4) Ok(())
 at 8 [1, 2, 3, 4, 1, 2, 3, 4, 9]
@@ -189,25 +176,27 @@ fn sinks_take_what_they_can(rt: HostRuntime) -> Result<(), Fail> {
     let mut out = String::new(alloc);
     for position in [0, 2, 7, 10, u64::MAX] {
         let mut place = [9u8; 9];
-        writes_into(&mut place, Some(position), &mut out)?;
+        let mut cursor = Cursor::new(&mut place[..]);
+        cursor.set_position(position);
+        writes(&mut cursor, &mut out)?;
+        write!(out, "at {} ", cursor.position())?;
         writeln!(out, "{place:?}")?;
     }
     for room in [3usize, 7, 9] {
         let mut place = [9u8; 10];
-        writes_into(&mut place[..room], None, &mut out)?;
+        let mut sink = &mut place[..room];
+        writes(&mut sink, &mut out)?;
+        writeln!(out, "left {sink:?}")?;
         writeln!(out, "{place:?}")?;
     }
     let mut sink: Vec<u8> = Vec::new(alloc);
     writes(&mut sink, &mut out)?;
     writeln!(out, "{:?}", sink.as_slice())?;
-    writes_by(alloc, &[SinkStep::Take(3)], 10, &mut out)?;
-    writes_by(alloc, &[SinkStep::Take(3)], 6, &mut out)?;
-    let steps = [
-        SinkStep::Interrupted,
-        SinkStep::Take(1),
-        SinkStep::Interrupted,
-        SinkStep::Fail,
-    ];
-    writes_by(alloc, &steps, 10, &mut out)?;
+    for (steps, room) in SINK_SCRIPTS {
+        let mut sink = ScriptSink::new(alloc, steps, room)?;
+        writes(&mut sink, &mut out)?;
+        writeln!(out, "{:?}", sink.taken())?;
+        writeln!(out, "{:?}", sink.into_taken().as_slice())?;
+    }
     expect_text(0, out.as_str(), WRITES)
 }

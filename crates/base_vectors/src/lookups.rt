@@ -1,9 +1,10 @@
 //! What a look-up of an I/O table tells, as text.
+ghost use Rattle.std.specs.Prelude.{◌<◌};
 
 use std::alloc::Global;
 use std::fmt::Write;
 use std::test::Fail;
-use test_text::expect_text;
+use test_text::{expect_text, next_number};
 use vm_memory_base::{GuestAddress, Iotlb, LookupError, Permissions};
 
 /// The set of the two bits of a number.
@@ -14,6 +15,15 @@ pub fn permissions(number: u64) -> Permissions {
         2 => Permissions::Write,
         _ => Permissions::ReadWrite,
     }
+}
+
+/// A range of the first addresses: its first address and its length, which is below a number.
+pub fn next_range(state: &mut u64, addresses: u64, most: u64) -> (u64, usize)
+    requires { (0 < addresses) × (0 < most) }
+{
+    let start = next_number(state) % addresses;
+    let len = (next_number(state) % most).min(addresses.saturating_sub(start));
+    (start, len as usize)
 }
 
 // Writes what is missed, and where the access fails.

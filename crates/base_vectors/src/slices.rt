@@ -1,6 +1,5 @@
 //! Slices of bitmaps, and bitmaps behind options.
 
-use std::alloc::Global;
 use std::num::NonZeroUsize;
 use std::sync::Arc;
 use std::test::Fail;
@@ -53,37 +52,30 @@ const MARKS: [(usize, (usize, usize), (usize, usize)); 15] = [
     (0x10, (usize::MAX - 0x10, 0x1234), (0, 0)),
 ];
 
-// Makes the mark by a slice, and fails where the bitmap tells other bytes, or the slice others on from its start.
-fn expect_marks(
-    alloc: Global,
-    bitmap: &AtomicBitmap,
-    case: usize,
-    is_shared: bool,
-) -> Result<(), Fail> {
-    let (base, range, wanted) = MARKS.get(case).ok_or("there is a case")?;
-    let mut slice = RefSlice::new(bitmap, *base);
-    mark(&mut slice, is_shared, *range);
-    expect_range(case, bitmap, *wanted)?;
-    expect_range(case, &RefSlice::new(bitmap, 0), *wanted)?;
-    for offset in 0..PAGES {
-        if slice.dirty_at(offset) != bitmap.dirty_at(base.wrapping_add(offset)) {
-            return Err(Fail::new(format_args!("case {case}: slice {offset:#x}")));
-        }
-    }
-    let words = bitmap.get_and_reset(alloc)?;
-    let count = words.iter().fold(0u32, |count, word| count.saturating_add(word.count_ones()));
-    if count as usize != wanted.1 {
-        return Err(Fail::new(format_args!("case {case}: these are not all")));
-    }
-    Ok(())
-}
-
+// Makes each mark by a slice, and fails where the bitmap tells other bytes, or the slice others on from its start.
 #[test]
 fn slices_mark_further_on(rt: HostRuntime) -> Result<(), Fail> {
     let bitmap = AtomicBitmap::new(rt.alloc(), PAGES, NonZeroUsize::MIN)?;
-    for case in 0..MARKS.len() {
-        expect_marks(rt.alloc(), &bitmap, case, false)?;
-        expect_marks(rt.alloc(), &bitmap, case, true)?;
+    for (case, (base, range, wanted)) in MARKS.iter().enumerate() {
+        for is_shared in [false, true] {
+            let mut slice = RefSlice::new(&bitmap, *base);
+            mark(&mut slice, is_shared, *range);
+            expect_range(case, &bitmap, *wanted)?;
+            expect_range(case, &RefSlice::new(&bitmap, 0), *wanted)?;
+            for offset in 0..PAGES {
+                if slice.dirty_at(offset) != bitmap.dirty_at(base.wrapping_add(offset)) {
+                    return Err(Fail::new(format_args!("case {case}: slice {offset:#x}")));
+                }
+            }
+            let words = bitmap.get_and_reset(rt.alloc())?;
+            let count = words.iter().fold(
+                0u32,
+                |count, word| count.saturating_add(word.count_ones()),
+            );
+            if count as usize != wanted.1 {
+                return Err(Fail::new(format_args!("case {case}: these are not all")));
+            }
+        }
     }
     Ok(())
 }

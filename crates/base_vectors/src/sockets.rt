@@ -9,83 +9,54 @@ use std::test::Fail;
 use test_text::expect_text;
 use vm_memory_base::{ReadVolatile, VolatileMemoryError, WriteVolatile};
 
-// Sends two bytes, and tells what the other end reads.
-fn sends_few<W: WriteVolatile, S: ReadVolatile>(
-    sink: &mut W,
-    source: &mut S,
-    out: &mut String,
-) -> Result<(), Fail> {
-    tell(&sink.write_volatile(&[1, 2]), out)?;
-    write!(out, " ")?;
-    reads(source, out)
+// What is known of two connected sockets, the second of which is read.
+#[derive(Clone, Copy)]
+enum State {
+    // Nothing was sent that was not read.
+    Open,
+    // So too, and the second does not wait.
+    Idle,
+    // It waits again.
+    Waiting,
+    // The first sends no more.
+    Ended,
+    // Nothing was sent, and the first does not wait.
+    Empty,
+    // The first took what it could, and sends no more.
+    Full,
 }
 
-// Two bytes at a time, then none while the other end is open, then the end, and writes after it.
-const THROUGH_A_SOCKET: &str = "\
+const FEW: &[State] = &[State::Open, State::Idle, State::Waiting, State::Ended];
+
+const MANY: &[State] = &[State::Empty, State::Full];
+
+// What is told of few bytes. Of many only their number is looked at.
+const TOLD: &str = "\
 Ok(2) Ok(2) [1, 2, 0, 0, 0]
-Ok(2) Ok(2) [1, 2, 0, 0, 0]
-Ok(2) Ok(2) [1, 2, 0, 0, 0]
-WouldBlock [0, 0, 0, 0, 0]
-WouldBlock [0, 0, 0, 0, 0]
 WouldBlock [0, 0, 0, 0, 0]
 touched 4 WouldBlock [0, 0, 0, 0, 0]
 Ok(0) [0, 0, 0, 0, 0]
 touched 0 UnexpectedEof [0, 0, 0, 0, 0]
 BrokenPipe BrokenPipe
-BrokenPipe BrokenPipe
-BrokenPipe BrokenPipe
 ";
 
-// What two connected sockets tell of few bytes, through each kind of handle.
-fn few_through_tcp(
-    one: &mut TcpStream,
-    other: &mut TcpStream,
-    out: &mut String,
-) -> Result<(), Fail> {
-    expect_passed(0, one, other)?;
-    expect_passed(1, &mut &*other, &mut &*one)?;
-    expect_passed(2, &mut &mut *one, &mut &mut *other)?;
-    sends_few(one, other, out)?;
-    sends_few(&mut &*one, &mut &*other, out)?;
-    sends_few(&mut &mut *one, &mut &mut *other, out)?;
-    other.set_nonblocking(true)?;
-    reads(other, out)?;
-    reads(&mut &*other, out)?;
-    reads(&mut &mut *other, out)?;
-    fills(other, out)?;
-    other.set_nonblocking(false)?;
-    one.shutdown(Shutdown::Write)?;
-    reads(other, out)?;
-    fills(other, out)?;
-    writes(one, out)?;
-    writes(&mut &*one, out)?;
-    writes(&mut &mut *one, out)
-}
+// The states that two sockets go through, and what is told then: by the sockets themselves, by references to them, and
+// by references that are alone.
+const CASES: [(u8, &[State], &str); 6] = [
+    (0, FEW, TOLD),
+    (1, FEW, TOLD),
+    (2, FEW, TOLD),
+    (3, MANY, ""),
+    (4, MANY, ""),
+    (5, MANY, ""),
+];
 
-// The same of Unix sockets.
-fn few_through_unix(
-    one: &mut UnixStream,
-    other: &mut UnixStream,
-    out: &mut String,
-) -> Result<(), Fail> {
-    expect_passed(0, one, other)?;
-    expect_passed(1, &mut &*other, &mut &*one)?;
-    expect_passed(2, &mut &mut *one, &mut &mut *other)?;
-    sends_few(one, other, out)?;
-    sends_few(&mut &*one, &mut &*other, out)?;
-    sends_few(&mut &mut *one, &mut &mut *other, out)?;
-    other.set_nonblocking(true)?;
-    reads(other, out)?;
-    reads(&mut &*other, out)?;
-    reads(&mut &mut *other, out)?;
-    fills(other, out)?;
-    other.set_nonblocking(false)?;
-    one.shutdown(Shutdown::Write)?;
-    reads(other, out)?;
-    fills(other, out)?;
-    writes(one, out)?;
-    writes(&mut &*one, out)?;
-    writes(&mut &mut *one, out)
+// What was told, and how many bytes were taken of those that are offered to a socket that does not wait.
+#[derive(Drop)]
+struct Seen {
+    out: String,
+    taken: usize,
+    bytes: Vec<u8>,
 }
 
 // Offers bytes until the sink would wait, and answers how many it told that it took.
@@ -126,78 +97,95 @@ fn expect_all<S: ReadVolatile>(
     Err(Fail::new("the source never ends"))
 }
 
-// What a socket told that it took before it was full is what comes out at the other end.
-fn fill_tcp(
-    case: usize,
-    one: &mut TcpStream,
-    other: &mut TcpStream,
-    bytes: &mut [u8],
+// What handles of two sockets in a state tell.
+fn go<W: WriteVolatile, S: ReadVolatile>(
+    state: State,
+    case: u8,
+    sink: &mut W,
+    source: &mut S,
+    seen: &mut Seen,
 ) -> Result<(), Fail> {
-    one.set_nonblocking(true)?;
-    let told = match case {
-        0 => offers(one, bytes),
-        1 => offers(&mut &*one, bytes),
-        _ => offers(&mut &mut *one, bytes),
-    }?;
-    one.shutdown(Shutdown::Write)?;
-    match case {
-        0 => expect_all(case, other, bytes, told),
-        1 => expect_all(case, &mut &*other, bytes, told),
-        _ => expect_all(case, &mut &mut *other, bytes, told),
-    }
-}
-
-// The same of a Unix socket.
-fn fill_unix(
-    case: usize,
-    one: &mut UnixStream,
-    other: &mut UnixStream,
-    bytes: &mut [u8],
-) -> Result<(), Fail> {
-    one.set_nonblocking(true)?;
-    let told = match case {
-        0 => offers(one, bytes),
-        1 => offers(&mut &*one, bytes),
-        _ => offers(&mut &mut *one, bytes),
-    }?;
-    one.shutdown(Shutdown::Write)?;
-    match case {
-        0 => expect_all(case, other, bytes, told),
-        1 => expect_all(case, &mut &*other, bytes, told),
-        _ => expect_all(case, &mut &mut *other, bytes, told),
+    match state {
+        State::Open => {
+            expect_passed(case, sink, source)?;
+            tell(&sink.write_volatile(&[1, 2]), &mut seen.out)?;
+            write!(seen.out, " ")?;
+            reads(source, &mut seen.out)
+        }
+        State::Idle => {
+            reads(source, &mut seen.out)?;
+            fills(source, &mut seen.out)
+        }
+        State::Waiting => Ok(()),
+        State::Ended => {
+            reads(source, &mut seen.out)?;
+            fills(source, &mut seen.out)?;
+            writes(sink, &mut seen.out)
+        }
+        State::Empty => {
+            seen.taken = offers(sink, seen.bytes.as_slice())?;
+            Ok(())
+        }
+        State::Full => expect_all(case as usize, source, seen.bytes.as_mut_slice(), seen.taken),
     }
 }
 
 #[test]
 fn tcp_streams_tell_how_much_they_moved(rt: HostRuntime) -> Result<(), Fail> {
-    let mut bytes = vec![in rt.alloc(); 5u8; 1_000_003]?;
-    for case in 0..4usize {
+    let mut seen = Seen {
+        out: String::new(rt.alloc()),
+        taken: 0,
+        bytes: vec![in rt.alloc(); 5u8; 1_000_003]?,
+    };
+    for (case, states, wanted) in CASES {
         let listener = TcpListener::bind(&rt, "127.0.0.1:0")?;
         let mut one = TcpStream::connect(&rt, listener.local_addr()?)?;
         let (mut other, _) = listener.accept()?;
-        if case < 3 {
-            fill_tcp(case, &mut one, &mut other, bytes.as_mut_slice())?;
-        } else {
-            let mut out = String::new(rt.alloc());
-            few_through_tcp(&mut one, &mut other, &mut out)?;
-            expect_text(0, out.as_str(), THROUGH_A_SOCKET)?;
+        for state in states {
+            match state {
+                State::Open => expect_passed(9, &mut &other, &mut &one)?,
+                State::Idle => other.set_nonblocking(true)?,
+                State::Waiting => other.set_nonblocking(false)?,
+                State::Empty => one.set_nonblocking(true)?,
+                State::Ended | State::Full => one.shutdown(Shutdown::Write)?,
+            }
+            match case % 3 {
+                0 => go(*state, case, &mut one, &mut other, &mut seen),
+                1 => go(*state, case, &mut &one, &mut &other, &mut seen),
+                _ => go(*state, case, &mut &mut one, &mut &mut other, &mut seen),
+            }?;
         }
+        expect_text(case as usize, seen.out.as_str(), wanted)?;
+        seen.out.clear();
     }
     Ok(())
 }
 
 #[test]
 fn unix_streams_tell_how_much_they_moved(rt: HostRuntime) -> Result<(), Fail> {
-    let mut bytes = vec![in rt.alloc(); 5u8; 1_000_003]?;
-    for case in 0..4usize {
+    let mut seen = Seen {
+        out: String::new(rt.alloc()),
+        taken: 0,
+        bytes: vec![in rt.alloc(); 5u8; 1_000_003]?,
+    };
+    for (case, states, wanted) in CASES {
         let (mut one, mut other) = UnixStream::pair(&rt)?;
-        if case < 3 {
-            fill_unix(case, &mut one, &mut other, bytes.as_mut_slice())?;
-        } else {
-            let mut out = String::new(rt.alloc());
-            few_through_unix(&mut one, &mut other, &mut out)?;
-            expect_text(0, out.as_str(), THROUGH_A_SOCKET)?;
+        for state in states {
+            match state {
+                State::Open => expect_passed(9, &mut &other, &mut &one)?,
+                State::Idle => other.set_nonblocking(true)?,
+                State::Waiting => other.set_nonblocking(false)?,
+                State::Empty => one.set_nonblocking(true)?,
+                State::Ended | State::Full => one.shutdown(Shutdown::Write)?,
+            }
+            match case % 3 {
+                0 => go(*state, case, &mut one, &mut other, &mut seen),
+                1 => go(*state, case, &mut &one, &mut &other, &mut seen),
+                _ => go(*state, case, &mut &mut one, &mut &mut other, &mut seen),
+            }?;
         }
+        expect_text(case as usize, seen.out.as_str(), wanted)?;
+        seen.out.clear();
     }
     Ok(())
 }

@@ -1,6 +1,6 @@
 //! An I/O table as a sorted vector, compared with the table that is a tree.
 
-use crate::lookups::{expect_look_up, permissions};
+use crate::lookups::{expect_look_up, next_range, permissions};
 use std::alloc::Global;
 use std::fmt::Write;
 use std::test::Fail;
@@ -117,14 +117,6 @@ impl SortedTable {
 // How many addresses the tables speak of.
 const ADDRESSES: u64 = 1000;
 
-// A range of these addresses, on from a base: its first address and its length.
-fn range(base: u64, state: &mut u64) -> (u64, usize) {
-    let start = next_number(state) % ADDRESSES;
-    let most = if next_number(state) % 8 == 0 { 400 } else { 40 };
-    let len = (next_number(state) % most).min(ADDRESSES.saturating_sub(start));
-    (base.wrapping_add(start), len as usize)
-}
-
 // Fails where a range is not kept as one, with its target, or permits other accesses.
 fn expect_range(table: &Iotlb, range: &Mapped, access: Permissions) -> Result<(), Fail> {
     let len = range.end.saturating_sub(range.start) as usize;
@@ -151,7 +143,9 @@ fn change(
     base: u64,
     state: &mut u64,
 ) -> Result<(), Fail> {
-    let (first, len) = range(base, state);
+    let most = if next_number(state) % 8 == 0 { 400 } else { 40 };
+    let (start, len) = next_range(state, ADDRESSES, most);
+    let first = base.wrapping_add(start);
     let Some(end) = first.checked_add(len as u64) else {
         return Err(Fail::new("the range ends at an address"));
     };
@@ -194,11 +188,13 @@ fn a_tree_of_ranges_is_a_sorted_vector(rt: HostRuntime) -> Result<(), Fail> {
         for step in 0..5000 {
             change(&mut table, &mut sorted, base, &mut state)?;
             let access = permissions(next_number(&mut state));
-            let (first, len) = if step % 16 == 0 {
-                (base, ADDRESSES as usize)
+            let (start, len) = if step % 16 == 0 {
+                (0, ADDRESSES as usize)
             } else {
-                range(base, &mut state)
+                let most = if step % 8 == 1 { 400 } else { 40 };
+                next_range(&mut state, ADDRESSES, most)
             };
+            let first = base.wrapping_add(start);
             let right = sorted.told(first, len, access)?;
             expect_look_up(
                 rt.alloc(),

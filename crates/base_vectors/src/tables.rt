@@ -1,6 +1,6 @@
 //! I/O tables: changes and look-ups, compared with a plain table of single addresses.
 
-use crate::lookups::{expect_look_up, permissions};
+use crate::lookups::{expect_look_up, next_range, permissions};
 use std::alloc::Global;
 use std::fmt::Write;
 use std::test::Fail;
@@ -28,16 +28,16 @@ fn permissions_are_sets(rt: HostRuntime) {
     }
 }
 
-// A range of the plain table: its first address and its length.
-fn range(state: &mut u64) -> (usize, usize) {
-    let start = (next_number(state) % 48) as usize;
-    let len = (next_number(state) % 13) as usize;
-    (start, len.min(ADDRESSES.saturating_sub(start)))
-}
-
-// Writes the runs of neighbouring addresses of which the same is said, each at its target or at itself.
-fn write_runs(text: &mut String, said: &[Said], first: u64, at_targets: bool) -> Result<(), Fail> {
+// Writes the runs of neighbouring addresses of which the same is said, each at its target or at itself, and tells how
+// many these are.
+fn write_runs(
+    text: &mut String,
+    said: &[Said],
+    first: u64,
+    at_targets: bool,
+) -> Result<usize, Fail> {
     let mut start = 0;
+    let mut count = 0usize;
     for (k, now) in said.iter().enumerate() {
         if k > 0 && said[k - 1] != *now {
             start = k;
@@ -51,9 +51,10 @@ fn write_runs(text: &mut String, said: &[Said], first: u64, at_targets: bool) ->
             let base = first.wrapping_add(start as u64).wrapping_add(shift);
             let len = end.saturating_sub(start);
             write!(text, " {base:#x}+{len:#x}")?;
+            count = count.saturating_add(1);
         }
     }
-    Ok(())
+    Ok(count)
 }
 
 // What a look-up of these addresses has to tell.
@@ -86,21 +87,10 @@ fn wanted(alloc: Global, said: &[Said], first: u64, access: Permissions) -> Resu
     Ok(text)
 }
 
-// How many runs a table of these addresses has.
-fn count_runs(said: &[Said]) -> usize {
-    let mut count: usize = 0;
-    for (k, now) in said.iter().enumerate() {
-        if now.is_some() && (k == 0 || said[k - 1] != *now) {
-            count = count.saturating_add(1);
-        }
-    }
-    count
-}
-
 // Changes a range of both tables, or all of both.
 fn change(table: &mut Iotlb, said: &mut [Said], base: u64, state: &mut u64) -> Result<(), Fail> {
-    let (start, len) = range(state);
-    let first = base.wrapping_add(start as u64);
+    let (start, len) = next_range(state, ADDRESSES as u64, 13);
+    let first = base.wrapping_add(start);
     let kind = next_number(state) % 32;
     let difference = match next_number(state) % 3 {
         0 => 0,
@@ -129,7 +119,7 @@ fn change(table: &mut Iotlb, said: &mut [Said], base: u64, state: &mut u64) -> R
             Some((difference, perm))
         }
     };
-    for place in said.iter_mut().skip(start).take(len) {
+    for place in said.iter_mut().skip(start as usize).take(len) {
         *place = now;
     }
     Ok(())
@@ -144,14 +134,16 @@ fn changes_and_look_ups_are_those_of_single_addresses(rt: HostRuntime) -> Result
         for step in 0..2000 {
             if step % 2 == 0 {
                 change(&mut table, &mut said, base, &mut state)?;
-                if table.num_ranges() != count_runs(said.as_slice()) {
+                let mut runs = String::new(rt.alloc());
+                if table.num_ranges() != write_runs(&mut runs, said.as_slice(), base, false)? {
                     return Err(Fail::new(format_args!("step {step}: the ranges are the runs")));
                 }
                 continue;
             }
-            let (start, len) = range(&mut state);
+            let (start, len) = next_range(&mut state, ADDRESSES as u64, 13);
             let access = permissions(next_number(&mut state));
-            let first = base.wrapping_add(start as u64);
+            let first = base.wrapping_add(start);
+            let start = start as usize;
             let Some(asked) = said.get(start..start.saturating_add(len)) else {
                 return Err(Fail::new("the range is in the plain table"));
             };
