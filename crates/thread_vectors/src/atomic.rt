@@ -29,11 +29,11 @@ fn change_pages(
 ) {
     meet(gate, MET);
     for number in 0..marks.count(thread) {
-        let start = marks.start(thread, number);
-        let end = start.saturating_add(marks.len());
+        let (start, len) = marks.run_of(thread, number);
+        let end = start.saturating_add(len);
         match change {
-            SetLots => bitmap.set_addr_range(start, marks.len()),
-            ClearLots => bitmap.reset_addr_range(start, marks.len()),
+            SetLots => bitmap.set_addr_range(start, len),
+            ClearLots => bitmap.reset_addr_range(start, len),
             SetEach => (start..end).for_each(|page| bitmap.set_bit(page)),
             ClearEach => (start..end).for_each(|page| bitmap.reset_bit(page)),
         }
@@ -77,7 +77,7 @@ fn harvested(alloc: Global, bitmap: &AtomicBitmap, mut tally: Tally, gate: &Atom
             break;
         }
         match bitmap.get_and_reset(alloc) {
-            Ok(words) => tally.add_words(words.as_slice(), gate.load(Ordering::SeqCst) < DONE),
+            Ok(words) => tally.add(64, words.as_slice(), gate.load(Ordering::SeqCst) < DONE),
             Err(_) => tally.failed = true,
         }
     }
@@ -100,7 +100,7 @@ pub fn expect_atomic<R: Sync + Threads>(
         || change_all(rt, &bitmap, changes, marks, &gate),
         || harvested(alloc, &bitmap, tally, &gate),
     );
-    tally.add_words(bitmap.get_and_reset(alloc)?.as_slice(), false);
+    tally.add(64, bitmap.get_and_reset(alloc)?.as_slice(), false);
     tally.expect(marks, false)?;
     Ok(tally.taken)
 }
@@ -110,14 +110,14 @@ pub fn expect_atomic<R: Sync + Threads>(
 pub fn expect_cleared<R: Sync + Threads>(rt: &R, alloc: Global, marks: &Marks) -> Result<(), Fail> {
     let bitmap = AtomicBitmap::new(alloc, marks.pages, NonZeroUsize::MIN)?;
     for page in 0..marks.pages {
-        if marks.is_set_at_first(page) {
+        if marks.owners(page, 2, 4) == 0 {
             bitmap.set_bit(page);
         }
     }
     let changes = [ClearLots, ClearEach, SetLots, SetEach];
     change_all(rt, &bitmap, changes, marks, &AtomicUsize::new(1));
     let mut tally = Tally::new(alloc, marks.pages)?;
-    tally.add_words(bitmap.get_and_reset(alloc)?.as_slice(), false);
+    tally.add(64, bitmap.get_and_reset(alloc)?.as_slice(), false);
     tally.expect(marks, true)
 }
 

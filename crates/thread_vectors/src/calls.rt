@@ -97,23 +97,8 @@ pub fn set_up(alloc: Global, size: usize) -> Result<TestMachine, Fail> {
     Ok(machine)
 }
 
-// Fails where the commands of a journal, run again, have other replies.
-fn expect_replayed(alloc: Global, journal: &TestJournal) -> Result<(), Fail> {
-    let mut machine = set_up(alloc, 0x20)?;
-    let mut replies = Vec::new(alloc);
-    for number in 0..journal.len() {
-        let command = journal.command(number).ok_or("a command")?;
-        run_on(&mut machine, slice::from_ref(command), &mut replies)?;
-        let reply = journal.reply(number).ok_or("a reply")?;
-        let told = format!(in alloc; "{reply:?}")?;
-        let again = replies.pop().ok_or("a reply")?;
-        let wanted = format!(in alloc; "{again:?}")?;
-        expect_text(number, told.as_str(), wanted.as_str())?;
-    }
-    Ok(())
-}
-
-/// Fails where what four threads are answered by one machine is not what its journal has, all of it.
+/// Fails where what four threads are answered by one machine is not what its journal has, all of it, or where the
+/// commands of the journal, run again, have other replies.
 pub fn expect_calls<R: Sync + Threads + Wait>(rt: &R, alloc: Global) -> Result<(), Fail> {
     let machine = SharedMachine::new(Journal::new(set_up(alloc, 0x20)?));
     let gate = AtomicUsize::new(0);
@@ -131,7 +116,18 @@ pub fn expect_calls<R: Sync + Threads + Wait>(rt: &R, alloc: Global) -> Result<(
     if journal.len() != 4 * usize::from(CALLS) {
         return Err(Fail::new(format_args!("{} entries", journal.len())));
     }
-    expect_replayed(alloc, &journal)
+    let mut machine = set_up(alloc, 0x20)?;
+    let mut replies = Vec::new(alloc);
+    for number in 0..journal.len() {
+        let command = journal.command(number).ok_or("a command")?;
+        run_on(&mut machine, slice::from_ref(command), &mut replies)?;
+        let reply = journal.reply(number).ok_or("a reply")?;
+        let told = format!(in alloc; "{reply:?}")?;
+        let again = replies.pop().ok_or("a reply")?;
+        let wanted = format!(in alloc; "{again:?}")?;
+        expect_text(number, told.as_str(), wanted.as_str())?;
+    }
+    Ok(())
 }
 
 #[test]

@@ -13,25 +13,11 @@ use vm_memory::{
 
 type Space = GuestMemoryAtomic<GuestMemoryMmap>;
 
-// Pages at 0 and 0x100000.
-fn two_pages(alloc: Global, host: &mut HostMemory<()>) -> Result<GuestMemoryMmap, Fail> {
-    let ranges = [(GuestAddress(0), 0x1000), (GuestAddress(0x10_0000), 0x1000)];
-    Ok(GuestMemoryMmap::from_ranges(alloc, host, &ranges)?)
-}
-
-// New pages, so many bytes apart from a first on.
-fn pages_of(
-    alloc: Global,
-    host: &mut HostMemory<()>,
-    starts: &[u64],
-) -> Result<Vec<Arc<GuestRegionMmap>>, Fail> {
-    let mut pages = Vec::new(alloc);
-    for start in starts {
-        let page = GuestRegionMmap::from_range(host, GuestAddress(*start), 0x1000)?;
-        pages.push(Arc::new(alloc, page)?)?;
-    }
-    Ok(pages)
-}
+// The ranges of the layout at first.
+const TWO: [(GuestAddress, usize); 2] = [
+    (GuestAddress(0), 0x1000),
+    (GuestAddress(0x10_0000), 0x1000),
+];
 
 // What a reader saw: how many snapshots had two regions, how many had five, and how many had another number, changed,
 // or were not to be had.
@@ -116,11 +102,12 @@ fn seen_while_replaced<R: Sync + Threads + Wait>(
 
 /// Fails where a layout that is replaced is seen in part, is never seen, or changes in a snapshot.
 pub fn expect_layouts<R: Sync + Threads + Wait>(rt: &R, alloc: Global) -> Result<(), Fail> {
-    let mut host = HostMemory::new(alloc);
-    let two = two_pages(alloc, &mut host)?;
+    let mut host: HostMemory<()> = HostMemory::new(alloc);
+    let two = GuestMemoryMmap::from_ranges(alloc, &mut host, &TWO)?;
     let mut five = two.clone()?;
-    for page in pages_of(alloc, &mut host, &[0x8000, 0x4000, 0xc000])? {
-        five = five.insert_region(page)?;
+    for start in [0x8000, 0x4000, 0xc000] {
+        let page = GuestRegionMmap::from_range(&mut host, GuestAddress(start), 0x1000)?;
+        five = five.insert_region(Arc::new(alloc, page)?)?;
     }
     let space = GuestMemoryAtomic::new(alloc, two.clone()?)?;
     for seen in seen_while_replaced(rt, alloc, &space, &two, &five)? {
@@ -163,27 +150,30 @@ fn add_in_turn<R: Wait>(
     Ok(())
 }
 
-// The starts of the regions that two threads add, in turn, behind those that there are.
-fn starts_to_add(alloc: Global, first: u64) -> Result<Vec<u64>, AllocError> {
-    (0..200u64)
-        .map(|number| first.saturating_add(number.saturating_mul(0x4000)))
-        .collect(alloc)
+// 200 new pages, of which each begins 0x4000 bytes behind the start of the one before.
+fn pages_from(
+    alloc: Global,
+    host: &mut HostMemory<()>,
+    first: u64,
+) -> Result<Vec<Arc<GuestRegionMmap>>, Fail> {
+    let mut pages = Vec::new(alloc);
+    for number in 0..200u64 {
+        let start = first.saturating_add(number.saturating_mul(0x4000));
+        let page = GuestRegionMmap::from_range(host, GuestAddress(start), 0x1000)?;
+        pages.push(Arc::new(alloc, page)?)?;
+    }
+    Ok(pages)
 }
 
 /// Fails where a region that one of two threads adds is lost.
 pub fn expect_added<R: Sync + Threads + Wait>(rt: &R, alloc: Global) -> Result<(), Fail> {
-    let mut host = HostMemory::new(alloc);
-    let space = GuestMemoryAtomic::new(alloc, two_pages(alloc, &mut host)?)?;
-    let one = pages_of(
+    let mut host: HostMemory<()> = HostMemory::new(alloc);
+    let space = GuestMemoryAtomic::new(
         alloc,
-        &mut host,
-        starts_to_add(alloc, 0x20_0000)?.as_slice(),
+        GuestMemoryMmap::from_ranges(alloc, &mut host, &TWO)?,
     )?;
-    let other = pages_of(
-        alloc,
-        &mut host,
-        starts_to_add(alloc, 0x20_2000)?.as_slice(),
-    )?;
+    let one = pages_from(alloc, &mut host, 0x20_0000)?;
+    let other = pages_from(alloc, &mut host, 0x20_2000)?;
     let gate = AtomicUsize::new(0);
     let (one, other) = thread::join(
         rt,

@@ -1,46 +1,14 @@
 //! A bitmap that is harvested while another thread has the lock of its host.
-ghost use Rattle.thread_vectors.specs.Markers.{IsMarkerOf, IsHarvesterOf};
+ghost use Rattle.test_regions.specs.Markers.{IsMarkerOf, IsHarvesterOf};
 
-use crate::tracked::next_marker;
 use std::alloc::Global;
 use std::num::NonZeroUsize;
 use std::sync::atomic::{AtomicBool, Ordering};
 use std::sync::{Arc, Mutex, Wait};
 use std::test::Fail;
 use std::thread::{self, Threads};
-use vm_memory::{
-    BitmapId, BlockId, Bytes, GuestAddress, GuestMemoryMmap, GuestRegionMmap, Harvester,
-    HostMemory, Marker, MarkerBitmap, MmapRegion, TrackedBitmap,
-};
-
-type MarkedHost = HostMemory<MarkerBitmap>;
-
-// A host of one block of 0x400 bytes, which a marker of the bitmap marks.
-fn marked_host(
-    alloc: Global,
-    bitmap: &Arc<TrackedBitmap>,
-    marker: Marker,
-) -> Result<MarkedHost, Fail>
-    requires { IsMarkerOf marker bitmap.now.value }
-{
-    let mut host = HostMemory::new(alloc);
-    let marked = MarkerBitmap::new(bitmap.clone()?, marker);
-    if host.new_block_with(0x400, marked).is_err() {
-        return Err(Fail::new("there was no memory"));
-    }
-    Ok(host)
-}
-
-// A memory of the block, from 0x1000 on.
-fn memory_of_block(alloc: Global, host: &MarkedHost) -> Result<GuestMemoryMmap, Fail> {
-    if !host.shape().has_bitmap(BitmapId::Block(0)) {
-        return Err(Fail::new("there is a block"));
-    }
-    let block = MmapRegion::of_block(host, BlockId(0));
-    let region = GuestRegionMmap::new(block, GuestAddress(0x1000)).ok_or("the region fits")?;
-    let regions = vec![in alloc; Arc::new(alloc, region)?]?;
-    Ok(GuestMemoryMmap::from_arc_regions(regions)?)
-}
+use test_regions::{MarkedHost, marked_host, memory_of_block, next_marker};
+use vm_memory::{Bytes, GuestAddress, GuestMemoryMmap, Harvester, Marker, TrackedBitmap};
 
 // What two threads tell each other: that one has the lock, and that the other harvested.
 #[derive(Drop)]

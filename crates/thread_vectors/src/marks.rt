@@ -22,8 +22,8 @@ pub struct Marks {
 }
 
 impl Marks {
-    // How many of these threads change a page.
-    fn owners(&self, page: usize, from: usize, to: usize) -> usize {
+    /// How many of these threads change a page.
+    pub fn owners(&self, page: usize, from: usize, to: usize) -> usize {
         let lot = page / self.lot.max(1) % 12;
         let mut owners = 0usize;
         for thread in from..to.min(self.threads) {
@@ -35,27 +35,7 @@ impl Marks {
         owners
     }
 
-    /// Whether a page is set before the first two threads clear theirs and the others set theirs: the others' are not.
-    pub fn is_set_at_first(&self, page: usize) -> bool {
-        self.owners(page, 2, 4) == 0
-    }
-
-    // How often a page is harvested where each thread marks its pages once, at least and at most. A page that two mark
-    // is taken once or twice. Where the first two threads clear, one that another sets too may stay either way.
-    fn bounds(&self, page: usize, clears: bool) -> (usize, usize) {
-        if page >= self.pages {
-            return (0, 0);
-        }
-        if !clears {
-            let owners = self.owners(page, 0, 4);
-            return (owners.min(1), owners);
-        }
-        let is_cleared = self.owners(page, 0, 2) > 0;
-        let may_be_set = !is_cleared || self.owners(page, 2, 4) > 0;
-        (usize::from(!is_cleared), usize::from(may_be_set))
-    }
-
-    /// How often a thread changes so many pages as `len` tells.
+    /// How often a thread changes pages.
     pub fn count(&self, thread: usize) -> usize {
         if thread < self.threads {
             self.pages / self.lot.max(1) / 12 + 1
@@ -64,17 +44,13 @@ impl Marks {
         }
     }
 
-    /// How many pages a thread changes at once.
-    pub fn len(&self) -> usize {
-        self.width.saturating_mul(self.lot.max(1))
-    }
-
-    /// The first page of those that a thread changes at this time. It may be past the last.
-    pub fn start(&self, thread: usize, number: usize) -> usize {
+    /// The first of the pages that a thread changes at this time, which may be past the last, and how many they are.
+    pub fn run_of(&self, thread: usize, number: usize) -> (usize, usize) {
         let lots = number
             .saturating_mul(12)
             .saturating_add(thread.saturating_mul(2));
-        lots.saturating_mul(self.lot.max(1))
+        let lot = self.lot.max(1);
+        (lots.saturating_mul(lot), self.width.saturating_mul(lot))
     }
 }
 
@@ -117,50 +93,57 @@ impl Tally {
         })
     }
 
-    // Counts the pages of a word of so many bits.
-    fn add(&mut self, width: u32, number: usize, word: u64) {
+    /// Counts the pages of a harvest, so many a word, which ended while threads marked or not.
+    pub fn add(&mut self, width: u32, words: &[u64], while_marked: bool) {
         let last = self.counts.len().saturating_sub(1);
-        for bit in 0..width {
-            let page = number
-                .saturating_mul(width as usize)
-                .saturating_add(bit as usize);
-            if let Some(count) = self.counts.get_mut(page.min(last)) {
-                *count = count.saturating_add((word.wrapping_shr(bit) & 1) as usize);
-            }
-        }
-    }
-
-    /// Counts the pages of a harvest, which ended while threads marked or not.
-    pub fn add_halves(&mut self, words: &[u32], while_marked: bool) {
         let mut some = false;
         for number in 0..words.len() {
-            if words[number] != 0 {
-                self.add(32, number, u64::from(words[number]));
-                some = true;
+            let word = words[number];
+            if word == 0 {
+                continue;
+            }
+            some = true;
+            let first = number.saturating_mul(width as usize);
+            for bit in 0..width {
+                let page = first.saturating_add(bit as usize);
+                if let Some(count) = self.counts.get_mut(page.min(last)) {
+                    *count = count.saturating_add((word.wrapping_shr(bit) & 1) as usize);
+                }
             }
         }
         self.taken = self.taken.saturating_add(usize::from(some && while_marked));
     }
 
-    /// The same of whole words.
-    pub fn add_words(&mut self, words: &[u64], while_marked: bool) {
-        let mut some = false;
-        for number in 0..words.len() {
-            if words[number] != 0 {
-                self.add(64, number, words[number]);
-                some = true;
-            }
+    /// The same of halves of words.
+    pub fn add_halves(&mut self, alloc: Global, halves: &[u32], while_marked: bool) {
+        let words: Result<Vec<u64>, AllocError> = halves
+            .iter()
+            .map(|half| u64::from(*half))
+            .collect(alloc);
+        match words {
+            Ok(words) => self.add(32, words.as_slice(), while_marked),
+            Err(_) => self.failed = true,
         }
-        self.taken = self.taken.saturating_add(usize::from(some && while_marked));
     }
 
-    /// Fails where a harvest failed, or a page was lost, invented or harvested too often.
+    /// Fails where a harvest failed, or a page was lost, invented or harvested too often, where each thread changes its
+    /// pages once. A page that two mark is taken once or twice. Where the first two threads clear theirs, one that
+    /// another sets too may stay either way.
     pub fn expect(&self, marks: &Marks, clears: bool) -> Result<(), Fail> {
         if self.failed {
             return Err(Fail::new("a harvest failed"));
         }
         for (page, count) in self.counts.iter().enumerate() {
-            let (least, most) = marks.bounds(page, clears);
+            let (least, most) = if page >= marks.pages {
+                (0, 0)
+            } else if clears {
+                let is_cleared = marks.owners(page, 0, 2) > 0;
+                let may_be_set = !is_cleared || marks.owners(page, 2, 4) > 0;
+                (usize::from(!is_cleared), usize::from(may_be_set))
+            } else {
+                let owners = marks.owners(page, 0, 4);
+                (owners.min(1), owners)
+            };
             if *count < least || *count > most {
                 return Err(Fail::new(format_args!(
                     "page {page} was harvested {count} times, not {least} to {most}"

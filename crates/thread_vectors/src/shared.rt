@@ -44,24 +44,6 @@ fn answers_of<R: Sync + Threads + Wait>(
     format!(in alloc; "{one:?} {other:?}")
 }
 
-// What the entries are told by number, and the entries of the journal.
-fn told_of<R: Wait>(rt: &R, alloc: Global, machine: TestShared) -> Result<String, AllocError> {
-    let mut text = String::new(alloc);
-    for number in 0..3 {
-        match machine.fetch(rt, number)? {
-            Some(reply) => writeln!(text, "{reply}")?,
-            None => writeln!(text, "none")?,
-        }
-    }
-    let journal = machine.into_journal();
-    for number in 0..journal.len() {
-        let command = journal.command(number);
-        let reply = journal.reply(number);
-        writeln!(text, "{command:?} {reply:?}")?;
-    }
-    Ok(text)
-}
-
 const ANSWERS: &str = "Ok((0, Count(3))) Ok((1, Bytes(Items { items: [0, 1, 2, 3, 0] })))";
 
 // Entry 2 is not there.
@@ -73,21 +55,27 @@ Some(Write { memory: 0, addr: GuestAddress(1), bytes: Items { items: [1, 2, 3] }
 Some(Read { memory: 0, addr: GuestAddress(0), count: 5 }) Some(Bytes(Items { items: [0, 1, 2, 3, 0] }))
 ";
 
-// A write, and a read of another thread that begins when the write is answered.
-fn expect_a_read_behind_a_write<R: Sync + Threads + Wait>(
-    rt: &R,
-    alloc: Global,
-    machine: TestShared,
-) -> Result<(), Fail> {
-    let write = write_of(alloc, 0, 1, &[1, 2, 3])?;
-    let told = answers_of(rt, alloc, &machine, write, read_of(0, 0, 5))?;
-    expect_text(0, told.as_str(), ANSWERS)?;
-    let told = told_of(rt, alloc, machine)?;
-    expect_text(1, told.as_str(), ENTRIES)
-}
-
+// A write, and a read of another thread that begins when the write is answered. Then what the entries are told by
+// number, and the entries of the journal.
 #[test]
 fn a_read_after_a_write_of_another_thread_gives_its_bytes(rt: HostRuntime) -> Result<(), Fail> {
-    let machine = SharedMachine::new(Journal::new(set_up(rt.alloc(), 0x10)?));
-    expect_a_read_behind_a_write(&rt, rt.alloc(), machine)
+    let alloc = rt.alloc();
+    let machine = SharedMachine::new(Journal::new(set_up(alloc, 0x10)?));
+    let write = write_of(alloc, 0, 1, &[1, 2, 3])?;
+    let told = answers_of(&rt, alloc, &machine, write, read_of(0, 0, 5))?;
+    expect_text(0, told.as_str(), ANSWERS)?;
+    let mut text = String::new(alloc);
+    for number in 0..3 {
+        match machine.fetch(&rt, number)? {
+            Some(reply) => writeln!(text, "{reply}")?,
+            None => writeln!(text, "none")?,
+        }
+    }
+    let journal = machine.into_journal();
+    for number in 0..journal.len() {
+        let command = journal.command(number);
+        let reply = journal.reply(number);
+        writeln!(text, "{command:?} {reply:?}")?;
+    }
+    expect_text(1, text.as_str(), ENTRIES)
 }

@@ -1,6 +1,5 @@
 //! A `TrackedBitmap` that four threads mark while one harvests.
-ghost use Rattle.std.specs.Prelude.{IfSome};
-ghost use Rattle.thread_vectors.specs.Markers.{IsMarkerOf, IsHarvesterOf, AreNewOf};
+ghost use Rattle.test_regions.specs.Markers.{IsMarkerOf, IsHarvesterOf, AreNewOf};
 
 use crate::marks::{DONE, HARVESTS, MET, Marks, Tally, meet};
 use std::alloc::Global;
@@ -8,16 +7,8 @@ use std::num::NonZeroUsize;
 use std::sync::atomic::{AtomicUsize, Ordering};
 use std::test::Fail;
 use std::thread::{self, Threads};
+use test_regions::next_marker;
 use vm_memory::{Harvester, Marker, TrackedBitmap};
-
-/// Takes the last of the markers.
-pub fn next_marker(bitmap: &TrackedBitmap, markers: &mut Vec<Marker>) -> Option<Marker>
-    requires { AreNewOf markers.old.items bitmap.now }
-    ensures marker { IfSome result (λ m. IsMarkerOf m bitmap.now) }
-    ensures others { AreNewOf markers.new.items bitmap.now }
-{
-    markers.pop()
-}
 
 // Marks the pages of a thread.
 fn marked(
@@ -32,7 +23,8 @@ fn marked(
 {
     meet(gate, MET);
     for number in 0..marks.count(thread) {
-        bitmap.mark(&mut marker, marks.start(thread, number), marks.len());
+        let (start, len) = marks.run_of(thread, number);
+        bitmap.mark(&mut marker, start, len);
     }
     gate.fetch_add(1, Ordering::SeqCst);
     marker
@@ -80,7 +72,11 @@ fn harvested(
             break;
         }
         match bitmap.get_and_reset(&mut harvester, alloc) {
-            Ok(words) => tally.add_halves(words.as_slice(), gate.load(Ordering::SeqCst) < DONE),
+            Ok(words) => tally.add_halves(
+                alloc,
+                words.as_slice(),
+                gate.load(Ordering::SeqCst) < DONE,
+            ),
             Err(_) => tally.failed = true,
         }
     }
@@ -152,16 +148,6 @@ fn harvested_beside_four<R: Sync + Threads>(
     (harvester, tally)
 }
 
-fn two_markers(bitmap: &TrackedBitmap, markers: &mut Vec<Marker>) -> Option<(Marker, Marker)>
-    requires { AreNewOf markers.old.items bitmap.now }
-    ensures taken { IfSome result (λ r. IsMarkerOf r.0 bitmap.now × IsMarkerOf r.1 bitmap.now) }
-    ensures others { AreNewOf markers.new.items bitmap.now }
-{
-    let one = next_marker(bitmap, markers)?;
-    let other = next_marker(bitmap, markers)?;
-    Some((one, other))
-}
-
 // How many harvests took pages while threads marked. Fails where all harvests and what is left are not together just
 // the pages that were marked.
 fn expect_joined<R: Sync + Threads>(
@@ -176,9 +162,11 @@ fn expect_joined<R: Sync + Threads>(
     requires markers { AreNewOf markers.items bitmap }
 {
     let tally = Tally::new(alloc, marks.pages)?;
-    let (Some(one), Some(other)) = (
-        two_markers(&bitmap, &mut markers),
-        two_markers(&bitmap, &mut markers),
+    let (Some(a), Some(b), Some(c), Some(d)) = (
+        next_marker(&bitmap, &mut markers),
+        next_marker(&bitmap, &mut markers),
+        next_marker(&bitmap, &mut markers),
+        next_marker(&bitmap, &mut markers),
     ) else {
         return Err(Fail::new("there are four markers"));
     };
@@ -187,13 +175,13 @@ fn expect_joined<R: Sync + Threads>(
         alloc,
         &bitmap,
         harvester,
-        (one, other),
+        ((a, b), (c, d)),
         marks,
         tally,
         &AtomicUsize::new(0),
     );
     match bitmap.close(harvester, alloc) {
-        Ok(left) => tally.add_halves(left.as_slice(), false),
+        Ok(left) => tally.add_halves(alloc, left.as_slice(), false),
         Err(_) => return Err(Fail::new("there was no memory")),
     }
     tally.expect(marks, false)?;

@@ -1,4 +1,4 @@
-use Rattle.thread_vectors.specs.Markers.{IsHarvesterOf}
+use Rattle.test_regions.specs.Markers.{IsHarvesterOf}
 use Rattle.thread_vectors.proofs.tracked.harvested.Given as goal
 
 abbrev pub invariant-loop : goal.invariant-loop

@@ -1,4 +1,4 @@
-use Rattle.thread_vectors.specs.Markers.{IsMarkerOf}
+use Rattle.test_regions.specs.Markers.{IsMarkerOf}
 use Rattle.thread_vectors.proofs.tracked.marked.Given as goal
 
 abbrev pub invariant-loop-number : goal.invariant-loop-number
