@@ -1,9 +1,9 @@
 -- What a vector has more after bytes were sent to it: all of them, or none.
-use Rattle.std.proofs.Common.{◌≡◌, ℕ, ◌-◌, ◌≤◌, true, List, [], ◌∷◌, ◌++◌, length, drop, Result, Ok, Err, append-nil, refl, sym, ap, ◌∙◌, arith}
+use Rattle.std.proofs.Common.{◌≡◌, ℕ, ◌≤◌, true, List, [], ◌∷◌, ◌++◌, length, drop, Result, Ok, Err, append-nil, refl, sym, ap, ◌∙◌, arith}
 use Rattle.std.proofs.lemmas.List.{length-drop}
 use mathlib.Core.Bool.{true≢false}
 use Rattle.vm_memory_base.specs.InMemory.{HasAllOrNone, WritesWhole}
-use Rattle.vm_memory_base.specs.Transfer.{Answer, is_interrupted, is_interrupted_by, Stop, Failed, AgainUpto, Last, Done, Retry, Again, RestOf, AllMoved, NoneMoved, TurnFailed, SomeMoved, sent_as, SendsBy}
+use Rattle.vm_memory_base.specs.Transfer.{Answer, is_interrupted, is_interrupted_by, Stop, AgainUpto, Last, Done, Retry, Again, RestOf, AllMoved, NoneMoved, TurnFailed, SomeMoved, sent_as, SendsBy}
 use Rattle.vm_memory_base.specs.declared.io.VolatileMemoryError.{VolatileMemoryError}
 
 not_interrupted : (old bytes : List ℕ) (answer : Answer) (new : List ℕ) → WritesWhole old bytes answer new

@@ -2,24 +2,10 @@ use Rattle.std.proofs.Common.{◌≡◌, ℕ, ◌+◌, ◌<◌, ◌≤◌, map, 
 use Rattle.std.specs.Int.{div_ceil}
 use Rattle.std.proofs.lemmas.List.{length-map}
 use Rattle.vm_memory_base.specs.declared.bitmap.tracked.view.View.{View}
-use Rattle.atomic_table.specs.Seated.{TableId}
-use Rattle.vm_memory_base.specs.declared.bitmap.tracked.Harvester.{Harvester}
-use Rattle.vm_memory_base.specs.declared.bitmap.tracked.TrackedBitmap.{TrackedBitmap}
-use Rattle.vm_memory_base.specs.Markers.{table_of, harvester_table}
-use Rattle.vm_memory_base.specs.Notes.{Note, rounds_of}
-use Rattle.vm_memory_base.specs.Tracked.{AreHarvested, words_for, after_harvests, seen_of}
+use Rattle.vm_memory_base.specs.Notes.{rounds_of}
+use Rattle.vm_memory_base.specs.Tracked.{after_harvests, seen_of}
 use Rattle.vm_memory_base.proofs.NotesLemmas.{gathered-each, gathered-seen}
 use Rattle.vm_memory_base.proofs.bitmap.tracked.TrackedBitmap.get_and_reset.Goals as goal
-
--- the round that is counted is the number of notes of each word, and there is always a first
-counted : (table : TableId) (count round : ℕ) (harvests : List Note) → table.words ≡ words_for count
-    → AreHarvested table.words round harvests → length (rounds_of 0 harvests) ≡ round
-counted table count round harvests words all = all 0 (omega (arith, words))
-
-module _ (b : TrackedBitmap) (h : Harvester) (own : harvester_table h ≡ table_of b) where
-  round_is : length (rounds_of 0 h.seat.me.0.harvests) ≡ h.round
-  round_is =
-      counted h.seat.table_id b.count h.round h.seat.me.0.harvests (ap (λ t. t.0.words) own ∙ b.fits.1) h.harvests_all.2
 
 pub returns-then-words-eq0-clause-taken : goal.returns-then-words-eq0-clause-taken
 returns-then-words-eq0-clause-taken c =

@@ -1,4 +1,4 @@
-use Rattle.std.proofs.Common.{ℕ, ◌*◌, ◌/◌, ◌%◌, ◌^◌, ◌<◌, ◌≡◌, ap, subst, sym, arith}
+use Rattle.std.proofs.Common.{ℕ, ◌*◌, ◌/◌, ◌%◌, ◌^◌, ◌<◌, ap, arith}
 use Rattle.std.proofs.Math.Pow.{pow-lt}
 use Rattle.vm_memory_base.proofs.TrackedRule.{marks_allowed, one_page}
 use Rattle.vm_memory_base.proofs.bitmap.tracked.TrackedBitmap.mark_page.Goals as goal
