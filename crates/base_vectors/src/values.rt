@@ -51,11 +51,14 @@ fn round_trips(rt: HostRuntime) {
     round_trip::<[u16; 3]>(&rt, 6);
     round_trip::<[i64; 5]>(&rt, 40);
     round_trip::<[Be16; 2]>(&rt, 4);
+    round_trip::<(u64, (u32, (u16, u16)))>(&rt, 16);
+    round_trip::<(u8, [Be16; 3])>(&rt, 7);
     assert!(rt; u32::from_slice(&[1, 2, 3, 4]) == Some(0x0403_0201));
     assert!(rt; i16::from_slice(&[0xfe, 0xff]) == Some(-2));
     assert!(rt; Be16::from_slice(&[1, 2]) == Some(Be16::from(0x0102)));
     assert!(rt; Le16::from_slice(&[2, 1]) == Some(Le16::from(0x0102)));
     assert!(rt; <[u16; 2]>::from_slice(&[1, 0, 0, 1]) == Some([1, 0x0100]));
+    assert!(rt; <(u16, u8)>::from_slice(&[1, 2, 3]) == Some((0x0201, 3)));
 }
 
 // A value through the atomic integer that stands for its type.
