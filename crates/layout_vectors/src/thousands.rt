@@ -38,10 +38,21 @@ fn a_layout_of_a_thousand_regions_is_searched_and_changed(rt: HostRuntime) -> Re
     assert!(rt; finds_all_but(&layout, 1000));
     assert!(rt; regions.iter().all(|region| region.asked() <= 2));
     let copy = layout.clone()?;
-    let (rest, region) = copy.remove_region(GuestAddress(0x2000 * 500), 0x1000)?;
-    assert!(rt; rest.num_regions() == 999 && finds_all_but(&rest, 500));
-    let again = rest.insert_region(region)?;
-    assert!(rt; again.num_regions() == 1000 && finds_all_but(&again, 1000));
+    assert!(rt; copy.num_regions() == 1000 && finds_all_but(&copy, 1000));
+    for number in [0u64, 499, 500, 501, 777, 999] {
+        let start = GuestAddress(number.wrapping_mul(0x2000));
+        let (rest, region) = copy.remove_region(start, 0x1000)?;
+        assert!(rt;
+            rest.num_regions() == 999 && finds_all_but(&rest, number),
+            "{number}"
+        );
+        assert!(rt; region.start_addr() == start, "{number}");
+        let again = rest.insert_region(region)?;
+        assert!(rt;
+            again.num_regions() == 1000 && finds_all_but(&again, 1000),
+            "{number}"
+        );
+    }
     assert!(rt; layout.num_regions() == 1000 && finds_all_but(&layout, 1000));
     Ok(())
 }

@@ -26,11 +26,13 @@ enum Write {
     Part(usize, usize),
     // Of elements of two bytes in that window, at an offset.
     Array(usize, usize),
+    // In a part of that window, at an offset and of so many bytes, of so many values of two bytes.
+    Front(usize, usize, usize),
     // Of single values in that window.
     Values,
 }
 
-use Write::{Array, At, Mapped, Part, Values};
+use Write::{Array, At, Front, Mapped, Part, Values};
 
 fn write_bytes<A: Copy, M: Bytes<A>, B: Bitmap>(
     alloc: Global,
@@ -82,6 +84,7 @@ fn written<B: Bitmap>(
     memory: &GuestMemoryMmap,
     write: Write,
 ) -> Result<String, Fail> {
+    let window = memory.get_slice(GuestAddress(2), 0x2ffe)?;
     match write {
         At(addr, count) => write_bytes(alloc, host, memory, GuestAddress(addr), count),
         Mapped(iova, base, length, offset) => {
@@ -97,13 +100,9 @@ fn written<B: Bitmap>(
             Ok(text)
         }
         Part(offset, count) => {
-            let part = memory
-                .get_slice(GuestAddress(2), 0x2ffe)?
-                .subslice(offset, count)?;
-            write_bytes(alloc, host, &part, 0, count)
+            write_bytes(alloc, host, &window.subslice(offset, count)?, 0, count)
         }
         Array(offset, count) => {
-            let window = memory.get_slice(GuestAddress(2), 0x2ffe)?;
             let array = window.get_array_ref::<u16>(offset, count)?;
             let values = vec![in alloc; 7u16; count]?;
             if !host.holds(&array) {
@@ -112,7 +111,16 @@ fn written<B: Bitmap>(
             array.copy_from(host, values.as_slice());
             Ok(String::new(alloc))
         }
-        Values => write_values(alloc, host, memory.get_slice(GuestAddress(2), 0x1e)?),
+        Front(offset, size, count) => {
+            let part = window.subslice(offset, size)?;
+            let values = vec![in alloc; 7u16; count]?;
+            if !host.holds(&part) {
+                return Err(Fail::new("the host holds the part"));
+            }
+            part.copy_from(host, values.as_slice());
+            Ok(String::new(alloc))
+        }
+        Values => write_values(alloc, host, window.subslice(0, 0x1e)?),
     }
 }
 
@@ -177,13 +185,17 @@ fn expect_pages<B: NewBitmap + Drop>(alloc: Global, case: usize) -> Result<(), F
 
 // A write in a block whose bytes, and those of a space, each have a page of their own, what it answers, and which pages
 // are dirty then.
-const LONG: [(Write, &str); 13] = [
+const LONG: [(Write, &str); 16] = [
     (At(0x10, 0x1800), "Ok(6144) block 16-6159 space "),
     (At(0xffe, 0x1003), "Ok(4099) block 4094-8192 space "),
     (At(0x2fff, 0x1001), "Ok(1) block 12287-12287 space "),
     (Part(0x20, 0x1805), "Ok(6149) block 34-6182 space "),
     (Part(0x20, 0), "Ok(0) block space "),
     (Array(1, 0x900), "block 3-4610 space "),
+    (Front(0x20, 0x2000, 0x900), "block 34-4641 space "),
+    // Only whole values are written.
+    (Front(5, 7, 9), "block 7-12 space "),
+    (Front(5, 1, 9), "block space "),
     (
         Mapped(0x10, 0x100, 0x1801, 0),
         "Ok(6145) block space 16-6160 ",

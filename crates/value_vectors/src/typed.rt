@@ -44,19 +44,93 @@ fn a_value_in_a_window(rt: HostRuntime) -> Result<(), Fail> {
     Ok(())
 }
 
-// Copies move bytes as they were, and whole values.
+// A window of two, by its number, and a part of it, by its offset and its length.
+type Part = (usize, usize, usize);
+
+// The part that is copied of two windows of six bytes in blocks of their own, which have 1 to 6 and 11 to 16, the part
+// that it is copied to, and the bytes of both windows then.
+const COPIES: [(Part, Part, [u8; 6], [u8; 6]); 8] = [
+    (
+        (0, 0, 4),
+        (0, 2, 4),
+        [1, 2, 1, 2, 3, 4],
+        [11, 12, 13, 14, 15, 16],
+    ),
+    (
+        (0, 2, 4),
+        (0, 0, 4),
+        [3, 4, 5, 6, 5, 6],
+        [11, 12, 13, 14, 15, 16],
+    ),
+    (
+        (0, 0, 2),
+        (0, 4, 2),
+        [1, 2, 3, 4, 1, 2],
+        [11, 12, 13, 14, 15, 16],
+    ),
+    (
+        (0, 4, 2),
+        (0, 0, 2),
+        [5, 6, 3, 4, 5, 6],
+        [11, 12, 13, 14, 15, 16],
+    ),
+    // As many bytes are copied as both have.
+    (
+        (0, 1, 5),
+        (1, 2, 3),
+        [1, 2, 3, 4, 5, 6],
+        [11, 12, 2, 3, 4, 16],
+    ),
+    (
+        (1, 0, 2),
+        (0, 3, 3),
+        [1, 2, 3, 11, 12, 6],
+        [11, 12, 13, 14, 15, 16],
+    ),
+    (
+        (1, 3, 3),
+        (1, 1, 5),
+        [1, 2, 3, 4, 5, 6],
+        [11, 14, 15, 16, 15, 16],
+    ),
+    (
+        (1, 1, 0),
+        (0, 0, 6),
+        [1, 2, 3, 4, 5, 6],
+        [11, 12, 13, 14, 15, 16],
+    ),
+];
+
+#[test]
+fn a_copy_moves_bytes_as_they_were(rt: HostRuntime) -> Result<(), Fail> {
+    for (case, (from, to, left, right)) in COPIES.iter().enumerate() {
+        let mut host: HostMemory<()> = HostMemory::new(rt.alloc());
+        let one = window_of(&mut host, &[1, 2, 3, 4, 5, 6])?;
+        let other = window_of(&mut host, &[11, 12, 13, 14, 15, 16])?;
+        let source = if from.0 == 0 { one } else { other };
+        let target = if to.0 == 0 { one } else { other };
+        let source = source.subslice(from.1, from.2)?;
+        let target = target.subslice(to.1, to.2)?;
+        assert!(rt; host.holds(&source) && host.holds(&target));
+        assert!(rt; host.holds(&one) && host.holds(&other));
+        source.copy_to_volatile_slice(&mut host, target);
+        let mut of_one = [0; 6];
+        one.read_slice(&host, &mut of_one, 0)?;
+        let mut of_other = [0; 6];
+        other.read_slice(&host, &mut of_other, 0)?;
+        assert!(rt; of_one == *left && of_other == *right, "case {case}");
+    }
+    Ok(())
+}
+
+// Whole values are copied.
 #[test]
 fn an_array_in_a_window(rt: HostRuntime) -> Result<(), Fail> {
     let mut host: HostMemory<()> = HostMemory::new(rt.alloc());
     let window = window_of(&mut host, &[1, 2, 3, 4, 5, 6])?;
-    let (from, to) = (window.subslice(0, 4)?, window.subslice(2, 4)?);
     let five = window.subslice(0, 5)?;
-    assert!(rt; host.holds(&window) && host.holds(&from) && host.holds(&to) && host.holds(&five));
-    from.copy_to_volatile_slice(&mut host, to);
+    assert!(rt; host.holds(&window) && host.holds(&five));
     let mut bytes = [0; 6];
-    window.read_slice(&host, &mut bytes, 0)?;
-    assert!(rt; bytes == [1, 2, 1, 2, 3, 4]);
-    window.write_slice(&mut host, &[1, 2, 3, 4, 5, 6], 0)?;
     let mut values = [9u16; 3];
     let count = five.copy_to(&host, &mut values);
     assert!(rt; count == 2 && values == [0x0201, 0x0403, 9]);
@@ -107,10 +181,15 @@ fn a_pair_in_a_window(rt: HostRuntime) -> Result<(), Fail> {
     Ok(())
 }
 
-// Of a window of 8 bytes at 0x10: of a value, of an array, and of an array of none.
+// Of a window of 8 bytes at 0x10: of a value, of an array, and of an array of none; of the bytes from an offset on, of
+// those on both sides of it, and of a part.
 const SEEN: &str = "false Block(0)+19 Ok(4) [4, 5, 6, 7, 9, 9]
 false Block(0)+17 Ok(6) [2, 3, 4, 5, 6, 7]
 true Block(0)+24 Err(OutOfBounds { addr: 0 }) [9, 9, 9, 9, 9, 9]
+false Block(0)+19 Ok(5) [4, 5, 6, 7, 8, 9]
+false Block(0)+16 Ok(3) [1, 2, 3, 9, 9, 9]
+false Block(0)+19 Ok(5) [4, 5, 6, 7, 8, 9]
+false Block(0)+18 Ok(4) [3, 4, 5, 6, 9, 9]
 ";
 
 #[test]
@@ -120,11 +199,17 @@ fn a_view_has_the_window_of_its_bytes(rt: HostRuntime) -> Result<(), Fail> {
     let value = window.get_ref::<u32>(3)?;
     let array = window.get_array_ref::<u16>(1, 3)?;
     let none = window.get_array_ref::<u16>(8, 0)?;
+    let (rest, part) = (window.offset(3)?, window.subslice(2, 4)?);
+    let (front, behind) = window.split_at(3)?;
     let mut text = String::new(rt.alloc());
     for (window, empty, bitmap) in [
         (value.to_slice(), false, value.bitmap()),
         (array.to_slice(), array.is_empty(), array.bitmap()),
         (none.to_slice(), none.is_empty(), none.bitmap()),
+        (rest, false, rest.bitmap()),
+        (front, false, front.bitmap()),
+        (behind, false, behind.bitmap()),
+        (part, false, part.bitmap()),
     ] {
         assert!(rt; host.holds(&window));
         assert!(rt; bitmap == window.bitmap() && empty == VolatileMemory::is_empty(&window));
