@@ -12,54 +12,29 @@ fn pattern(alloc: Global, size: usize) -> Result<Vec<u8>, AllocError> {
     (0..size).map(|index| (index % 251) as u8).collect(alloc)
 }
 
-// Whether bytes go to a vector, and from it into another memory.
-fn are_moved(
-    alloc: Global,
-    host: &mut HostMemory<()>,
-    from: &GuestMemoryMmap,
-    to: &GuestMemoryMmap,
-    sent: &[u8],
-) -> Result<bool, Fail> {
-    if !host.holds(from) || !host.holds(to) {
-        return Err(Fail::new("the host holds the memories"));
-    }
-    let start = GuestAddress(0);
-    from.write_slice(host, sent, start)?;
-    let mut sink = Vec::new(alloc);
-    from.write_all_volatile_to(host, start, &mut sink, sent.len())?;
-    let mut source = sink.as_slice();
-    to.read_exact_volatile_from(host, start, &mut source, sent.len())?;
-    let mut came = vec![in alloc; 0u8; sent.len()]?;
-    to.read_slice(host, came.as_mut_slice(), start)?;
-    Ok(sink.as_slice() == sent && came.as_slice() == sent)
-}
-
+// Bytes go to a vector, and from it into another memory.
 #[test]
 fn sixteen_mebibytes_go_from_memory_to_memory(rt: HostRuntime) -> Result<(), Fail> {
     let mut host = HostMemory::<()>::new(rt.alloc());
-    let ranges = [(GuestAddress(0), MOVED)];
-    let from = GuestMemoryMmap::from_ranges(rt.alloc(), &mut host, &ranges)?;
-    let to = GuestMemoryMmap::from_ranges(rt.alloc(), &mut host, &ranges)?;
+    let start = GuestAddress(0);
+    let from = GuestMemoryMmap::from_ranges(rt.alloc(), &mut host, &[(start, MOVED)])?;
+    let to = GuestMemoryMmap::from_ranges(rt.alloc(), &mut host, &[(start, MOVED)])?;
     let sent = pattern(rt.alloc(), MOVED)?;
-    assert!(rt; are_moved(rt.alloc(), &mut host, &from, &to, sent.as_slice())?);
+    assert!(rt; host.holds(&from) && host.holds(&to));
+    from.write_slice(&mut host, sent.as_slice(), start)?;
+    let mut sink = Vec::new(rt.alloc());
+    from.write_all_volatile_to(&host, start, &mut sink, MOVED)?;
+    let mut source = sink.as_slice();
+    to.read_exact_volatile_from(&mut host, start, &mut source, MOVED)?;
+    let mut came = vec![in rt.alloc(); 0u8; MOVED]?;
+    to.read_slice(&host, came.as_mut_slice(), start)?;
+    assert!(rt; sink.as_slice() == sent.as_slice());
+    assert!(rt; came.as_slice() == sent.as_slice());
     Ok(())
 }
 
 // A value of 64 kibibytes.
 type Large = [u8; 0x1_0000];
-
-// Writes a value and reads it, over the bound of two regions, and reads its bytes where they lie.
-fn written_and_read(alloc: Global, value: Large, lie: &mut [u8]) -> Result<Large, Fail> {
-    let mut host = HostMemory::<()>::new(alloc);
-    let ranges = [(GuestAddress(0), 0x9000), (GuestAddress(0x9000), 0x8000)];
-    let memory = GuestMemoryMmap::from_ranges(alloc, &mut host, &ranges)?;
-    if !host.holds(&memory) {
-        return Err(Fail::new("the host holds the memory"));
-    }
-    memory.write_obj(&mut host, value, GuestAddress(0x800))?;
-    memory.read_slice(&host, lie, GuestAddress(0x800))?;
-    Ok(memory.read_obj(&host, GuestAddress(0x800))?)
-}
 
 fn expect_large(alloc: Global, value: &Large, wanted: &[u8]) -> Result<(), Fail> {
     let mut bytes = vec![in alloc; 0u8; 0x1_0000]?;
@@ -69,13 +44,21 @@ fn expect_large(alloc: Global, value: &Large, wanted: &[u8]) -> Result<(), Fail>
     Ok(())
 }
 
+// A value is written and read over the bound of two regions, and its bytes are read where they lie. Then it goes to a
+// vector, and comes from it.
 #[test]
 fn values_of_sixty_four_kibibytes_move(rt: HostRuntime) -> Result<(), Fail> {
     let bytes = pattern(rt.alloc(), 0x1_0000)?;
     let value = Large::from_slice(bytes.as_slice()).ok_or("these are its bytes")?;
+    let mut host = HostMemory::<()>::new(rt.alloc());
+    let ranges = [(GuestAddress(0), 0x9000), (GuestAddress(0x9000), 0x8000)];
+    let memory = GuestMemoryMmap::from_ranges(rt.alloc(), &mut host, &ranges)?;
+    assert!(rt; host.holds(&memory));
+    memory.write_obj(&mut host, value, GuestAddress(0x800))?;
     let mut lie = vec![in rt.alloc(); 0u8; 0x1_0000]?;
-    let read = written_and_read(rt.alloc(), value, lie.as_mut_slice())?;
+    memory.read_slice(&host, lie.as_mut_slice(), GuestAddress(0x800))?;
     assert!(rt; lie.as_slice() == bytes.as_slice());
+    let read = memory.read_obj(&host, GuestAddress(0x800))?;
     expect_large(rt.alloc(), &read, bytes.as_slice())?;
     let mut sink = Vec::new(rt.alloc());
     value.write_all_to(&mut sink)?;

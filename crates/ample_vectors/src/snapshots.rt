@@ -1,11 +1,10 @@
 //! Snapshots of memory that is replaced by a layout of no region, of one and of thousands.
 
-use std::alloc::{AllocError, Global};
-use std::sync::Wait;
+use std::alloc::Global;
 use std::test::Fail;
 use vm_memory::{
-    GuestAddress, GuestAddressSpace, GuestMemory, GuestMemoryAtomic, GuestMemoryBackend,
-    GuestMemoryLoadGuard, GuestMemoryMmap, HostMemory, Lends,
+    GuestAddress, GuestAddressSpace, GuestMemoryAtomic, GuestMemoryBackend, GuestMemoryMmap,
+    HostMemory,
 };
 
 // So many regions of 0x10 bytes, one after the other: one of them is taken out again where none are asked for.
@@ -26,22 +25,7 @@ fn layout_of(
     Ok(layout.clone()?)
 }
 
-// Replaces a memory, and gives what the next snapshot is of.
-fn next_of<R: Wait, M: GuestMemory + Drop>(
-    rt: &R,
-    alloc: Global,
-    space: &GuestMemoryAtomic<M>,
-    memory: M,
-) -> Result<GuestMemoryLoadGuard<M>, AllocError> {
-    space.lock(rt).replace(rt, alloc, memory)?;
-    space.memory(rt, alloc)
-}
-
-// How many regions a layout has, and its last address.
-fn push_told(text: &mut String, layout: &GuestMemoryMmap) -> Result<(), AllocError> {
-    writeln!(text, "{} {:#x}", layout.num_regions(), layout.last_addr().0)
-}
-
+// How many regions each layout has, and its last address.
 const TOLD: &str = "5000 0x1387f\n1 0xf\n0 0x0\n5000 0x1387f\n";
 
 #[test]
@@ -52,7 +36,9 @@ fn a_snapshot_is_of_the_last_layout(rt: HostRuntime) -> Result<(), Fail> {
     let mut text = String::new(rt.alloc());
     for count in [5000, 1, 0, 5000] {
         let layout = layout_of(rt.alloc(), &mut host, count)?;
-        push_told(&mut text, next_of(&rt, rt.alloc(), &space, layout)?.lend())?;
+        space.lock(&rt).replace(&rt, rt.alloc(), layout)?;
+        let next = space.memory(&rt, rt.alloc())?;
+        writeln!(text, "{} {:#x}", next.num_regions(), next.last_addr().0)?;
     }
     assert!(rt; text.as_str() == TOLD);
     Ok(())

@@ -16,17 +16,6 @@ fn two_pages(alloc: Global, host: &mut HostMemory<()>) -> Result<GuestMemoryMmap
     Ok(GuestMemoryMmap::from_ranges(alloc, host, &ranges)?)
 }
 
-// The memory with a page more, in a new block of the host.
-fn with_page(
-    alloc: Global,
-    host: &mut HostMemory<()>,
-    memory: &GuestMemoryMmap,
-    start: u64,
-) -> Result<GuestMemoryMmap, Fail> {
-    let region = GuestRegionMmap::from_range(host, GuestAddress(start), 0x1000)?;
-    Ok(memory.insert_region(Arc::new(alloc, region)?)?)
-}
-
 // Replaces the memory by one that has a region more.
 fn plug_in<R: Wait>(
     rt: &R,
@@ -58,35 +47,16 @@ fn a_device_keeps_its_snapshot_while_a_region_is_plugged_in(rt: HostRuntime) -> 
     Ok(())
 }
 
-// Replaces the memory by one with a page more at each of these addresses.
-fn plug_all<R: Wait>(
-    rt: &R,
-    alloc: Global,
-    host: &mut HostMemory<()>,
-    space: &GuestMemoryAtomic<GuestMemoryMmap>,
-    starts: &[u64],
-) -> Result<(), Fail> {
-    let turn = space.lock(rt);
-    let mut layout = space.memory(rt, alloc)?.lend().clone()?;
-    for start in starts {
-        layout = with_page(alloc, host, &layout, *start)?;
-    }
-    Ok(turn.replace(rt, alloc, layout)?)
-}
-
 #[test]
 fn a_snapshot_stays_when_its_memory_is_replaced(rt: HostRuntime) -> Result<(), Fail> {
     let mut host = HostMemory::new(rt.alloc());
     let space = GuestMemoryAtomic::new(rt.alloc(), two_pages(rt.alloc(), &mut host)?)?;
     let other = space.clone()?;
     let old = space.memory(&rt, rt.alloc())?;
-    plug_all(
-        &rt,
-        rt.alloc(),
-        &mut host,
-        &other,
-        &[0x8000, 0x4000, 0xc000],
-    )?;
+    for start in [0x8000, 0x4000, 0xc000] {
+        let page = GuestRegionMmap::from_range(&mut host, GuestAddress(start), 0x1000)?;
+        plug_in(&rt, rt.alloc(), &other, Arc::new(rt.alloc(), page)?)?;
+    }
     let new = space.memory(&rt, rt.alloc())?;
     assert!(rt; old.num_regions() == 2 && old.clone()?.num_regions() == 2);
     assert!(rt; new.num_regions() == 5 && new.lend().num_regions() == 5);

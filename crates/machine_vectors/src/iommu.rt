@@ -1,14 +1,13 @@
-//! Guest memory behind an IOMMU: each access of it, on and off.
+//! Guest memory behind an IOMMU that is on and off: values, transfers and windows.
 
 use std::alloc::Global;
 use std::sync::Arc;
-use std::sync::atomic::Ordering;
 use std::test::Fail;
 use test_text::expect_text;
 use vm_memory::{
     BitmapId, Bytes, ExactBitmap, ExclusiveBitmap, GuestAddress, GuestMemory, GuestMemoryBackend,
-    GuestMemoryMmap, GuestMemoryResult, GuestRegionMmap, HostMemory, Iommu, IommuMemory,
-    MachineMemory, NewBitmap, Permissions, TableIommu, TlbId,
+    GuestMemoryMmap, GuestRegionMmap, HostMemory, Iommu, IommuMemory, MachineMemory, NewBitmap,
+    Permissions, TableIommu,
 };
 
 type Host = HostMemory<ExclusiveBitmap>;
@@ -18,15 +17,15 @@ type Memory = IommuMemory<GuestMemoryMmap, TableIommu>;
 // An address, where it leads, so many bytes, and the accesses that are permitted.
 type Mapping = (u64, u64, usize, Permissions);
 
-// What accesses and transfers of 2 bytes at an address tell, each with the dirty pages of the block and the space then.
-// A transfer tells the bytes that the source has left or that the sink took. The pieces of the IOMMU are those for a
-// read, and then come the windows of one, each with the bitmap that it marks.
+// What a value of 2 bytes tells that is written at an address, and one that is read there, with the dirty pages of the
+// block and of the space then, and what transfers of 2 bytes tell, with how many the source has left. The pieces of
+// the IOMMU are those for a read, and then come the windows of one, each with the bitmap that it marks.
 #[derive(Clone, Copy)]
 struct Case {
     mappings: &'static [Mapping],
     on: bool,
     addr: u64,
-    accesses: &'static str,
+    values: &'static str,
     transfers: &'static str,
     windows: &'static str,
 }
@@ -51,21 +50,12 @@ const CASES: [Case; 6] = [
         mappings: &TWO_PERMISSIONS,
         on: true,
         addr: 0xfff,
-        accesses: "write Err(IommuError(CannotResolve { iova_range: IovaRange { base: GuestAddress(4095), length: 2 }, reason: AccessNotAllowed }))
-write_slice Err(IommuError(CannotResolve { iova_range: IovaRange { base: GuestAddress(4095), length: 2 }, reason: AccessNotAllowed }))
-write_obj Err(IommuError(CannotResolve { iova_range: IovaRange { base: GuestAddress(4095), length: 2 }, reason: AccessNotAllowed }))
-store Err(IommuError(CannotResolve { iova_range: IovaRange { base: GuestAddress(4095), length: 2 }, reason: AccessNotAllowed }))
-read Ok(2) [0, 0]
-read_slice Ok(()) [0, 0]
-read_obj Ok(0)
-load Err(InvalidBackendAddress)
-check_range Ok(false) Ok(true)
-block [] space []",
-        transfers: "read_volatile_from Err(IommuError(CannotResolve { iova_range: IovaRange { base: GuestAddress(4095), length: 2 }, reason: AccessNotAllowed })) 2
-read_exact_volatile_from Err(IommuError(CannotResolve { iova_range: IovaRange { base: GuestAddress(4095), length: 2 }, reason: AccessNotAllowed })) 2
-write_volatile_to Ok(2) [0, 0]
-write_all_volatile_to Ok(()) [0, 0]
-block [] space []",
+        values: "Err(IommuError(CannotResolve { iova_range: IovaRange { base: GuestAddress(4095), length: 2 }, \
+                 reason: AccessNotAllowed })) Ok(0) block [] space []",
+        transfers: "Err(IommuError(CannotResolve { iova_range: IovaRange { base: GuestAddress(4095), length: 2 }, \
+                    reason: AccessNotAllowed })) 2 \
+                    Err(IommuError(CannotResolve { iova_range: IovaRange { base: GuestAddress(4095), length: 2 }, \
+                    reason: AccessNotAllowed })) 2",
         windows: "0xfff+1 0x1000+1 ; 1 Space(0)+0xfff 1 Space(0)+0x1000",
     },
     // An address that is not mapped.
@@ -73,45 +63,25 @@ block [] space []",
         mappings: &TWO_PERMISSIONS,
         on: true,
         addr: 0x1fff,
-        accesses: "write Err(IommuError(CannotResolve { iova_range: IovaRange { base: GuestAddress(8191), length: 2 }, reason: MissingMapping }))
-write_slice Err(IommuError(CannotResolve { iova_range: IovaRange { base: GuestAddress(8191), length: 2 }, reason: MissingMapping }))
-write_obj Err(IommuError(CannotResolve { iova_range: IovaRange { base: GuestAddress(8191), length: 2 }, reason: MissingMapping }))
-store Err(IommuError(CannotResolve { iova_range: IovaRange { base: GuestAddress(8191), length: 2 }, reason: MissingMapping }))
-read Err(IommuError(CannotResolve { iova_range: IovaRange { base: GuestAddress(8191), length: 2 }, reason: MissingMapping })) [0, 0]
-read_slice Err(IommuError(CannotResolve { iova_range: IovaRange { base: GuestAddress(8191), length: 2 }, reason: MissingMapping })) [0, 0]
-read_obj Err(IommuError(CannotResolve { iova_range: IovaRange { base: GuestAddress(8191), length: 2 }, reason: MissingMapping }))
-load Err(IommuError(CannotResolve { iova_range: IovaRange { base: GuestAddress(8191), length: 2 }, reason: MissingMapping }))
-check_range Ok(false) Ok(false)
-block [] space []",
-        transfers: "read_volatile_from Err(IommuError(CannotResolve { iova_range: IovaRange { base: GuestAddress(8191), length: 2 }, reason: MissingMapping })) 2
-read_exact_volatile_from Err(IommuError(CannotResolve { iova_range: IovaRange { base: GuestAddress(8191), length: 2 }, reason: MissingMapping })) 2
-write_volatile_to Err(IommuError(CannotResolve { iova_range: IovaRange { base: GuestAddress(8191), length: 2 }, reason: MissingMapping })) []
-write_all_volatile_to Err(IommuError(CannotResolve { iova_range: IovaRange { base: GuestAddress(8191), length: 2 }, reason: MissingMapping })) []
-block [] space []",
-        windows: "CannotResolve { iova_range: IovaRange { base: GuestAddress(8191), length: 2 }, reason: MissingMapping } ; \
-     IommuError(CannotResolve { iova_range: IovaRange { base: GuestAddress(8191), length: 2 }, reason: \
-     MissingMapping })",
+        values: "Err(IommuError(CannotResolve { iova_range: IovaRange { base: GuestAddress(8191), length: 2 }, \
+                 reason: MissingMapping })) \
+                 Err(IommuError(CannotResolve { iova_range: IovaRange { base: GuestAddress(8191), length: 2 }, \
+                 reason: MissingMapping })) block [] space []",
+        transfers: "Err(IommuError(CannotResolve { iova_range: IovaRange { base: GuestAddress(8191), length: 2 }, \
+                    reason: MissingMapping })) 2 \
+                    Err(IommuError(CannotResolve { iova_range: IovaRange { base: GuestAddress(8191), length: 2 }, \
+                    reason: MissingMapping })) 2",
+        windows: "CannotResolve { iova_range: IovaRange { base: GuestAddress(8191), length: 2 }, reason: \
+                  MissingMapping } ; IommuError(CannotResolve { iova_range: IovaRange { base: \
+                  GuestAddress(8191), length: 2 }, reason: MissingMapping })",
     },
     // A write marks the space at the I/O address.
     Case {
         mappings: &ONE_PAGE,
         on: true,
         addr: 0x5000,
-        accesses: "write Ok(2)
-write_slice Ok(())
-write_obj Ok(())
-store Ok(())
-read Ok(2) [7, 8]
-read_slice Ok(()) [7, 8]
-read_obj Ok(2055)
-load Ok(2055)
-check_range Ok(true) Ok(true)
-block [] space [5]",
-        transfers: "read_volatile_from Ok(2) 0
-read_exact_volatile_from Ok(()) 0
-write_volatile_to Ok(2) [11, 12]
-write_all_volatile_to Ok(()) [11, 12]
-block [] space [5]",
+        values: "Ok(()) Ok(1541) block [] space [5]",
+        transfers: "Ok(2) 0 Ok(()) 0",
         windows: "0x0+2 ; 2 Space(0)+0x5000",
     },
     // With the IOMMU off it marks the block.
@@ -119,44 +89,18 @@ block [] space [5]",
         mappings: &ONE_PAGE,
         on: false,
         addr: 0x10,
-        accesses: "write Ok(2)
-write_slice Ok(())
-write_obj Ok(())
-store Ok(())
-read Ok(2) [7, 8]
-read_slice Ok(()) [7, 8]
-read_obj Ok(2055)
-load Ok(2055)
-check_range Ok(true) Ok(true)
-block [0] space []",
-        transfers: "read_volatile_from Ok(2) 0
-read_exact_volatile_from Ok(()) 0
-write_volatile_to Ok(2) [11, 12]
-write_all_volatile_to Ok(()) [11, 12]
-block [0] space []",
-        windows: "CannotResolve { iova_range: IovaRange { base: GuestAddress(16), length: 2 }, reason: MissingMapping } ; \
-     2 Block(0)+0x10",
+        values: "Ok(()) Ok(1541) block [0] space []",
+        transfers: "Ok(2) 0 Ok(()) 0",
+        windows: "CannotResolve { iova_range: IovaRange { base: GuestAddress(16), length: 2 }, reason: \
+                  MissingMapping } ; 2 Block(0)+0x10",
     },
     // Two mappings with other differences: the last byte of the block, and then its first.
     Case {
         mappings: &PAGES_THE_OTHER_WAY,
         on: true,
         addr: 0x2fff,
-        accesses: "write Ok(2)
-write_slice Ok(())
-write_obj Ok(())
-store Err(InvalidBackendAddress)
-read Ok(2) [5, 6]
-read_slice Ok(()) [5, 6]
-read_obj Ok(1541)
-load Err(InvalidBackendAddress)
-check_range Ok(true) Ok(true)
-block [] space [2, 3]",
-        transfers: "read_volatile_from Ok(2) 0
-read_exact_volatile_from Ok(()) 0
-write_volatile_to Ok(2) [11, 12]
-write_all_volatile_to Ok(()) [11, 12]
-block [] space [2, 3]",
+        values: "Ok(()) Ok(1541) block [] space [2, 3]",
+        transfers: "Ok(2) 0 Ok(()) 0",
         windows: "0x1fff+1 0x0+1 ; 1 Space(0)+0x2fff 1 Space(0)+0x3000",
     },
     // A mapping that leads past the region.
@@ -164,27 +108,18 @@ block [] space [2, 3]",
         mappings: &PAST_THE_REGION,
         on: true,
         addr: 0x8fff,
-        accesses: "write Ok(1)
-write_slice Err(PartialBuffer { expected: 2, completed: 1 })
-write_obj Err(PartialBuffer { expected: 2, completed: 1 })
-store Err(InvalidBackendAddress)
-read Ok(1) [5, 0]
-read_slice Err(PartialBuffer { expected: 2, completed: 1 }) [5, 0]
-read_obj Err(PartialBuffer { expected: 2, completed: 1 })
-load Err(InvalidBackendAddress)
-check_range Ok(false) Ok(false)
-block [] space [8]",
-        transfers: "read_volatile_from Ok(1) 1
-read_exact_volatile_from Err(PartialBuffer { expected: 2, completed: 1 }) 1
-write_volatile_to Ok(1) [11]
-write_all_volatile_to Err(PartialBuffer { expected: 2, completed: 1 }) [11]
-block [] space [8]",
+        values: "Err(PartialBuffer { expected: 2, completed: 1 }) \
+                 Err(PartialBuffer { expected: 2, completed: 1 }) block [] space [8]",
+        transfers: "Ok(1) 1 Err(PartialBuffer { expected: 2, completed: 1 }) 1",
         windows: "0x1fff+2 ; 1 Space(0)+0x8fff InvalidGuestAddress(GuestAddress(8192))",
     },
 ];
 
-// Sets these mappings of a table.
-fn map_all(host: &mut Host, table: TlbId, mappings: &[Mapping]) -> Result<(), Fail> {
+// Memory of one region of two pages, behind an IOMMU with these mappings and a space of 16 pages.
+fn memory_behind(alloc: Global, host: &mut Host, mappings: &[Mapping]) -> Result<Memory, Fail> {
+    let layout = GuestMemoryMmap::from_ranges(alloc, host, &[(GuestAddress(0), 0x2000)])?;
+    let table = host.new_table()?;
+    let space = host.new_space(ExclusiveBitmap::with_len(alloc, 0x10000)?)?;
     for (iova, to, length, access) in mappings {
         if !host.shape().has_table(table) {
             return Err(Fail::new("the host has the table"));
@@ -195,92 +130,8 @@ fn map_all(host: &mut Host, table: TlbId, mappings: &[Mapping]) -> Result<(), Fa
         let table = host.table_mut(table);
         table.set_mapping(GuestAddress(*iova), GuestAddress(*to), *length, *access)?;
     }
-    Ok(())
-}
-
-// Memory of one region of two pages, behind an IOMMU with these mappings and a space of 16 pages.
-fn memory_behind(alloc: Global, host: &mut Host, mappings: &[Mapping]) -> Result<Memory, Fail> {
-    let layout = GuestMemoryMmap::from_ranges(alloc, host, &[(GuestAddress(0), 0x2000)])?;
-    let table = host.new_table()?;
-    let space = host.new_space(ExclusiveBitmap::with_len(alloc, 0x10000)?)?;
-    map_all(host, table, mappings)?;
     let iommu = Arc::new(alloc, TableIommu::new(table))?;
     Ok(IommuMemory::new(alloc, layout, iommu, false, space))
-}
-
-// What each access answers that writes 2 bytes.
-fn writes(host: &mut Host, memory: &Memory, addr: u64, text: &mut String) -> Result<(), Fail> {
-    if !host.holds(memory) {
-        return Err(Fail::new("the host holds the memory"));
-    }
-    let at = GuestAddress(addr);
-    let write = memory.write(host, &[1, 2], at);
-    let write_slice = memory.write_slice(host, &[3, 4], at);
-    let write_obj = memory.write_obj(host, 0x0605u16, at);
-    let store = memory.store(host, 0x0807u16, at, Ordering::SeqCst);
-    writeln!(text, "write {write:?}\nwrite_slice {write_slice:?}")?;
-    writeln!(text, "write_obj {write_obj:?}\nstore {store:?}")?;
-    Ok(())
-}
-
-// What each access answers that reads 2 bytes, and whether all may be written and read.
-fn reads(host: &Host, memory: &Memory, addr: u64, text: &mut String) -> Result<(), Fail> {
-    if !host.holds(memory) {
-        return Err(Fail::new("the host holds the memory"));
-    }
-    let at = GuestAddress(addr);
-    let mut some = [0; 2];
-    let read = memory.read(host, &mut some, at);
-    let mut all = [0; 2];
-    let read_slice = memory.read_slice(host, &mut all, at);
-    let read_obj = memory.read_obj::<u16, ExclusiveBitmap>(host, at);
-    let load = memory.load::<u16, ExclusiveBitmap>(host, at, Ordering::SeqCst);
-    let written = GuestMemory::check_range(memory, host, at, 2, Permissions::Write);
-    let told = GuestMemory::check_range(memory, host, at, 2, Permissions::Read);
-    writeln!(
-        text,
-        "read {read:?} {some:?}\nread_slice {read_slice:?} {all:?}"
-    )?;
-    writeln!(
-        text,
-        "read_obj {read_obj:?}\nload {load:?}\ncheck_range {written:?} {told:?}"
-    )?;
-    Ok(())
-}
-
-// What each transfer answers that moves 2 bytes.
-fn transfers(
-    alloc: Global,
-    host: &mut Host,
-    memory: &Memory,
-    addr: u64,
-    text: &mut String,
-) -> Result<(), Fail> {
-    if !host.holds(memory) {
-        return Err(Fail::new("the host holds the memory"));
-    }
-    let at = GuestAddress(addr);
-    let mut plain: &[u8] = &[9, 10];
-    let from = memory.read_volatile_from(host, at, &mut plain, 2);
-    let mut exact: &[u8] = &[11, 12];
-    let from_exact = memory.read_exact_volatile_from(host, at, &mut exact, 2);
-    let mut some: Vec<u8> = Vec::new(alloc);
-    let to = memory.write_volatile_to(host, at, &mut some, 2);
-    let mut all: Vec<u8> = Vec::new(alloc);
-    let to_all = memory.write_all_volatile_to(host, at, &mut all, 2);
-    writeln!(text, "read_volatile_from {from:?} {}", plain.len())?;
-    writeln!(
-        text,
-        "read_exact_volatile_from {from_exact:?} {}",
-        exact.len()
-    )?;
-    writeln!(text, "write_volatile_to {to:?} {:?}", some.as_slice())?;
-    writeln!(
-        text,
-        "write_all_volatile_to {to_all:?} {:?}",
-        all.as_slice()
-    )?;
-    Ok(())
 }
 
 // The dirty pages of the block and of the space.
@@ -296,19 +147,41 @@ fn dirt(alloc: Global, host: &Host, memory: &Memory, text: &mut String) -> Resul
     Ok(())
 }
 
-// The pieces that an IOMMU gives for a read of 2 bytes.
-fn pieces(
-    alloc: Global,
-    host: &Host,
-    iommu: &TableIommu,
-    addr: u64,
-    text: &mut String,
-) -> Result<(), Fail> {
-    if !host.holds(iommu) {
-        return Err(Fail::new("the host holds the table"));
+// What a memory tells of a value, which is written and read.
+fn values(alloc: Global, host: &mut Host, memory: &Memory, addr: u64) -> Result<String, Fail> {
+    if !host.holds(memory) {
+        return Err(Fail::new("the host holds the memory"));
     }
-    let table = host.table(iommu.table());
-    match iommu.translate(alloc, table, GuestAddress(addr), 2, Permissions::Read) {
+    let at = GuestAddress(addr);
+    let written = memory.write_obj(host, 0x0605u16, at);
+    let read = memory.read_obj::<u16, ExclusiveBitmap>(host, at);
+    let mut text = format!(in alloc; "{written:?} {read:?} ")?;
+    dirt(alloc, host, memory, &mut text)?;
+    Ok(text)
+}
+
+// What transfers from a source tell, and how many bytes it has left.
+fn transfers(alloc: Global, host: &mut Host, memory: &Memory, addr: u64) -> Result<String, Fail> {
+    if !host.holds(memory) {
+        return Err(Fail::new("the host holds the memory"));
+    }
+    let at = GuestAddress(addr);
+    let mut plain: &[u8] = &[9, 10];
+    let from = memory.read_volatile_from(host, at, &mut plain, 2);
+    let mut exact: &[u8] = &[11, 12];
+    let from_exact = memory.read_exact_volatile_from(host, at, &mut exact, 2);
+    Ok(format!(in alloc; "{from:?} {} {from_exact:?} {}", plain.len(), exact.len())?)
+}
+
+// The pieces that the IOMMU gives for a read of 2 bytes, and the windows of such a read of the memory.
+fn windows(alloc: Global, host: &Host, memory: &Memory, addr: u64) -> Result<String, Fail> {
+    let iommu = &**memory.iommu();
+    if !host.holds(memory) || !host.holds(iommu) {
+        return Err(Fail::new("the host holds the memory and its table"));
+    }
+    let at = GuestAddress(addr);
+    let mut text = String::new(alloc);
+    match iommu.translate(alloc, host.table(iommu.table()), at, 2, Permissions::Read) {
         Ok(pieces) => {
             for piece in pieces.as_slice() {
                 write!(text, "{:#x}+{} ", piece.base.0, piece.length)?;
@@ -316,18 +189,13 @@ fn pieces(
         }
         Err(error) => write!(text, "{error:?} ")?,
     }
-    Ok(())
-}
-
-// The windows of such a read of a memory.
-fn windows(host: &Host, memory: &Memory, addr: u64, text: &mut String) -> Result<(), Fail> {
-    if !host.holds(memory) {
-        return Err(Fail::new("the host holds the memory"));
-    }
-    write!(text, ";")?;
-    let walk = match memory.get_slices(host, GuestAddress(addr), 2, Permissions::Read) {
+    text.push(';')?;
+    let walk = match memory.get_slices(host, at, 2, Permissions::Read) {
         Ok(walk) => walk,
-        Err(error) => return Ok(write!(text, " {error:?}")?),
+        Err(error) => {
+            write!(text, " {error:?}")?;
+            return Ok(text);
+        }
     };
     for window in walk {
         match window {
@@ -338,52 +206,22 @@ fn windows(host: &Host, memory: &Memory, addr: u64, text: &mut String) -> Result
             Err(error) => write!(text, " {error:?}")?,
         }
     }
-    Ok(())
-}
-
-// What is asked of the memory of a case.
-#[derive(Clone, Copy)]
-enum Asked {
-    Accesses,
-    Transfers,
-    Windows,
-}
-
-// What is told of a case, whose memory is new.
-fn told_of(alloc: Global, case: &Case, asked: Asked) -> Result<String, Fail> {
-    let mut host = HostMemory::new(alloc);
-    let mut memory = memory_behind(alloc, &mut host, case.mappings)?;
-    memory.set_iommu_enabled(case.on);
-    let mut text = String::new(alloc);
-    match asked {
-        Asked::Accesses => {
-            writes(&mut host, &memory, case.addr, &mut text)?;
-            reads(&host, &memory, case.addr, &mut text)?;
-            dirt(alloc, &host, &memory, &mut text)?;
-        }
-        Asked::Transfers => {
-            transfers(alloc, &mut host, &memory, case.addr, &mut text)?;
-            dirt(alloc, &host, &memory, &mut text)?;
-        }
-        Asked::Windows => {
-            pieces(alloc, &host, &**memory.iommu(), case.addr, &mut text)?;
-            windows(&host, &memory, case.addr, &mut text)?;
-        }
-    }
     Ok(text)
 }
 
 #[test]
-fn accesses_transfers_and_windows_are_translated(rt: HostRuntime) -> Result<(), Fail> {
+fn values_transfers_and_windows_are_translated(rt: HostRuntime) -> Result<(), Fail> {
+    let alloc = rt.alloc();
     for (number, case) in CASES.iter().enumerate() {
-        for (asked, wanted) in [
-            (Asked::Accesses, case.accesses),
-            (Asked::Transfers, case.transfers),
-            (Asked::Windows, case.windows),
-        ] {
-            let told = told_of(rt.alloc(), case, asked)?;
-            expect_text(number, told.as_str(), wanted)?;
-        }
+        let mut host = HostMemory::new(alloc);
+        let mut memory = memory_behind(alloc, &mut host, case.mappings)?;
+        memory.set_iommu_enabled(case.on);
+        let told = values(alloc, &mut host, &memory, case.addr)?;
+        expect_text(number, told.as_str(), case.values)?;
+        let told = transfers(alloc, &mut host, &memory, case.addr)?;
+        expect_text(number, told.as_str(), case.transfers)?;
+        let told = windows(alloc, &host, &memory, case.addr)?;
+        expect_text(number, told.as_str(), case.windows)?;
     }
     Ok(())
 }
@@ -400,9 +238,15 @@ fn parts(memory: &Memory, text: &mut String) -> Result<(), Fail> {
 }
 
 // A copy of a memory and one with another backend have its other parts. A machine tells which memory is translated.
-fn told_of_copies(alloc: Global, host: &mut Host, memory: Memory) -> Result<String, Fail> {
-    let mut text = String::new(alloc);
-    let other = GuestMemoryMmap::from_ranges(alloc, host, &[(GuestAddress(0), 0x4000)])?;
+#[test]
+fn a_memory_is_of_its_parts(rt: HostRuntime) -> Result<(), Fail> {
+    let mut host = HostMemory::new(rt.alloc());
+    let mut memory = memory_behind(rt.alloc(), &mut host, &ONE_PAGE)?;
+    let other = GuestMemoryMmap::from_ranges(rt.alloc(), &mut host, &[(GuestAddress(0), 0x4000)])?;
+    let mut text = String::new(rt.alloc());
+    parts(&memory, &mut text)?;
+    memory.set_iommu_enabled(true);
+    parts(&memory, &mut text)?;
     parts(&memory.clone()?, &mut text)?;
     parts(&memory.with_replaced_backend(other.clone()?)?, &mut text)?;
     let plain: MachineMemory<GuestRegionMmap, TableIommu> = MachineMemory::Plain(other);
@@ -411,26 +255,17 @@ fn told_of_copies(alloc: Global, host: &mut Host, memory: Memory) -> Result<Stri
         Some(memory) => parts(memory, &mut text)?,
         None => writeln!(text, "not translated")?,
     }
-    Ok(text)
+    expect_text(0, text.as_str(), PARTS)
 }
 
-#[test]
-fn a_memory_is_of_its_parts(rt: HostRuntime) -> Result<(), Fail> {
-    let mut host = HostMemory::new(rt.alloc());
-    let mut memory = memory_behind(rt.alloc(), &mut host, &ONE_PAGE)?;
-    let mut text = String::new(rt.alloc());
-    parts(&memory, &mut text)?;
-    memory.set_iommu_enabled(true);
-    parts(&memory, &mut text)?;
-    expect_text(
-        0,
-        text.as_str(),
-        "0 0 0x1fff false true\n0 0 0x1fff true false\n",
-    )?;
-    let told = told_of_copies(rt.alloc(), &mut host, memory)?;
-    let wanted = "0 0 0x1fff true false\n0 0 0x3fff true false\ntrue\n0 0 0x1fff true false\n";
-    expect_text(1, told.as_str(), wanted)
-}
+const PARTS: &str = "\
+0 0 0x1fff false true
+0 0 0x1fff true false
+0 0 0x1fff true false
+0 0 0x3fff true false
+true
+0 0 0x1fff true false
+";
 
 const FOUR_PIECES: [Mapping; 4] = [
     (0x5000, 0xc00, 0x400, Permissions::ReadWrite),
@@ -439,34 +274,27 @@ const FOUR_PIECES: [Mapping; 4] = [
     (0x5c00, 0, 0x400, Permissions::ReadWrite),
 ];
 
-// Whether a value of four pieces, each of which the IOMMU leads to another place, comes back, and its words lie there.
-fn long_value_is_translated(host: &mut Host, memory: &Memory) -> GuestMemoryResult<bool> {
-    if !host.holds(memory) || !host.holds(memory.get_backend()) {
-        return Ok(false);
-    }
+// A value of four pieces, each of which the IOMMU leads to another place, comes back, and its words lie there.
+#[test]
+fn a_long_value_is_translated(rt: HostRuntime) -> Result<(), Fail> {
     let mut long = [0u32; 0x400];
     for number in 0..0x400usize {
         long[number] = 0x0102_0304 * (number as u32 % 0x80 + 1) + number as u32;
     }
-    memory.write_obj(host, long, GuestAddress(0x5000))?;
-    let back = memory.read_obj::<[u32; 0x400], ExclusiveBitmap>(host, GuestAddress(0x5000))?;
-    let mut is_right = back == long;
+    let mut host = HostMemory::new(rt.alloc());
+    let mut memory = memory_behind(rt.alloc(), &mut host, &FOUR_PIECES)?;
+    memory.set_iommu_enabled(true);
+    assert!(rt; host.holds(&memory) && host.holds(memory.get_backend()));
+    memory.write_obj(&mut host, long, GuestAddress(0x5000))?;
+    let back = memory.read_obj::<[u32; 0x400], ExclusiveBitmap>(&host, GuestAddress(0x5000))?;
+    assert!(rt; back == long);
     for number in 0..0x400u64 {
         let at = GuestAddress(0xc00 - number / 0x100 * 0x400 + number % 0x100 * 4);
         let word = memory
             .get_backend()
-            .read_obj::<u32, ExclusiveBitmap>(host, at)?;
-        is_right = is_right && word == long[number as usize];
+            .read_obj::<u32, ExclusiveBitmap>(&host, at)?;
+        assert!(rt; word == long[number as usize]);
     }
-    Ok(is_right)
-}
-
-#[test]
-fn a_long_value_is_translated(rt: HostRuntime) -> Result<(), Fail> {
-    let mut host = HostMemory::new(rt.alloc());
-    let mut memory = memory_behind(rt.alloc(), &mut host, &FOUR_PIECES)?;
-    memory.set_iommu_enabled(true);
-    assert!(rt; long_value_is_translated(&mut host, &memory)?);
     let mut text = String::new(rt.alloc());
     dirt(rt.alloc(), &host, &memory, &mut text)?;
     expect_text(0, text.as_str(), "block [] space [5]")

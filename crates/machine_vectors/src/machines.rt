@@ -1,12 +1,11 @@
-//! Machines of regions that no script makes: commands all at once and one by one, and the line of each reply.
+//! Machines of regions that no script makes: commands all at once and one by one.
 
-use std::alloc::{AllocError, Global};
-use std::io::ErrorKind;
+use std::alloc::Global;
 use std::test::Fail;
 use test_machines::{layout_of, machine_of, read_of, run_on, write_of};
 use test_regions::Place;
 use test_text::expect_text;
-use vm_memory::{ByteList, Command, Fault, GuestAddress, IommuError, IovaRange, Reason, Reply};
+use vm_memory::Command;
 
 // Runs commands on a machine of these regions, so many at a time, and compares the lines of all replies.
 fn expect_replies(
@@ -21,16 +20,11 @@ fn expect_replies(
     for part in commands.chunks(at_a_time.max(1)) {
         run_on(&mut machine, part, &mut replies)?;
     }
-    let text = lines_of(alloc, replies.as_slice())?;
-    expect_text(0, text.as_str(), wanted)
-}
-
-fn lines_of(alloc: Global, replies: &[Reply]) -> Result<String, AllocError> {
     let mut text = String::new(alloc);
-    for reply in replies {
+    for reply in &replies {
         writeln!(text, "{reply}")?;
     }
-    Ok(text)
+    expect_text(at_a_time, text.as_str(), wanted)
 }
 
 // A command of a table.
@@ -43,33 +37,6 @@ enum Line {
 }
 
 use Line::{Layout, Plain, Read, Write};
-
-fn command_of(alloc: Global, line: Line) -> Result<Command, AllocError> {
-    match line {
-        Layout(numbers) => layout_of(alloc, numbers),
-        Plain(layout) => Ok(Command::Plain(layout)),
-        Read(memory, addr, count) => Ok(read_of(memory, addr, count)),
-        Write(memory, addr, bytes) => write_of(alloc, memory, addr, bytes),
-    }
-}
-
-// Each command with its reply: all commands are run at once, and one by one.
-fn expect_lines(alloc: Global, places: &[Place], lines: &[(Line, &str)]) -> Result<(), Fail> {
-    let mut wanted = String::new(alloc);
-    let mut commands = Vec::new(alloc);
-    for (line, reply) in lines {
-        commands.push(command_of(alloc, *line)?)?;
-        writeln!(wanted, "{reply}")?;
-    }
-    expect_replies(
-        alloc,
-        places,
-        commands.as_slice(),
-        lines.len(),
-        wanted.as_str(),
-    )?;
-    expect_replies(alloc, places, commands.as_slice(), 1, wanted.as_str())
-}
 
 // Address 0 follows the greatest, and an access ends where the region at 0 ends.
 const TO_THE_END: [Place; 2] = [
@@ -102,10 +69,31 @@ const RUNS: [(&[Place], &[(Line, &str)]); 2] = [
     (&BEFORE_A_BARE_REGION, &ON_A_BARE_REGION),
 ];
 
+// All commands of a table are run at once, and one by one.
 #[test]
 fn each_command_has_its_reply(rt: HostRuntime) -> Result<(), Fail> {
+    let alloc = rt.alloc();
     for (places, lines) in RUNS {
-        expect_lines(rt.alloc(), places, lines)?;
+        let mut wanted = String::new(alloc);
+        let mut commands = Vec::new(alloc);
+        for (line, reply) in lines {
+            commands.push(match *line {
+                Layout(numbers) => layout_of(alloc, numbers)?,
+                Plain(layout) => Command::Plain(layout),
+                Read(memory, addr, count) => read_of(memory, addr, count),
+                Write(memory, addr, bytes) => write_of(alloc, memory, addr, bytes)?,
+            })?;
+            writeln!(wanted, "{reply}")?;
+        }
+        for at_a_time in [lines.len(), 1] {
+            expect_replies(
+                alloc,
+                places,
+                commands.as_slice(),
+                at_a_time,
+                wanted.as_str(),
+            )?;
+        }
     }
     Ok(())
 }
@@ -125,142 +113,36 @@ const TEN: [Place; 10] = [
 ];
 
 // Ten layouts, of the first region and of as many more as their number says, and a memory of each. Then forty
-// writes of forty bytes to the last memory, each four bytes after the one before, and forty reads.
-fn command_on_ten(alloc: Global, index: u8) -> Result<Command, AllocError> {
-    let numbers = [0, 1, 2, 3, 4, 5, 6, 7, 8, 9];
-    if index < 10 {
-        layout_of(alloc, &numbers[..usize::from(index) + 1])
-    } else if index < 20 {
-        Ok(Command::Plain(usize::from(index - 10)))
-    } else if index < 60 {
-        let number = index - 20;
-        write_of(alloc, 9, 0x1002 + 4 * u64::from(number), &[number; 40])
-    } else {
-        let number = index - 60;
-        Ok(read_of(usize::from(number / 4), 0x1000 + u64::from(number), 160))
-    }
-}
-
-// Its reply: an access ends where its memory ends. Of each write, the first four bytes are not overwritten.
-fn add_reply_on_ten(text: &mut String, index: u8) -> Result<(), AllocError> {
-    if index < 10 {
-        return writeln!(text, "layout {index}");
-    }
-    if index < 20 {
-        return writeln!(text, "memory {}", index - 10);
-    }
-    if index < 60 {
-        let room = 158 - 4 * (index - 20);
-        return writeln!(text, "count {}", room.min(40));
-    }
-    let number = usize::from(index - 60);
-    text.push_str("bytes ")?;
-    for place in number..(number / 4 + 1) * 0x10 {
-        let byte = place.saturating_sub(2) / 4;
-        write!(text, "{byte:02x}")?;
-    }
-    text.push('\n')
-}
-
+// writes of forty bytes to the last memory, each four bytes after the one before, and forty reads. An access ends
+// where its memory ends. Of each write, the first four bytes are not overwritten.
 #[test]
 fn a_hundred_commands_run_at_once(rt: HostRuntime) -> Result<(), Fail> {
-    let mut commands = Vec::new(rt.alloc());
-    let mut wanted = String::new(rt.alloc());
-    for index in 0..100 {
-        commands.push(command_on_ten(rt.alloc(), index)?)?;
-        add_reply_on_ten(&mut wanted, index)?;
+    let alloc = rt.alloc();
+    let mut commands = Vec::new(alloc);
+    let mut wanted = String::new(alloc);
+    let mut numbers = Vec::new(alloc);
+    for number in 0..10usize {
+        numbers.push(number)?;
+        commands.push(layout_of(alloc, numbers.as_slice())?)?;
+        writeln!(wanted, "layout {number}")?;
     }
-    expect_replies(rt.alloc(), &TEN, commands.as_slice(), 100, wanted.as_str())
-}
-
-static FAULTS: [Fault; 15] = [
-    Fault::InvalidGuestAddress(GuestAddress(0)),
-    Fault::InvalidGuestAddress(GuestAddress(0xabc0)),
-    Fault::IOError(ErrorKind::Interrupted),
-    Fault::IOError(ErrorKind::WriteZero),
-    Fault::IOError(ErrorKind::UnexpectedEof),
-    Fault::IOError(ErrorKind::Other),
-    Fault::PartialBuffer {
-        expected: 8,
-        completed: 6,
-    },
-    Fault::InvalidBackendAddress,
-    Fault::HostAddressNotAvailable,
-    Fault::CallbackOutOfRange,
-    Fault::GuestAddressOverflow,
-    Fault::IommuError(IommuError::CannotResolve {
-        iova_range: IovaRange {
-            base: GuestAddress(0x5000),
-            length: 2,
-        },
-        reason: Reason::MissingMapping,
-    }),
-    Fault::NoMemoryRegion,
-    Fault::MemoryRegionOverlap,
-    Fault::UnsortedMemoryRegions,
-];
-
-fn some_replies(alloc: Global) -> Result<Vec<Reply>, AllocError> {
-    let some = ByteList::from_vec(vec![in alloc; 0u8, 0xa, 0xff]?);
-    let none = ByteList::from_vec(Vec::new(alloc));
-    Ok(vec![in alloc;
-        Reply::Layout(12),
-        Reply::MemoryMade(3),
-        Reply::Count(256),
-        Reply::Bytes(some),
-        Reply::Bytes(none),
-        Reply::Truth(true),
-        Reply::Truth(false),
-        Reply::Fault(Fault::InvalidBackendAddress),
-        Reply::Fault(Fault::IOError(ErrorKind::Interrupted)),
-        Reply::Fault(Fault::IOError(ErrorKind::WriteZero)),
-        Reply::Fault(Fault::IOError(ErrorKind::UnexpectedEof)),
-        Reply::Fault(Fault::IOError(ErrorKind::Other)),
-        Reply::NoSuch,
-        Reply::BadRange,
-        Reply::Memory,
-    ]?)
-}
-
-const LINES: &str = "\
-layout 12
-memory 3
-count 256
-bytes 000aff
-bytes -
-true
-false
-error G4
-error G2 Interrupted
-error G2 WriteZero
-error G2 UnexpectedEof
-error G2 Other
-error NoSuch
-error BadRange
-error Memory
-G1 0x0
-G1 0xabc0
-G2 Interrupted
-G2 WriteZero
-G2 UnexpectedEof
-G2 Other
-G3 8 6
-G4
-G5
-G6
-G7
-G8 I1 0x5000+0x2 missing
-C1
-C2
-C3
-";
-
-#[test]
-fn a_reply_has_its_line(rt: HostRuntime) -> Result<(), Fail> {
-    let replies = some_replies(rt.alloc())?;
-    let mut text = lines_of(rt.alloc(), replies.as_slice())?;
-    for fault in &FAULTS {
-        writeln!(text, "{fault}")?;
+    for layout in 0..10usize {
+        commands.push(Command::Plain(layout))?;
+        writeln!(wanted, "memory {layout}")?;
     }
-    expect_text(0, text.as_str(), LINES)
+    for number in 0..40u8 {
+        let addr = 0x1002 + 4 * u64::from(number);
+        commands.push(write_of(alloc, 9, addr, &[number; 40])?)?;
+        let room = 158u8.saturating_sub(number.saturating_mul(4));
+        writeln!(wanted, "count {}", room.min(40))?;
+    }
+    for number in 0..40usize {
+        commands.push(read_of(number / 4, 0x1000 + number as u64, 160))?;
+        wanted.push_str("bytes ")?;
+        for place in number..(number / 4 + 1) * 0x10 {
+            write!(wanted, "{:02x}", place.saturating_sub(2) / 4)?;
+        }
+        wanted.push('\n')?;
+    }
+    expect_replies(alloc, &TEN, commands.as_slice(), 100, wanted.as_str())
 }

@@ -129,40 +129,31 @@ const CASES: [Case; 6] = [
     },
 ];
 
-// What is left, the answers to reads and the bytes that they gave, and what is left then.
-fn reads(
+// What is left, the answers to reads and the bytes that they gave, and what is left then. The same of writes.
+fn moved(
     alloc: Global,
-    host: &Host,
+    host: &mut Host,
     memory: &Memory,
-    chain: &Chain,
-    counts: &[usize],
+    case: &Case,
     told: &mut String,
 ) -> Result<(), Fail> {
+    let Ok(chain) = chain_of(alloc, case.parts)? else {
+        return Err(Fail::new("the segments make a chain"));
+    };
     if !host.holds(memory) {
         return Err(Fail::new("the host holds the memory"));
     }
     let mut reader = chain.reader();
     write!(told, "{} ", reader.left())?;
-    for count in counts {
+    for count in case.reads {
         let mut buffer = vec![in alloc; 0u8; *count]?;
         let answer = reader.read(memory, host, buffer.as_mut_slice());
         write!(told, "{answer:?} {:?} ", buffer.as_slice())?;
     }
     write!(told, "{}; ", reader.left())?;
-    Ok(())
-}
-
-// What is left, the answers to writes, and what is left then.
-fn writes(
-    host: &mut Host,
-    memory: &Memory,
-    chain: &Chain,
-    bytes: &[&[u8]],
-    told: &mut String,
-) -> Result<(), Fail> {
     let mut writer = chain.writer();
     write!(told, "{} ", writer.left())?;
-    for some in bytes {
+    for some in case.writes {
         if !host.holds(memory) {
             return Err(Fail::new("the host holds the memory"));
         }
@@ -173,8 +164,25 @@ fn writes(
     Ok(())
 }
 
-/// The bytes of both regions.
-fn bytes_left(host: &Host, memory: &Memory, told: &mut String) -> Result<(), Fail> {
+const BITMAPS: [BitmapId; 3] = [BitmapId::Block(0), BitmapId::Block(1), BitmapId::Space(0)];
+
+// Puts 1 to 8 into the regions, and takes the dirt of that.
+fn fill(alloc: Global, host: &mut Host, memory: &Memory) -> Result<(), Fail> {
+    if !host.holds(memory) {
+        return Err(Fail::new("the host holds the memory"));
+    }
+    memory.write_slice(host, &[1, 2, 3, 4], GuestAddress(0))?;
+    memory.write_slice(host, &[5, 6, 7, 8], GuestAddress(8))?;
+    for bitmap in BITMAPS {
+        if host.shape().has_bitmap(bitmap) {
+            host.bitmap_mut(bitmap).harvest(alloc)?;
+        }
+    }
+    Ok(())
+}
+
+// The bytes of both regions and the dirty pages of each bitmap, or none where there is no such bitmap.
+fn left(alloc: Global, host: &Host, memory: &Memory, told: &mut String) -> Result<(), Fail> {
     if !host.holds(memory) {
         return Err(Fail::new("the host holds the memory"));
     }
@@ -183,50 +191,15 @@ fn bytes_left(host: &Host, memory: &Memory, told: &mut String) -> Result<(), Fai
     let mut high = [0; 4];
     memory.read_slice(host, &mut high, GuestAddress(8))?;
     write!(told, "{low:?} {high:?};")?;
-    Ok(())
-}
-
-// The dirty pages of a bitmap, or none where there is no such bitmap.
-fn dirt(alloc: Global, host: &Host, bitmap: BitmapId, told: &mut String) -> Result<(), Fail> {
-    if !host.shape().has_bitmap(bitmap) {
-        write!(told, " []")?;
-        return Ok(());
-    }
-    let pages = host.bitmap(bitmap).dirty_pages(alloc)?;
-    write!(told, " {pages:?}")?;
-    Ok(())
-}
-
-// Puts 1 to 8 into the regions, and takes the dirt of that.
-fn fill(alloc: Global, host: &mut Host, layout: &Memory) -> Result<(), Fail> {
-    if !host.holds(layout) {
-        return Err(Fail::new("the host holds the memory"));
-    }
-    layout.write_slice(host, &[1, 2, 3, 4], GuestAddress(0))?;
-    layout.write_slice(host, &[5, 6, 7, 8], GuestAddress(8))?;
-    for bitmap in [BitmapId::Block(0), BitmapId::Block(1), BitmapId::Space(0)] {
+    for bitmap in BITMAPS {
         if host.shape().has_bitmap(bitmap) {
-            host.bitmap_mut(bitmap).harvest(alloc)?;
+            let pages = host.bitmap(bitmap).dirty_pages(alloc)?;
+            write!(told, " {pages:?}")?;
+        } else {
+            write!(told, " []")?;
         }
     }
     Ok(())
-}
-
-fn told_of(alloc: Global, host: &mut Host, memory: &Memory, case: &Case) -> Result<String, Fail> {
-    fill(alloc, host, memory)?;
-    let mut told = String::new(alloc);
-    match chain_of(alloc, case.parts)? {
-        Ok(chain) => {
-            reads(alloc, host, memory, &chain, case.reads, &mut told)?;
-            writes(host, memory, &chain, case.writes, &mut told)?;
-        }
-        Err(fault) => write!(told, "{fault}")?,
-    }
-    bytes_left(host, memory, &mut told)?;
-    dirt(alloc, host, BitmapId::Block(0), &mut told)?;
-    dirt(alloc, host, BitmapId::Block(1), &mut told)?;
-    dirt(alloc, host, BitmapId::Space(0), &mut told)?;
-    Ok(told)
 }
 
 #[test]
@@ -236,7 +209,10 @@ fn chains_move_the_bytes_of_their_segments(rt: HostRuntime) -> Result<(), Fail> 
         for (mapped, wanted) in [(None, case.plain), (Some(0x1000), case.behind)] {
             let mut host = HostMemory::new(rt.alloc());
             let memory = memory_of(rt.alloc(), &mut host, &regions, mapped)?;
-            let told = told_of(rt.alloc(), &mut host, &memory, case)?;
+            let mut told = String::new(rt.alloc());
+            fill(rt.alloc(), &mut host, &memory)?;
+            moved(rt.alloc(), &mut host, &memory, case, &mut told)?;
+            left(rt.alloc(), &host, &memory, &mut told)?;
             expect_text(number, told.as_str(), wanted)?;
         }
     }
@@ -285,8 +261,14 @@ const LONG_SEGMENTS: [Part; 6] = [
     (0xa000, 5000, true),
 ];
 
-// Writes bytes where the readable segments lie.
-fn fill_segments(host: &mut Host, memory: &Memory, bytes: &[u8]) -> Result<(), Fail> {
+// Whether bytes that lie where the readable segments are come whole, and go whole to where the writable ones are.
+fn long_chain_is_whole(
+    alloc: Global,
+    host: &mut Host,
+    memory: &Memory,
+    chain: &Chain,
+    bytes: &[u8],
+) -> Result<bool, Fail> {
     for (number, (addr, _, _)) in LONG_SEGMENTS[..3].iter().enumerate() {
         let part = bytes.get(number * 5000..number * 5000 + 5000);
         let part = part.ok_or("there are bytes for each segment")?;
@@ -295,18 +277,6 @@ fn fill_segments(host: &mut Host, memory: &Memory, bytes: &[u8]) -> Result<(), F
         }
         memory.write_slice(host, part, GuestAddress(*addr))?;
     }
-    Ok(())
-}
-
-// Whether the bytes that the readable segments have are read whole, and those of the writable segments written.
-fn long_chain_is_whole(
-    alloc: Global,
-    host: &mut Host,
-    memory: &Memory,
-    chain: &Chain,
-    bytes: &[u8],
-) -> Result<bool, Fail> {
-    fill_segments(host, memory, bytes)?;
     if !host.holds(memory) {
         return Err(Fail::new("the host holds the memory"));
     }

@@ -97,79 +97,58 @@ fn run_one(machine: &mut TestMachine, alloc: Global, command: Command) -> Result
     }
 }
 
-// Brings an image up to date, and fails where it is not as wanted then.
-fn expect_synced(machine: &mut TestMachine, image: &mut [u8], ends: &[u8]) -> Result<(), Fail> {
-    if machine.host().shape().block_len(BlockId(0)) != Some(image.len()) {
-        return Err(Fail::new("the image is as long as the block"));
-    }
-    machine.sync(BlockId(0), image)?;
-    let (zeros, rest) = image.split_at(image.len().saturating_sub(ends.len()));
-    if rest != ends || !zeros.iter().all(|byte| *byte == 0) {
-        return Err(Fail::new("the image is another"));
-    }
-    Ok(())
-}
-
-// Makes the step.
+// Makes the steps, and fails where the image is not as wanted then.
 fn follow(
-    machine: &mut TestMachine,
-    alloc: Global,
-    image: &mut [u8],
-    step: Step,
-) -> Result<(), Fail> {
-    match step {
-        Step::Write(addr, bytes) => run_one(machine, alloc, write_of(alloc, 0, addr, bytes)?),
-        Step::Store(addr, value) => {
-            let command = Command::Store {
-                memory: 0,
-                width: Width::One,
-                addr: GuestAddress(addr),
-                value: u64::from(value),
-            };
-            run_one(machine, alloc, command)
-        }
-        Step::Harvest => run_one(machine, alloc, Command::Harvest(BitmapId::Block(0))),
-        Step::Tear(at, byte) => {
-            *image.get_mut(at).ok_or("the image has the byte")? = byte;
-            Ok(())
-        }
-        Step::Sync(ends) => expect_synced(machine, image, ends),
-    }
-}
-
-// Fails where the first block of a host ends with other bytes.
-fn expect_block(host: &HostMemory<ExclusiveBitmap>, bytes: &[u8]) -> Result<(), Fail> {
-    if host.shape().block_len(BlockId(0)).is_none() {
-        return Err(Fail::new("the host has the block"));
-    }
-    let window = MmapRegion::of_block(host, BlockId(0)).as_volatile_slice();
-    if !host.holds(&window) || !host.bytes(&window).ends_with(bytes) {
-        return Err(Fail::new("the bytes of the block"));
-    }
-    Ok(())
-}
-
-fn follow_all(
     machine: &mut TestMachine,
     alloc: Global,
     image: &mut [u8],
     steps: &[Step],
 ) -> Result<(), Fail> {
     for step in steps {
-        follow(machine, alloc, image, *step)?;
+        match *step {
+            Step::Write(addr, bytes) => run_one(machine, alloc, write_of(alloc, 0, addr, bytes)?)?,
+            Step::Store(addr, value) => {
+                let command = Command::Store {
+                    memory: 0,
+                    width: Width::One,
+                    addr: GuestAddress(addr),
+                    value: u64::from(value),
+                };
+                run_one(machine, alloc, command)?;
+            }
+            Step::Harvest => run_one(machine, alloc, Command::Harvest(BitmapId::Block(0)))?,
+            Step::Tear(at, byte) => *image.get_mut(at).ok_or("the image has the byte")? = byte,
+            Step::Sync(ends) => {
+                if machine.host().shape().block_len(BlockId(0)) != Some(image.len()) {
+                    return Err(Fail::new("the image is as long as the block"));
+                }
+                machine.sync(BlockId(0), image)?;
+                let (zeros, rest) = image.split_at(image.len().saturating_sub(ends.len()));
+                if rest != ends || !zeros.iter().all(|byte| *byte == 0) {
+                    return Err(Fail::new("the image is another"));
+                }
+            }
+        }
     }
     Ok(())
 }
 
 #[test]
 fn an_image_follows_its_block(rt: HostRuntime) -> Result<(), Fail> {
-    for (size, page_size, steps, bytes) in ROUNDS {
+    for (size, page_size, steps, ends) in ROUNDS {
         let mut machine = machine_of(rt.alloc(), size, page_size)?;
         run_one(&mut machine, rt.alloc(), layout_of(rt.alloc(), &[0, 1])?)?;
         run_one(&mut machine, rt.alloc(), Command::Plain(0))?;
         let mut image = vec![in rt.alloc(); 0u8; size]?;
-        follow_all(&mut machine, rt.alloc(), image.as_mut_slice(), steps)?;
-        expect_block(&machine.into_host(), bytes)?;
+        follow(&mut machine, rt.alloc(), image.as_mut_slice(), steps)?;
+        let host = machine.into_host();
+        assert!(rt; host.shape().block_len(BlockId(0)).is_some());
+        let window = MmapRegion::of_block(&host, BlockId(0)).as_volatile_slice();
+        assert!(rt; host.holds(&window));
+        assert!(rt;
+            host.bytes(&window).ends_with(ends),
+            "a block of {size} bytes"
+        );
     }
     Ok(())
 }

@@ -26,23 +26,20 @@ type Rows = &'static [(usize, &'static [Piece])];
 // What a number is multiplied by that falls.
 const DOWN: u64 = u64::MAX;
 
-fn push_piece(text: &mut String, piece: Piece, time: u64) -> Result<(), AllocError> {
-    let number = |m: u64, a: u64| m.wrapping_mul(time).wrapping_add(a);
-    match piece {
-        Text(part) => text.push_str(part),
-        Number(m, a) => write!(text, "{}", number(m, a)),
-        Hex(m, a) => write!(text, "{:#x}", number(m, a)),
-        Byte(m, a) => write!(text, "{:02x}", number(m, a) % 251),
-        Long(a) => write!(text, "{:032x}", number(1, a)),
-    }
-}
-
 fn text_of(alloc: Global, rows: Rows) -> Result<String, AllocError> {
     let mut text = String::new(alloc);
     for (times, pieces) in rows {
         for time in 0..*times as u64 {
             for piece in *pieces {
-                push_piece(&mut text, *piece, time)?;
+                match *piece {
+                    Text(part) => text.push_str(part)?,
+                    Number(m, a) => write!(text, "{}", m.wrapping_mul(time).wrapping_add(a))?,
+                    Hex(m, a) => write!(text, "{:#x}", m.wrapping_mul(time).wrapping_add(a))?,
+                    Byte(m, a) => {
+                        write!(text, "{:02x}", m.wrapping_mul(time).wrapping_add(a) % 251)?;
+                    }
+                    Long(a) => write!(text, "{:032x}", time.wrapping_add(a))?,
+                }
             }
         }
     }
@@ -298,11 +295,6 @@ const MANY_RANGES: (Rows, Rows) = (
 );
 
 #[test]
-fn scripts_have_room_for_many_regions(rt: HostRuntime) -> Result<(), Fail> {
-    expect_long(rt.alloc(), &[THOUSAND, FORTY, MANY_REGIONS])
-}
-
-#[test]
 fn scripts_have_room_for_many_ranges(rt: HostRuntime) -> Result<(), Fail> {
     expect_long(
         rt.alloc(),
@@ -536,8 +528,16 @@ const LATE_LINE: (Rows, Rows) = (
 );
 
 #[test]
-fn scripts_have_room_for_long_words(rt: HostRuntime) -> Result<(), Fail> {
-    let scripts = [LONG_REPLIES, LONG_LISTS, LONG_COMMENT_AND_STEPS, LATE_LINE];
+fn scripts_have_room_for_many_regions_and_long_lines(rt: HostRuntime) -> Result<(), Fail> {
+    let scripts = [
+        THOUSAND,
+        FORTY,
+        MANY_REGIONS,
+        LONG_REPLIES,
+        LONG_LISTS,
+        LONG_COMMENT_AND_STEPS,
+        LATE_LINE,
+    ];
     expect_long(rt.alloc(), &scripts)
 }
 

@@ -1,14 +1,12 @@
-//! Scripts: their replies, and how they end.
+//! Scripts and their replies.
 
 use std::alloc::Global;
-use std::io;
-use std::io::{Read, Write};
 use std::test::Fail;
 use test_text::expect_text;
 use vm_memory::{DriveFault, drive};
 
 // Scripts, and what they tell: their replies, and then the status and the text of a fault.
-const SCRIPTS: [(&[u8], &str); 53] = [
+const SCRIPTS: [(&[u8], &str); 59] = [
     (b"", ""),
     (b"\n\n# nothing\n#\xff\x00\r  \n", ""),
     (
@@ -438,9 +436,80 @@ const SCRIPTS: [(&[u8], &str); 53] = [
         "block 0\nregion 0\nspace 0\ntable 0\ntranslator 0\nlayout 0\nmemory 0\nok\ncount 1\npages 0\npages -\nok\n\
          count 1\npages 0\n",
     ),
+    // Accesses and transfers of 2 bytes behind an IOMMU, with the pages that accesses mark and those that transfers
+    // mark. Reads cross two mappings, and writes may not.
+    (
+        b"block 0x2000 0x1000\nregion 0 0\nspace 0x10000 0x1000\ntable\ntranslator 0\nlayout 0\n\
+          memory 0 0 0 on\nset 0 0 0 0x1000 rw\nset 0 0x1000 0x1000 0x1000 r\nwrite 0 0xfff 0102\n\
+          writex 0 0xfff 0506\nstore 0 2 0xfff 0x807\nread 0 0xfff 2\nreadx 0 0xfff 2\nload 0 2 0xfff\n\
+          check 0 0xfff 2 w\ncheck 0 0xfff 2 r\nharvest block 0\nharvest space 0\nfrom 0 0xfff 2 g:090a\n\
+          fromx 0 0xfff 2 g:0b0c\nto 0 0xfff 2 -\ntox 0 0xfff 2 -\ndirty block 0\ndirty space 0\n",
+        "block 0\nregion 0\nspace 0\ntable 0\ntranslator 0\nlayout 0\nmemory 0\nok\nok\n\
+         error G8 I1 0xfff+0x2 access\nerror G8 I1 0xfff+0x2 access\nerror G8 I1 0xfff+0x2 access\n\
+         bytes 0000\nbytes 0000\nerror G4\nfalse\ntrue\npages -\npages -\nerror G8 I1 0xfff+0x2 access\n\
+         error G8 I1 0xfff+0x2 access\nsent count 2 taken 0000\nsent ok taken 0000\npages -\npages -\n",
+    ),
+    // An address that is not mapped.
+    (
+        b"block 0x2000 0x1000\nregion 0 0\nspace 0x10000 0x1000\ntable\ntranslator 0\nlayout 0\n\
+          memory 0 0 0 on\nset 0 0 0 0x1000 rw\nset 0 0x1000 0x1000 0x1000 r\nwrite 0 0x1fff 0102\n\
+          writex 0 0x1fff 0506\nstore 0 2 0x1fff 0x807\nread 0 0x1fff 2\nreadx 0 0x1fff 2\nload 0 2 0x1fff\n\
+          check 0 0x1fff 2 w\ncheck 0 0x1fff 2 r\nharvest block 0\nharvest space 0\nfrom 0 0x1fff 2 g:090a\n\
+          fromx 0 0x1fff 2 g:0b0c\nto 0 0x1fff 2 -\ntox 0 0x1fff 2 -\ndirty block 0\ndirty space 0\n",
+        "block 0\nregion 0\nspace 0\ntable 0\ntranslator 0\nlayout 0\nmemory 0\nok\nok\n\
+         error G8 I1 0x1fff+0x2 missing\nerror G8 I1 0x1fff+0x2 missing\nerror G8 I1 0x1fff+0x2 missing\n\
+         error G8 I1 0x1fff+0x2 missing\nerror G8 I1 0x1fff+0x2 missing\nerror G8 I1 0x1fff+0x2 missing\n\
+         false\nfalse\npages -\npages -\nerror G8 I1 0x1fff+0x2 missing\nerror G8 I1 0x1fff+0x2 missing\n\
+         sent error G8 I1 0x1fff+0x2 missing taken -\nsent error G8 I1 0x1fff+0x2 missing taken -\npages -\n\
+         pages -\n",
+    ),
+    // A write marks the space at the I/O address.
+    (
+        b"block 0x2000 0x1000\nregion 0 0\nspace 0x10000 0x1000\ntable\ntranslator 0\nlayout 0\n\
+          memory 0 0 0 on\nset 0 0x5000 0 0x1000 rw\nwrite 0 0x5000 0102\nwritex 0 0x5000 0506\n\
+          store 0 2 0x5000 0x807\nread 0 0x5000 2\nreadx 0 0x5000 2\nload 0 2 0x5000\ncheck 0 0x5000 2 w\n\
+          check 0 0x5000 2 r\nharvest block 0\nharvest space 0\nfrom 0 0x5000 2 g:090a\n\
+          fromx 0 0x5000 2 g:0b0c\nto 0 0x5000 2 -\ntox 0 0x5000 2 -\ndirty block 0\ndirty space 0\n",
+        "block 0\nregion 0\nspace 0\ntable 0\ntranslator 0\nlayout 0\nmemory 0\nok\ncount 2\nok\nok\n\
+         bytes 0708\nbytes 0708\nvalue 2055\ntrue\ntrue\npages -\npages 5\ncount 2\nok\n\
+         sent count 2 taken 0b0c\nsent ok taken 0b0c\npages -\npages 5\n",
+    ),
+    // With the IOMMU off it marks the block.
+    (
+        b"block 0x2000 0x1000\nregion 0 0\nspace 0x10000 0x1000\ntable\ntranslator 0\nlayout 0\n\
+          memory 0 0 0 off\nset 0 0x5000 0 0x1000 rw\nwrite 0 0x10 0102\nwritex 0 0x10 0506\n\
+          store 0 2 0x10 0x807\nread 0 0x10 2\nreadx 0 0x10 2\nload 0 2 0x10\ncheck 0 0x10 2 w\n\
+          check 0 0x10 2 r\nharvest block 0\nharvest space 0\nfrom 0 0x10 2 g:090a\nfromx 0 0x10 2 g:0b0c\n\
+          to 0 0x10 2 -\ntox 0 0x10 2 -\ndirty block 0\ndirty space 0\n",
+        "block 0\nregion 0\nspace 0\ntable 0\ntranslator 0\nlayout 0\nmemory 0\nok\ncount 2\nok\nok\n\
+         bytes 0708\nbytes 0708\nvalue 2055\ntrue\ntrue\npages 0\npages -\ncount 2\nok\n\
+         sent count 2 taken 0b0c\nsent ok taken 0b0c\npages 0\npages -\n",
+    ),
+    // Two mappings with other differences: the last byte of the block, and then its first.
+    (
+        b"block 0x2000 0x1000\nregion 0 0\nspace 0x10000 0x1000\ntable\ntranslator 0\nlayout 0\n\
+          memory 0 0 0 on\nset 0 0x2000 0x1000 0x1000 rw\nset 0 0x3000 0 0x1000 rw\nwrite 0 0x2fff 0102\n\
+          writex 0 0x2fff 0506\nstore 0 2 0x2fff 0x807\nread 0 0x2fff 2\nreadx 0 0x2fff 2\nload 0 2 0x2fff\n\
+          check 0 0x2fff 2 w\ncheck 0 0x2fff 2 r\nharvest block 0\nharvest space 0\nfrom 0 0x2fff 2 g:090a\n\
+          fromx 0 0x2fff 2 g:0b0c\nto 0 0x2fff 2 -\ntox 0 0x2fff 2 -\ndirty block 0\ndirty space 0\n",
+        "block 0\nregion 0\nspace 0\ntable 0\ntranslator 0\nlayout 0\nmemory 0\nok\nok\ncount 2\nok\n\
+         error G4\nbytes 0506\nbytes 0506\nerror G4\ntrue\ntrue\npages -\npages 2 3\ncount 2\nok\n\
+         sent count 2 taken 0b0c\nsent ok taken 0b0c\npages -\npages 2 3\n",
+    ),
+    // A mapping that leads past the region.
+    (
+        b"block 0x2000 0x1000\nregion 0 0\nspace 0x10000 0x1000\ntable\ntranslator 0\nlayout 0\n\
+          memory 0 0 0 on\nset 0 0x8000 0x1000 0x2000 rw\nwrite 0 0x8fff 0102\nwritex 0 0x8fff 0506\n\
+          store 0 2 0x8fff 0x807\nread 0 0x8fff 2\nreadx 0 0x8fff 2\nload 0 2 0x8fff\ncheck 0 0x8fff 2 w\n\
+          check 0 0x8fff 2 r\nharvest block 0\nharvest space 0\nfrom 0 0x8fff 2 g:090a\n\
+          fromx 0 0x8fff 2 g:0b0c\nto 0 0x8fff 2 -\ntox 0 0x8fff 2 -\ndirty block 0\ndirty space 0\n",
+        "block 0\nregion 0\nspace 0\ntable 0\ntranslator 0\nlayout 0\nmemory 0\nok\ncount 1\nerror G3 2 1\n\
+         error G4\nbytes 05\nerror G3 2 1\nerror G4\nfalse\nfalse\npages -\npages 8\ncount 1\nerror G3 2 1\n\
+         sent count 1 taken 0b\nsent error G3 2 1 taken 0b\npages -\npages 8\n",
+    ),
 ];
 
-/// The replies, and after them the status and the text of a fault.
+/// What a script tells.
 pub fn told(alloc: Global, script: &[u8]) -> Result<String, Fail> {
     let mut input = script;
     let mut output = Vec::new(alloc);
@@ -448,7 +517,8 @@ pub fn told(alloc: Global, script: &[u8]) -> Result<String, Fail> {
     text_of(output, outcome)
 }
 
-fn text_of(replies: Vec<u8>, outcome: Result<(), DriveFault>) -> Result<String, Fail> {
+/// Replies, and after them the status and the text of a fault.
+pub fn text_of(replies: Vec<u8>, outcome: Result<(), DriveFault>) -> Result<String, Fail> {
     let mut text = String::from_utf8(replies)?;
     if let Err(fault) = outcome {
         let status = fault.status();
@@ -464,339 +534,4 @@ fn each_line_has_its_reply(rt: HostRuntime) -> Result<(), Fail> {
         expect_text(number, text.as_str(), wanted)?;
     }
     Ok(())
-}
-
-// Lines that are bad before the first command and after it.
-const BAD_LINES: [&[u8]; 156] = [
-    // tables and accesses
-    b"table 0",
-    b"table 1 1",
-    b"table r",
-    b"set 0 0 0 1",
-    b"set 0 0 0 1 rwx",
-    b"invalidate 0 0",
-    b"clear 0 0",
-    b"lookup 0 0 1 R",
-    // memories behind an IOMMU
-    b"translator",
-    b"translator 0 0",
-    b"memory 0 0 0",
-    b"memory 0 0 0 yes",
-    b"memory 0 0 0 on 1",
-    b"replace 0",
-    b"enable 0",
-    b"enable 0 1",
-    b"enable 0 ON",
-    // between words there is one space, and no other byte
-    b" ",
-    b"\r",
-    b"block  1 1",
-    b" block 1 1",
-    b"block 1 1 ",
-    b"block 1 1\r",
-    b"block\t1 1",
-    b"block 1\x001",
-    b" # comment",
-    b"plain 0\r",
-    b"plain  0",
-    b"plain 0 ",
-    b"layout 0\x7f",
-    // bytes past ASCII
-    b"block 1 1\xff",
-    b"block 1 \xc3\xa9",
-    b"\xc3\xa9",
-    b"plain 0\xa0",
-    b"plain \xef\xbc\x90",
-    // words
-    b"Block 1 1",
-    b"blocks 1 1",
-    b"PLAIN 0",
-    b"fetch 0 0 1",
-    b"0",
-    b"-",
-    // missing and surplus words
-    b"block",
-    b"block 1",
-    b"block 1 1 1",
-    b"region",
-    b"region 0",
-    b"region 0 0 0",
-    b"layout ",
-    b"layout 0 ",
-    b"layout  0",
-    b"insert 0",
-    b"insert 0 0 0",
-    b"remove 0 0",
-    b"remove 0 0 1 1",
-    b"plain",
-    b"plain 0 0",
-    b"read",
-    b"read 0",
-    b"read 0 0",
-    b"read 0 0 1 1",
-    b"write 0 0",
-    b"write 0 0 01 02",
-    b"readx 0 0",
-    b"readx 0 0 1 1",
-    b"writex 0 0",
-    b"writex 0 0 0",
-    b"store",
-    b"store 0 4 0",
-    b"store 0 4 0 0 0",
-    b"load 0 4",
-    b"load 0 4 0 0",
-    b"copy 0 0 0 0 0",
-    b"copy 0 0 0 0 0 0 0",
-    // widths other than 1, 2, 4 and 8
-    b"store 0 0 0 0",
-    b"store 0 3 0 0",
-    b"load 0 5 0",
-    b"load 0 16 0",
-    b"store 0 x 0 0",
-    b"space",
-    b"space 1",
-    b"space 1 1 1",
-    b"dirty block",
-    b"dirty 0",
-    b"dirty region 0",
-    b"harvest space 0 0",
-    // a page of no bytes
-    b"space 1 0",
-    b"space 0 0x0",
-    b"block 1 0",
-    b"block 1 0x0",
-    b"block 0 0",
-    // numbers
-    b"plain x",
-    b"plain -1",
-    b"plain +1",
-    b"plain 0x+1",
-    b"plain 0x",
-    b"plain 0X1",
-    b"plain 0xg",
-    b"plain 1a",
-    b"plain 1_0",
-    b"plain 1.0",
-    b"plain x1",
-    b"plain 0x0x1",
-    b"plain 0x00000000000000000",
-    b"plain 0x11112222333344445",
-    b"plain 18446744073709551616",
-    b"plain 99999999999999999999",
-    b"plain 184467440737095516150",
-    // bytes
-    b"write 0 0 0",
-    b"write 0 0 012",
-    b"write 0 0 0g",
-    b"write 0 0 0x01",
-    b"write 0 0 --",
-    b"write 0 0 0-",
-    b"write 0 0 ",
-    // sources and sinks
-    b"from 0 0 4",
-    b"from 0 0 4 ",
-    b"from 0 0 4 g",
-    b"from 0 0 4 g:",
-    b"from 0 0 4 g:0",
-    b"from 0 0 4 g:01,",
-    b"from 0 0 4 ,g:01",
-    b"from 0 0 4 g:01,,g:02",
-    b"from 0 0 4 G:01",
-    b"from 0 0 4 t:1",
-    b"from 0 0 4 i",
-    b"from 0 0 4 f:0g",
-    b"from 0 0 4 -,g:01",
-    b"from 0 0 4 g:01:02",
-    b"from 0 0 4 g:01 g:02",
-    b"from 0 0 - g:01",
-    b"fromx 0 0 4",
-    b"fromx 0 0 4 x:01",
-    b"fromx 0 0 4 g:01 -",
-    b"to 0 0 4",
-    b"to 0 0 4 t",
-    b"to 0 0 4 t:",
-    b"to 0 0 4 t:-",
-    b"to 0 0 4 t:0x",
-    b"to 0 0 4 t:+1",
-    b"to 0 0 4 t:1,",
-    b"to 0 0 4 T:1",
-    b"to 0 0 4 t:18446744073709551616",
-    b"to 0 0 4 i:",
-    b"to 0 0 4 i:01",
-    b"to 0 0 4 f:-",
-    b"to 0 0 4 g:01",
-    b"to 0 0 4 -,i",
-    b"to 0 0 4 - -",
-    b"tox 0 0 4",
-    b"tox 0 0 - -",
-    b"tox 0 0 4 x",
-    // permissions
-    b"check 0 0 1",
-    b"check 0 0 1 x",
-    b"check 0 0 1 wr",
-    b"check 0 0 1 R",
-    b"check 0 0 1 r w",
-];
-
-// The replies before a bad line, and the line's number, in a script that begins so.
-const BEGINNINGS: [(&[u8], &str); 2] = [
-    (b"block 1 1\n", "block 0\n1 line 2: bad line"),
-    (
-        b"# one\n\nblock 1 1\nregion 0 0\nlayout 0\n",
-        "block 0\nregion 0\nlayout 0\n1 line 6: bad line",
-    ),
-];
-
-#[test]
-fn a_bad_line_ends_a_script_after_its_replies(rt: HostRuntime) -> Result<(), Fail> {
-    for (beginning, wanted) in BEGINNINGS {
-        for (number, line) in BAD_LINES.iter().enumerate() {
-            let script = [beginning, line, b"\nplain 0\n".as_slice()].concat(rt.alloc())?;
-            let text = told(rt.alloc(), script.as_slice())?;
-            expect_text(number, text.as_str(), wanted)?;
-        }
-    }
-    Ok(())
-}
-
-// Gives its text a byte at a time, and fails once, after `cut` bytes.
-#[derive(Drop)]
-struct FailingReader<'a> {
-    text: &'a [u8],
-    at: usize,
-    cut: Option<usize>,
-    kind: io::ErrorKind,
-}
-
-impl<'a> Read for FailingReader<'a> {
-    fn read(&mut self, buf: &mut [u8]) -> io::Result<usize> {
-        if self.cut == Some(self.at) {
-            self.cut = None;
-            return Err(io::Error::from(self.kind));
-        }
-        match (self.text.get(self.at), buf.first_mut()) {
-            (Some(byte), Some(place)) => {
-                *place = *byte;
-                self.at = self.at.saturating_add(1);
-                Ok(1)
-            }
-            _ => Ok(0),
-        }
-    }
-}
-
-// Takes three bytes at a time, and fails once, with `cut` bytes or at a flush.
-#[derive(Drop)]
-struct FailingWriter {
-    taken: Vec<u8>,
-    cut: Option<usize>,
-    fails_flush: bool,
-}
-
-impl Write for FailingWriter {
-    fn write(&mut self, buf: &[u8]) -> io::Result<usize> {
-        if self.cut.is_some_and(|cut| self.taken.len() >= cut) {
-            self.cut = None;
-            return Err(io::Error::from(io::ErrorKind::Other));
-        }
-        let most = buf.len().min(3);
-        self.taken.extend_from_slice(&buf[..most])?;
-        Ok(most)
-    }
-
-    fn flush(&mut self) -> io::Result<()> {
-        if self.fails_flush {
-            return Err(io::Error::from(io::ErrorKind::Other));
-        }
-        Ok(())
-    }
-}
-
-const TWO_BLOCKS: &[u8] = b"block 1 1\nblock 1 1\n";
-
-// Where a read fails, how, and what the script tells.
-const FAILED_READS: [(usize, io::ErrorKind, &str); 4] = [
-    (0, io::ErrorKind::Other, "2 read failed"),
-    (13, io::ErrorKind::Other, "2 read failed"),
-    (20, io::ErrorKind::BrokenPipe, "2 read failed"),
-    // A read that was interrupted is tried again.
-    (13, io::ErrorKind::Interrupted, "block 0\nblock 1\n"),
-];
-
-#[test]
-fn a_failed_read_comes_before_any_reply(rt: HostRuntime) -> Result<(), Fail> {
-    for (number, (cut, kind, wanted)) in FAILED_READS.iter().enumerate() {
-        let mut input = FailingReader {
-            text: TWO_BLOCKS,
-            at: 0,
-            cut: Some(*cut),
-            kind: *kind,
-        };
-        let mut output = Vec::new(rt.alloc());
-        let outcome = drive(rt.alloc(), &mut input, &mut output);
-        let text = text_of(output, outcome)?;
-        expect_text(number, text.as_str(), wanted)?;
-    }
-    Ok(())
-}
-
-// Where a write or the flush fails, and what the script tells. Where a bad line follows, the write of the
-// replies before it comes first.
-const FAILED_WRITES: [(&[u8], Option<usize>, bool, &str); 6] = [
-    (TWO_BLOCKS, Some(0), false, "2 write failed"),
-    (TWO_BLOCKS, Some(9), false, "block 0\nb2 write failed"),
-    (TWO_BLOCKS, None, true, "block 0\nblock 1\n2 write failed"),
-    (AND_A_BAD_LINE, Some(0), false, "2 write failed"),
-    (AND_A_BAD_LINE, Some(9), false, "block 0\nb2 write failed"),
-    (
-        AND_A_BAD_LINE,
-        None,
-        true,
-        "block 0\nblock 1\n2 write failed",
-    ),
-];
-
-const AND_A_BAD_LINE: &[u8] = b"block 1 1\nblock 1 1\nblock 1\n";
-
-#[test]
-fn a_failed_write_is_told(rt: HostRuntime) -> Result<(), Fail> {
-    for (number, (script, cut, fails_flush, wanted)) in FAILED_WRITES.iter().enumerate() {
-        let mut input = *script;
-        let mut output = FailingWriter {
-            taken: Vec::new(rt.alloc()),
-            cut: *cut,
-            fails_flush: *fails_flush,
-        };
-        let outcome = drive(rt.alloc(), &mut input, &mut output);
-        let FailingWriter { taken, .. } = output;
-        let text = text_of(taken, outcome)?;
-        expect_text(number, text.as_str(), wanted)?;
-    }
-    Ok(())
-}
-
-static FAULTS: [DriveFault; 5] = [
-    DriveFault::BadLine(1),
-    DriveFault::BadLine(1204),
-    DriveFault::Read,
-    DriveFault::Write,
-    DriveFault::Memory,
-];
-
-const FAULT_TEXTS: &str = "\
-1 line 1: bad line
-1 line 1204: bad line
-2 read failed
-2 write failed
-3 out of memory
-";
-
-#[test]
-fn a_fault_has_its_status_and_its_text(rt: HostRuntime) -> Result<(), Fail> {
-    let mut text = String::new(rt.alloc());
-    for fault in &FAULTS {
-        let status = fault.status();
-        writeln!(text, "{status} {fault}")?;
-    }
-    expect_text(0, text.as_str(), FAULT_TEXTS)
 }

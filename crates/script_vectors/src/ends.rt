@@ -1,0 +1,336 @@
+//! How scripts end: at a bad line, and where a read or a write fails.
+
+use crate::scripts::{text_of, told};
+use std::io;
+use std::io::{Read, Write};
+use std::test::Fail;
+use test_text::expect_text;
+use vm_memory::drive;
+
+// Lines that are bad before the first command and after it.
+const BAD_LINES: [&[u8]; 156] = [
+    // tables and accesses
+    b"table 0",
+    b"table 1 1",
+    b"table r",
+    b"set 0 0 0 1",
+    b"set 0 0 0 1 rwx",
+    b"invalidate 0 0",
+    b"clear 0 0",
+    b"lookup 0 0 1 R",
+    // memories behind an IOMMU
+    b"translator",
+    b"translator 0 0",
+    b"memory 0 0 0",
+    b"memory 0 0 0 yes",
+    b"memory 0 0 0 on 1",
+    b"replace 0",
+    b"enable 0",
+    b"enable 0 1",
+    b"enable 0 ON",
+    // between words there is one space, and no other byte
+    b" ",
+    b"\r",
+    b"block  1 1",
+    b" block 1 1",
+    b"block 1 1 ",
+    b"block 1 1\r",
+    b"block\t1 1",
+    b"block 1\x001",
+    b" # comment",
+    b"plain 0\r",
+    b"plain  0",
+    b"plain 0 ",
+    b"layout 0\x7f",
+    // bytes past ASCII
+    b"block 1 1\xff",
+    b"block 1 \xc3\xa9",
+    b"\xc3\xa9",
+    b"plain 0\xa0",
+    b"plain \xef\xbc\x90",
+    // words
+    b"Block 1 1",
+    b"blocks 1 1",
+    b"PLAIN 0",
+    b"fetch 0 0 1",
+    b"0",
+    b"-",
+    // missing and surplus words
+    b"block",
+    b"block 1",
+    b"block 1 1 1",
+    b"region",
+    b"region 0",
+    b"region 0 0 0",
+    b"layout ",
+    b"layout 0 ",
+    b"layout  0",
+    b"insert 0",
+    b"insert 0 0 0",
+    b"remove 0 0",
+    b"remove 0 0 1 1",
+    b"plain",
+    b"plain 0 0",
+    b"read",
+    b"read 0",
+    b"read 0 0",
+    b"read 0 0 1 1",
+    b"write 0 0",
+    b"write 0 0 01 02",
+    b"readx 0 0",
+    b"readx 0 0 1 1",
+    b"writex 0 0",
+    b"writex 0 0 0",
+    b"store",
+    b"store 0 4 0",
+    b"store 0 4 0 0 0",
+    b"load 0 4",
+    b"load 0 4 0 0",
+    b"copy 0 0 0 0 0",
+    b"copy 0 0 0 0 0 0 0",
+    // widths other than 1, 2, 4 and 8
+    b"store 0 0 0 0",
+    b"store 0 3 0 0",
+    b"load 0 5 0",
+    b"load 0 16 0",
+    b"store 0 x 0 0",
+    b"space",
+    b"space 1",
+    b"space 1 1 1",
+    b"dirty block",
+    b"dirty 0",
+    b"dirty region 0",
+    b"harvest space 0 0",
+    // a page of no bytes
+    b"space 1 0",
+    b"space 0 0x0",
+    b"block 1 0",
+    b"block 1 0x0",
+    b"block 0 0",
+    // numbers
+    b"plain x",
+    b"plain -1",
+    b"plain +1",
+    b"plain 0x+1",
+    b"plain 0x",
+    b"plain 0X1",
+    b"plain 0xg",
+    b"plain 1a",
+    b"plain 1_0",
+    b"plain 1.0",
+    b"plain x1",
+    b"plain 0x0x1",
+    b"plain 0x00000000000000000",
+    b"plain 0x11112222333344445",
+    b"plain 18446744073709551616",
+    b"plain 99999999999999999999",
+    b"plain 184467440737095516150",
+    // bytes
+    b"write 0 0 0",
+    b"write 0 0 012",
+    b"write 0 0 0g",
+    b"write 0 0 0x01",
+    b"write 0 0 --",
+    b"write 0 0 0-",
+    b"write 0 0 ",
+    // sources and sinks
+    b"from 0 0 4",
+    b"from 0 0 4 ",
+    b"from 0 0 4 g",
+    b"from 0 0 4 g:",
+    b"from 0 0 4 g:0",
+    b"from 0 0 4 g:01,",
+    b"from 0 0 4 ,g:01",
+    b"from 0 0 4 g:01,,g:02",
+    b"from 0 0 4 G:01",
+    b"from 0 0 4 t:1",
+    b"from 0 0 4 i",
+    b"from 0 0 4 f:0g",
+    b"from 0 0 4 -,g:01",
+    b"from 0 0 4 g:01:02",
+    b"from 0 0 4 g:01 g:02",
+    b"from 0 0 - g:01",
+    b"fromx 0 0 4",
+    b"fromx 0 0 4 x:01",
+    b"fromx 0 0 4 g:01 -",
+    b"to 0 0 4",
+    b"to 0 0 4 t",
+    b"to 0 0 4 t:",
+    b"to 0 0 4 t:-",
+    b"to 0 0 4 t:0x",
+    b"to 0 0 4 t:+1",
+    b"to 0 0 4 t:1,",
+    b"to 0 0 4 T:1",
+    b"to 0 0 4 t:18446744073709551616",
+    b"to 0 0 4 i:",
+    b"to 0 0 4 i:01",
+    b"to 0 0 4 f:-",
+    b"to 0 0 4 g:01",
+    b"to 0 0 4 -,i",
+    b"to 0 0 4 - -",
+    b"tox 0 0 4",
+    b"tox 0 0 - -",
+    b"tox 0 0 4 x",
+    // permissions
+    b"check 0 0 1",
+    b"check 0 0 1 x",
+    b"check 0 0 1 wr",
+    b"check 0 0 1 R",
+    b"check 0 0 1 r w",
+];
+
+// The replies before a bad line, and the line's number, in a script that begins so.
+const BEGINNINGS: [(&[u8], &str); 2] = [
+    (b"block 1 1\n", "block 0\n1 line 2: bad line"),
+    (
+        b"# one\n\nblock 1 1\nregion 0 0\nlayout 0\n",
+        "block 0\nregion 0\nlayout 0\n1 line 6: bad line",
+    ),
+];
+
+#[test]
+fn a_bad_line_ends_a_script_after_its_replies(rt: HostRuntime) -> Result<(), Fail> {
+    for (beginning, wanted) in BEGINNINGS {
+        for (number, line) in BAD_LINES.iter().enumerate() {
+            let script = [beginning, line, b"\nplain 0\n".as_slice()].concat(rt.alloc())?;
+            let text = told(rt.alloc(), script.as_slice())?;
+            expect_text(number, text.as_str(), wanted)?;
+        }
+    }
+    Ok(())
+}
+
+// What fails, once.
+#[derive(Clone, Copy)]
+enum Failing {
+    /// A read, behind so many bytes.
+    Read(usize, io::ErrorKind),
+    /// A write, where as many bytes were taken.
+    Write(usize),
+    /// Each flush.
+    Flush,
+}
+
+// Gives its text a byte at a time.
+#[derive(Drop)]
+struct FailingReader<'a> {
+    text: &'a [u8],
+    at: usize,
+    failing: Option<Failing>,
+}
+
+impl<'a> Read for FailingReader<'a> {
+    fn read(&mut self, buf: &mut [u8]) -> io::Result<usize> {
+        if let Some(Failing::Read(cut, kind)) = self.failing {
+            if self.at == cut {
+                self.failing = None;
+                return Err(io::Error::from(kind));
+            }
+        }
+        match (self.text.get(self.at), buf.first_mut()) {
+            (Some(byte), Some(place)) => {
+                *place = *byte;
+                self.at = self.at.saturating_add(1);
+                Ok(1)
+            }
+            _ => Ok(0),
+        }
+    }
+}
+
+// Takes three bytes at a time.
+#[derive(Drop)]
+struct FailingWriter {
+    taken: Vec<u8>,
+    failing: Option<Failing>,
+}
+
+impl Write for FailingWriter {
+    fn write(&mut self, buf: &[u8]) -> io::Result<usize> {
+        if let Some(Failing::Write(cut)) = self.failing {
+            if self.taken.len() >= cut {
+                self.failing = None;
+                return Err(io::Error::from(io::ErrorKind::Other));
+            }
+        }
+        let most = buf.len().min(3);
+        self.taken.extend_from_slice(&buf[..most])?;
+        Ok(most)
+    }
+
+    fn flush(&mut self) -> io::Result<()> {
+        if matches!(self.failing, Some(Failing::Flush)) {
+            return Err(io::Error::from(io::ErrorKind::Other));
+        }
+        Ok(())
+    }
+}
+
+const TWO_BLOCKS: &[u8] = b"block 1 1\nblock 1 1\n";
+
+const AND_A_BAD_LINE: &[u8] = b"block 1 1\nblock 1 1\nblock 1\n";
+
+// What a script tells whose input or output fails.
+const FAILURES: [(&[u8], Failing, &str); 10] = [
+    // No reply comes before all of the input is read.
+    (
+        TWO_BLOCKS,
+        Failing::Read(0, io::ErrorKind::Other),
+        "2 read failed",
+    ),
+    (
+        TWO_BLOCKS,
+        Failing::Read(13, io::ErrorKind::Other),
+        "2 read failed",
+    ),
+    (
+        TWO_BLOCKS,
+        Failing::Read(20, io::ErrorKind::BrokenPipe),
+        "2 read failed",
+    ),
+    // A read that was interrupted is tried again.
+    (
+        TWO_BLOCKS,
+        Failing::Read(13, io::ErrorKind::Interrupted),
+        "block 0\nblock 1\n",
+    ),
+    (TWO_BLOCKS, Failing::Write(0), "2 write failed"),
+    (TWO_BLOCKS, Failing::Write(9), "block 0\nb2 write failed"),
+    (
+        TWO_BLOCKS,
+        Failing::Flush,
+        "block 0\nblock 1\n2 write failed",
+    ),
+    // Where a bad line follows, the write of the replies before it comes first.
+    (AND_A_BAD_LINE, Failing::Write(0), "2 write failed"),
+    (
+        AND_A_BAD_LINE,
+        Failing::Write(9),
+        "block 0\nb2 write failed",
+    ),
+    (
+        AND_A_BAD_LINE,
+        Failing::Flush,
+        "block 0\nblock 1\n2 write failed",
+    ),
+];
+
+#[test]
+fn a_failed_read_or_write_ends_a_script(rt: HostRuntime) -> Result<(), Fail> {
+    for (number, (script, failing, wanted)) in FAILURES.iter().enumerate() {
+        let mut input = FailingReader {
+            text: script,
+            at: 0,
+            failing: Some(*failing),
+        };
+        let mut output = FailingWriter {
+            taken: Vec::new(rt.alloc()),
+            failing: Some(*failing),
+        };
+        let outcome = drive(rt.alloc(), &mut input, &mut output);
+        let FailingWriter { taken, .. } = output;
+        let text = text_of(taken, outcome)?;
+        expect_text(number, text.as_str(), wanted)?;
+    }
+    Ok(())
+}
