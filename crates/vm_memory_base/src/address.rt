@@ -59,7 +59,7 @@ pub trait AddressWord: Copy + Ord + Debug {
         requires { value self + value other < 2 ^ 64 }
         ensures { value result ≡ value self + value other };
 
-    /// The difference, where `other` may not be the greater.
+    /// The difference. `other` must not be the greater.
     fn unchecked_sub(self, other: Self) -> Self
         requires { value other ≤ value self }
         ensures { value result ≡ value self - value other };
@@ -204,7 +204,7 @@ pub trait Address: AddressValue
         self.raw_value().checked_sub(base.raw_value())
     }
 
-    /// How far the address lies above `base`, in bytes. It may not lie below.
+    /// How far the address lies above `base`, in bytes. It must not lie below.
     #[inline]
     fn unchecked_offset_from(&self, base: Self) -> Self::V
         requires { number base ≤ number self.now }
@@ -276,7 +276,7 @@ pub trait Address: AddressValue
         (Self::new(difference), overflow)
     }
 
-    /// The address that lies `other` bytes below, where `other` may not be the greater.
+    /// The address that lies `other` bytes below. `other` must not be the greater.
     #[inline]
     fn unchecked_sub(&self, other: Self::V) -> Self
         requires { Self.V.value other ≤ number self.now }

@@ -8,7 +8,7 @@ use std::sync::atomic::{
 
 /// An integer that threads read and write in single steps.
 ///
-/// Other threads may write it between two steps, so a load tells nothing of what a store left.
+/// Other threads may write it between two steps, so a load says nothing of what a store left.
 pub trait AtomicInteger: Send + Sync {
     /// The integer that it holds.
     type V: ByteValued;

@@ -39,23 +39,25 @@ fn pages_between(start: usize, len: usize, page_size: NonZeroUsize) -> (usize, u
 /// let written = bitmap.dirty_at(offset);
 /// ```
 pub trait Bitmap {
-    /// What a mark of so many bytes at an offset may leave of a bitmap: its own relation, which an
+    /// What a mark of some bytes from an offset on may leave of a bitmap: the type's own relation, which an
     /// `ExactBitmap` ties to pages.
     ghost marks: { Self → ℕ → ℕ → Self → Type 0 };
 
-    /// What may be told of the byte at an offset.
+    /// What may be answered of the byte at an offset.
     ghost tells: { Self → ℕ → Bool → Type 0 };
 
-    /// What `NewBitmap` may make for a length in bytes: its own relation too. Where a bitmap is not
-    /// made for a length, nothing.
+    /// What `NewBitmap` may make for a length in bytes: the type's own relation, too. A bitmap that is not made for a
+    /// length leaves it empty.
     ghost made: { ℕ → Self → Type 0 } = { λ _ _. ⊥ };
 
-    /// Marks `len` bytes from `offset` on as written: none, where `len` is 0. Which pages of an exact bitmap these are
-    /// stands in docs/DEFINITIONS.md, "Page sets".
+    /// Marks `len` bytes from `offset` on as written, and none where `len` is 0. An exact bitmap makes the pages of
+    /// these bytes dirty. What lies past its last page, or past 2^64 - 1, is left out: docs/DEFINITIONS.md,
+    /// "Page sets".
     fn mark_dirty(&mut self, offset: usize, len: usize)
         ensures { marks self.old offset len self.new };
 
-    /// Whether the byte at `offset` is told to have been written.
+    /// Whether the byte at `offset` is reported as written. An exact bitmap reports whether the byte's page is dirty.
+    /// Past its last page no byte is.
     fn dirty_at(&self, offset: usize) -> bool
         ensures { tells self.now offset result };
 }
@@ -69,8 +71,8 @@ pub trait ExactBitmap: Bitmap {
     fn shape(&self) -> Option<(usize, usize)>
         ensures { result ≡ page_set.shape (pages self.now) };
 
-    /// The numbers of the dirty pages, ascending. `AllocError` where there is no memory for the list: where no
-    /// page is dirty it takes none.
+    /// The numbers of the dirty pages, ascending. `AllocError` where the allocation of the list fails. Where no page
+    /// is dirty, it allocates nothing.
     fn dirty_pages(&self, alloc: Global) -> Result<Vec<usize>, AllocError>
         ensures dirty { IfOk result (λ dirty. dirty.items ≡ page_set.dirty_pages (pages self.now)) }
         ensures refused { OnErr result (page_set.dirty_pages (pages self.now) ≢ []) }
@@ -86,8 +88,8 @@ pub trait ExactBitmap: Bitmap {
         Ok(dirty)
     }
 
-    /// Takes the dirty pages: gives their numbers, ascending, and makes them clean. `AllocError` where
-    /// there is no memory for the list, and then nothing is changed: where no page is dirty it takes none.
+    /// Takes the dirty pages: gives their numbers, ascending, and makes them clean. `AllocError` where the allocation
+    /// of the list fails, and then nothing changes. Where no page is dirty, it allocates nothing.
     fn harvest(&mut self, alloc: Global) -> Result<Vec<usize>, AllocError>
         ensures dirty { IfOk result (λ dirty. dirty.items ≡ page_set.dirty_pages (pages self.old)) }
         ensures clean { OnOk result (pages self.new ≡ page_set.cleaned (pages self.old)) }
@@ -100,7 +102,7 @@ pub trait ExactBitmap: Bitmap {
     ghost marks_pages: { (old new : Self) (offset len : ℕ) → Self.marks old offset len new
         → pages new ≡ page_set.marked offset len (pages old) };
 
-    /// A byte is told to be written where its page is dirty.
+    /// A byte is reported dirty where its page is dirty.
     ghost tells_pages: { (b : Self) (offset : ℕ) (told : Bool) → Self.tells b offset told
         → told ≡ page_set.is_dirty_at (pages b) offset };
 
@@ -110,7 +112,7 @@ pub trait ExactBitmap: Bitmap {
 
 /// A bitmap that can be made for a length in bytes.
 pub trait NewBitmap: Bitmap {
-    /// A clean bitmap for `len` bytes, which may be none. `AllocError` where there is no memory for it.
+    /// A clean bitmap for `len` bytes, which may be 0. `AllocError` where its allocation fails.
     fn with_len(alloc: Global, len: usize) -> Result<Self, AllocError>
         ensures { IfOk result (Self.made len) };
 }

@@ -43,16 +43,16 @@ pub trait ByteValued: ByteSized + Copy {
 
     ghost value_of: { List ℕ → Self };
 
-    /// How many bytes a value takes, cut to 2^64 - 1.
+    /// How many bytes a value has, cut to 2^64 - 1.
     fn size() -> usize
         ensures { result ≡ min Self.width (2 ^ 64 - 1) };
 
-    /// Byte `i` of the value, which has to be one of its bytes.
+    /// Byte `i` of the value. The value has to have it.
     fn byte(&self, i: usize) -> u8
         requires { i < Self.width }
         ensures { result ≡ slice_index (bytes self.now) i };
 
-    /// Replaces byte `i` of the value, which has to be one of its bytes.
+    /// Replaces byte `i` of the value. The value has to have it.
     fn set_byte(&mut self, i: usize, b: u8)
         requires { i < Self.width }
         ensures { bytes self.new ≡ slice_set (bytes self.old) i b };
@@ -65,21 +65,22 @@ pub trait ByteValued: ByteSized + Copy {
     fn from_slice(data: &[u8]) -> Option<Self>
         ensures { SomeIff result (length «data».now ≡ Self.width) (value_of «data».now) };
 
-    /// Writes the bytes of the value over `out`. Where `out` has not `size()` bytes, it writes nothing
+    /// Writes the bytes of the value over `out`. Where `out` does not have `size()` bytes, it writes nothing
     /// and answers false.
     fn to_slice(&self, out: &mut [u8]) -> bool
         ensures fits { IsTrue result ↔ (length out.old ≡ Self.width) }
         ensures written { OnTrue result (out.new ≡ bytes self.now) }
         ensures unchanged { OnFalse result (out.new ≡ out.old) };
 
-    /// Tells a proof that the value is one of the type. It does nothing.
+    /// Does nothing. A proof learns from it that the value is one of the type.
     fn known(&self)
         ensures { is_value self.now };
 
     // Values and lists of bytes stand for one another, so both round trips lead back.
     ghost laws: { IsByteCode Self.width is_value bytes value_of };
 
-    /// Copies the bytes of the value, from byte `from` on, over `out`. The value has as many.
+    /// Copies the bytes of the value, from byte `from` on, over `out`. The value has to have as many bytes
+    /// there as `out`.
     #[inline]
     final fn copy_bytes(&self, from: usize, out: &mut [u8])
         requires inside { from + length out.old ≤ Self.width }
@@ -92,7 +93,8 @@ pub trait ByteValued: ByteSized + Copy {
         }
     }
 
-    /// Replaces the bytes of the value, from byte `from` on, by those of `data`. The value has as many.
+    /// Replaces the bytes of the value, from byte `from` on, by those of `data`. The value has to have as
+    /// many bytes there as `data`.
     #[inline]
     final fn set_bytes(&mut self, from: usize, data: &[u8])
         requires inside { from + length «data».now ≤ Self.width }
@@ -112,7 +114,7 @@ pub trait ByteValued: ByteSized + Copy {
 
     /// Writes the bytes of the value to a writer, at most 64 at once.
     ///
-    /// An error is the writer's, and leaves open how many of the bytes it took.
+    /// An error is the writer's. It leaves open how many of the bytes the writer took.
     final fn write_all_to<W: Write>(&self, writer: &mut W) -> io::Result<()>
         ensures { Self.width < 2 ^ 64
             → OnOk result (Appends (W.contents writer.old) (W.contents writer.new) (bytes self.now)) }
@@ -130,7 +132,7 @@ pub trait ByteValued: ByteSized + Copy {
 
     /// The value with the next `size()` bytes of a reader, taken at most 64 at once.
     ///
-    /// An error is the reader's, and leaves open how many bytes it gave. Where a reader ends too
+    /// An error is the reader's. It leaves open how many bytes the reader gave. Where a reader ends too
     /// early, std's error is of the kind `UnexpectedEof`.
     final fn read_exact_from<R: Read>(reader: &mut R) -> io::Result<Self>
         ensures { Self.width < 2 ^ 64

@@ -18,7 +18,7 @@ use std::io::{self, ErrorKind};
 use std::marker::Model;
 use thiserror::Error;
 
-/// An error of `std::io`, of which contracts see the kind.
+/// An error of `std::io`. Contracts see its kind.
 #[derive(Drop)]
 pub struct IoError {
     error: io::Error,
@@ -99,7 +99,7 @@ pub enum VolatileMemoryError {
     /// Fewer bytes were moved than the buffer has.
     #[error("only used {completed} bytes in {expected} long buffer")]
     PartialBuffer { expected: usize, completed: usize },
-    /// Memory for what was asked for could not be had.
+    /// An allocation failed.
     #[error("out of memory")]
     Memory,
 }
@@ -110,14 +110,14 @@ pub type VolatileMemoryResult<T> = Result<T, VolatileMemoryError>;
 /// Why a source did not fill what it was lent, and how much of it may have changed.
 #[derive(Debug, Drop)]
 pub struct ReadExactFault {
-    /// The length of the beginning that may have changed, in bytes, where the source tells what it does: what was
-    /// filled where it ended, all after an error or an interrupted try, and none where it refused at once.
+    /// How many leading bytes may have changed: those that were filled where the source ended, all after an error
+    /// or an interrupted try, and none where the source refused at once.
     pub touched: usize,
-    /// The error that tells why not all was filled.
+    /// Why not all was filled.
     pub error: VolatileMemoryError,
 }
 
-/// A source of bytes, which fills memory that it is lent. It may answer fewer bytes than it was lent.
+/// A source of bytes, which fills memory that it is lent. It may fill less than it was lent.
 ///
 /// ```rust
 /// use vm_memory_base::ReadVolatile;
@@ -128,7 +128,7 @@ pub struct ReadExactFault {
 /// assert_eq!(rt; source, &[3]);
 /// ```
 pub trait ReadVolatile {
-    // What it does next, where it tells that.
+    // What it does next, where that is known.
     ghost source: { Self → Option (List Next) };
 
     // How many bytes it has left, where it looks before it fills a buffer.
@@ -137,20 +137,20 @@ pub trait ReadVolatile {
     // What else is known of one read: of the source and the buffer before it, its answer, and both after it.
     ghost reads: { Self → List ℕ → Answer → List ℕ → Self → Type 0 } = { λ s old answer new t. ⊤ };
 
-    /// Fills the beginning of the buffer, and answers how many bytes that is. None is the end of the source,
-    /// where the buffer has some. An error may leave the buffer changed.
+    /// Fills the beginning of the buffer, and answers how many bytes that is. For a buffer of some bytes, 0 is the
+    /// end of the source. An error is the source's own, and may leave the buffer changed.
     fn read_volatile(&mut self, buf: &mut [u8]) -> VolatileMemoryResult<usize>
         ensures count { IfOk result (λ count. count ≤ length buf.old) }
         ensures tells { ReadsAs (source self.old) buf.old result buf.new (source self.new) }
         ensures reads { reads self.old buf.old result buf.new self.new };
 
-    /// How many bytes it has left, where it looks before it fills a buffer: then a buffer that is longer is
-    /// refused at once. Most sources do not look.
+    /// How many bytes it has left, where it looks before it fills a buffer. Then it refuses a longer buffer at
+    /// once. Most sources do not look, and answer `None`.
     fn known_left(&self) -> Option<usize>
         ensures { result ≡ known_left self.now };
 
-    /// Fills the whole buffer, by as many reads as that takes. A read that is interrupted is made again, at
-    /// most 64 times in a row. `UnexpectedEof` where the source ends before.
+    /// Fills the whole buffer by reads in turn. An interrupted read is made again, at most 64 times in a row. The
+    /// 65th interruption is answered, and any other error at once. `UnexpectedEof` where the source ends before.
     final fn read_exact_volatile(&mut self, buf: &mut [u8]) -> Result<(), ReadExactFault>
         ensures touched { IfErr result (λ fault. fault.touched ≤ length buf.old) }
         ensures tells { FillsAs (known_left self.old) (source self.old) buf.old result buf.new
@@ -186,7 +186,7 @@ fn is_short(known: Option<usize>, wanted: usize) -> bool
     known.is_some_and(|left| left < wanted)
 }
 
-// How much of a buffer may have changed, where only so many bytes of it are filled.
+// How much of a buffer may have changed, of which `done` bytes are filled.
 fn touched(interrupted: bool, all: usize, done: usize) -> usize
     ensures { result ≡ (if interrupted then all else done) }
 {
@@ -213,20 +213,20 @@ fn ended(touched: usize) -> ReadExactFault
 /// assert_eq!(rt; sink.as_slice(), &[1, 2, 3]);
 /// ```
 pub trait WriteVolatile {
-    // What it does next, where it tells that.
+    // What it does next, where that is known.
     ghost sink: { Self → Option Sink };
 
     // The bytes that it took, where it keeps them.
     ghost taken: { Self → Option (List ℕ) };
 
-    // When it may want memory.
+    // When its allocation may fail.
     ghost may_want: { Self → Type 0 };
 
     // What else is known of one write: of the sink before it, the bytes, its answer, and the sink after it.
     ghost writes: { Self → List ℕ → Answer → Self → Type 0 } = { λ s bytes answer t. ⊤ };
 
-    /// Takes the first bytes of the buffer, and answers how many. An error is the sink's own; `Memory` says that it
-    /// wanted memory and took nothing.
+    /// Takes the first bytes of the buffer, and answers how many. An error is the sink's own. `Memory` says that
+    /// its allocation failed, and that it took nothing.
     fn write_volatile(&mut self, buf: &[u8]) -> VolatileMemoryResult<usize>
         ensures count { IfOk result (λ count. count ≤ length buf.now) }
         ensures tells { TakesAs (may_want self.old) (sink self.old) (length buf.now) result (sink self.new) }
@@ -234,8 +234,9 @@ pub trait WriteVolatile {
         ensures wants { may_want self.new → may_want self.old }
         ensures writes { writes self.old buf.now result self.new };
 
-    /// Takes the whole buffer, by as many writes as that takes. A write that is interrupted is made again, at
-    /// most 64 times in a row. `WriteZero` where the sink takes nothing of bytes that are left.
+    /// Takes the whole buffer by writes in turn. An interrupted write is made again, at most 64 times in a row. The
+    /// 65th interruption is answered, and any other error at once. `WriteZero` where the sink takes nothing of
+    /// bytes that are left.
     final fn write_all_volatile(&mut self, buf: &[u8]) -> VolatileMemoryResult<()>
         ensures sends { (count : ℕ) × (count ≤ length buf.now) × OnOk result (count ≡ length buf.now)
             × Keeps (taken self.old) buf.now count (taken self.new)

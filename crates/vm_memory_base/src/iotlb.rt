@@ -114,7 +114,7 @@ pub struct IovaRange {
 }
 
 impl IovaRange {
-    /// The addresses of a range, which may not end before it starts.
+    /// The addresses of a range, which must not end before it starts.
     pub fn from_range(range: Range<u64>) -> IovaRange
         requires { range.start ≤ range.end }
         ensures { result ≡ record { base = record { 0 = range.start }; length = range.end - range.start } }
@@ -146,7 +146,7 @@ pub enum IommuError {
     IommuMisconfigured {
         reason: Reason,
     },
-    /// There was no memory for the answer.
+    /// The allocation of the answer failed.
     #[error("out of memory")]
     Memory,
 }

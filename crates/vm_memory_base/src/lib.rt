@@ -1,4 +1,5 @@
-//! The values, marks, tables and outcomes that guest memory is made of.
+//! What guest memory is made of: addresses, values as bytes, dirty pages, I/O tables, sources and
+//! sinks.
 #![tactic(auto)]
 
 mod address;

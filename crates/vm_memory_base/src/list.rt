@@ -18,7 +18,7 @@ impl<T> Model for Items<T> {
 }
 
 impl<T> Items<T> {
-    /// The items of a vector. It takes no memory.
+    /// The items of a vector. It allocates nothing.
     pub fn from_vec(items: Vec<T>) -> Items<T>
         ensures { result ≡ items.items }
     {

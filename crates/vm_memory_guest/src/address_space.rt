@@ -25,7 +25,8 @@ pub trait GuestAddressSpace {
     /// The memories that a snapshot taken now may be of.
     ghost may_be: { Self → Self.M → Type 0 };
 
-    /// A snapshot of the memory. `AllocError` where it cannot be shared once more, as it has 2^63 - 1 owners.
+    /// A snapshot of the memory. It may wait for a lock. `AllocError` where the memory cannot be shared once
+    /// more, as it has 2^63 - 1 owners.
     fn memory(&self, rt: &impl Wait, alloc: Global) -> Result<Self::T, AllocError>
         ensures { IfOk result (λ snapshot. may_be self.now (Self.T.lent snapshot)) };
 }

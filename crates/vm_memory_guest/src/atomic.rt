@@ -19,20 +19,20 @@ struct Current<M> {
 
 /// Guest memory that threads share, and that one of them may replace as a whole.
 ///
-/// A snapshot is shared once more under a lock that is held for nothing else, so that it never waits for a thread
-/// that makes a layout. No clause names what a lock keeps, so which memory a snapshot is of is told by the tests.
+/// A snapshot is shared under a lock that is held for nothing else, so it never waits for a thread that makes a
+/// layout. No clause names what a lock keeps; tests show which memory a snapshot is of.
 #[derive(Drop)]
 pub struct GuestMemoryAtomic<M: GuestMemory + Drop> {
     current: Arc<Current<M>>,
 }
 
 impl<M: GuestMemory + Drop> GuestMemoryAtomic<M> {
-    /// Shares a memory. `AllocError` where there is no memory for it.
+    /// Shares a memory. `AllocError` where an allocation fails.
     pub fn new(alloc: Global, memory: M) -> Result<GuestMemoryAtomic<M>, AllocError> {
         GuestMemoryAtomic::from_arc(alloc, Arc::new(alloc, memory)?)
     }
 
-    /// Shares a memory that is shared already. `AllocError` where there is no memory for its locks.
+    /// Shares a memory that is shared already. `AllocError` where the allocation of its locks fails.
     pub fn from_arc(alloc: Global, memory: Arc<M>) -> Result<GuestMemoryAtomic<M>, AllocError> {
         let current = Current {
             memory: RwLock::new(memory),
@@ -52,7 +52,7 @@ impl<M: GuestMemory + Drop> GuestMemoryAtomic<M> {
     }
 }
 
-/// The clone shares the memory, and sees each replacement.
+/// The clone shares the memory, and sees each replacement. `AllocError` past 2^63 - 1 owners.
 impl<M: GuestMemory + Drop> Clone for GuestMemoryAtomic<M> {
     ghost is_clone = { λ _ _. ⊤ };
 
@@ -102,7 +102,7 @@ impl<M: GuestMemory + Drop> GuestMemoryLoadGuard<M> {
     }
 }
 
-/// The clone is a snapshot of the same memory.
+/// The clone is a snapshot of the same memory. `AllocError` past 2^63 - 1 owners.
 impl<M: GuestMemory + Drop> Clone for GuestMemoryLoadGuard<M> {
     ghost is_clone = { λ old new. new ≡ old };
 
@@ -143,8 +143,9 @@ pub struct GuestMemoryExclusiveGuard<'a, M: GuestMemory + Drop> {
 }
 
 impl<'a, M: GuestMemory + Drop> GuestMemoryExclusiveGuard<'a, M> {
-    /// Replaces the memory, and ends the turn. Snapshots that were taken before stay as they are. `AllocError` where
-    /// there is no memory to share this one: then the old one stays. It waits for snapshots that are being taken.
+    /// Replaces the memory, and ends the turn. It waits for snapshots that are being taken. Snapshots that were
+    /// taken before stay as they are. `AllocError` where the allocation to share the new memory fails, and then the
+    /// old one stays.
     pub fn replace(self, rt: &impl Wait, alloc: Global, memory: M) -> Result<(), AllocError> {
         let memory = Arc::new(alloc, memory)?;
         let old = mem::replace(&mut *self.memory.write(rt), memory);

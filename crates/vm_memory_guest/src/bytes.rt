@@ -14,55 +14,56 @@ use crate::host::{HostMemory, Named};
 use std::sync::atomic::Ordering;
 use vm_memory_base::{AtomicAccess, Bitmap, ByteValued, ReadVolatile, WriteVolatile};
 
-/// Access to bytes by addresses of type `A`: an offset of a window, or an address of guest memory.
+/// Access to bytes by addresses of type `A`: an offset of a window or of a region, or an address of guest memory.
 ///
-/// An access reaches windows of the host that it is lent, one after the other, up to the first address
-/// at which there is no byte: docs/DEFINITIONS.md, "Accesses". A write moves the buffer into them and marks
-/// each at once. A call asks that the host holds what `self` names.
+/// An access reaches windows of the host that it is lent, one after the other, up to the first address at which there
+/// is no byte: docs/DEFINITIONS.md, "Accesses". A write moves the buffer into them and marks each at once. Every call
+/// requires that the host holds what `self` names.
 ///
 /// ```text
 /// let count = memory.write(&mut host, &[1, 2, 3], address)?;
 /// memory.read_slice(&host, &mut buffer, address)?;
 /// ```
 pub trait Bytes<A>: Named {
-    /// The error that tells why an access was refused.
+    /// Why an access was refused.
     type E;
 
-    /// What an access of so many bytes at an address reaches, in a host with these tables.
+    /// What an access of some bytes at an address reaches, in a host with these tables.
     ghost reach: { Self → List Table → A → ℕ → Permissions → Reach Self.E };
 
-    /// The one window that a load or a store of so many bytes at an address takes, in a host with these
-    /// tables, or why there is none.
+    /// The one window that a load or a store of some bytes at an address takes, in a host with these tables, or why
+    /// there is none.
     ghost place: { Self → List Table → A → ℕ → Permissions → Result Window Self.E };
 
     /// The error of an access in part, of the expected and the completed bytes.
     ghost partial: { ℕ → ℕ → Self.E };
 
-    /// The error that says that there was no memory. Then nothing changed, unless a sink or a source had moved bytes.
+    /// The error of a failed allocation. Nothing changed then, unless a source or a sink had moved bytes.
     ghost no_memory: { Self.E };
 
-    /// When a call for so many bytes may want memory.
+    /// When a call for some bytes may fail to allocate.
     ghost may_want: { Self → ℕ → Type 0 };
 
-    /// The windows that a transfer of at most so many bytes at an address moves, in a host with these tables,
-    /// and what keeps it from moving more.
+    /// The windows that a transfer of at most some bytes at an address moves, in a host with these tables, and what
+    /// keeps it from moving more.
     ghost moved: { Self → List Table → A → ℕ → Permissions → Reach Self.E };
 
-    /// Those of a transfer that is to move all of so many bytes.
+    /// The same of a transfer that has to move all of these bytes.
     ghost moved_whole: { Self → List Table → A → ℕ → Permissions → Reach Self.E };
 
-    /// How a transfer in that is to fill all bytes fills a window.
+    /// How a transfer in that has to fill all bytes fills a window.
     ghost filling: { Moving };
 
     /// How a transfer out moves a window.
     ghost sending: { Moving };
 
-    /// How an error of a source or a sink is told.
+    /// The error for one of a source or a sink.
     ghost failure: { VolatileMemoryError → Self.E };
 
     /// Writes the beginning of the buffer that fits, and answers how many bytes that is. Where no byte fits, the error
-    /// says why. An empty buffer is answered with 0. Behind an IOMMU that is on, an access of some bytes may
-    /// find no memory, and then changes nothing.
+    /// says why. An empty buffer answers 0, but for a region without host bytes, which refuses it. Behind an IOMMU
+    /// that is on, an access of a byte or more allocates. Where that fails, the error is `Memory`, and nothing
+    /// changes.
     fn write<B: Bitmap>(
         &self,
         host: &mut HostMemory<B>,
@@ -77,7 +78,7 @@ pub trait Bytes<A>: Named {
         ensures at_most { IfOk result (λ count. count ≤ length buf.now) }
         ensures shape { shape_of host.new ≡ shape_of host.old };
 
-    /// Reads into the beginning of the buffer, and answers how many bytes that is. Errors come as in `write`.
+    /// Reads into the beginning of the buffer, and answers how many bytes that is. Its errors are those of `write`.
     fn read<B: Bitmap>(
         &self,
         host: &HostMemory<B>,
@@ -91,7 +92,7 @@ pub trait Bytes<A>: Named {
             (buf.new ≡ filled_buffer host.now.blocks (cells r.windows) buf.old) result }
         ensures at_most { IfOk result (λ count. count ≤ length buf.old) };
 
-    /// Writes the whole buffer. Where only its beginning fits, that is written, and the error says how long it is.
+    /// Writes the whole buffer. Where only its beginning fits, it writes that, and the error says how long it is.
     /// Where no byte fits, the error says why, as in `write`.
     fn write_slice<B: Bitmap>(
         &self,
@@ -106,8 +107,8 @@ pub trait Bytes<A>: Named {
             (Writes B.marks r.windows buf.now host.old host.new) result }
         ensures shape { shape_of host.new ≡ shape_of host.old };
 
-    /// Fills the whole buffer. Where only its beginning can be filled, it is, and the error says how long it is.
-    /// Where no byte can be read, the error says why, as in `read`.
+    /// Fills the whole buffer. Where only its beginning can be filled, it fills that, and the error says how long it
+    /// is. Where no byte can be read, the error says why, as in `read`.
     fn read_slice<B: Bitmap>(
         &self,
         host: &HostMemory<B>,
@@ -147,10 +148,10 @@ pub trait Bytes<A>: Named {
             (all_of partial T.width (ended (span r.windows) r.fault)))
             (Unit {0}) (Unit {0}) result };
 
-    /// Stores a value as one atomic integer, in one window at a place that is a multiple of the value's
-    /// size. Every store is sequentially consistent, whichever order is asked for. A value that lies across two
-    /// windows or at another place is refused: in guest memory as `InvalidBackendAddress`, in a window as
-    /// `OutOfBounds`, `Overflow` or `Misaligned`. Other errors come as in `write`.
+    /// Stores a value as one atomic integer, in one window and at a place in its block that is a multiple of the
+    /// value's size. Every store is sequentially consistent, whichever order is asked for. A value that lies across
+    /// two windows or at another place is refused: in guest memory and in a region as `InvalidBackendAddress`, in a
+    /// window as `OutOfBounds`, `Overflow` or `Misaligned`. Other errors come as in `write`.
     fn store<T: AtomicAccess, B: Bitmap>(
         &self,
         host: &mut HostMemory<B>,
@@ -164,8 +165,8 @@ pub trait Bytes<A>: Named {
             (Writes B.marks (given w) (T.bytes val) host.old host.new) result }
         ensures shape { shape_of host.new ≡ shape_of host.old };
 
-    /// Loads a value as one atomic integer, from one window at a place that is a multiple of the value's
-    /// size. Every load is sequentially consistent, whichever order is asked for. Errors come as in `store`.
+    /// Loads a value as one atomic integer, from one window and a place in its block that is a multiple of the value's
+    /// size. Every load is sequentially consistent, whichever order is asked for. Its errors are those of `store`.
     fn load<T: AtomicAccess, B: Bitmap>(
         &self,
         host: &HostMemory<B>,
@@ -178,10 +179,10 @@ pub trait Bytes<A>: Named {
             (answered (λ v. T.value_of (bytes_at host.now.blocks (cells_of v))) w)
             (Unit {0}) (Unit {0}) result };
 
-    /// Lends a source the windows of at most `count` bytes one after the other, up to the first that it does not
-    /// fill, and answers how many bytes came. An interrupted try is made again, at most 64 times in a row; any
-    /// other error of the source is answered at once. Each try marks what it filled, or all that was lent where it
-    /// failed.
+    /// Lends a source the windows of at most `count` bytes, one after the other, up to the first that it does not
+    /// fill, and answers how many bytes came. Where no window can be lent, the error says why. An interrupted try is
+    /// made again, at most 64 times in a row. Any other error of the source is answered at once. Each try marks what
+    /// it filled, or all that was lent where it failed.
     fn read_volatile_from<F: ReadVolatile, B: Bitmap>(
         &self,
         host: &mut HostMemory<B>,
@@ -197,8 +198,8 @@ pub trait Bytes<A>: Named {
         ensures shape { shape_of host.new ≡ shape_of host.old };
 
     /// Fills `count` bytes from a source. In guest memory the error says how many bytes came, where the source ends
-    /// before, or the memory ends behind the first byte. Of a window that lacks some of the bytes nothing is filled;
-    /// where the source ends before, the error is `UnexpectedEof`.
+    /// before, or the memory ends behind the first byte. A window or a region that lacks some of the bytes fills none;
+    /// where the source ends before, its error is `UnexpectedEof`. A failure of the source is answered.
     fn read_exact_volatile_from<F: ReadVolatile, B: Bitmap>(
         &self,
         host: &mut HostMemory<B>,
@@ -212,9 +213,9 @@ pub trait Bytes<A>: Named {
             (all_of partial count) (beside src.old host.old) result (beside src.new host.new) }
         ensures shape { shape_of host.new ≡ shape_of host.old };
 
-    /// Offers a sink the bytes of the windows of at most `count` bytes, one window after the other, and answers
-    /// how many it took. An interrupted try is made again, at most 64 times in a row; any other error of the sink is
-    /// answered at once. No byte and no mark changes.
+    /// Offers a sink the bytes of the windows of at most `count` bytes, one window after the other, and answers how
+    /// many it took. Where no byte can be offered, the error says why. An interrupted try is made again, at most 64
+    /// times in a row. Any other error of the sink is answered at once. No byte and no mark changes.
     fn write_volatile_to<F: WriteVolatile, B: Bitmap>(
         &self,
         host: &HostMemory<B>,
@@ -229,8 +230,8 @@ pub trait Bytes<A>: Named {
         ensures at_most { IfOk result (λ total. total ≤ count) };
 
     /// Offers a sink `count` bytes until it has taken them. In guest memory, where the memory ends behind the first
-    /// byte, the error says how many it took. Of a window that lacks some of the bytes none is offered; a sink that
-    /// takes none is `WriteZero`. No byte and no mark changes.
+    /// byte, the error says how many it took. A window or a region that lacks some of the bytes offers none. A sink
+    /// that takes none is `WriteZero`. A failure of the sink is answered. No byte and no mark changes.
     fn write_all_volatile_to<F: WriteVolatile, B: Bitmap>(
         &self,
         host: &HostMemory<B>,
@@ -244,7 +245,7 @@ pub trait Bytes<A>: Named {
             (Takes F.sink F.taken F.may_want F.writes host.now.blocks UntilWhole) (all_of partial count)
             dst.old result dst.new };
 
-    /// The window of a load or a store has exactly the size that was asked for.
+    /// The window of a load or a store has exactly the size asked for.
     ghost place_has_all: { (m : Self) (tables : List Table) (addr : A) (n : ℕ) (access : Permissions)
         → IfOk (place m tables addr n access) (λ w. w.size ≡ n) };
 }

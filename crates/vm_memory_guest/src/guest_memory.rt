@@ -26,8 +26,8 @@ use crate::volatile_memory::slice::VolatileSlice;
 use std::marker::Model;
 use vm_memory_base::{Bitmap, GuestAddress, MappedRange, Permissions};
 
-/// The windows of an access, whatever translated it, and then the error of what stopped it. After its end
-/// or an error it stays ended.
+/// The windows of an access, translated or not, and then the error of what stopped it. After its end or an error
+/// it stays ended.
 #[derive(Drop)]
 pub struct IommuMemorySliceIterator<'a, M: GuestMemoryBackend> {
     walk: GuestMemoryBackendSliceIterator<'a, M>,
@@ -91,8 +91,7 @@ impl<'a, M: GuestMemoryBackend> Iterator for IommuMemorySliceIterator<'a, M> {
     }
 }
 
-/// Guest memory: a backend, or one behind an IOMMU. Everything that implements it gives `Bytes` by guest
-/// address.
+/// Guest memory: a backend, or one behind an IOMMU. Every type that implements it has `Bytes` by guest address.
 ///
 /// ```text
 /// for window in memory.get_slices(&host, GuestAddress(0x1000), 8, Permissions::Read)? {
@@ -124,7 +123,7 @@ pub trait GuestMemory: Named {
         ensures layout { IsLayout (memory self.now).regions };
 
     /// Whether each of `count` bytes from an address on may be accessed so, and has a byte of the host. Of no
-    /// byte it is so. `Memory` comes as from `get_slices`, and no other error comes.
+    /// byte it is true. `Memory` comes as from `get_slices`, and no other error comes.
     #[inline]
     fn check_range<B: Bitmap>(
         &self,
@@ -145,7 +144,7 @@ pub trait GuestMemory: Named {
         }
     }
 
-    /// The backend, where addresses are physical: where no IOMMU is on.
+    /// The backend, where no IOMMU is on, so that its addresses are the memory's. Otherwise `None`.
     fn physical_memory(&self) -> Option<&Self::PhysicalMemory>
         ensures { let m = memory self.now in
             MatchOption result (IsOn m) (λ backend. (behind_of m.iommu ≡ None)

@@ -38,11 +38,12 @@ pub enum MmapRegionError {
     /// A block has 1 to 2^63 - 1 bytes.
     #[error("invalid block size")]
     InvalidSize,
+    /// An allocation failed.
     #[error("out of memory")]
     Memory,
 }
 
-/// What a host holds, asked of any number: how long each block is, and which spaces and tables there are.
+/// What a host holds. Its calls answer for any number: how long a block is, and which spaces and tables there are.
 #[derive(Drop)]
 pub struct HostShape {
     blocks: Vec<usize>,
@@ -71,7 +72,7 @@ impl HostShape {
         }
     }
 
-    /// Whether a block may have so many bytes: 1 to 2^63 - 1.
+    /// Whether a block may have this many bytes: 1 to 2^63 - 1.
     pub fn is_block_size(size: usize) -> bool
         ensures { IsTrue result ↔ ((0 < size) × (size < 2 ^ 63)) }
     {
@@ -107,7 +108,7 @@ impl HostShape {
         table.0 < self.tables
     }
 
-    /// Whether so many bytes of a block from an offset on are there.
+    /// Whether a block has `len` bytes from `offset` on.
     pub fn has_place(&self, block: BlockId, offset: usize, len: usize) -> bool
         ensures { IsTrue result ↔ IsHeld self.now (names.Place block.0 offset len) }
     {
@@ -117,7 +118,7 @@ impl HostShape {
         }
     }
 
-    /// Whether there is a bitmap of this name.
+    /// Whether there is the block or the space of this bitmap.
     pub fn has_bitmap(&self, bitmap: BitmapId) -> bool
         ensures { IsTrue result ↔ IsHeld self.now (bitmap_name bitmap) }
     {
@@ -133,13 +134,13 @@ pub trait Named {
     /// The parts of a host that the value names.
     ghost names: { Self → List Name };
 
-    /// Whether everything that it names is in a host of this shape.
+    /// Whether a host of this shape has everything that the value names.
     fn held_by(&self, shape: &HostShape) -> bool
         ensures { IsTrue result ↔ Holds shape.now (names self.now) };
 }
 
-/// All bytes, bitmaps, spaces and tables. Numbers start at 0 in each kind, no number ever stops naming, and
-/// no block changes its length.
+/// Host memory: all bytes, bitmaps, spaces and tables. Each kind is numbered from 0. A number names the same thing for
+/// good, and no block changes its length.
 #[derive(Drop)]
 pub struct HostMemory<B> {
     alloc: Global,
@@ -200,7 +201,7 @@ impl<B> HostMemory<B> {
         named.held_by(self.shape())
     }
 
-    /// The length of a block in bytes, 1 to 2^63 - 1.
+    /// The length of a block that the host holds, in bytes: 1 to 2^63 - 1.
     pub fn block_len(&self, block: BlockId) -> usize
         requires { Holds (shape_of self.now) (names.Block block.0 ∷ []) }
         ensures value { result ≡ length (block_at self.now.blocks block.0) }
@@ -210,8 +211,8 @@ impl<B> HostMemory<B> {
         self.blocks[block.0].len()
     }
 
-    /// Makes a block of `size` zeroed bytes, tracked by a bitmap: the answer is its number. A size of 0 or
-    /// above 2^63 - 1 is refused as `InvalidSize`, and want of memory as `Memory`; then nothing changes.
+    /// Makes a block of `size` zeroed bytes, tracked by a bitmap, and answers its number. `InvalidSize` for a size of
+    /// 0 or above 2^63 - 1, `Memory` where an allocation fails. Then nothing changes.
     pub fn new_block_with(&mut self, size: usize, bitmap: B) -> Result<BlockId, MmapRegionError>
     where
         B: Drop,
@@ -250,8 +251,8 @@ impl<B> HostMemory<B> {
         Ok(block)
     }
 
-    /// Makes a space, the pages of which `bitmap` tracks: the answer is its number. `AllocError` where there is no
-    /// memory for it, and then nothing changes.
+    /// Makes a space, the pages of which `bitmap` tracks, and answers its number. `AllocError` where an allocation
+    /// fails, and then nothing changes.
     pub fn new_space(&mut self, bitmap: B) -> Result<SpaceId, AllocError>
     where
         B: Drop,
@@ -277,8 +278,8 @@ impl<B> HostMemory<B> {
         Ok(space)
     }
 
-    /// Makes a table that maps no address: the answer is its number. `AllocError` where there is no memory for it, and
-    /// then nothing changes.
+    /// Makes a table that maps no address, and answers its number. `AllocError` where an allocation fails, and then
+    /// nothing changes.
     pub fn new_table(&mut self) -> Result<TlbId, AllocError>
         ensures number { IfOk result (λ table. table.0 ≡ length self.old.tables) }
         ensures ok { OnOk result (self.new ≡ with_table self.old) }
@@ -290,8 +291,8 @@ impl<B> HostMemory<B> {
         self.new_table_with(table)
     }
 
-    /// Takes a table in, one with a limit perhaps, or one that says something: the answer is its number. Refused,
-    /// nothing changes.
+    /// Takes in a table, which may have a limit or mappings, and answers its number. `AllocError` where an allocation
+    /// fails, and then nothing changes.
     pub fn new_table_with(&mut self, table: Iotlb) -> Result<TlbId, AllocError>
         ensures number { IfOk result (λ number. number.0 ≡ length self.old.tables) }
         ensures ok { OnOk result (self.new ≡ with_given_table self.old table) }
@@ -320,7 +321,7 @@ impl<B> HostMemory<B> {
     ghost use Rattle.vm_memory_base.specs.contracts.iotlb.table.Iotlb.{the_row as table_row};
     ghost use Rattle.vm_memory_guest.specs.Window.{with_bitmap, bitmap_name, bitmap_of};
 
-    /// The bitmap of a block or of a space that the host holds.
+    /// Lends the bitmap of a block or of a space, which the host has to hold.
     pub fn bitmap(&self, bitmap: BitmapId) -> &B
         requires { Holds (shape_of self.now) (bitmap_name bitmap ∷ []) }
         ensures { bitmap_of self.now bitmap ≡ Some result.now }
@@ -331,7 +332,7 @@ impl<B> HostMemory<B> {
         }
     }
 
-    /// The bitmap of a block or of a space that the host holds, to change.
+    /// Lends the bitmap of a block or of a space, which the host has to hold, to be changed.
     pub fn bitmap_mut(&mut self, bitmap: BitmapId) -> &mut B
         requires { Holds (shape_of self.old) (bitmap_name bitmap ∷ []) }
         ensures* lends { sem 𝓛 (Lends (the_row B.row) B.row self.entry result (with_bitmap self.old bitmap)) }
@@ -343,7 +344,7 @@ impl<B> HostMemory<B> {
         }
     }
 
-    /// Lends the table of this number, which the host holds.
+    /// Lends the table of this number, which the host has to hold.
     pub fn table(&self, table: TlbId) -> &Iotlb
         requires { Holds (shape_of self.now) (names.Tlb table.0 ∷ []) }
         ensures { slice_get self.now.tables table.0 ≡ Some result.now }
@@ -351,7 +352,7 @@ impl<B> HostMemory<B> {
         &self.tables[table.0]
     }
 
-    /// Lends the table of this number, which the host holds, to be changed.
+    /// Lends the table of this number, which the host has to hold, to be changed.
     pub fn table_mut(&mut self, table: TlbId) -> &mut Iotlb
         requires { Holds (shape_of self.old) (names.Tlb table.0 ∷ []) }
         ensures* lends { sem 𝓛
@@ -363,7 +364,7 @@ impl<B> HostMemory<B> {
 }
 
 impl<B: NewBitmap + Drop> HostMemory<B> {
-    /// Makes a block of `size` zeroed bytes, tracked by a new bitmap for as many, as `new_block_with` does.
+    /// Makes a block of `size` zeroed bytes, tracked by a new bitmap for them, as `new_block_with` does.
     pub fn new_block(&mut self, size: usize) -> Result<BlockId, MmapRegionError>
         ensures number { IfOk result (λ block. block.0 ≡ length self.old.blocks) }
         ensures ok { OnOk result ((bitmap : B) × B.made size bitmap × (self.new ≡ with_block self.old size bitmap)) }

@@ -54,8 +54,8 @@ impl Model for MmapRegion {
 }
 
 impl MmapRegion {
-    /// Makes a block of `size` zeroed bytes in the host: `InvalidSize` for 0 or above 2^63 - 1, `Memory` for
-    /// want of it. A refusal changes nothing.
+    /// Makes a block of `size` zeroed bytes in the host: `InvalidSize` for 0 or above 2^63 - 1, `Memory` where
+    /// an allocation fails. A refusal changes nothing.
     pub fn new<B: NewBitmap + Drop>(
         host: &mut HostMemory<B>,
         size: usize,
@@ -74,7 +74,7 @@ impl MmapRegion {
         Ok(MmapRegion { block, size })
     }
 
-    /// A whole block that the host holds.
+    /// The whole block of this number, which the host has to hold.
     pub fn of_block<B>(host: &HostMemory<B>, block: BlockId) -> MmapRegion
         requires { Holds (shape_of host.now) (names.Block block.0 ∷ []) }
         ensures block { result.block ≡ block.0 }
@@ -285,7 +285,7 @@ impl From<MmapRegionError> for FromRangesError {
 impl GuestRegionMmap {
     /// Makes a block of `size` zeroed bytes in the host, at a guest address. The size is tested first, as in
     /// `MmapRegion::new`, and then that the address plus the size fits: `InvalidGuestRegion` where it does not.
-    /// Want of memory is that of the mapping, `MmapRegion`. A refusal, for want of memory too, adds no block.
+    /// A failed allocation is that of the mapping, `MmapRegion(Memory)`. A refusal of any kind adds no block.
     pub fn from_range<B: NewBitmap + Drop>(
         host: &mut HostMemory<B>,
         addr: GuestAddress,
@@ -322,9 +322,9 @@ pub type GuestMemoryMmap = GuestRegionCollection<GuestRegionMmap>;
 
 impl GuestRegionCollection<GuestRegionMmap> {
     /// Guest memory of new blocks of zeroed bytes: each range has the first address and the size of one. The
-    /// blocks are made in order, as `GuestRegionMmap::from_range` does, and then the regions are tested as
-    /// `from_regions` does. Want of memory for a block is `MmapRegion`, and for what shares the regions and
-    /// collects them `Collection`. The blocks before a refusal stay in the host, and nothing names them.
+    /// blocks are made in order, as `GuestRegionMmap::from_range` does, and then the regions are tested as in
+    /// `from_regions`. A failed allocation of a block is `MmapRegion(Memory)`, one of a shared region or of the
+    /// collection `Collection(Memory)`. The blocks before a refusal stay in the host, and nothing names them.
     pub fn from_ranges<B: NewBitmap + Drop>(
         alloc: Global,
         host: &mut HostMemory<B>,

@@ -18,8 +18,8 @@ use vm_memory_base::laws::table::{
     allowed_where_each_address_grants, canonical_list_decides_the_table,
 };
 
-/// The windows of a path put together are the path, so they have as many bytes, and so are the marks of their bytes. Inside one region they are
-/// one window, and a host that holds the regions and the space holds them.
+/// A path's windows cover exactly its bytes and marks. Inside one region they are one window, and a host that
+/// holds the regions and the space holds them.
 pub fn windows_are_the_path()
     ensures bytes { (regions : List Region) (route : Route) (a n : ℕ) → All IsRegion regions
         → let xs = path (meets regions route a) 0 n in cells (windows xs) ≡ path_cells xs }

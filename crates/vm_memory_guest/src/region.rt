@@ -51,7 +51,7 @@ pub enum GuestMemoryError {
     /// The translation was refused.
     #[error("IOMMU failed to translate guest address: {0}")]
     IommuError(IommuError),
-    /// There was no memory for the answer.
+    /// An allocation failed.
     #[error("out of memory")]
     Memory,
 }
@@ -59,8 +59,8 @@ pub enum GuestMemoryError {
 /// The result of an access of guest memory.
 pub type GuestMemoryResult<T> = Result<T, GuestMemoryError>;
 
-/// An access that does not fit its window does not fit the region; a count stays a count, a failure of a
-/// source or a sink stays one, and so does want of memory.
+/// An access that does not fit its window does not fit the region. A count, a failure of a source or a sink, and a
+/// failed allocation stay what they are.
 impl From<VolatileMemoryError> for GuestMemoryError {
     ghost use Rattle.std.specs.Prelude.{◌≡◌};
     ghost use Rattle.vm_memory_guest.specs.Error.{of_window};
@@ -110,8 +110,8 @@ pub trait GuestMemoryRegion: Named + Drop {
     fn last_addr(&self) -> GuestAddress
         ensures { result.0 ≡ last (region self.now) };
 
-    /// The view of a bitmap that writes mark, from the region's first byte on: that of its block. Of a region
-    /// without host bytes nothing is marked, whichever view this is.
+    /// The view of a bitmap that writes mark, from the region's first byte on: that of its block. A region without host
+    /// bytes answers any view, and nothing of it is ever marked.
     fn bitmap(&self) -> BitmapRef
         ensures { IfSome (region self.now).place (λ first. result ≡ bitmap_from first) };
 
@@ -123,7 +123,7 @@ pub trait GuestMemoryRegion: Named + Drop {
         addr.0 < self.len()
     }
 
-    /// The offset, where there is an address at it.
+    /// The offset, where there is an address at it, and otherwise `None`.
     #[inline]
     final fn check_address(&self, addr: MemoryRegionAddress) -> Option<MemoryRegionAddress>
         ensures { result ≡ offset_in (region self.now) addr.0 }
@@ -131,7 +131,7 @@ pub trait GuestMemoryRegion: Named + Drop {
         self.address_in_range(addr).then_some(addr)
     }
 
-    /// The offset that lies `offset` bytes above `base`, where there is an address at it.
+    /// The offset that lies `offset` bytes above `base`, where there is an address at it, and otherwise `None`.
     #[inline]
     final fn checked_offset(
         &self,
@@ -144,7 +144,7 @@ pub trait GuestMemoryRegion: Named + Drop {
         self.check_address(MemoryRegionAddress(sum))
     }
 
-    /// The offset of an address, where the region holds it.
+    /// The offset of an address, where the region holds it, and otherwise `None`.
     #[inline]
     final fn to_region_addr(&self, addr: GuestAddress) -> Option<MemoryRegionAddress>
         ensures { result ≡ offset_of (region self.now) addr.0 }
@@ -153,8 +153,8 @@ pub trait GuestMemoryRegion: Named + Drop {
         self.check_address(MemoryRegionAddress(offset))
     }
 
-    /// Where the byte at an offset is in the host: `HostAddressNotAvailable` where the region has no host
-    /// bytes, else `InvalidBackendAddress` where there is no address at the offset.
+    /// Where the byte at an offset is in the host. `HostAddressNotAvailable` where the region has no host bytes,
+    /// otherwise `InvalidBackendAddress` where there is no address at the offset.
     #[inline]
     final fn get_host_address(&self, addr: MemoryRegionAddress) -> GuestMemoryResult<HostAddress>
         ensures { result ≡ host_address_of (region self.now) addr.0 }
@@ -171,8 +171,8 @@ pub trait GuestMemoryRegion: Named + Drop {
         self.get_slice(MemoryRegionAddress(0), self.len() as usize)
     }
 
-    /// The window of `count` bytes from `offset` on: `HostAddressNotAvailable` where the region has no host bytes, else
-    /// `InvalidBackendAddress` where it passes the region's end.
+    /// The window of `count` bytes from `offset` on. `HostAddressNotAvailable` where the region has no host bytes,
+    /// otherwise `InvalidBackendAddress` where it passes the region's end.
     fn get_slice(
         &self,
         offset: MemoryRegionAddress,
@@ -226,7 +226,7 @@ impl<R: GuestMemoryRegion> Model for GuestRegionCollection<R> {
 impl<R: GuestMemoryRegion> GuestRegionCollection<R> {
     ghost use Rattle.vm_memory_guest.specs.Collection.{regions_of};
 
-    /// The layout of no region. It takes no memory.
+    /// The layout of no region. It allocates nothing.
     pub fn new(alloc: Global) -> Self
         ensures { result ≡ [] }
     {
@@ -249,9 +249,9 @@ impl<R: GuestMemoryRegion> GuestRegionCollection<R> {
         GuestRegionCollection::from_arc_regions(regions)
     }
 
-    /// The layout of these regions, in order. No region at all is `NoMemoryRegion`; the first two neighbours
-    /// that are not in order are `UnsortedMemoryRegions` where the earlier starts above the later, else
-    /// `MemoryRegionOverlap`. Want of memory is `Memory`.
+    /// The layout of these regions, in order. No region at all is `NoMemoryRegion`. The first two neighbours that are
+    /// not in order are `UnsortedMemoryRegions` where the earlier starts above the later, and otherwise
+    /// `MemoryRegionOverlap`. `Memory` where an allocation fails; a fault of the regions comes first.
     pub fn from_arc_regions(regions: Vec<Arc<R>>) -> Result<Self, GuestRegionCollectionError>
         ensures { MatchResult result
             (λ c. (layout_error (map R.region (regions_of regions)) ≡ None) × (c ≡ regions_of regions))
@@ -269,9 +269,8 @@ impl<R: GuestMemoryRegion> GuestRegionCollection<R> {
         Ok(GuestRegionCollection { regions, starts })
     }
 
-    /// The layout with one region more, whose bytes it shares. The region stands before the first that starts
-    /// above it; then the regions are tested as `from_arc_regions` does. `Memory` may come before that. This layout
-    /// stays as it is.
+    /// The layout with one region more, whose bytes it shares. The region stands before the first that starts above it;
+    /// then the regions are tested as in `from_arc_regions`. `Memory` may come before that. This layout stays as it is.
     pub fn insert_region(&self, region: Arc<R>) -> Result<Self, GuestRegionCollectionError>
         ensures { let regions = inserted R.region self.now region.value in MatchResult result
             (λ c. (layout_error (map R.region regions) ≡ None) × (c ≡ regions))
@@ -284,8 +283,9 @@ impl<R: GuestMemoryRegion> GuestRegionCollection<R> {
         GuestRegionCollection::from_arc_regions(regions)
     }
 
-    /// The layout without the region of exactly these addresses, which may be left with none, and that region:
-    /// `NoMemoryRegion` where no region starts at `base` and has `size` bytes. This layout stays as it is.
+    /// The layout without the region of exactly these addresses, which may be left with none, and that region.
+    /// `NoMemoryRegion` where no region starts at `base` and has `size` bytes, `Memory` where an allocation fails. This
+    /// layout stays as it is.
     pub fn remove_region(
         &self,
         base: GuestAddress,
@@ -346,8 +346,8 @@ impl<R: GuestMemoryRegion> GuestRegionCollection<R> {
         self.regions.len()
     }
 
-    /// The region that holds an address, found by binary search: one comparison with a region's start for
-    /// each binary digit of their number.
+    /// The region that holds an address, found by binary search: one comparison with a region's start for each binary
+    /// digit of their number.
     #[inline]
     pub fn find_region(&self, addr: GuestAddress) -> Option<&R>
         ensures found { option_copied result ≡ containing_in R.region self.now addr.0 }
@@ -379,7 +379,7 @@ impl<R: GuestMemoryRegion> GuestRegionCollection<R> {
 }
 
 impl<R: GuestMemoryRegion> GuestRegionCollection<R> {
-    /// The region of this number, in the order of addresses.
+    /// The region of this number, in the order of addresses, counted from 0.
     #[inline]
     pub fn region_at(&self, index: usize) -> Option<&R>
         ensures { option_copied result ≡ slice_get self.now index }

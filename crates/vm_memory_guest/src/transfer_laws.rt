@@ -1,5 +1,5 @@
-//! What a transfer of guest memory is, where the source or the sink tells what it does: each function here is a
-//! theorem, and does nothing. It calls the theorems that it follows from.
+//! What a transfer of guest memory is, from a source or to a sink, known or not: each function here is a theorem, and
+//! does nothing. It calls the theorems that it follows from.
 ghost use Rattle.std.specs.Prelude.{◌≡◌, ◌⊎◌, ℕ, ◌+◌, ◌++◌, ◌≤◌, Bool, true, All, List, Option, Some, Result, Ok, Err, IfOk, IfErr, length, take};
 ghost use Rattle.vm_memory_base.specs.Pages.{PageSet};
 ghost use Rattle.vm_memory_base.specs.Transfer.{Next, Sink};
@@ -18,8 +18,8 @@ use std::io::ErrorKind;
 use vm_memory_base::laws::pages::{mark_is_by_bytes, mark_keeps_shape, marked_bytes_are_dirty};
 use vm_memory_base::{Bitmap, ExactBitmap, ReadVolatile, VolatileMemoryError, WriteVolatile};
 
-/// A transfer in from a source that tells what it does, into a host with exact bitmaps: its answer, what the
-/// source does next, and the bytes and the pages of the host are computed from what the source was to do.
+/// A transfer in from a source that says what it does next, into a host with exact bitmaps. What the source was to do
+/// determines its answer, what the source does next, and the bytes and the pages of the host.
 pub fn transfers_in_are_computed<S: ReadVolatile, B: ExactBitmap>()
     ensures { (until_full : Bool) (fault : Option GuestMemoryError) (ws : List Window) (total : ℕ)
         (next : List Next) (source after : S) (old new : Host B) (answer : Result ℕ GuestMemoryError)
@@ -53,9 +53,8 @@ pub fn refused_transfers_in_change_nothing()
         ⊎ ((fault ≡ Some e) × (dealt.host ≡ host)) }
 {}
 
-/// A transfer in that lends each window until it is full, and answers no fewer bytes than its windows have, answers as
-/// many, and filled each of them whole, one after the other. So it is of any source, whether it tells what it does or
-/// not.
+/// A transfer in that lends each window until it is full, and answers no fewer bytes than its windows have, answers
+/// just as many. It filled each window whole, one after the other. This holds of any source, known or not.
 pub fn whole_transfers_in_fill_each_window<S: ReadVolatile, B: Bitmap>()
     ensures { (fault : Option GuestMemoryError) (ws : List Window) (n : ℕ) (source after : S) (old new : Host B)
         → let Moves = Fills S.source S.reads S.known_left B.marks UntilWhole in
@@ -63,8 +62,9 @@ pub fn whole_transfers_in_fill_each_window<S: ReadVolatile, B: Bitmap>()
         → (n ≡ span ws) × AllWhole Moves ws (beside source old) (beside after new) }
 {}
 
-/// A transfer in fails as its source does: where each error of a read passes a test, an error of the transfer is told
-/// of one that passes, or is what ended the walk. So over a file, whose errors are I/O errors, it never wants memory.
+/// Every error of a transfer in is an error of its source, or the fault that ended the walk: where each error of a
+/// read passes a test, the transfer's is one that passes. So over a file, whose errors are I/O errors, no allocation
+/// of its own fails.
 pub fn transfers_in_fail_as_reads_do<S: ReadVolatile, B: Bitmap>()
     ensures { (test : VolatileMemoryError → Bool) (fault : Option GuestMemoryError) (until_full : Bool)
         (ws : List Window) (source after : S) (old new : Host B) (e : GuestMemoryError)
@@ -75,7 +75,8 @@ pub fn transfers_in_fail_as_reads_do<S: ReadVolatile, B: Bitmap>()
         → ((v : VolatileMemoryError) × (test v ≡ true) × (e ≡ of_window v)) ⊎ (fault ≡ Some e) }
 {}
 
-/// A transfer out fails as its sink does, likewise. A sink that takes nothing of bytes that are left is `WriteZero`.
+/// Every error of a transfer out is an error of its sink, or the fault that ended the walk, likewise. A sink that
+/// takes nothing of bytes that are left is `WriteZero`.
 pub fn transfers_out_fail_as_writes_do<S: WriteVolatile>()
     ensures { (test : VolatileMemoryError → Bool) (fault : Option GuestMemoryError) (ws : List Window) (old new : S)
         (blocks : List (List ℕ)) (e : GuestMemoryError)
@@ -97,8 +98,8 @@ pub fn filled_windows_are_dirty<S: ReadVolatile, B: ExactBitmap>()
     marked_bytes_are_dirty();
 }
 
-/// A transfer out to a sink that tells what it does: its answer and what the sink does next are computed from
-/// what the sink was to do. Or the sink wanted memory, where it may.
+/// A transfer out to a sink that says what it does next. What the sink was to do determines the answer and what the
+/// sink does next. Or the sink's allocation failed, where it may.
 pub fn transfers_out_are_computed<S: WriteVolatile>()
     ensures { (fault : Option GuestMemoryError) (ws : List Window) (total : ℕ) (state : Sink) (old new : S)
         (blocks : List (List ℕ)) (answer : Result ℕ GuestMemoryError) → S.sink old ≡ Some state
@@ -108,8 +109,8 @@ pub fn transfers_out_are_computed<S: WriteVolatile>()
         ⊎ ((answer ≡ given.answer) × (S.sink new ≡ Some given.left)) }
 {}
 
-/// A transfer out to a sink that tells what it does and keeps what it takes: it took as many of the windows' first
-/// bytes as is computed from what the sink was to do. Or the sink wanted memory, where it may.
+/// A transfer out to a sink that says what it does next, and keeps what it takes. What the sink was to do determines
+/// how many of the windows' first bytes it took. Or the sink's allocation failed, where it may.
 pub fn sinks_take_what_is_computed<S: WriteVolatile>()
     ensures { (fault : Option GuestMemoryError) (ws : List Window) (total : ℕ) (state : Sink) (before : List ℕ)
         (old new : S) (blocks : List (List ℕ)) (answer : Result ℕ GuestMemoryError) → S.sink old ≡ Some state
@@ -121,8 +122,8 @@ pub fn sinks_take_what_is_computed<S: WriteVolatile>()
         × (S.taken new ≡ Some (before ++ take count (bytes_at blocks (cells ws))))) }
 {}
 
-/// A transfer out to a sink that keeps what it takes: it took the first bytes of the windows, in order, and as
-/// many as were answered.
+/// A transfer out to a sink that keeps what it takes: it took the first bytes of the windows, in order, and as many as
+/// the answer counts, if it does.
 pub fn sinks_take_the_first_bytes<S: WriteVolatile>()
     ensures { (fault : Option GuestMemoryError) (ws : List Window) (total : ℕ) (before : List ℕ) (old new : S)
         (blocks : List (List ℕ)) (answer : Result ℕ GuestMemoryError) → S.taken old ≡ Some before
@@ -131,8 +132,8 @@ pub fn sinks_take_the_first_bytes<S: WriteVolatile>()
         × IfOk answer (λ n. n ≡ total + count) }
 {}
 
-/// A transfer out to a vector: it has the bytes of the first windows more, each whole, and those of all windows where
-/// it is answered how many these were.
+/// A transfer out to a vector: it has the bytes of the first windows more, each whole. Where the answer is a count, it
+/// has those of all windows.
 pub fn vectors_take_whole_windows()
     ensures { let w = ⟦<Vec<u8> as WriteVolatile>⟧ in (fault : Option GuestMemoryError) (ws : List Window) (total : ℕ)
         (old new : _) (blocks : List (List ℕ)) (answer : Result ℕ GuestMemoryError)

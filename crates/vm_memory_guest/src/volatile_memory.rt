@@ -34,7 +34,7 @@ pub trait VolatileMemory {
     /// The number of its bytes.
     ghost size: { Self → ℕ };
 
-    /// What it gives of so many bytes from an offset on.
+    /// What it gives of some bytes from an offset on.
     ghost slice: { Self → ℕ → ℕ → Result Window error.VolatileMemoryError };
 
     /// The number of bytes.
@@ -62,7 +62,7 @@ pub trait VolatileMemory {
         self.get_slice(0, self.len()).unwrap()
     }
 
-    /// The value at `offset`. Refused as `get_slice` refuses its bytes.
+    /// The value at `offset`. It is refused as `get_slice` refuses its bytes.
     #[inline]
     final fn get_ref<T: ByteValued>(&self, offset: usize) -> VolatileMemoryResult<VolatileRef<T>>
         ensures { result ≡ slice self.now offset (size_of T.width) }
@@ -71,8 +71,8 @@ pub trait VolatileMemory {
         Ok(VolatileRef::new(slice))
     }
 
-    /// The `n` values from `offset` on. `TooBig` where their number, or that of their bytes, passes 2^63 - 1,
-    /// and else refused as `get_slice` refuses their bytes.
+    /// The `n` values from `offset` on. `TooBig` where their number, or that of their bytes, passes 2^63 - 1. Otherwise
+    /// it is refused as `get_slice` refuses their bytes.
     #[inline]
     final fn get_array_ref<T: ByteValued>(
         &self,
@@ -86,8 +86,8 @@ pub trait VolatileMemory {
         Ok(VolatileArrayRef::new(slice, n))
     }
 
-    /// Where `offset` bytes from `base` on end. `Overflow` where that is no 64-bit number, `OutOfBounds` at
-    /// the end where it passes the length.
+    /// Where `offset` bytes from `base` on end. `Overflow` where that is no 64-bit number, `OutOfBounds` with that end
+    /// where it passes the length.
     #[inline]
     final fn compute_end_offset(&self, base: usize, offset: usize) -> VolatileMemoryResult<usize>
         ensures { result ≡ end_of (size self.now) base offset }

@@ -16,9 +16,9 @@ pub trait SharedBitmap: Bitmap {
         ensures { Self.marks self.now offset len self.now };
 }
 
-/// Tracks the pages of a number of bytes, from offset 0 on, one bit each: page `n` is bit `n % 64` of word
-/// `n / 64`. Threads share it by reference. A mark sets each of its pages in a step of its own, and a reset of a
-/// range clears each in one, so that nothing of other pages is lost.
+/// Tracks the pages of a number of bytes, from offset 0 on, one bit each: page `n` is bit `n % 64` of word `n / 64`.
+/// Threads share it by reference. A mark sets each of its pages in one step, and a reset of a range clears each in
+/// one, so that nothing of other pages is lost.
 ///
 /// ```rust
 /// use std::num::NonZeroUsize;
@@ -44,7 +44,7 @@ impl AtomicBitmap {
     ghost use Rattle.vm_memory_base.specs.Shared.{bytes_of, page_size_of, len_of};
 
     /// A clean bitmap for `byte_size` bytes in pages of `page_size` bytes, the last of which may be cut.
-    /// `AllocError` where there is no memory for it.
+    /// `AllocError` where its allocation fails.
     pub fn new(alloc: Global, byte_size: usize, page_size: NonZeroUsize) -> Result<Self, AllocError>
         ensures bytes { IfOk result (λ b. bytes_of b ≡ byte_size) }
         ensures page_size { IfOk result (λ b. page_size_of b ≡ non_zero_usize_get page_size) }
@@ -60,9 +60,9 @@ impl AtomicBitmap {
         })
     }
 
-    /// Tracks `additional_size` bytes more, in new pages that are clean, behind those that the last page has room
-    /// for. The sizes together have to fit 64 bits. `AllocError` where there is no memory for the pages, and then
-    /// nothing is changed.
+    /// Tracks `additional_size` bytes more. They fill the last page first, and then new pages, which are clean. The
+    /// sizes together have to fit 64 bits. `AllocError` where the allocation of the pages fails, and then nothing
+    /// changes.
     pub fn enlarge(&mut self, additional_size: usize) -> Result<(), AllocError>
         requires { bytes_of self.old + additional_size < 2 ^ 64 }
         ensures bytes { OnOk result (bytes_of self.new ≡ bytes_of self.old + additional_size) }
@@ -102,7 +102,7 @@ impl AtomicBitmap {
         index < self.size && self.map[index / 64].load(Ordering::SeqCst) & (1 << (index % 64)) != 0
     }
 
-    /// Whether the page of the byte at `addr` is dirty.
+    /// Whether the page of the byte at `addr` is dirty. Past the last page no byte is.
     #[inline]
     pub fn is_addr_set(&self, addr: usize) -> bool
         ensures { len_of self.now ≤ addr / page_size_of self.now → result ≡ false }
@@ -127,8 +127,8 @@ impl AtomicBitmap {
         (first, end)
     }
 
-    /// Makes the pages of `len` bytes from `start` on dirty, one after another: none, where `len` is 0. A range
-    /// that passes 2^64 - 1 ends there, and pages past the last are no pages.
+    /// Makes the pages of `len` bytes from `start` on dirty, one after another: none, where `len` is 0. A range that
+    /// passes 2^64 - 1 ends there, and what lies past the last page is left out.
     pub fn set_addr_range(&self, start: usize, len: usize) {
         let (first, end) = self.taken(start, len);
         let map = self.map.as_slice();
@@ -141,7 +141,7 @@ impl AtomicBitmap {
         }
     }
 
-    /// Makes the pages clean, one after another, that `set_addr_range` would make dirty.
+    /// Makes clean, one after another, the pages that `set_addr_range` would make dirty.
     pub fn reset_addr_range(&self, start: usize, len: usize) {
         let (first, end) = self.taken(start, len);
         for page in first..end {
@@ -179,9 +179,8 @@ impl AtomicBitmap {
         }
     }
 
-    /// Takes the dirty pages as words, and makes them clean: each word in a step of its own, in order. No word has
-    /// a bit at or past the number of pages. `AllocError` where there is no memory for the words, and then nothing
-    /// is changed.
+    /// Takes the dirty pages as words, and makes them clean: each word in one step, in order. No word has a bit at
+    /// or past the number of pages. `AllocError` where the allocation of the words fails, and then nothing changes.
     pub fn get_and_reset(&self, alloc: Global) -> Result<Vec<u64>, AllocError>
         ensures words { IfOk result (λ words. length words.items ≡ div_ceil (len_of self.now) 64) }
         ensures within { IfOk result (λ words. AreWithin (len_of self.now) words.items) }
@@ -218,7 +217,8 @@ fn set_in(word: &AtomicU64, bit: u64, left: Option<u64>) -> u64 {
     word.fetch_or(bit, Ordering::SeqCst) | bit
 }
 
-/// Tracks as many bytes in pages of the same size, of which those are dirty that were found dirty.
+/// A clone tracks the same number of bytes in pages of the same size. Those pages are dirty that were found dirty.
+/// `AllocError` where its allocation fails.
 impl Clone for AtomicBitmap {
     ghost use Rattle.vm_memory_base.specs.Shared.{bytes_of, page_size_of};
 
@@ -238,8 +238,7 @@ impl Clone for AtomicBitmap {
     }
 }
 
-/// Which of its pages are dirty is not told, since any thread may change it, but for pages at or past the number
-/// of pages.
+/// Nothing is said about which pages are dirty, since any thread may change them. Pages past the end never are.
 impl Bitmap for AtomicBitmap {
     ghost use Rattle.vm_memory_base.specs.Shared.{bytes_of, page_size_of, len_of};
 

@@ -38,7 +38,7 @@ impl ExclusiveBitmap {
     ghost use Rattle.vm_memory_base.specs.Exclusive.{pages_of, bytes_of};
 
     /// A clean bitmap for `byte_size` bytes in pages of `page_size` bytes, the last of which may be cut.
-    /// `AllocError` where there is no memory for it.
+    /// `AllocError` where its allocation fails.
     pub fn new(alloc: Global, byte_size: usize, page_size: NonZeroUsize) -> Result<Self, AllocError>
         ensures pages { IfOk result (λ b. Some (pages_of b)
             ≡ page_set.new_pages (non_zero_usize_get page_size) byte_size) }
@@ -95,8 +95,8 @@ impl ExclusiveBitmap {
         (end.min(first), end)
     }
 
-    /// Makes the pages clean that a mark of `len` bytes from `start` on would make dirty: none, where `len`
-    /// is 0.
+    /// Makes clean the pages that a mark of `len` bytes from `start` on would make dirty: none, where `len` is 0,
+    /// and none past the last page.
     pub fn reset_addr_range(&mut self, start: usize, len: usize)
         ensures pages { Some (pages_of self.new) ≡ page_set.unmarked start len (Some (pages_of self.old)) }
         ensures bytes { bytes_of self.new ≡ bytes_of self.old }
@@ -113,8 +113,8 @@ impl ExclusiveBitmap {
         self.words.fill(0);
     }
 
-    /// Takes the dirty pages as bits of words, page `n` as bit `n % 64` of word `n / 64`, and makes them
-    /// clean. `AllocError` where there is no memory for the words, and then nothing is changed.
+    /// Takes the dirty pages as bits of words, page `n` as bit `n % 64` of word `n / 64`, and makes them clean.
+    /// `AllocError` where the allocation of the words fails, and then nothing changes.
     pub fn get_and_reset(&mut self, alloc: Global) -> Result<Vec<u64>, AllocError>
         ensures words { IfOk result (λ words. words.items ≡ page_set.dirty_words (Some (pages_of self.old))) }
         ensures clean { OnOk result (Some (pages_of self.new) ≡ page_set.cleaned (Some (pages_of self.old))) }

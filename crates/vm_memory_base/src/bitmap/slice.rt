@@ -30,7 +30,7 @@ pub struct BaseSlice<P> {
 /// A slice of a bitmap that is borrowed.
 pub type RefSlice<'a, B> = BaseSlice<&'a B>;
 
-/// A slice of a bitmap that is owned with others.
+/// A slice of a bitmap that several own.
 pub type ArcSlice<B> = BaseSlice<Arc<B>>;
 
 impl<P> BaseSlice<P> {
@@ -53,7 +53,7 @@ impl<P: Clone> BaseSlice<P> {
     ghost use Rattle.vm_memory_base.specs.Slices.{inner_of, base_of};
 
     /// The slice of the same bitmap that begins `offset` bytes further on, modulo 2^64. `AllocError` where what
-    /// lends the bitmap cannot be cloned: a reference always can.
+    /// lends the bitmap cannot be cloned. A reference always can.
     pub fn slice_at(&self, offset: usize) -> Result<BaseSlice<P>, AllocError>
         ensures inner { IfOk result (λ s. P.is_clone (inner_of self.now) (inner_of s)) }
         ensures base { IfOk result (λ s. base_of s ≡ in_view (base_of self.now) offset) }
@@ -67,7 +67,7 @@ impl<P: Clone> BaseSlice<P> {
     }
 }
 
-/// Marks and tells what the bitmap does at offsets that lie its base further on, modulo 2^64.
+/// Forwards to the bitmap, adding the slice's base to each offset, modulo 2^64.
 impl<P: Lends> Bitmap for BaseSlice<P>
 where
     P::Target: SharedBitmap,

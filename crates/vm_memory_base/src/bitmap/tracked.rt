@@ -48,7 +48,7 @@ pub struct Harvester {
 /// Why no page was harvested.
 #[derive(Clone, Copy, Debug, PartialEq, Eq, Error)]
 pub enum HarvestError {
-    /// There was no memory for the pages.
+    /// The allocation of the pages failed.
     #[error("out of memory")]
     Memory,
     /// Each word was harvested 2^32 - 1 times, and has no room for the number of another round.
@@ -70,8 +70,8 @@ impl TrackedBitmap {
     };
     ghost use Rattle.vm_memory_base.specs.declared.bitmap.tracked.HarvestError.TheVariants.{RoundsSpent};
 
-    /// A bitmap for `byte_size` bytes in pages of `page_size` bytes, the last of which may be cut, of which none is
-    /// set, with so many markers. `AllocError` where there is no memory for them.
+    /// A bitmap for `byte_size` bytes in pages of `page_size` bytes, the last of which may be cut. No page is set.
+    /// With it come its harvester and as many markers as are asked for. `AllocError` where an allocation fails.
     pub fn new(
         alloc: Global,
         byte_size: usize,
@@ -129,8 +129,9 @@ impl TrackedBitmap {
         if last < count { last + 1 } else { count }
     }
 
-    /// Marks the pages of `len` bytes from `addr` on, ascending, each by one step. Past the last page there is none.
-    /// The marker is one of this bitmap's.
+    /// Marks the pages of `len` bytes from `addr` on, ascending, each by one step: none, where `len` is 0. A range
+    /// that passes 2^64 - 1 ends there, and what lies past the last page is left out. The marker has to be one of
+    /// this bitmap's.
     pub fn mark(&self, marker: &mut Marker, addr: usize, len: usize)
         requires own { marker_table marker.old ≡ table_of self.now }
         ensures same { marker_table marker.new ≡ marker_table marker.old }
@@ -143,7 +144,8 @@ impl TrackedBitmap {
         }
     }
 
-    /// Whether the page of the byte at `addr` is seen set, by one step. Past the last page there is none.
+    /// Whether the page of the byte at `addr` is seen set, by one step. Past the last page none is. The marker has to
+    /// be one of this bitmap's.
     pub fn is_addr_set(&self, marker: &mut Marker, addr: usize) -> bool
         requires own { marker_table marker.old ≡ table_of self.now }
         ensures same { marker_table marker.new ≡ marker_table marker.old }
@@ -170,8 +172,8 @@ impl TrackedBitmap {
         (pages_of(found) >> (page % 32)) & 1 == 1
     }
 
-    /// Whether the page of the byte at `addr` was set at some moment. It takes no marker, and promises no more than
-    /// that past the last page there is none.
+    /// Whether the page of the byte at `addr` was set at some moment. It takes no marker, and promises only that past
+    /// the last page none is.
     pub fn glance(&self, addr: usize) -> bool
         ensures { count_of self.now ≤ addr / page_size_of self.now → result ≡ false }
     {
@@ -199,9 +201,9 @@ impl TrackedBitmap {
         pages_of(found)
     }
 
-    /// Takes the pages of every word, in order: page `n` is bit `n % 32` of number `n / 32`. Each word is taken and
-    /// opened for its next round by one step. `RoundsSpent` where there is a word that was harvested 2^32 - 1 times,
-    /// `Memory` where there is none for the answer, and then nothing is changed. The harvester is this bitmap's.
+    /// Takes the pages of every word, in order: page `n` is bit `n % 32` of number `n / 32`. One step takes a word
+    /// and opens its next round. `RoundsSpent` where there is a word that was harvested 2^32 - 1 times, `Memory`
+    /// where the allocation of the answer fails, and then nothing changes. The harvester has to be this bitmap's.
     pub fn get_and_reset(
         &self,
         harvester: &mut Harvester,
@@ -250,7 +252,7 @@ impl TrackedBitmap {
         *round += 1;
     }
 
-    /// Hands what a marker knows to the harvester. Both are this bitmap's.
+    /// Hands what a marker knows to the harvester. Both have to be this bitmap's.
     pub fn join(&self, harvester: &mut Harvester, marker: Marker)
         requires own { (harvester_table harvester.old ≡ table_of self.now)
             × (marker_table marker ≡ table_of self.now) }
@@ -263,7 +265,8 @@ impl TrackedBitmap {
             .join_seat::<Both>(&mut harvester.seat, seat);
     }
 
-    /// From then on the marker has seen each round at which the harvester stands. Both are this bitmap's.
+    /// Lets a marker meet the harvester. From then on the marker has seen each round at which the harvester stands.
+    /// Both have to be this bitmap's.
     pub fn meet(&self, marker: &mut Marker, harvester: &mut Harvester)
         requires own { (marker_table marker.old ≡ table_of self.now)
             × (harvester_table harvester.old ≡ table_of self.now) }
@@ -282,8 +285,8 @@ impl TrackedBitmap {
         shared.join_seat::<Both>(&mut marker.seat, told);
     }
 
-    /// Ends the bitmap, and answers the pages that are set, as `get_and_reset` does. Both come back where there is no
-    /// memory for them.
+    /// Ends the bitmap, and answers the pages that are set, as `get_and_reset` does. Where the allocation of the
+    /// answer fails, bitmap and harvester come back. The harvester has to be this bitmap's.
     pub fn close(
         self,
         harvester: Harvester,
@@ -318,7 +321,7 @@ impl TrackedBitmap {
 impl Marker {
     ghost use Rattle.vm_memory_base.specs.Markers.{AreNew};
 
-    // So many markers that know no more yet than the number of pages.
+    // As many markers as are asked for, which know the number of pages and no more.
     fn deal(
         alloc: Global,
         shared: &Shared<(), View, usize, Rounds>,

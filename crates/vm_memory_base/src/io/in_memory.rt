@@ -91,7 +91,7 @@ impl ReadVolatile for Cursor<&mut [u8]> {
 }
 
 // Bytes take as many as they have, and what is left of them takes the next. Those that were taken lie outside what is
-// left, where no clause here sees them: a cursor over the same bytes tells them.
+// left, where no clause here sees them. A cursor over the same bytes shows them.
 impl WriteVolatile for &mut [u8] {
     ghost sink = { λ s. room_from s.now 0 };
 
@@ -113,7 +113,7 @@ impl WriteVolatile for &mut [u8] {
     }
 }
 
-// A vector takes all bytes, or none where it finds no memory for them.
+// A vector takes all bytes, or none where their allocation fails.
 impl WriteVolatile for Vec<u8> {
     ghost sink = { λ v. Some (record { next = []; room = None }) };
 

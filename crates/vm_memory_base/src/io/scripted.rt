@@ -12,7 +12,7 @@ use std::marker::Model;
 /// What a source does at its next tries.
 #[derive(Debug, Drop)]
 pub enum SourceStep {
-    /// Gives these bytes, at as many tries as that takes.
+    /// Gives these bytes, over as many tries as they take.
     Give(ByteList),
     /// Writes these bytes over the beginning of what it was lent, and answers that it was interrupted.
     Interrupted(ByteList),
@@ -20,7 +20,7 @@ pub enum SourceStep {
     Fail(ByteList),
 }
 
-/// A source that follows a script. After its end it gives nothing.
+/// A source that follows a script. After its last step it gives nothing.
 #[derive(Drop)]
 pub struct ScriptSource<'a> {
     // What is left of a step that gives bytes.
@@ -39,7 +39,7 @@ impl<'a> Model for ScriptSource<'a> {
 }
 
 impl<'a> ScriptSource<'a> {
-    /// A source that follows these steps. It takes no memory.
+    /// A source that follows these steps. It allocates nothing.
     pub fn new(steps: &'a [SourceStep]) -> ScriptSource<'a>
         ensures { result ≡ map next_of steps.now }
     {
@@ -92,7 +92,7 @@ impl ReadVolatile for ScriptSource<'_> {
 /// What a sink does at its next tries.
 #[derive(Clone, Copy, Debug, PartialEq, Eq)]
 pub enum SinkStep {
-    /// Takes at most so many bytes.
+    /// Takes at most this many bytes.
     Take(usize),
     /// Takes none, and answers that it was interrupted.
     Interrupted,
@@ -100,7 +100,7 @@ pub enum SinkStep {
     Fail,
 }
 
-/// A sink that follows a script, and keeps what it took. It has room for so many bytes. After its end it takes
+/// A sink that follows a script, and keeps what it took, as far as its room goes. After its last step it takes
 /// what it has room for.
 #[derive(Drop)]
 pub struct ScriptSink<'a> {
@@ -125,8 +125,8 @@ impl<'a> Model for ScriptSink<'a> {
 }
 
 impl<'a> ScriptSink<'a> {
-    /// A sink that follows these steps, with room for so many bytes, which is reserved. Room for none takes no
-    /// memory. `AllocError` where there is none.
+    /// A sink that follows these steps, with room for `room` bytes, which it reserves. `AllocError` where that
+    /// fails. Without room it allocates nothing.
     pub fn new(
         alloc: Global,
         steps: &'a [SinkStep],

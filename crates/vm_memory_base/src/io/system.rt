@@ -1,6 +1,6 @@
-//! Files, sockets and the standard output as sources and sinks. They tell nothing of their bytes. That a try is one
-//! call with the whole buffer, and tells what that call answered, no clause can say: those of `Read` and `Write` hold
-//! of two calls, or of a part of the buffer, as well.
+//! Files, sockets and the standard output as sources and sinks, whose bytes are not known. A try is one call with the
+//! whole buffer, and answers what that call answered. No clause can say so: the clauses of `Read` and `Write` hold of
+//! two calls, or of a part of the buffer, as well.
 ghost use Rattle.std.specs.Prelude.{◌≡◌, None};
 ghost use Rattle.vm_memory_base.specs.System.{ReadsOnce, WritesOnce, told_as};
 
@@ -10,7 +10,7 @@ use std::io::{self, Read, Stdout, Write};
 use std::net::TcpStream;
 use std::os::unix::net::UnixStream;
 
-/// A reader of the system, or one that a crate declares to be such: it is a source that tells nothing of its bytes.
+/// A reader of the system, or one that a crate declares to be such: a source whose bytes are not known.
 pub trait SystemSource: Read {}
 
 impl SystemSource for File {}
@@ -31,7 +31,7 @@ impl SystemSource for &UnixStream {}
 
 impl SystemSource for &mut UnixStream {}
 
-/// A writer of the system, or one that a crate declares to be such: it is a sink that tells nothing of its bytes.
+/// A writer of the system, or one that a crate declares to be such: a sink whose bytes are not known.
 pub trait SystemSink: Write {}
 
 impl SystemSink for File {}
@@ -56,7 +56,7 @@ impl SystemSink for Stdout {}
 
 impl SystemSink for &Stdout {}
 
-// Tells the answer of the system: its count, or its error by kind.
+// What the system answered: its count, or its error by kind.
 fn told(answer: io::Result<usize>) -> VolatileMemoryResult<usize>
     ensures { result ≡ told_as answer }
 {

@@ -56,7 +56,8 @@ pub(super) fn read_again<S: ReadVolatile>(
     read_once(source, buf, interrupted)
 }
 
-/// Writes, and again after each interruption, at most 64 times in a row.
+/// Writes once, and again after each interruption, at most 64 times in a row. The 65th interruption
+/// is answered, and any other error at once.
 pub fn offer_again<S: WriteVolatile>(sink: &mut S, buf: &[u8]) -> VolatileMemoryResult<usize>
     ensures count { IfOk result (λ count. count ≤ length buf.now) }
     ensures tells { OffersAs (S.may_want sink.old) (S.sink sink.old) (length buf.now) result (S.sink sink.new) }

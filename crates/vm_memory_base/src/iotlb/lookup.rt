@@ -40,7 +40,7 @@ impl Model for IovaRangeList {
 }
 
 impl IovaRangeList {
-    /// The ranges of a vector. It takes no memory.
+    /// The ranges of a vector. It allocates nothing.
     pub fn from_vec(ranges: Vec<IovaRange>) -> IovaRangeList
         ensures { result ≡ map range_in ranges.items }
     {
@@ -72,13 +72,14 @@ pub struct IotlbFails {
     pub access_fails: IovaRangeList,
 }
 
-/// The answer of a look-up that gave no pieces.
+/// Why a look-up gave no pieces.
 #[derive(Debug, Drop, Error)]
 pub enum LookupError {
     /// A part of the range is not mapped, or its mapping does not permit the access.
     #[error("lookup failed")]
     Fails(IotlbFails),
-    /// There was no memory to say where it failed, or, in `lookup_all`, for the pieces.
+    /// The allocation of the answer failed: of the parts that fail, or, in `lookup_all`, of the
+    /// pieces.
     #[error("out of memory")]
     Memory,
 }

@@ -51,7 +51,7 @@ impl Model for Iotlb {
 }
 
 impl Iotlb {
-    /// A table that says nothing of any address. It takes no memory.
+    /// A table that maps no address. It allocates nothing.
     pub fn new(alloc: Global) -> Iotlb
         ensures { result ≡ record { limit = None; ranges = [] } }
     {
@@ -61,8 +61,8 @@ impl Iotlb {
         }
     }
 
-    /// A table that says nothing of any address, and never keeps more than `limit` ranges, of which there has to be
-    /// one at least. It takes no memory.
+    /// A table that maps no address, and never keeps more than `limit` ranges. `limit` has to be 1 or more. It
+    /// allocates nothing.
     pub fn with_limit(alloc: Global, limit: usize) -> Iotlb
         requires { 0 < limit }
         ensures { result ≡ record { limit = Some limit; ranges = [] } }
@@ -73,14 +73,14 @@ impl Iotlb {
         }
     }
 
-    /// Lets `length` addresses from `iova` on lead to as many from `map_to` on, modulo 2^64, for these
-    /// accesses, whatever was said of them before. A length of 0 changes nothing and takes no memory. The sum of
-    /// `iova` and `length` has to be an address.
+    /// Maps `length` addresses from `iova` on to those from `map_to` on, modulo 2^64, for these accesses, whatever
+    /// they were mapped to before. A length of 0 changes nothing and allocates nothing. The sum of `iova` and
+    /// `length` has to be an address.
     ///
-    /// While a table with a limit has more ranges, the first of them is evicted that does not have `iova`: what it
-    /// said is a miss from then on.
+    /// While a table with a limit has more ranges, it evicts the first of them that does not have `iova`. What it
+    /// evicts is a miss from then on.
     ///
-    /// `Memory` where there is no memory for it, and then nothing is changed or evicted.
+    /// `Memory` where an allocation fails, and then nothing is changed or evicted.
     pub fn set_mapping(
         &mut self,
         iova: GuestAddress,
@@ -112,12 +112,13 @@ impl Iotlb {
         Ok(())
     }
 
-    /// Lets `length` addresses from `iova` on lead nowhere. A length of 0 changes nothing and takes no memory. The
-    /// sum of `iova` and `length` has to be an address.
+    /// Takes back the mappings of `length` addresses from `iova` on. A length of 0 changes nothing and allocates
+    /// nothing. The sum of `iova` and `length` has to be an address.
     ///
-    /// While a table with a limit has more ranges, the first of them is evicted: what it said is a miss from then on.
+    /// While a table with a limit has more ranges, it evicts the first of them. What it evicts is a miss from then
+    /// on.
     ///
-    /// `Memory` where there is no memory for it, and then nothing is changed or evicted.
+    /// `Memory` where an allocation fails, and then nothing is changed or evicted.
     pub fn invalidate_mapping(
         &mut self,
         iova: GuestAddress,
@@ -144,7 +145,7 @@ impl Iotlb {
         Ok(())
     }
 
-    /// Lets every address lead nowhere. It takes no memory.
+    /// Takes back all mappings. It allocates nothing.
     pub fn invalidate_all(&mut self)
         ensures all { self.new ≡ changed InvalidateAll self.old }
         ensures empty { self.new.ranges ≡ [] }
@@ -152,13 +153,13 @@ impl Iotlb {
         self.ranges.clear();
     }
 
-    /// Where `length` addresses from `iova` on lead, as pieces in order, for an access. A piece is a part of
-    /// a range that is kept, so neighbouring pieces are mapped with different targets or permissions. A length
-    /// of 0 gives no piece. It takes no memory.
+    /// Where `length` addresses from `iova` on lead, as pieces in order, for an access. A piece is a part of a range
+    /// that is kept, so neighbouring pieces are mapped with different targets or permissions. A length of 0 gives no
+    /// piece. A look-up that gives its pieces allocates nothing.
     ///
-    /// `Fails` where an address is not mapped or its mapping does not permit the access: what is missed and
-    /// what fails, each in order. Where the sum of `iova` and `length` is no address the whole range is missed.
-    /// `Memory` where there is no memory to say so.
+    /// `Fails` where an address is not mapped or its mapping does not permit the access: the parts that are missed
+    /// and those that fail, each in order. Where the sum of `iova` and `length` is no address, the whole range is
+    /// missed. `Memory` where the allocation of these parts fails.
     #[inline]
     pub fn lookup(
         &self,
@@ -208,9 +209,9 @@ impl Iotlb {
         Err(refusal(self.ranges.alloc(), asked, iova.0, end, access))
     }
 
-    /// The pieces of a look-up, as a vector. It takes memory for them: for a length of 0 none.
+    /// The pieces of a look-up, as a vector. It allocates them, and nothing for a length of 0.
     ///
-    /// `Fails` where the look-up fails, and what it tells. `Memory` where there is no memory for the answer.
+    /// `Fails` where the look-up fails, with its parts. `Memory` where the allocation of the answer fails.
     pub fn lookup_all(
         &self,
         iova: GuestAddress,
@@ -264,8 +265,8 @@ impl Iotlb {
         Some((run, end))
     }
 
-    /// The number of ranges that are kept. They are the canonical list of what the table says, and at most as many as
-    /// its limit, if it has one.
+    /// The number of ranges that are kept. They are the canonical list of what the table says, and no more than its
+    /// limit, if it has one.
     pub fn num_ranges(&self) -> usize
         ensures count { result ≡ range_count self.now }
         ensures canonical { canonical_list (says self.now) ≡ self.now.ranges }

@@ -2,10 +2,10 @@
 ghost use Rattle.std.specs.Prelude.{◌≡◌, ◌↔◌, ◌⊎◌, ℕ, ◌<◌, Bool, false, true, List};
 ghost use Rattle.vm_memory_base.specs.Events.{Event, is_left, marks_at, answers_at};
 
-/// Of every history of marks and clears, one word a step and whoever makes it, from the empty bitmap on: the
-/// pages that the clears answered, with those that are left, are the marked ones. Each answer of a page has a
-/// mark of it since the answer before. And each mark of a page is followed by an answer that has it, or the page
-/// is left.
+/// In every history of marks and clears, one word a step and whoever makes it, from the empty bitmap on, no page
+/// is lost and none is invented. The pages that the clears answered, with those that are left, are the marked
+/// ones. Each answer of a page has a mark of it since the answer before. And each mark of a page is followed by
+/// an answer that has it, or the page is left.
 pub fn event_law()
     ensures told { (history : List Event) (page : ℕ)
         → (((i : ℕ) × (answers_at page false history i ≡ true)) ⊎ (is_left page false history ≡ true))

@@ -20,7 +20,7 @@ pub fn allowed_by_bits()
 {}
 
 /// A union has the bits of either set, and is allowed where both are. An intersection has the bits of both sets,
-/// and allows what both allow. `same` tells whether two sets are equal.
+/// and allows what both allow. `same` says whether two sets are equal.
 pub fn permissions_are_sets()
     ensures union_read { (a b : Permissions) → has_read (union a b) ≡ (has_read a || has_read b) }
     ensures union_write { (a b : Permissions) → has_write (union a b) ≡ (has_write a || has_write b) }

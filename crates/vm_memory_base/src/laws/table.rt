@@ -49,7 +49,7 @@ pub fn targets_follow_addresses()
         ≡ record { start = iova; len = len; value = mapping } ∷ [] }
 {}
 
-/// Tables have one canonical list exactly where they say the same of each address. `same_mapping` tells whether two
+/// Tables have one canonical list exactly where they say the same of each address. `same_mapping` says whether two
 /// mappings are equal.
 pub fn canonical_list_decides_the_table()
     ensures canonical { (f : Says) → IsCanonical same_mapping (canonical_list f) }
@@ -75,15 +75,14 @@ pub fn kept_list_is_the_canonical_list()
         → canonical_list (says table) ≡ table.ranges }
 {}
 
-/// An access is allowed to no address, and to addresses of which each grants it and the end is an
-/// address too.
+/// An access is allowed where it takes no address, and where each address grants it and the end is an address, too.
 pub fn allowed_where_each_address_grants()
     ensures { (f : Says) (a n : ℕ) (access : Permissions)
         → (is_allowed f a n access ≡ true)
         ↔ ((n ≡ 0) ⊎ ((a + n < 2 ^ 64) × ((x : ℕ) → a ≤ x → x < a + n → grants access (f x) ≡ true))) }
 {}
 
-/// An access is refused for a missing mapping where anything is missed, and else for its permissions.
+/// An access is refused for a missing mapping where anything is missed, and otherwise for its permissions.
 pub fn reason_of_a_refusal()
     ensures missing { (f : Says) (a n : ℕ) → (misses f a n ≡ [] → ⊥) → reason f a n ≡ MissingMapping }
     ensures not_allowed { (f : Says) (a n : ℕ) → misses f a n ≡ [] → reason f a n ≡ AccessNotAllowed }
@@ -127,9 +126,9 @@ pub fn look_up_by_addresses()
         → (each test f a n ≡ true) ↔ ((x : ℕ) → a ≤ x → x < a + n → test (f x) ≡ true) }
 {}
 
-/// Calls of a table with a limit lead to evictions, and those of one without to none. Such a table never has more
-/// ranges than its limit. What is evicted is a miss, and never leads elsewhere than before; and what a call set stays.
-/// What a table says after calls is decided by these and the evictions that they led to.
+/// A call of a table with a limit may lead to evictions, and one of a table without a limit leads to none. A table
+/// never has more ranges than its limit. What is evicted is a miss, and never leads elsewhere than before. What a
+/// call set stays. Calls and the evictions that they led to decide what a table says after them.
 pub fn tables_keep_to_their_limits()
     ensures unbounded { (call : TableEvent) (t : Table) → t.limit ≡ None → events call t ≡ call ∷ [] }
     ensures within { (call : TableEvent) (t : Table) (limit : ℕ) → t.limit ≡ Some limit → 0 < limit

@@ -11,9 +11,9 @@ ghost use Rattle.std.specs.declared.io.ErrorKind.TheVariants.{Interrupted, Other
 use crate::io::WriteVolatile;
 
 /// What a source does not give at one try it gives at the next, and after a failure its scribble stays. 64
-/// interruptions in a row are tried again, and the 65th is answered. A buffer is filled by as many tries as that
-/// takes. Where the source ends before, what is filled may have changed, and all where a try was interrupted or
-/// failed. A source that knows that it is short refuses at once.
+/// interruptions in a row are tried again, and the 65th is answered. A buffer is filled by tries in turn. Where the
+/// source ends before, what is filled may have changed, and all where a try was interrupted or failed. A source that
+/// knows that it is short refuses at once.
 pub fn what_sources_give()
     ensures short { tried 4 (Gives (1 ∷ 2 ∷ []) ∷ Fails [] (IOError Other) ∷ [])
         ≡ record { bytes = 1 ∷ 2 ∷ []; answer = Ok 2; left = Fails [] (IOError Other) ∷ [] } }
@@ -50,8 +50,8 @@ pub fn what_sources_give()
         } }
 {}
 
-/// A sink takes at most what it has room for. Bytes are sent by as many tries as that takes, up to 64 interruptions
-/// in a row, and a sink that takes none of those that are left ends it.
+/// A sink takes at most what it has room for. Bytes are sent by tries in turn, with up to 64 interruptions in a row,
+/// and a sink that takes none of those that are left ends it.
 pub fn what_sinks_take()
     ensures most { offered 5 (record { next = Takes 3 ∷ []; room = Some 4 })
         ≡ record { answer = Ok 3; left = record { next = []; room = Some 1 } } }
@@ -71,8 +71,7 @@ pub fn what_sinks_take()
         (again (offered 2) (record { next = next; room = None })).answer ≡ Err (IOError Interrupted) }
 {}
 
-/// A vector that bytes are sent to has all of them more, or none where it found no memory for them. So it holds whole
-/// pieces.
+/// A vector that is sent bytes has all of them more, or none where their allocation failed. So it holds whole pieces.
 pub fn vectors_take_whole_pieces()
     ensures { let w = ⟦<Vec<u8> as WriteVolatile>⟧ in (old new : _) (bytes : List ℕ) (count : ℕ)
         (answer : Result (Unit {0}) VolatileMemoryError) → SendsBy w.writes old bytes count answer new

@@ -33,7 +33,7 @@ pub trait GuestMemoryBackend: Named + Drop {
     /// Its regions, ascending.
     ghost regions: { Self → List Self.R };
 
-    /// How many regions there are.
+    /// The number of regions.
     fn num_regions(&self) -> usize
         ensures count { result ≡ length (regions self.now) }
         ensures layout { IsLayout (map Self.R.region (regions self.now)) };
@@ -43,7 +43,7 @@ pub trait GuestMemoryBackend: Named + Drop {
         ensures found { option_copied result ≡ containing_in Self.R.region (regions self.now) addr.0 }
         ensures layout { IsLayout (map Self.R.region (regions self.now)) };
 
-    /// The region of this number, in the order of addresses.
+    /// The region of this number, in the order of addresses, counted from 0.
     fn region_at(&self, index: usize) -> Option<&Self::R>
         ensures { option_copied result ≡ slice_get (regions self.now) index };
 
@@ -87,7 +87,7 @@ pub trait GuestMemoryBackend: Named + Drop {
         self.find_region(addr).is_some()
     }
 
-    /// The address, where a region holds it.
+    /// The address, where a region holds it, and otherwise `None`.
     #[inline]
     final fn check_address(&self, addr: GuestAddress) -> Option<GuestAddress>
         ensures { result ≡ address_in Self.R.region (regions self.now) addr.0 }
@@ -96,7 +96,8 @@ pub trait GuestMemoryBackend: Named + Drop {
         Some(addr)
     }
 
-    /// The address that lies `offset` above `base`, where that is an address and a region holds it.
+    /// The address that lies `offset` above `base`, where that is an address and a region holds it, and
+    /// otherwise `None`.
     #[inline]
     final fn checked_offset(&self, base: GuestAddress, offset: usize) -> Option<GuestAddress>
         ensures { result ≡ address_above Self.R.region (regions self.now) base.0 offset }
@@ -106,7 +107,7 @@ pub trait GuestMemoryBackend: Named + Drop {
     }
 
     /// Whether each of `len` bytes from an address on has a byte of the host. After the greatest address comes
-    /// 0, and of no byte it is so.
+    /// 0. Of no byte it is true.
     #[inline]
     final fn check_range(&self, base: GuestAddress, len: usize) -> bool
     where
@@ -119,11 +120,11 @@ pub trait GuestMemoryBackend: Named + Drop {
 
     /// Handles `count` bytes from an address on by a callback.
     ///
-    /// It is called with the bytes handled so far, how many of the rest lie in the region of the next address,
-    /// the offset there and the region, and answers how many it handled. The access ends where it answers 0 or
-    /// has handled all, and where no region holds the next address, with the bytes handled. Its error is
-    /// answered. `CallbackOutOfRange` is the answer where it handled more than `count` bytes in all,
-    /// `GuestAddressOverflow` where they go past the greatest address, to another than 0, and
+    /// The callback is given the bytes handled so far, how many of the rest lie in the region of the next
+    /// address, the offset there and the region. It answers how many it handled. The access answers the bytes
+    /// handled where the callback answers 0, where all are handled, and where no region holds the next address.
+    /// An error of the callback is answered. `CallbackOutOfRange` where it handled more than `count` bytes in
+    /// all, `GuestAddressOverflow` where they go past the greatest address, to another than 0, and
     /// `InvalidGuestAddress` where no region holds the first address.
     final fn try_access<F>(
         &self,
@@ -156,8 +157,8 @@ pub trait GuestMemoryBackend: Named + Drop {
         Ok(total)
     }
 
-    /// Where the byte at an address is in the host: `InvalidGuestAddress` where no region holds it, else as its
-    /// region answers.
+    /// Where the byte at an address is in the host: `InvalidGuestAddress` where no region holds it, and
+    /// otherwise what its region answers.
     #[inline]
     final fn get_host_address(&self, addr: GuestAddress) -> GuestMemoryResult<HostAddress>
         ensures { result ≡ host_address_at Self.R.region (regions self.now) addr.0 }
@@ -169,7 +170,7 @@ pub trait GuestMemoryBackend: Named + Drop {
     }
 
     /// The window of `count` bytes from an address on, all in one region: `InvalidGuestAddress` where no region
-    /// holds the address, else as its region answers.
+    /// holds the address, and otherwise what its region answers.
     #[inline]
     final fn get_slice(&self, addr: GuestAddress, count: usize) -> GuestMemoryResult<VolatileSlice>
         ensures { result ≡ slice_at Self.R.region (regions self.now) addr.0 count }

@@ -1,4 +1,4 @@
-//! Walks whose error is told first, or not at all.
+//! `stop_on_error`: windows up to the first error.
 ghost use Rattle.std.specs.Prelude.{◌≡◌, Result, Option, is_none};
 ghost use Rattle.std.specs.Iterator.{IsFinite, YieldsFirst, item_count};
 ghost use Rattle.vm_memory_guest.specs.Access.{AccessFault};
@@ -23,7 +23,8 @@ pub trait GuestMemorySliceIterator: Iterator<Item = GuestMemoryResult<VolatileSl
     /// The windows that it has left, and what stops it behind them.
     ghost left: { Self → Reach AccessFault };
 
-    /// The windows alone. An error that comes first is answered, and a later one ends them silently.
+    /// The windows alone. Where the error comes first, it is the answer. Where it comes later, it ends
+    /// them silently.
     #[inline]
     final fn stop_on_error(mut self) -> GuestMemoryResult<StopOnError<Self>>
     where

@@ -13,7 +13,7 @@ use crate::volatile_memory::slice::VolatileSlice;
 use vm_memory_base::{Bitmap, BitmapId, BitmapRef, ByteValued};
 
 impl<B> HostMemory<B> {
-    /// The bytes of a window that the host holds.
+    /// Lends the bytes of a window, which the host has to hold.
     #[inline]
     pub fn bytes(&self, window: &VolatileSlice) -> &[u8]
         requires { Holds (shape_of self.now) (window_names window.now) }
@@ -67,7 +67,8 @@ impl<B> HostMemory<B> {
         }
     }
 
-    /// Moves bytes into a window of as many, and marks them, unless there are none.
+    /// Moves bytes into a window of the same length, which the host has to hold, and marks them, unless there
+    /// are none.
     #[inline]
     pub fn write(&mut self, window: &VolatileSlice, bytes: &[u8])
     where

@@ -14,7 +14,7 @@ use crate::host::{HostMemory, HostShape, Named};
 use std::marker::{Model, PhantomData};
 use vm_memory_base::{Bitmap, BitmapRef, ByteSized, ByteValued};
 
-/// Values of one type in host memory, one after the other: a window of as many bytes as they have.
+/// Values of one type in host memory, one after the other: a window of their bytes.
 ///
 /// ```text
 /// let words = window.get_array_ref::<u32>(8, 4)?;
@@ -97,7 +97,7 @@ impl<T: ByteValued> VolatileArrayRef<T> {
         self.slice
     }
 
-    /// The value of this number, counted from 0 and below the length.
+    /// The value of this number, counted from 0. It has to be below the length.
     #[inline]
     pub fn ref_at(&self, index: usize) -> VolatileRef<T>
         requires { index < self.now.count }
@@ -108,7 +108,7 @@ impl<T: ByteValued> VolatileArrayRef<T> {
         VolatileRef::new(self.slice.part(index * size, size))
     }
 
-    /// Reads the value of this number.
+    /// Reads the value of this number, which has to be below the length. The host has to hold the window.
     #[inline]
     pub fn load<B: Bitmap>(&self, host: &HostMemory<B>, index: usize) -> T
         requires inside { index < self.now.count }
@@ -119,7 +119,8 @@ impl<T: ByteValued> VolatileArrayRef<T> {
         self.ref_at(index).load(host)
     }
 
-    /// Writes the value of this number, and marks its bytes, unless there are none.
+    /// Writes the value of this number, which has to be below the length, and marks its bytes, unless there are none.
+    /// The host has to hold the window.
     #[inline]
     pub fn store<B: Bitmap>(&self, host: &mut HostMemory<B>, index: usize, value: T)
         requires inside { index < self.now.count }
@@ -131,8 +132,8 @@ impl<T: ByteValued> VolatileArrayRef<T> {
         self.ref_at(index).store(host, value);
     }
 
-    /// Copies values out, from the first on, as many as the buffer has room for, and answers how many. A value has at
-    /// least one byte.
+    /// Copies values out, from the first on, those that the buffer has room for, and answers how many. A value has to
+    /// have a byte or more, and the host to hold the window.
     #[inline]
     pub fn copy_to<B: Bitmap>(&self, host: &HostMemory<B>, buf: &mut [T]) -> usize
         requires held { Holds (shape_of host.now) (window_names self.now.window) }
@@ -146,8 +147,8 @@ impl<T: ByteValued> VolatileArrayRef<T> {
         count
     }
 
-    /// Copies values in, from the first on, as many as there is room for, and marks their bytes. A value has at least
-    /// one byte.
+    /// Copies values in, from the first on, those that there is room for, and marks their bytes. A value has to have
+    /// a byte or more, and the host to hold the window.
     #[inline]
     pub fn copy_from<B: Bitmap>(&self, host: &mut HostMemory<B>, buf: &[T])
         requires held { Holds (shape_of host.old) (window_names self.now.window) }

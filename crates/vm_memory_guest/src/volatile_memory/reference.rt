@@ -9,7 +9,7 @@ use crate::host::{HostMemory, HostShape, Named};
 use std::marker::{Model, PhantomData};
 use vm_memory_base::{Bitmap, BitmapRef, ByteSized, ByteValued};
 
-/// A value in host memory: a window of as many bytes as values of the type have.
+/// A value in host memory: a window of its bytes.
 ///
 /// ```text
 /// let word = window.get_ref::<u32>(8)?;
@@ -73,7 +73,8 @@ impl<T: ByteValued> VolatileRef<T> {
         self.slice
     }
 
-    /// Writes the bytes of a value, and marks them, unless there are none.
+    /// Writes the bytes of a value, and marks them, unless there are none. The host has to hold the
+    /// window.
     #[inline]
     pub fn store<B: Bitmap>(&self, host: &mut HostMemory<B>, v: T)
         requires { Holds (shape_of host.old) (window_names self.now) }
@@ -83,7 +84,7 @@ impl<T: ByteValued> VolatileRef<T> {
         host.write_value(&self.slice, &v, 0);
     }
 
-    /// Reads the value of the bytes.
+    /// Reads the value of the bytes. The host has to hold the window.
     #[inline]
     pub fn load<B: Bitmap>(&self, host: &HostMemory<B>) -> T
         requires { Holds (shape_of host.now) (window_names self.now) }

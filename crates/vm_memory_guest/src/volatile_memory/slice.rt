@@ -21,7 +21,7 @@ use vm_memory_base::{
     VolatileMemoryResult, WriteVolatile, offer_again,
 };
 
-/// A window: so many bytes of a block from an offset on, and the view of a bitmap that writes mark.
+/// A window: some bytes of a block from an offset on, and the view of a bitmap that writes mark.
 ///
 /// It is a plain value, which names its block and its bitmap by number.
 #[derive(Clone, Copy, Debug)]
@@ -136,7 +136,7 @@ impl VolatileSlice {
         Ok(self.part(count, self.size - count))
     }
 
-    /// The first `mid` bytes, and the bytes from there on. Refused as `offset` is.
+    /// The first `mid` bytes, and the bytes from there on. It is refused as `offset` is.
     #[inline]
     pub fn split_at(&self, mid: usize) -> VolatileMemoryResult<(Self, Self)>
         ensures { result ≡ answered (λ end. (front self.now mid, end)) (window_from self.now mid) }
@@ -438,8 +438,8 @@ pub(crate) fn whole(expected: usize, completed: usize) -> VolatileMemoryResult<(
 }
 
 impl VolatileSlice {
-    /// Copies its first bytes to the front of another window, as many as both have. They are copied as they
-    /// were, also where the two overlap, and marked in the other.
+    /// Copies its first bytes to the front of another window, up to the length of the shorter. The bytes are copied as
+    /// they were, also where the two overlap, and marked in the other. The host has to hold both.
     #[inline]
     pub fn copy_to_volatile_slice<B: Bitmap>(&self, host: &mut HostMemory<B>, slice: VolatileSlice)
         requires from { Holds (shape_of host.old) (window_names self.now) }
@@ -451,8 +451,8 @@ impl VolatileSlice {
         host.copy(&self.front(count), &slice.front(count));
     }
 
-    /// Copies values out of its first bytes, as many as it has whole and the buffer has room for, and answers
-    /// how many. A value has at least one byte.
+    /// Copies values out of its first bytes: those that it has whole and that the buffer has room for. It answers how
+    /// many. A value has to have a byte or more, and the host to hold the window.
     #[inline]
     pub fn copy_to<T: ByteValued, B: Bitmap>(&self, host: &HostMemory<B>, buf: &mut [T]) -> usize
         requires held { Holds (shape_of host.now) (window_names self.now) }
@@ -467,8 +467,8 @@ impl VolatileSlice {
         count
     }
 
-    /// Copies the bytes of values to its front, as many as it has room for whole, and marks these bytes. A value has at
-    /// least one byte.
+    /// Copies the bytes of values to its front, those that it has room for whole, and marks these bytes. A value has to
+    /// have a byte or more, and the host to hold the window.
     #[inline]
     pub fn copy_from<T: ByteValued, B: Bitmap>(&self, host: &mut HostMemory<B>, buf: &[T])
         requires held { Holds (shape_of host.old) (window_names self.now) }

@@ -22,7 +22,7 @@ pub struct MarkerBitmap {
 impl MarkerBitmap {
     ghost use Rattle.vm_memory_base.specs.MarkerBitmap.{held_of, Meets};
 
-    /// Marks `bitmap` with `marker`.
+    /// Marks `bitmap` with `marker`, which has to be one of its markers.
     pub fn new(bitmap: Arc<TrackedBitmap>, marker: Marker) -> MarkerBitmap
         requires own { marker_table marker ≡ table_of bitmap.value }
         ensures { held_of result ≡ Some (bitmap.value, marker) }
@@ -32,7 +32,8 @@ impl MarkerBitmap {
         }
     }
 
-    /// As `TrackedBitmap::meet`. Where the marker was handed back, nothing.
+    /// As `TrackedBitmap::meet`: the harvester has to be the bitmap's. Where the marker was handed back, it does
+    /// nothing.
     pub fn meet(&mut self, harvester: &mut Harvester)
         requires own { MatchOption (held_of self.old) ⊤ (λ h. harvester_table harvester.old ≡ table_of h.0) }
         ensures { Meets (held_of self.old) harvester.old (held_of self.new) harvester.new }
@@ -56,7 +57,7 @@ impl MarkerBitmap {
     }
 }
 
-/// Not exact: others mark it too. A byte past the last page is told clean, and what it tells of another is no promise.
+/// Not exact: others mark it too. A byte past the last page is reported clean, and nothing is promised of the others.
 impl Bitmap for MarkerBitmap {
     ghost use Rattle.vm_memory_base.specs.MarkerBitmap.{held_of, MarksHeld, TellsHeld};
 
