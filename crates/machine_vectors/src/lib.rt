@@ -1,12 +1,8 @@
-//! Tests of machines, of memory behind an IOMMU and of chains, and two devices: the examples of the library.
+//! Tests of machines, of snapshots, of memory behind an IOMMU and of chains.
 #![tactic(auto)]
 
 #[cfg(test)]
 mod atomic;
-#[cfg(test)]
-mod block_device;
-#[cfg(test)]
-mod example;
 #[cfg(test)]
 mod iommu;
 #[cfg(test)]
