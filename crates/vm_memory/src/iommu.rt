@@ -19,7 +19,7 @@ use vm_memory_guest::{
     IommuMemorySliceIterator, Named, SpaceId, TlbId,
 };
 
-/// An IOMMU: it tells where I/O addresses lead. Its table lies in the host and is lent to it.
+/// An IOMMU: it says where I/O addresses lead. Its table lies in the host and is lent to it.
 ///
 /// ```text
 /// for piece in iommu.translate(alloc, host.table(iommu.table()), addr, 8, Permissions::Read)? {
@@ -36,8 +36,8 @@ pub trait Iommu: Named + Drop {
 
     /// Where `length` addresses from `iova` on lead, as pieces in order, for an access: those of a look-up in
     /// the table. `CannotResolve` where the table does not allow it, with the whole range: `MissingMapping`
-    /// where an address is not mapped, else `AccessNotAllowed`. `Memory` where there is no memory for the
-    /// answer: for no address it takes none. No other error comes.
+    /// where an address is not mapped or the end is no address, otherwise `AccessNotAllowed`. `Memory` where
+    /// the allocation of the answer fails; for no address it allocates nothing. No other error comes.
     fn translate(
         &self,
         alloc: Global,
@@ -131,7 +131,7 @@ fn reason_of(misses: &IovaRangeList) -> Reason
     }
 }
 
-// The error of guest memory for that of a translation: want of memory is a kind of its own.
+// The error of guest memory for that of a translation: a failed allocation is a kind of its own.
 fn error_of_translation(error: IommuError) -> GuestMemoryError
     ensures { result ≡ of_translation error }
 {
@@ -143,9 +143,9 @@ fn error_of_translation(error: IommuError) -> GuestMemoryError
     }
 }
 
-/// Guest memory behind an IOMMU. Where it is on, each access goes through its table: it is refused before any
-/// byte moves, or its windows lie in the backend where the table leads, and writes mark a space of the host at
-/// the I/O address. Where it is off, each access goes to the backend.
+/// Guest memory behind an IOMMU. Where it is on, each access goes through its table. The access is refused
+/// before any byte moves, or its windows lie in the backend where the table leads, and writes mark a space of
+/// the host at the I/O address. Where it is off, each access goes to the backend.
 ///
 /// ```text
 /// let mut memory = IommuMemory::new(alloc, layout, Arc::new(alloc, TableIommu::new(table))?, false, space);
@@ -176,7 +176,7 @@ impl<M: GuestMemoryBackend, I: Iommu> Model for IommuMemory<M, I> {
 
 impl<M: GuestMemoryBackend, I: Iommu> IommuMemory<M, I> {
     /// Memory behind an IOMMU, which is on where `use_iommu` is true. Writes through it mark the space of this
-    /// number. `alloc` is the allocator that translations take memory from.
+    /// number. Translations allocate from `alloc`.
     pub fn new(
         alloc: Global,
         backend: M,
@@ -201,7 +201,7 @@ impl<M: GuestMemoryBackend, I: Iommu> IommuMemory<M, I> {
     }
 
     /// The same memory over another backend: the IOMMU is shared once more, and the space and the switch stay.
-    /// `AllocError` where the IOMMU cannot be shared.
+    /// `AllocError` where the IOMMU cannot be shared, as it has 2^63 - 1 owners.
     pub fn with_replaced_backend(&self, new_backend: M) -> Result<IommuMemory<M, I>, AllocError>
         ensures { IfOk result (λ new. new ≡ record self.now { backend = new_backend }) }
     {
@@ -250,7 +250,7 @@ impl<M: GuestMemoryBackend, I: Iommu> IommuMemory<M, I> {
     }
 }
 
-/// The backend is cloned, and the IOMMU shared once more.
+/// The backend is cloned, and the IOMMU shared once more. `AllocError` where one of them is refused.
 impl<M: GuestMemoryBackend + Clone, I: Iommu> Clone for IommuMemory<M, I> {
     ghost is_clone = { λ old new. M.is_clone old.backend new.backend
         × (new ≡ record old { backend = new.backend }) };

@@ -1,5 +1,5 @@
-//! Guest memory for virtual machine monitors: every public name of the crates below but their modules of theorems,
-//! and the machine.
+//! Guest memory for virtual machine monitors: every public name of the crates below, but their modules of
+//! theorems, and the machine.
 #![tactic(auto)]
 
 mod iommu;

@@ -62,8 +62,8 @@ impl<R: GuestMemoryRegion, I: Iommu, B> Model for Machine<R, I, B> {
 }
 
 impl<R: GuestMemoryRegion, I: Iommu, B> Machine<R, I, B> {
-    /// A machine with a host, and pools of regions and of translators whose bytes and tables it holds, and nothing
-    /// made yet.
+    /// A machine with a host, and pools of regions and of translators, and nothing made yet. The host has to hold
+    /// the bytes of the regions and the tables of the translators.
     pub fn new(
         alloc: Global,
         host: HostMemory<B>,
@@ -90,8 +90,8 @@ impl<R: GuestMemoryRegion, I: Iommu, B> Machine<R, I, B> {
         }
     }
 
-    /// Lends the host, with what the commands so far left in it. It holds what the machine names, and each layout
-    /// of the machine is one.
+    /// Lends the host, as the commands so far left it. It holds what the machine names, and each layout of the
+    /// machine is one.
     pub fn host(&self) -> &HostMemory<B>
         ensures host { result.now ≡ self.now.host }
         ensures held { AreHeld R.region I.number self.now }
@@ -99,7 +99,7 @@ impl<R: GuestMemoryRegion, I: Iommu, B> Machine<R, I, B> {
         &self.host
     }
 
-    /// Gives the host back, with what the commands left in it.
+    /// Gives the host back, as the commands left it.
     pub fn into_host(self) -> HostMemory<B>
         ensures { result ≡ self.host }
     {
@@ -149,15 +149,11 @@ impl<R: GuestMemoryRegion, I: Iommu, B: ExactBitmap> Machine<R, I, B> {
     }
 }
 
-/// Runs commands in order, and appends a reply for each. Room for the replies is reserved first: refused,
-/// nothing ran and nothing was appended.
+/// Runs commands in order, and appends a reply for each. It reserves room for the replies first. `AllocError` where
+/// that fails, and then nothing ran and nothing was appended.
 ///
-/// At every moment of the run each layout is one, and behind an IOMMU that is on a byte is reached through the
-/// mapping that was set last for its address and not invalidated or evicted since: docs/DEFINITIONS.md, "The other
-/// main theorems".
-///
-/// A copy of a block that its bitmap covers, patched with the pages of each harvest and with those that are
-/// dirty, is the block at every moment of the run: docs/DEFINITIONS.md, "Images kept in rounds".
+/// The replies, the bytes of the host and its dirty pages are those of a model: docs/PROVED.md, "The main theorem",
+/// and docs/DEFINITIONS.md, "The other main theorems" and "Images kept in rounds".
 pub fn run<R: GuestMemoryRegion, I: Iommu, B: ExactBitmap>(
     machine: &mut Machine<R, I, B>,
     commands: &[Command],

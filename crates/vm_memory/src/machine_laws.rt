@@ -53,8 +53,8 @@ use vm_memory_guest::transfer_laws::{
     refused_transfers_in_change_nothing, transfers_in_mark_what_they_change,
 };
 
-/// A command that is refused, or finds no memory, changes nothing, and neither does a read, a load, a transfer to a
-/// sink, a check or a look-up. A write, a read or a transfer in of all bytes that replies how many fitted is not
+/// A command that is refused, or whose allocation fails, changes nothing, and neither does a read, a load, a transfer
+/// to a sink, a check or a look-up. A write, a read or a transfer in of all bytes that replies how many fitted is not
 /// refused here, and neither is a transfer whose source failed: bytes may have been written.
 pub fn refusals_change_nothing()
     ensures fault { (old new : State) (c : Command) (f : Fault) → is_partial f ≡ false
@@ -130,8 +130,8 @@ pub fn runs_go_on()
         → Run old (before ++ c ∷ after) rs new → AnsweredIn old before c after rs new }
 {}
 
-/// A run of the same commands from the same state gives the same replies and leaves the same state, where neither
-/// wants memory.
+/// Two runs of the same commands from the same state, neither of which replies `Memory`, give the same replies and
+/// leave the same state.
 pub fn ample_runs_agree()
     ensures { (old new again : State) (cs : List Command) (rs qs : List Reply) → Run old cs rs new
         → Run old cs qs again → All (λ (r : Reply). r ≢ Memory) rs → All (λ (r : Reply). r ≢ Memory) qs
@@ -198,7 +198,7 @@ pub fn accesses_go_through_what_was_set_last()
     transfers_in_mark_what_they_change();
 }
 
-/// A command replies want of memory only where memory may be wanting.
+/// A command replies `Memory` only where `MayWant` allows it.
 pub fn memory_is_wanted_only_where_it_may_be()
     ensures { (old new : State) (c : Command) → Step old c Memory new → MayWant old c }
 {
@@ -217,7 +217,7 @@ pub fn new_machines_are_lawful<R: GuestMemoryRegion, I: Iommu, B: ExactBitmap>()
         })) }
 {}
 
-/// A run keeps the layouts of a machine layouts, and so the regions of its memories, and `sync` does: at most one
+/// A run keeps the layouts of a machine layouts, and so the regions of its memories, and so does `sync`. At most one
 /// region of a memory has an address.
 pub fn runs_keep_layouts()
     ensures kept { (old new : State) (cs : List Command) (rs : List Reply) → IsLawful old → Run old cs rs new

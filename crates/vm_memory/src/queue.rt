@@ -4,8 +4,9 @@
 //! that it writes. A [`ChainReader`] gives the bytes of the readable segments one after the other, and a
 //! [`ChainWriter`] fills the writable ones, over any guest memory, with an IOMMU or without.
 //!
-//! Behind an IOMMU that is on, an access may find no memory for its translation. Behind the first access of a call
-//! this ends the call with a short count, which nothing tells from that of an address with no byte.
+//! Behind an IOMMU that is on, each access allocates for its translation. Where this fails behind the first access
+//! of a call, the call ends with a short count. Nothing tells that count from one that ends at an address with no
+//! byte.
 ghost use Rattle.std.specs.Prelude.{◌≡◌, length, None, Some, MatchResult};
 ghost use Rattle.vm_memory_guest.specs.Host.{shape_of, Holds};
 ghost use Rattle.vm_memory.specs.Queue.{ReadsText, WritesText, chain_fault, readable, text, writable};
@@ -71,7 +72,7 @@ impl Model for Chain {
 
 impl Chain {
     /// The chain of these segments. They are tested in order, each for `Range`, for `Order`, and for `TooLong` with
-    /// those before it. It takes no memory, and there may be no segments.
+    /// those before it. It allocates nothing, and there may be no segments.
     #[inline(always)]
     pub fn new(segments: Vec<Segment>) -> Result<Chain, ChainFault>
         ensures { MatchResult result (λ chain. (chain ≡ segments.items) × (chain_fault segments.items ≡ None))
@@ -131,10 +132,10 @@ impl<'c> ChainReader<'c> {
         self.text.left
     }
 
-    /// Reads into the beginning of the buffer, and answers how many bytes that is: its place moves by as many. It
+    /// Reads into the beginning of the buffer, and answers how many bytes that is. Its place moves by as many. It
     /// makes one access a segment, up to and with the first that counts fewer bytes than it was to read, or that
-    /// fails. Where the first access fails, its error is the answer, and nothing changes. Where a later one
-    /// fails, the answer tells what came before. Of an empty buffer, or with nothing left, it is `Ok(0)`.
+    /// fails. Where the first access fails, its error is the answer, and nothing changes. Where a later one fails,
+    /// the answer counts what came before. Of an empty buffer, or with nothing left, it is `Ok(0)`.
     #[inline(always)]
     pub fn read<M: GuestMemory, B: Bitmap>(
         &mut self,
@@ -174,11 +175,11 @@ impl<'c> ChainWriter<'c> {
         self.text.left
     }
 
-    /// Writes the beginning of the buffer, and answers how many bytes that is: its place moves by as many, and
-    /// their pages are marked. It makes one access a segment, up to and with the first that counts fewer bytes
-    /// than it was to write, or that fails. Where the first access fails, its error is the answer, and nothing
-    /// changes. Where a later one fails, the answer tells what came before. Of an empty buffer, or with nothing
-    /// left, it is `Ok(0)`.
+    /// Writes the beginning of the buffer, and answers how many bytes that is. Its place moves by as many, and
+    /// their pages are marked. It makes one access a segment, up to and with the first that counts fewer bytes than
+    /// it was to write, or that fails. Where the first access fails, its error is the answer, and nothing changes.
+    /// Where a later one fails, the answer counts what came before. Of an empty buffer, or with nothing left, it is
+    /// `Ok(0)`.
     #[inline(always)]
     pub fn write<M: GuestMemory, B: Bitmap>(
         &mut self,

@@ -1,18 +1,5 @@
-//! Scripts: lines that set up a host and command a machine, and a reply line for each.
-//!
-//! A line is a word and its arguments, with one space between any two, and ends with a line feed, which
-//! the last line may lack. An empty line and a line that begins with `#` do nothing. `block SIZE PAGE`,
-//! `space SIZE PAGE`, `table` with a limit of its ranges or without, `region B A` and `translator T` come first and
-//! fill the host and the pools; the first
-//! command makes the machine. On layouts the commands are `layout R ..` of none or more regions, `insert L R` and
-//! `remove L A N`; on memories `plain L`, `memory L X S SWITCH` with a translator `X` and a space `S`, `replace M L`
-//! and `enable M SWITCH`, where `SWITCH` is `on` or `off`; by address `read M A N`, `write M A BYTES`, and of all bytes
-//! `readx` and `writex`, `store M W A VALUE` and `load M W A`, where `W` is 1, 2, 4 or 8 bytes, `from M A N SOURCE`
-//! and `to M A N SINK`, and of all bytes `fromx` and `tox`, and `check M A N PERM`; of windows of two blocks
-//! `copy B A N B2 A2 N2`; of bitmaps `dirty` and `harvest`, each of `block B` or `space S`; and on a table `T`
-//! `set T A TARGET N PERM`, `invalidate T A N`, `clear T` and `lookup T A N PERM`, where `PERM` is `no`, `r`, `w` or
-//! `rw`. A `SOURCE` is `g:BYTES`, `i:BYTES` and `f:BYTES` with commas between, a `SINK` `t:NUMBER`, `i` and `f`, and
-//! either is `-` for no step.
+//! Scripts: lines that set up a host and command a machine, and a reply line for each. docs/SCRIPT.md has their
+//! language, the replies and the codes of refusals.
 
 ghost use Rattle.std.specs.Prelude.{◌≡◌};
 ghost use Rattle.vm_memory.specs.Script.{status_of};
@@ -47,7 +34,7 @@ pub enum DriveFault {
     /// The output failed.
     #[error("write failed")]
     Write,
-    /// There was no memory for the script or its machine's answers.
+    /// The allocation of the script or of its machine's answers failed.
     #[error("out of memory")]
     Memory,
 }
@@ -67,8 +54,8 @@ impl DriveFault {
 
 /// Reads all of the input, and then runs it line by line and writes a reply for each line that has one.
 ///
-/// It stops at the first bad line, after the replies to the lines before it. A setup line or a command
-/// that finds no memory replies so, and the script goes on.
+/// It stops at the first bad line, after the replies to the lines before it. A setup line or a command whose allocation
+/// fails replies so, and the script goes on.
 pub fn drive(
     alloc: Global,
     input: &mut impl Read,

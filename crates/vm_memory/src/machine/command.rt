@@ -115,7 +115,7 @@ pub enum Command {
         count: usize,
         access: Permissions,
     },
-    /// Copies the first bytes of a range of a block to the front of another, as many as both have.
+    /// Copies the first bytes of a range of a block to the front of another, up to the length of the shorter.
     Copy {
         from: BlockRange,
         to: BlockRange,
@@ -167,7 +167,7 @@ pub enum Width {
 }
 
 impl Width {
-    /// Whether a value has no more bytes than this.
+    /// Whether a value is an unsigned integer of this width.
     pub fn fits(self, value: u64) -> bool
         ensures { result ≡ fits_width (integer_of self) value }
     {
@@ -181,7 +181,7 @@ impl Width {
     }
 }
 
-/// Why a call was refused: the error that it answered, by its name.
+/// Why a call was refused: the error of the call, by its name.
 #[derive(Clone, Copy, Debug, PartialEq, Eq)]
 pub enum Fault {
     /// No region holds the address.
@@ -226,7 +226,7 @@ pub enum Reply {
     Layout(usize),
     /// The number of the memory that was made.
     MemoryMade(usize),
-    /// The command did all that it asks for, and has nothing to tell.
+    /// The command did all that it asks for, and has no answer.
     Done,
     /// How many bytes were moved.
     Count(usize),
@@ -251,6 +251,6 @@ pub enum Reply {
     /// A range of the command passes its block; or, of `Set` and `Invalidate`, its start plus its length passes
     /// 2^64 - 1; or its value has too many bytes.
     BadRange,
-    /// There was no memory for the command.
+    /// An allocation failed.
     Memory,
 }

@@ -13,20 +13,21 @@ use thiserror::Error;
 use vm_memory_base::{ExactBitmap, IotlbFails, IovaRangeList, Items};
 use vm_memory_guest::GuestMemoryRegion;
 
-/// Why a call of a machine that threads share told no reply.
+/// Why `SharedMachine::call` returned no reply.
 #[derive(Clone, Copy, Debug, PartialEq, Eq, Error)]
 pub enum CallError {
-    /// There was no memory to serve the command. Nothing ran.
+    /// The allocation of the entry failed. Nothing ran.
     #[error("out of memory")]
     Memory,
-    /// The command ran, and its reply stands in the journal at this number. There was no memory to copy it.
+    /// The command ran, and its reply stands in the journal at this number. The allocation of a copy of it failed.
     #[error("entry {0} ran, its reply found no memory")]
     Ran(usize),
 }
 
 /// A machine with what it served: each command and its reply, in order.
 ///
-/// Some state led by these commands and replies, as a run of the model, to the state now. That state is not kept.
+/// Some state led by these commands and replies, as a run of the model, to the state now. The journal does not keep
+/// that state.
 #[derive(Drop)]
 pub struct Journal<R: GuestMemoryRegion, I: Iommu, B: ExactBitmap> {
     machine: Machine<R, I, B>,
@@ -46,7 +47,7 @@ impl<R: GuestMemoryRegion, I: Iommu, B: ExactBitmap> Model for Journal<R, I, B> 
 }
 
 impl<R: GuestMemoryRegion, I: Iommu, B: ExactBitmap> Journal<R, I, B> {
-    /// A journal of a machine, which served nothing yet.
+    /// A journal of a machine, which has served nothing yet.
     pub fn new(machine: Machine<R, I, B>) -> Journal<R, I, B>
         ensures { result ≡ record { machine = machine; commands = []; replies = [] } }
     {
@@ -59,8 +60,8 @@ impl<R: GuestMemoryRegion, I: Iommu, B: ExactBitmap> Journal<R, I, B> {
         }
     }
 
-    /// Runs a command, and answers the number of its entry: the number of those before it. `AllocError` where there
-    /// is no memory for an entry: then nothing ran.
+    /// Runs a command, and answers the number of its entry: the number of those before it. `AllocError` where the
+    /// allocation of the entry fails, and then nothing ran.
     pub fn serve(&mut self, command: Command) -> Result<usize, AllocError>
         ensures served { let state = state_of R.region I.number B.pages in
             IfOk result (λ n. (reply : Reply) × Serves state self.old n command reply self.new) }

@@ -13,7 +13,7 @@ use vm_memory_guest::{
     HostShape, IommuMemorySliceIterator, Named,
 };
 
-/// A memory of a machine. Each access of a machine is one of guest memory, whichever this is.
+/// A memory of a machine. Each access of a machine is one of guest memory, of either kind.
 #[derive(Drop)]
 pub enum MachineMemory<R: GuestMemoryRegion, I: Iommu> {
     /// A layout whose addresses are physical.

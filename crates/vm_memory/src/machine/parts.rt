@@ -1,4 +1,4 @@
-//! What the numbers of commands name.
+//! Looks up the regions, layouts and memories that a command numbers.
 ghost use Rattle.std.specs.Prelude.{◌≡◌, ◌↔◌, ◌<◌, IfSome, IsTrue, length, option_map, slice_get};
 ghost use Rattle.vm_memory_guest.specs.Host.{Holds, IsHeld, Tlb, shape_of};
 ghost use Rattle.vm_memory_guest.specs.Region.{region_names};

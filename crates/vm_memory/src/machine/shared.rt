@@ -12,8 +12,8 @@ use vm_memory_guest::GuestMemoryRegion;
 
 /// A machine that threads share, one command at a time, with its journal.
 ///
-/// Whenever the lock is free, what it keeps is a `Journal`: the commands of all threads and the replies to them are
-/// a run of the model. No clause names the journal at that moment, so what a call did to it is told by the tests.
+/// Whenever the lock is free, it keeps a `Journal`: the commands of all threads and the replies to them are a run of
+/// the model. A contract cannot name a locked journal; tests check what a call does to it.
 #[derive(Drop)]
 pub struct SharedMachine<R: GuestMemoryRegion, I: Iommu, B: ExactBitmap> {
     journal: Mutex<Journal<R, I, B>>,
@@ -27,9 +27,9 @@ impl<R: GuestMemoryRegion, I: Iommu, B: ExactBitmap> SharedMachine<R, I, B> {
         }
     }
 
-    /// Serves a command, and tells the number of its entry and a copy of its reply. `Memory` where there is none for
-    /// the entry: then nothing ran. `Ran` where there is none for the copy: then the command ran, and `fetch` tells
-    /// the reply. It waits while another thread calls.
+    /// Serves a command, and answers the number of its entry and a copy of its reply. It waits while another thread
+    /// calls. `Memory` where the allocation of the entry fails, and then nothing ran. `Ran` where that of the copy
+    /// fails: the command ran, and `fetch` gives the reply.
     pub fn call(&self, rt: &impl Wait, command: Command) -> Result<(usize, Reply), CallError>
         ensures { IfOk result (λ a. IsEntry a.0 command a.1) }
     {
@@ -37,7 +37,7 @@ impl<R: GuestMemoryRegion, I: Iommu, B: ExactBitmap> SharedMachine<R, I, B> {
     }
 
     /// A copy of the reply of an entry, if there is one of this number. It waits while another thread calls.
-    /// `AllocError` where there is no memory for the copy.
+    /// `AllocError` where the allocation of the copy fails.
     pub fn fetch(&self, rt: &impl Wait, number: usize) -> Result<Option<Reply>, AllocError>
         ensures { IfOk result (λ o. IfSome o (λ reply. (command : Command) × IsEntry number command reply)) }
     {
