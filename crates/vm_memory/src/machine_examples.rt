@@ -108,8 +108,8 @@ pub fn bytes_are_answered()
 {}
 
 /// A store leaves the bytes of its value, the lowest first, and marks their pages. A value is stored and loaded at a
-/// place of its block that is a multiple of its width, in one region and through one mapping. A copy moves as many
-/// bytes as both windows have, as they were, and is refused where a window passes its block.
+/// place of its block that is a multiple of its width, in one region and through one mapping. A copy moves the bytes
+/// of the shorter window, as they were, and is refused where a window passes its block.
 pub fn values_and_copies_are_answered()
     ensures store { outcome machine (Store 0 Two (at 2) (two_bytes 9 10))
         ≡ (
@@ -202,8 +202,8 @@ pub fn images_that_mirror_a_block()
     ensures no_memory { IsDirect machine (Write 3 (at 0) (9 ∷ [])) }
 {}
 
-/// Memory may be wanting for what is made, for the bytes and the pages that are replied, for ranges of a table, and
-/// for a translation. Where there is nothing of these it is not.
+/// An allocation may fail for what is made, for the bytes and the pages that are replied, for ranges of a table, and
+/// for a translation. Where there is nothing of these, none does.
 pub fn who_may_want_memory()
     ensures layout { MayWant machine (FromRegions (0 ∷ [])) }
     ensures memory { MayWant machine (Plain 0) }
@@ -231,9 +231,9 @@ pub fn who_may_want_memory()
     ensures look_up_of_nothing { MayWant machine (Lookup 0 (at 16) 0 permissions.Read) → ⊥ }
 {}
 
-/// A step has its one answer, and no other but want of memory, which leaves the machine. A run answers each command
-/// by a step from where the one before ended. Of its commands on a table those are the table's calls that were done:
-/// not one past the last address, nor one for which memory was wanting, nor one of another table.
+/// A step has its one answer, or `Memory`, which leaves the machine. A run answers each command by a step from where
+/// the one before ended. Of its commands on a table those are the table's calls that were done: not one past the last
+/// address, nor one whose allocation failed, nor one of another table.
 pub fn steps_and_runs()
     ensures names_nothing { outcome machine (FromRegions (0 ∷ 3 ∷ [])) ≡ (NoSuch, machine) }
     ensures answer { Step machine (Read 0 (at 0) 2) (Bytes (1 ∷ 2 ∷ [])) machine }
@@ -267,8 +267,8 @@ pub fn steps_and_runs()
 {}
 
 /// A machine stands for what its regions, translators, memories and bitmaps mean. Its host holds the bytes of every
-/// region, the table of every translator, and what every memory names. An error is told by its name, and want of
-/// memory as such.
+/// region, the table of every translator, and what every memory names. An error is replied by its name, and a failed
+/// allocation as `Memory`.
 pub fn what_a_machine_stands_for()
     ensures state { state_of {R = Region} {I = ℕ} {B = PageSet} (λ r. r) (λ i. i) (λ b. b) (record {
       host = host;
@@ -352,7 +352,7 @@ pub fn transfers_in_are_answered()
 {}
 
 /// A transfer out replies how it ended, and the bytes that its sink took, also where it failed. It changes nothing,
-/// and may want memory for what the sink takes.
+/// and may fail to allocate for what the sink takes.
 pub fn transfers_out_are_answered()
     ensures over_two_regions { outcome machine (WriteTo 0 (at 2) 4 (sink.Take 3 ∷ []))
         ≡ (Sent (ending.Count 4) (3 ∷ 4 ∷ 5 ∷ 6 ∷ []), machine) }

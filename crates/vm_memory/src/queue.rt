@@ -107,7 +107,8 @@ impl Chain {
     }
 }
 
-/// A place in the readable segments of a chain: it reads what lies behind it.
+/// A place in the readable segments of a chain: it reads what lies behind it. A read requires that the host holds
+/// what the memory names.
 #[derive(Drop)]
 pub struct ChainReader<'c> {
     text: Text<'c>,
@@ -150,7 +151,8 @@ impl<'c> ChainReader<'c> {
     }
 }
 
-/// A place in the writable segments of a chain: it writes what lies behind it.
+/// A place in the writable segments of a chain: it writes what lies behind it. A write requires that the host holds
+/// what the memory names.
 #[derive(Drop)]
 pub struct ChainWriter<'c> {
     text: Text<'c>,

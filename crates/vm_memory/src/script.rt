@@ -54,8 +54,9 @@ impl DriveFault {
 
 /// Reads all of the input, and then runs it line by line and writes a reply for each line that has one.
 ///
-/// It stops at the first bad line, after the replies to the lines before it. A setup line or a command whose allocation
-/// fails replies so, and the script goes on.
+/// It stops at the first bad line, after the replies to the lines before it, with `BadLine`. Where the input fails it
+/// stops with `Read`, where the output does with `Write`, and where an allocation of its own does with `Memory`. A
+/// setup line or a command whose allocation fails replies so, and the script goes on.
 pub fn drive(
     alloc: Global,
     input: &mut impl Read,

@@ -64,15 +64,15 @@ pub trait AddressWord: Copy + Ord + Debug {
         requires { value other ≤ value self }
         ensures { value result ≡ value self - value other };
 
-    /// The least multiple of a power of two at or above the word, or `None` where the word and one
-    /// less than the power of two have a sum that does not fit 64 bits.
+    /// The least multiple of `power_of_two`, which has to be a power of two, at or above the word.
+    /// `None` where the word and one less than the power have a sum that does not fit 64 bits.
     fn checked_align_up(self, power_of_two: Self) -> Option<Self>
         requires { HasOneBit (value power_of_two) }
         ensures { SomeIff (option_map value result) (value self + (value power_of_two - 1) < 2 ^ 64)
             (next_multiple_of (value self) (value power_of_two)) };
 
-    /// The least multiple of a power of two at or above the word. The word and one less than the
-    /// power of two have to have a sum that fits 64 bits.
+    /// The least multiple of `power_of_two`, which has to be a power of two, at or above the word.
+    /// The word and one less than the power have to have a sum that fits 64 bits.
     fn unchecked_align_up(self, power_of_two: Self) -> Self
         requires power { HasOneBit (value power_of_two) }
         requires fits { value self + (value power_of_two - 1) < 2 ^ 64 }
@@ -213,8 +213,9 @@ pub trait Address: AddressValue
         self.raw_value().unchecked_sub(base.raw_value())
     }
 
-    /// The least multiple of a power of two at or above the address, or `None` where the address
-    /// and one less than the power of two have a sum that does not fit 64 bits.
+    /// The least multiple of `power_of_two`, which has to be a power of two, at or above the
+    /// address. `None` where the address and one less than the power have a sum that does not fit
+    /// 64 bits.
     #[inline]
     fn checked_align_up(&self, power_of_two: Self::V) -> Option<Self>
         requires { HasOneBit (Self.V.value power_of_two) }
@@ -285,8 +286,8 @@ pub trait Address: AddressValue
         Self::new(self.raw_value().unchecked_sub(other))
     }
 
-    /// The least multiple of a power of two at or above the address. The address and one less than
-    /// the power of two have to have a sum that fits 64 bits.
+    /// The least multiple of `power_of_two`, which has to be a power of two, at or above the
+    /// address. The address and one less than the power have to have a sum that fits 64 bits.
     #[inline]
     fn unchecked_align_up(&self, power_of_two: Self::V) -> Self
         requires power { HasOneBit (Self.V.value power_of_two) }

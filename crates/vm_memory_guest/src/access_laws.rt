@@ -16,8 +16,8 @@ use vm_memory_base::ExactBitmap;
 use vm_memory_base::laws::pages::mark_is_by_bytes;
 use vm_memory_base::laws::table::allowed_where_each_address_grants;
 
-/// The windows of an access have as many bytes as it reaches, what they give to a buffer are the bytes of its
-/// cells, and a write to them of a host with exact bitmaps is the write of its bytes, one after the other.
+/// The windows of an access cover exactly the bytes that it reaches. What they give to a buffer are the bytes of
+/// its cells. A write to them of a host with exact bitmaps is the write of its bytes, one after the other.
 pub fn accesses_are_by_bytes<B: ExactBitmap>()
     ensures count { (regions : List Region) (route : Route) (a n : ℕ) (access : Permissions)
         → let xs = (access_of regions route a n access).path in span (windows xs) ≡ length xs }

@@ -91,7 +91,8 @@ impl<'a, M: GuestMemoryBackend> Iterator for IommuMemorySliceIterator<'a, M> {
     }
 }
 
-/// Guest memory: a backend, or one behind an IOMMU. Every type that implements it has `Bytes` by guest address.
+/// Guest memory: a backend, or one behind an IOMMU. Every type that implements it has `Bytes` by guest address. A
+/// call that is lent the host requires that it holds what the memory names.
 ///
 /// ```text
 /// for window in memory.get_slices(&host, GuestAddress(0x1000), 8, Permissions::Read)? {

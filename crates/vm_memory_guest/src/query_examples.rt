@@ -20,9 +20,9 @@ ghost use Rattle.vm_memory_guest.specs.declared.region.GuestMemoryError.TheVaria
   InvalidGuestAddress,
 };
 
-/// A region has an address at each offset below its length. A layout answers for an address as the region that
-/// holds it does, and else with the address. Its last address is the greatest of its regions, also if an earlier one
-/// ended higher, and 0 without a region.
+/// A region has an address at each offset below its length. A layout answers for an address as the region that holds
+/// it does, and without one with the address. Its last address is the greatest of its regions, also if an earlier
+/// one ended higher, and 0 without a region.
 pub fn addresses_that_are_asked()
     ensures last_offset { offset_in (backed_region 100 4 0 2) 3 ≡ Some (record { 0 = 3 }) }
     ensures no_offset { offset_in (backed_region 100 4 0 2) 4 ≡ None }
@@ -40,8 +40,9 @@ pub fn addresses_that_are_asked()
 {}
 
 /// A range is whole where each byte of it has a byte of the host and may be accessed so, and an empty one is
-/// everywhere. The error of a walk is told where it comes first, and else ends the windows silently. An access of a
-/// region by offset is that of the window of all its bytes, and refused where there is none, also if it is empty.
+/// everywhere. Where the error of a walk comes first, it is the answer; later it ends the windows silently. An
+/// access of a region by offset is that of the window of all its bytes, and refused where there is none, also if it
+/// is empty.
 pub fn ranges_and_regions()
     ensures inside { is_whole (access_of regions_with_hole Direct 1 3 Read).path 3 ≡ true }
     ensures into_a_hole { is_whole (access_of regions_with_hole Direct 1 4 Read).path 4 ≡ false }

@@ -199,7 +199,7 @@ pub enum GuestRegionCollectionError {
     /// A region starts above the next.
     #[error("The provided memory regions haven't been sorted")]
     UnsortedMemoryRegions,
-    /// There was no memory for the collection.
+    /// An allocation failed.
     #[error("out of memory")]
     Memory,
 }

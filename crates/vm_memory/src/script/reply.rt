@@ -23,7 +23,7 @@ pub(super) enum SetupReply {
     InvalidRegion,
     /// A number names nothing.
     NoSuch,
-    /// There was no memory.
+    /// An allocation failed.
     Memory,
 }
 

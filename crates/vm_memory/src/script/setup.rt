@@ -8,12 +8,12 @@ use vm_memory_guest::{BlockId, TlbId};
 /// What is made before the machine.
 #[derive(Drop)]
 pub(super) enum Setup {
-    /// A block of so many bytes, tracked in pages of so many.
+    /// A block of `size` bytes, tracked in pages of `page_size`.
     Block {
         size: usize,
         page_size: NonZeroUsize,
     },
-    /// A space of so many addresses, tracked in pages of so many.
+    /// A space of `size` addresses, tracked in pages of `page_size`.
     Space {
         size: usize,
         page_size: NonZeroUsize,

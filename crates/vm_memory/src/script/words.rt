@@ -15,7 +15,7 @@ use vm_memory_base::{BitmapId, GuestAddress, Permissions, SinkStep, SourceStep};
 pub(super) enum LineError {
     /// It has none of the forms.
     Bad,
-    /// There was no memory for it.
+    /// Its allocation failed.
     Memory,
 }
 

@@ -34,7 +34,7 @@ pub trait FixedInteger: ByteSized + Copy + Eq + Debug {
         ensures fits { result < 256 ^ Self.width }
         ensures known { is_value self };
 
-    /// The value whose bytes write this number.
+    /// The value whose bytes write this number, which has to fit them.
     fn from_bits(bits: u128) -> Self
         requires { bits < 256 ^ Self.width }
         ensures { result ≡ value_of (bytes_low_first 0 Self.width bits) };

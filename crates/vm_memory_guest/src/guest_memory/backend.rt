@@ -118,7 +118,7 @@ pub trait GuestMemoryBackend: Named + Drop {
         ends_well(self.get_slices(base, len))
     }
 
-    /// Handles `count` bytes from an address on by a callback.
+    /// Handles `count` bytes from an address on by a callback, which has to be one that may always be called.
     ///
     /// The callback is given the bytes handled so far, how many of the rest lie in the region of the next
     /// address, the offset there and the region. It answers how many it handled. The access answers the bytes

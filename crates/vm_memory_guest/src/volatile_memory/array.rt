@@ -162,7 +162,8 @@ impl<T: ByteValued> VolatileArrayRef<T> {
         host.write_values(&self.slice.front(count * T::size()), &buf[..count]);
     }
 
-    /// Copies its first bytes to the front of a window, as `VolatileSlice::copy_to_volatile_slice` does.
+    /// Copies its first bytes to the front of a window, as `VolatileSlice::copy_to_volatile_slice` does. The host has
+    /// to hold both.
     #[inline]
     pub fn copy_to_volatile_slice<B: Bitmap>(&self, host: &mut HostMemory<B>, slice: VolatileSlice)
         requires from { Holds (shape_of host.old) (window_names self.now.window) }
