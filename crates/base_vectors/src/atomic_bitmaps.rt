@@ -156,7 +156,11 @@ const CASES: [Case; 21] = [
     Case {
         bytes: 1025,
         page_size: 128,
-        steps: &[Step::SetRange(1024, 1), Step::Enlarge(127)],
+        steps: &[
+            Step::SetRange(1024, 1),
+            Step::Enlarge(127),
+            Step::Enlarge(0),
+        ],
         told: (9, 1152),
         words: &[0x100],
     },
@@ -197,6 +201,7 @@ const CASES: [Case; 21] = [
             Step::SetRange(65, 10),
             Step::Set(66),
             Step::Set(66),
+            Step::Set(67),
             Step::Reset(3),
             Step::ResetRange(80, 4),
             Step::ResetRange(63, 2),
@@ -353,6 +358,56 @@ fn bits_of_ranges(rt: HostRuntime) -> Result<(), Fail> {
     Ok(())
 }
 
+// Of so many pages those from one up to another. The last ones are not there.
+const PAGES: [(usize, usize, usize); 3] = [
+    (133, 0, 140),
+    (0x10_0001, 0xfffe, 0x1_0003),
+    (0x10_0001, 0xf_ffff, 0x10_0003),
+];
+
+// One page of one byte by each call. Before it is cleared the pages of its word are dirty.
+#[test]
+fn single_pages(rt: HostRuntime) -> Result<(), Fail> {
+    for (count, first, end) in PAGES {
+        let mut bitmap = AtomicBitmap::new(rt.alloc(), count, NonZeroUsize::MIN)?;
+        for page in first..end {
+            let bit = if page < count { 1 << (page % 64) } else { 0 };
+            let start = page.saturating_sub(page % 64);
+            let left = count.saturating_sub(start);
+            let all = if left < 64 {
+                (1u64 << left).wrapping_sub(1)
+            } else {
+                u64::MAX
+            };
+            let steps = [
+                (Step::Set(page), bit),
+                (Step::SetRange(page, 1), bit),
+                (Step::Mark(page, 1), bit),
+                (Step::MarkShared(page, 1), bit),
+                (Step::Reset(page), all & !bit),
+                (Step::ResetRange(page, 1), all & !bit),
+            ];
+            for (number, (step, wanted)) in steps.iter().enumerate() {
+                if 4 <= number {
+                    bitmap.set_addr_range(start, 64);
+                }
+                make(&mut bitmap, *step)?;
+                let dirty = page < count && number < 4;
+                let is_told = bitmap.is_bit_set(page) == dirty
+                    && bitmap.is_addr_set(page) == dirty
+                    && bitmap.dirty_at(page) == dirty;
+                assert!(rt; is_told, "step {number} of page {page}");
+                let words = bitmap.get_and_reset(rt.alloc())?;
+                for (k, word) in words.iter().enumerate() {
+                    let wanted = if k == page / 64 { *wanted } else { 0 };
+                    assert!(rt; *word == wanted, "step {number} of page {page}: {word:#x}");
+                }
+            }
+        }
+    }
+    Ok(())
+}
+
 // Marks and takes so many pages of one byte, of which the last is left out once and taken once.
 #[test]
 fn many_pages(rt: HostRuntime) -> Result<(), Fail> {
@@ -375,5 +430,9 @@ fn many_pages(rt: HostRuntime) -> Result<(), Fail> {
         };
         assert!(rt; *word == wanted, "word {number}");
     }
+    let mut large = AtomicBitmap::with_len(rt.alloc(), 0x1_0000_1000)?;
+    assert!(rt; large.len() == count && large.byte_size() == 0x1_0000_1000);
+    large.enlarge(0x1000)?;
+    assert!(rt; large.len() == 0x10_0002 && large.byte_size() == 0x1_0000_2000);
     Ok(())
 }

@@ -41,24 +41,37 @@ fn harvests_first<B: ExactBitmap>(
     Ok(())
 }
 
+// What is marked beside the last page, what is cleared then, and how many words are whole. The last page stays dirty.
+const TAKEN: [((usize, usize), [(usize, usize); 2], usize); 3] = [
+    ((0, 0x1_0000), [(0, 0), (0x10, 0)], 0x400),
+    (
+        (0, usize::MAX),
+        [(0x1_0000, 0x8_0000), (0x9_0000, 0x7_0000)],
+        0x400,
+    ),
+    ((0, usize::MAX), [(0, 0), (0x10, 0)], 0x4000),
+];
+
 #[test]
 fn many_pages_are_harvested(rt: HostRuntime) -> Result<(), Fail> {
     for count in [0x1_0000, 0x10_0001] {
         let mut bitmap = ExclusiveBitmap::new(rt.alloc(), count, NonZeroUsize::MIN)?;
         let whole = [(0, count)];
         harvests_first(&rt, &mut bitmap, rt.alloc(), (1, count), (&whole, count))?;
-        bitmap.mark_dirty(0, 0x1_0000);
-        bitmap.mark_dirty(count - 1, usize::MAX);
-        let words = bitmap.get_and_reset(rt.alloc())?;
-        for (number, word) in words.iter().enumerate() {
-            let wanted = match number {
-                0..=0x3ff => u64::MAX,
-                0x4000 => 1,
-                _ => 0,
-            };
-            assert!(rt; *word == wanted, "word {number}");
+        for ((offset, len), resets, low) in TAKEN {
+            bitmap.mark_dirty(offset, len);
+            bitmap.mark_dirty(count - 1, usize::MAX);
+            for (offset, len) in resets {
+                bitmap.reset_addr_range(offset, len);
+            }
+            let words = bitmap.get_and_reset(rt.alloc())?;
+            for (number, word) in words.iter().enumerate() {
+                let last = if number == 0x4000 { 1 } else { 0 };
+                let wanted = if number < low { u64::MAX } else { last };
+                assert!(rt; *word == wanted, "word {number} beside {low:#x}");
+            }
+            assert!(rt; words.len() == count.div_ceil(64));
         }
-        assert!(rt; words.len() == count.div_ceil(64));
         harvests_first(
             &rt,
             &mut Some(bitmap),
@@ -67,28 +80,76 @@ fn many_pages_are_harvested(rt: HostRuntime) -> Result<(), Fail> {
             (&whole, count),
         )?;
     }
-    let large = ExclusiveBitmap::with_len(rt.alloc(), 0x4000_0000)?;
-    assert!(rt; large.len() == 0x4_0000 && large.byte_size() == 0x4000_0000);
+    for (bytes, pages) in [(0x4000_0000, 0x4_0000), (0x1_0000_1000, 0x10_0001)] {
+        let large = ExclusiveBitmap::with_len(rt.alloc(), bytes)?;
+        assert!(rt;
+            large.len() == pages && large.byte_size() == bytes,
+            "{pages} pages"
+        );
+    }
     Ok(())
 }
 
-// A bitmap of 200 pages of one byte, as words, and one of three pages, as their numbers.
+// A size of pages, a mark of a clean bitmap of 200 of them, and its words then.
+const MARKS: [(usize, (usize, usize), [u64; 4]); 9] = [
+    (1, (60, 10), [0xf000_0000_0000_0000, 0x3f, 0, 0]),
+    (1, (190, usize::MAX), [0, 0, 0xc000_0000_0000_0000, 0xff]),
+    (1, (0, 0), [0; 4]),
+    (1, (200, 1), [0; 4]),
+    (0x4000_0000, (0x7_ffff_ffff, 2), [0x1_8000_0000, 0, 0, 0]),
+    (
+        0x4000_0000,
+        (0x10_0000_0000, 0x2_0000_0000),
+        [0, 0xff, 0, 0],
+    ),
+    (
+        0x4000_0000,
+        (0x20_0000_0000, 0x1_0000_0001),
+        [0, 0, 0x1f, 0],
+    ),
+    (0x4000_0000, (0x31_ffff_ffff, usize::MAX), [0, 0, 0, 0x80]),
+    (0x4000_0000, (0x20_0000_0000, 0), [0; 4]),
+];
+
+// What a mark makes dirty a reset of the same bytes makes clean, and each byte is told as its page is.
 #[test]
-fn words_and_numbers_of_marks(rt: HostRuntime) -> Result<(), Fail> {
-    let mut bitmap = ExclusiveBitmap::new(rt.alloc(), 200, NonZeroUsize::MIN)?;
-    assert!(rt; bitmap.len() == 200);
-    assert!(rt; bitmap.byte_size() == 200);
-    let cases = [
-        (60, 10, [0xf000_0000_0000_0000, 0x3f, 0, 0]),
-        (190, usize::MAX, [0, 0, 0xc000_0000_0000_0000, 0xff]),
-        (0, 0, [0; 4]),
-        (200, 1, [0; 4]),
-    ];
-    for (offset, len, wanted) in cases {
+fn words_of_marks(rt: HostRuntime) -> Result<(), Fail> {
+    for (page_size, (offset, len), wanted) in MARKS {
+        let size = NonZeroUsize::new(page_size).ok_or("pages have bytes")?;
+        let bytes = page_size.saturating_mul(200);
+        let mut bitmap = ExclusiveBitmap::new(rt.alloc(), bytes, size)?;
+        assert!(rt; bitmap.len() == 200 && bitmap.byte_size() == bytes);
         bitmap.mark_dirty(offset, len);
+        for page in 0..0x100usize {
+            let word = wanted.get(page / 64);
+            let dirty = word.is_some_and(|word| *word & (1 << (page % 64)) != 0);
+            let first = page_size.saturating_mul(page);
+            let last = first.saturating_add(page_size.saturating_sub(1));
+            let is_told = bitmap.dirty_at(first) == dirty && bitmap.dirty_at(last) == dirty;
+            assert!(rt; is_told, "page {page} of {wanted:?}");
+        }
         let words = bitmap.get_and_reset(rt.alloc())?;
-        assert!(rt; words.as_slice() == wanted.as_slice());
+        assert!(rt;
+            words.as_slice() == wanted.as_slice(),
+            "{words:?}, not {wanted:?}"
+        );
+        bitmap.mark_dirty(0, usize::MAX);
+        bitmap.reset_addr_range(offset, len);
+        let words = bitmap.get_and_reset(rt.alloc())?;
+        let [one, two, three, four] = wanted;
+        let left = [!one, !two, !three, 0xff & !four];
+        assert!(rt;
+            words.as_slice() == left.as_slice(),
+            "{words:?}, not {left:?}"
+        );
     }
+    Ok(())
+}
+
+// A bitmap of 200 pages of one byte, one of three pages, as their numbers, and none.
+#[test]
+fn numbers_of_marks(rt: HostRuntime) -> Result<(), Fail> {
+    let mut bitmap = ExclusiveBitmap::new(rt.alloc(), 200, NonZeroUsize::MIN)?;
     bitmap.mark_dirty(0, 130);
     bitmap.reset_addr_range(64, 64);
     let words = bitmap.get_and_reset(rt.alloc())?;

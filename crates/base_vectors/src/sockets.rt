@@ -79,25 +79,7 @@ fn offers<W: WriteVolatile>(sink: &mut W, bytes: &[u8]) -> Result<usize, Fail> {
     Err(Fail::new("the sink is never full"))
 }
 
-// Fails where other than so many bytes come of a source up to its end.
-fn expect_all<S: ReadVolatile>(
-    case: usize,
-    source: &mut S,
-    lent: &mut [u8],
-    told: usize,
-) -> Result<(), Fail> {
-    let mut came = 0usize;
-    for _ in 0..1_000_000 {
-        match source.read_volatile(lent)? {
-            0 if told == came => return Ok(()),
-            0 => return Err(Fail::new(format_args!("case {case}: told {told}, came {came}"))),
-            count => came = came.saturating_add(count),
-        }
-    }
-    Err(Fail::new("the source never ends"))
-}
-
-// What handles of two sockets in a state tell.
+// What handles of two sockets in a state tell. Where other bytes come than were taken, up to the end, it fails.
 fn go<W: WriteVolatile, S: ReadVolatile>(
     state: State,
     case: u8,
@@ -126,7 +108,17 @@ fn go<W: WriteVolatile, S: ReadVolatile>(
             seen.taken = offers(sink, seen.bytes.as_slice())?;
             Ok(())
         }
-        State::Full => expect_all(case as usize, source, seen.bytes.as_mut_slice(), seen.taken),
+        State::Full => {
+            let mut came = 0usize;
+            for _ in 0..1_000_000 {
+                match source.read_volatile(seen.bytes.as_mut_slice())? {
+                    0 if seen.taken == came => return Ok(()),
+                    0 => return Err(Fail::new(format_args!("case {case}: {came} bytes came"))),
+                    count => came = came.saturating_add(count),
+                }
+            }
+            Err(Fail::new("the source never ends"))
+        }
     }
 }
 

@@ -3,9 +3,11 @@
 use crate::lookups::expect_look_up;
 use std::alloc::Global;
 use std::test::Fail;
+use test_text::next_number;
 use vm_memory_base::{GuestAddress, Iotlb, Permissions};
 
 // Changes of a table, and what it tells then: how many ranges it has, and a look-up.
+#[derive(Clone, Copy)]
 enum Call {
     Set(u64, u64, usize, Permissions),
     Invalidate(u64, usize),
@@ -180,13 +182,23 @@ fn expect_calls(
                 if iova.checked_add(*len as u64).is_none() {
                     return Err(Fail::new("the range ends at an address"));
                 }
-                table.set_mapping(GuestAddress(*iova), GuestAddress(*map_to), *len, *perm)?;
+                let set = table.set_mapping(
+                    GuestAddress(*iova),
+                    GuestAddress(*map_to),
+                    *len,
+                    *perm,
+                );
+                if set.is_err() {
+                    return Err(Fail::new(format_args!("case {case}: {len:#x} is refused")));
+                }
             }
             Call::Invalidate(iova, len) => {
                 if iova.checked_add(*len as u64).is_none() {
                     return Err(Fail::new("the range ends at an address"));
                 }
-                table.invalidate_mapping(GuestAddress(*iova), *len)?;
+                if table.invalidate_mapping(GuestAddress(*iova), *len).is_err() {
+                    return Err(Fail::new(format_args!("case {case}: {len:#x} is refused")));
+                }
             }
             Call::Lookup(iova, len, access) => {
                 expect_look_up(alloc, case, table, (*iova, *len), *access, wanted)?;
@@ -206,6 +218,33 @@ fn calls_of_tables(rt: HostRuntime) -> Result<(), Fail> {
     table.invalidate_all();
     assert!(rt; table.num_ranges() == 0);
     expect_calls(rt.alloc(), &mut table, &FAR_CALLS)?;
+    // Lengths of one or two bits, their neighbours, and others on from there.
+    let mut state = 3;
+    for shift in 1..61u32 {
+        for top in [2u64, 3] {
+            for more in [u64::MAX, 0, 1, next_number(&mut state)] {
+                let len = (top << shift).wrapping_add(more) as usize;
+                let one = format!(in rt.alloc(); " 0x5000+{len:#x}")?;
+                let two = format!(in rt.alloc(); " 0x9000+0x1 0x5001+{:#x}", len.wrapping_sub(1))?;
+                let calls = [
+                    (Call::Set(0x1000, 0x5000, len, Permissions::Read), 1, ""),
+                    (
+                        Call::Lookup(0x1000, len, Permissions::Read),
+                        1,
+                        one.as_str(),
+                    ),
+                    (Call::Set(0x1000, 0x9000, 1, Permissions::ReadWrite), 2, ""),
+                    (
+                        Call::Lookup(0x1000, len, Permissions::Read),
+                        2,
+                        two.as_str(),
+                    ),
+                    (Call::Invalidate(0x1000, len), 0, ""),
+                ];
+                expect_calls(rt.alloc(), &mut table, &calls)?;
+            }
+        }
+    }
     let mut two = Iotlb::with_limit(rt.alloc(), 2);
     expect_calls(rt.alloc(), &mut two, &CALLS_WITHIN_TWO)?;
     let mut one = Iotlb::with_limit(rt.alloc(), 1);

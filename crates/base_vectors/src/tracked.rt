@@ -1,5 +1,5 @@
 //! A bitmap that several threads mark while one harvests.
-ghost use Rattle.std.specs.Prelude.{IfSome};
+ghost use Rattle.std.specs.Prelude.{◌≤◌, IfSome};
 ghost use Rattle.base_vectors.specs.Markers.{IsMarkerOf, IsHarvesterOf, AreNewOf};
 
 use std::alloc::Global;
@@ -81,48 +81,54 @@ fn expect_left(
     }
 }
 
-// Marks, looks and harvests of one marker.
+// Marks, looks and harvests of one marker, at pages of this size.
 fn expect_rounds(
     alloc: Global,
     bitmap: &TrackedBitmap,
     harvester: &mut Harvester,
     marker: &mut Marker,
+    unit: usize,
 ) -> Result<(), Fail>
+    requires unit { unit ≤ 0x40000000 }
     requires marker { IsMarkerOf marker.old bitmap.now }
     requires harvester { IsHarvesterOf harvester.old bitmap.now }
     ensures marker { IsMarkerOf marker.new bitmap.now }
     ensures harvester { IsHarvesterOf harvester.new bitmap.now }
 {
-    bitmap.mark(marker, 60, 10);
-    expect_told(bitmap, marker, 59, false)?;
-    expect_told(bitmap, marker, 60, true)?;
-    expect_told(bitmap, marker, 64, false)?;
+    bitmap.mark(marker, 60 * unit, 10 * unit);
+    expect_told(bitmap, marker, 59 * unit, false)?;
+    expect_told(bitmap, marker, 60 * unit, true)?;
+    expect_told(bitmap, marker, 64 * unit, false)?;
     expect_taken(alloc, bitmap, harvester, 2, &[(1, 0xf000_0000)])?;
-    bitmap.mark(marker, 60, 1);
-    expect_told(bitmap, marker, 60, true)?;
-    expect_told(bitmap, marker, 61, false)?;
-    bitmap.mark(marker, 31, 2);
-    expect_told(bitmap, marker, 31, true)?;
-    expect_told(bitmap, marker, 32, true)?;
-    expect_told(bitmap, marker, 33, false)?;
+    bitmap.mark(marker, 60 * unit, unit);
+    bitmap.mark(marker, 45 * unit, 0);
+    expect_told(bitmap, marker, 60 * unit, true)?;
+    expect_told(bitmap, marker, 61 * unit, false)?;
+    bitmap.mark(marker, 31 * unit, 2 * unit);
+    expect_told(bitmap, marker, 31 * unit, true)?;
+    expect_told(bitmap, marker, 32 * unit, true)?;
+    expect_told(bitmap, marker, 33 * unit, false)?;
     expect_told(bitmap, marker, usize::MAX, false)
 }
 
 #[test]
 fn rounds_of_one_marker(rt: HostRuntime) -> Result<(), Fail> {
-    let (bitmap, mut harvester, mut markers) = TrackedBitmap::new(
-        rt.alloc(),
-        64,
-        NonZeroUsize::MIN,
-        1,
-    )?;
-    let Some(mut marker) = next_marker(&bitmap, &mut markers) else {
-        return Err(Fail::new("there is a marker"));
-    };
-    expect_rounds(rt.alloc(), &bitmap, &mut harvester, &mut marker)?;
-    bitmap.join(&mut harvester, marker);
-    let wanted = [(0, 0x8000_0000), (1, 0x1000_0001)];
-    expect_left(rt.alloc(), bitmap, harvester, 2, &wanted)
+    for unit in [1usize, 0x4000_0000] {
+        let (bitmap, mut harvester, mut markers) = TrackedBitmap::new(
+            rt.alloc(),
+            64 * unit,
+            NonZeroUsize::new(unit).ok_or("pages have bytes")?,
+            1,
+        )?;
+        let Some(mut marker) = next_marker(&bitmap, &mut markers) else {
+            return Err(Fail::new("there is a marker"));
+        };
+        expect_rounds(rt.alloc(), &bitmap, &mut harvester, &mut marker, unit)?;
+        bitmap.join(&mut harvester, marker);
+        let wanted = [(0, 0x8000_0000), (1, 0x1000_0001)];
+        expect_left(rt.alloc(), bitmap, harvester, 2, &wanted)?;
+    }
+    Ok(())
 }
 
 #[test]
@@ -195,34 +201,70 @@ fn many_pages_of_many_markers(rt: HostRuntime) -> Result<(), Fail> {
     expect_left(rt.alloc(), bitmap, harvester, 0x8001, &[(0x8000, 1)])
 }
 
+// Of 64 pages of a size: what is marked, which bytes are told to be dirty, and the words left.
+const MARKS: [(usize, (usize, usize), &[(usize, bool)], &[(usize, u32)]); 5] = [
+    (
+        10,
+        (319, 2),
+        &[(309, false), (310, true), (329, true), (330, false)],
+        &[(0, 0x8000_0000), (1, 1)],
+    ),
+    (10, (500, 0), &[(499, false), (500, false)], &[]),
+    (
+        0x4000_0000,
+        (0x7_ffff_ffff, 2),
+        &[
+            (0x7_bfff_ffff, false),
+            (0x7_c000_0000, true),
+            (0x8_3fff_ffff, true),
+            (0x8_4000_0000, false),
+        ],
+        &[(0, 0x8000_0000), (1, 1)],
+    ),
+    (
+        0x4000_0000,
+        (0xa_0000_0000, 0x2_0000_0000),
+        &[
+            (0x9_ffff_ffff, false),
+            (0xa_0000_0000, true),
+            (0xb_ffff_ffff, true),
+            (0xc_0000_0000, false),
+        ],
+        &[(1, 0xff00)],
+    ),
+    (
+        0x4000_0000,
+        (0xc_8000_0000, 0),
+        &[(0xc_7fff_ffff, false), (0xc_8000_0000, false)],
+        &[],
+    ),
+];
+
 // Marks until the marker is handed back.
 #[test]
 fn a_marker_marks_for_a_bitmap_until_it_retires(rt: HostRuntime) -> Result<(), Fail> {
-    let (bitmap, mut harvester, mut markers) = TrackedBitmap::new(
-        rt.alloc(),
-        640,
-        NonZeroUsize::new(10).ok_or("pages have bytes")?,
-        1,
-    )?;
-    let marker = next_marker(&bitmap, &mut markers).ok_or("there is a marker")?;
-    let shared = Arc::new(rt.alloc(), bitmap)?;
-    let mut marked = MarkerBitmap::new(shared, marker);
-    marked.mark_dirty(319, 2);
-    for (addr, wanted) in [(309, false), (310, true), (329, true), (330, false)] {
-        assert!(rt; marked.dirty_at(addr) == wanted);
+    for (page_size, (offset, len), told, left) in MARKS {
+        let (bitmap, mut harvester, mut markers) = TrackedBitmap::new(
+            rt.alloc(),
+            page_size.saturating_mul(64),
+            NonZeroUsize::new(page_size).ok_or("pages have bytes")?,
+            1,
+        )?;
+        let marker = next_marker(&bitmap, &mut markers).ok_or("there is a marker")?;
+        let shared = Arc::new(rt.alloc(), bitmap)?;
+        let mut marked = MarkerBitmap::new(shared, marker);
+        marked.mark_dirty(offset, len);
+        for (addr, wanted) in told {
+            assert!(rt; marked.dirty_at(*addr) == *wanted, "byte {addr:#x}");
+        }
+        marked.meet(&mut harvester);
+        let (shared, marker) = marked.retire().ok_or("there is a marker")?;
+        assert!(rt; marked.retire().is_none());
+        marked.mark_dirty(0, 1);
+        assert!(rt; !marked.dirty_at(offset));
+        let bitmap = Arc::into_inner(shared).ok_or("nobody else has the bitmap")?;
+        bitmap.join(&mut harvester, marker);
+        expect_left(rt.alloc(), bitmap, harvester, 2, left)?;
     }
-    marked.meet(&mut harvester);
-    let (shared, marker) = marked.retire().ok_or("there is a marker")?;
-    assert!(rt; marked.retire().is_none());
-    marked.mark_dirty(0, 1);
-    assert!(rt; !marked.dirty_at(310));
-    let bitmap = Arc::into_inner(shared).ok_or("nobody else has the bitmap")?;
-    bitmap.join(&mut harvester, marker);
-    expect_left(
-        rt.alloc(),
-        bitmap,
-        harvester,
-        2,
-        &[(0, 0x8000_0000), (1, 1)],
-    )
+    Ok(())
 }

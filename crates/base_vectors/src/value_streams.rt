@@ -1,17 +1,9 @@
 //! Values through readers and writers.
 
 use crate::stub::{KINDS, STUB, Stub};
-use std::io::{self, ErrorKind};
+use std::io::ErrorKind;
 use std::test::Fail;
 use vm_memory_base::ByteValued;
-
-// The kind of an error, if an answer is one.
-fn kind_of<T: Drop>(answer: io::Result<T>) -> Option<ErrorKind> {
-    match answer {
-        Ok(_) => None,
-        Err(error) => Some(error.kind()),
-    }
-}
 
 // A value of many times the bytes that go to a writer or come from a reader at once, and a short one, also with a reader
 // that ends before the value, and with a writer that has no room for it.
@@ -39,11 +31,16 @@ fn values_go_through_streams(rt: HostRuntime) -> Result<(), Fail> {
     value.write_all_to(&mut written)?;
     assert!(rt; written.as_slice() == &bytes[..]);
     let mut short: &[u8] = &[0, 0, 0, 0, 1, 1, 1];
-    let told = kind_of(<[u32; 2]>::read_exact_from(&mut short));
+    let told = <[u32; 2]>::read_exact_from(&mut short)
+        .err()
+        .map(|error| error.kind());
     assert!(rt; told == Some(ErrorKind::UnexpectedEof));
     let mut room = [0u8; 7];
     let mut full: &mut [u8] = &mut room;
-    let told = kind_of([0u32, 0x0101_0101].write_all_to(&mut full));
+    let told = [0u32, 0x0101_0101]
+        .write_all_to(&mut full)
+        .err()
+        .map(|error| error.kind());
     assert!(rt; told == Some(ErrorKind::WriteZero));
     Ok(())
 }
@@ -61,12 +58,19 @@ fn failing_streams(rt: HostRuntime) {
                 ..STUB
             };
             let mut writer = stub;
-            assert!(rt; kind_of([3u8; 200].write_all_to(&mut writer)) == wanted);
+            let told = [3u8; 200]
+                .write_all_to(&mut writer)
+                .err()
+                .map(|error| error.kind());
+            assert!(rt; told == wanted, "{left} bytes and {kind:?}");
             let mut reader = stub;
-            assert!(rt; kind_of(<[u8; 200]>::read_exact_from(&mut reader)) == wanted);
-            let mut reader = stub;
-            let answer = <[u8; 200]>::read_exact_from(&mut reader);
-            assert!(rt; answer.is_ok_and(|value| value == [7; 200]) == wanted.is_none());
+            match <[u8; 200]>::read_exact_from(&mut reader) {
+                Ok(value) => assert!(rt; wanted.is_none() && value == [7; 200], "{left} bytes"),
+                Err(error) => assert!(rt;
+                    Some(error.kind()) == wanted,
+                    "{left} bytes and {kind:?}"
+                ),
+            }
         }
     }
 }
