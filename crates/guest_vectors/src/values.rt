@@ -11,6 +11,8 @@ type Layout = GuestRegionCollection<TestRegion>;
 
 const TWO_BLOCKS: [Place; 2] = [Place::Block(0, 0x400), Place::Block(0x400, 0x400)];
 
+const SIX_AND_SIX: [Place; 2] = [Place::Block(0, 6), Place::Block(6, 6)];
+
 // An address, what a store and a load of 0x01020304 there answer, what a value of eight bytes written and read, and
 // what a read of twelve bytes at 0x3fc has after the store, and one of eight bytes at the address after the value.
 const VALUES: [(u64, &str, &str, [u8; 12], &str); 7] = [
@@ -90,7 +92,20 @@ fn a_store_takes_one_window_and_a_value_any_number(rt: HostRuntime) -> Result<()
         // A value without a byte is there at any address.
         assert!(rt; comes_back(&mut host, &memory, [0u32; 0], *addr, &[])?);
     }
-    Ok(())
+    // The bytes of an aligned address lie in two blocks.
+    let memory = memory_of(rt.alloc(), &mut host, &SIX_AND_SIX)?;
+    assert!(rt; host.holds(&memory));
+    let stored = memory.store(&mut host, 7u32, GuestAddress(4), Ordering::SeqCst);
+    let loaded = memory.load::<u32, ()>(&host, GuestAddress(4), Ordering::SeqCst);
+    let text = format!(in rt.alloc(); "{stored:?} {loaded:?}")?;
+    let mut bytes = [9; 12];
+    memory.read_slice(&host, &mut bytes, GuestAddress(0))?;
+    assert!(rt; bytes == [0; 12]);
+    expect_text(
+        0,
+        text.as_str(),
+        "Err(InvalidBackendAddress) Err(InvalidBackendAddress)",
+    )
 }
 
 // Whether a value that is written at an address has these bytes there and is read back, and is read of these bytes.

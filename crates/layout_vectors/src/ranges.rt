@@ -57,7 +57,7 @@ fn sizes_of(alloc: Global, host: &HostMemory<()>) -> Result<Vec<usize>, AllocErr
 }
 
 // An address and a size: the last address of a region there, or the error, and the sizes of the host's blocks then.
-const SINGLE: [(u64, usize, &str); 12] = [
+const SINGLE: [(u64, usize, &str); 13] = [
     (0x1000, 0x400, "Ok(5119) [1024]"),
     (0, 0x10_0000, "Ok(1048575) [1048576]"),
     (0, 0x1000, "Ok(4095) [4096]"),
@@ -71,8 +71,13 @@ const SINGLE: [(u64, usize, &str); 12] = [
         "Ok(18446744073709551614) [4096]",
     ),
     (0xffff_ffff_ffff_ffff, 1, "Err(InvalidGuestRegion) []"),
-    // The size is tested first.
     (0xffff_ffff_ffff_ffff, 0, "Err(MmapRegion(InvalidSize)) []"),
+    // The size is tested first.
+    (
+        0xffff_ffff_ffff_ffff,
+        0x8000_0000_0000_0000,
+        "Err(MmapRegion(InvalidSize)) []",
+    ),
     (0, 0x8000_0000_0000_0000, "Err(MmapRegion(InvalidSize)) []"),
     (0, usize::MAX, "Err(MmapRegion(InvalidSize)) []"),
 ];

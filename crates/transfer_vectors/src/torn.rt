@@ -94,8 +94,10 @@ fn a_file_that_fails_leaves_what_came(rt: HostRuntime) -> Result<(), Fail> {
     expect_text(2, told.as_str(), FILES[2])?;
     let mut full = File::create(&rt, "/dev/full")?;
     for (case, place) in [Memory(0), Region(0), Window(0)].iter().enumerate() {
-        let told = goes_out(rt.alloc(), *place, All(3), &mut full)?;
-        expect_text(case, told.as_str(), FULL)?;
+        let all = goes_out(rt.alloc(), *place, All(3), &mut full)?;
+        expect_text(case, all.as_str(), FULL)?;
+        let some = goes_out(rt.alloc(), *place, UpTo(3), &mut full)?;
+        expect_text(case, some.as_str(), FULL)?;
     }
     Ok(())
 }

@@ -324,7 +324,7 @@ fn transfers_come_in(rt: HostRuntime) -> Result<(), Fail> {
 }
 
 // A place, how many bytes are to go, and what the sink does: the answer, and the bytes that it took.
-const GO_OUT: [(Place, Amount, &[SinkStep], &str); 13] = [
+const GO_OUT: [(Place, Amount, &[SinkStep], &str); 15] = [
     (
         Memory(0),
         UpTo(8),
@@ -376,7 +376,19 @@ const GO_OUT: [(Place, Amount, &[SinkStep], &str); 13] = [
         &[SinkStep::Take(2), SinkStep::Fail],
         "Err(IOError(Kind(Other))) [6, 7]",
     ),
+    (
+        Region(1),
+        UpTo(3),
+        &[SinkStep::Fail],
+        "Err(IOError(Kind(Other))) []",
+    ),
     (Window(1), UpTo(8), &[SinkStep::Take(1)], "Ok(1) [6]"),
+    (
+        Window(1),
+        UpTo(2),
+        &[SinkStep::Interrupted, SinkStep::Fail],
+        "Err(IOError(Kind(Other))) []",
+    ),
     (Window(1), All(3), &[], "Err(OutOfBounds { addr: 4 }) []"),
 ];
 

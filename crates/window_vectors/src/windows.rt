@@ -206,9 +206,10 @@ fn an_access_reaches_to_the_end_of_its_window(rt: HostRuntime) -> Result<(), Fai
 
 const CELL_VALUES: &str =
     "Ok(()) Ok(1234605615003729920) Err(PartialBuffer { expected: 8, completed: 4 }) \
-                           Err(OutOfBounds { addr: 8 }) [0, 0, 0, 0, 255, 255, 255, 255]";
+                           Err(PartialBuffer { expected: 8, completed: 4 }) Err(OutOfBounds { addr: 8 }) \
+                           [0, 0, 0, 0, 255, 255, 255, 255]";
 
-// A value in the second cell of a window, one that goes past the last cell, and one behind it.
+// A value in the second cell of a window, one that goes past the last cell, written and read, and one behind it.
 #[test]
 fn a_type_of_its_own_gives_access_to_bytes(rt: HostRuntime) -> Result<(), Fail> {
     let mut host: HostMemory<()> = HostMemory::new(rt.alloc());
@@ -218,9 +219,12 @@ fn a_type_of_its_own_gives_access_to_bytes(rt: HostRuntime) -> Result<(), Fail> 
     let wrote = cells.write_obj(&mut host, 0x1122_3344u32, 1);
     let whole = cells.read_obj::<u64, ()>(&host, 0);
     let past = cells.write_obj(&mut host, u64::MAX, 1);
+    let short = cells.read_obj::<u64, ()>(&host, 1);
     let behind = cells.read_obj::<u64, ()>(&host, 2);
     let mut bytes = [7; 8];
     window.read_slice(&host, &mut bytes, 0)?;
-    let told = format!(in rt.alloc(); "{wrote:?} {whole:?} {past:?} {behind:?} {bytes:?}")?;
+    let told = format!(in rt.alloc();
+        "{wrote:?} {whole:?} {past:?} {short:?} {behind:?} {bytes:?}"
+    )?;
     expect_text(0, told.as_str(), CELL_VALUES)
 }
