@@ -5,9 +5,9 @@ use std::sync::Arc;
 use std::test::Fail;
 use test_text::expect_text;
 use vm_memory::{
-    BitmapId, Bytes, ExactBitmap, ExclusiveBitmap, GuestAddress, GuestMemory, GuestMemoryBackend,
-    GuestMemoryMmap, GuestRegionMmap, HostMemory, Iommu, IommuMemory, MachineMemory, NewBitmap,
-    Permissions, TableIommu,
+    BitmapId, Bytes, ExactBitmap, ExclusiveBitmap, GuestAddress, GuestAddressSpace, GuestMemory,
+    GuestMemoryAtomic, GuestMemoryBackend, GuestMemoryMmap, GuestRegionMmap, HostMemory, Iommu,
+    IommuMemory, Lends, MachineMemory, NewBitmap, Permissions, TableIommu,
 };
 
 type Host = HostMemory<ExclusiveBitmap>;
@@ -56,7 +56,7 @@ const CASES: [Case; 6] = [
                     reason: AccessNotAllowed })) 2 \
                     Err(IommuError(CannotResolve { iova_range: IovaRange { base: GuestAddress(4095), length: 2 }, \
                     reason: AccessNotAllowed })) 2",
-        windows: "0xfff+1 0x1000+1 ; 1 Space(0)+0xfff 1 Space(0)+0x1000",
+        windows: "0xfff+1 0x1000+1 ; 1 Space(1)+0xfff 1 Space(1)+0x1000",
     },
     // An address that is not mapped.
     Case {
@@ -82,7 +82,7 @@ const CASES: [Case; 6] = [
         addr: 0x5000,
         values: "Ok(()) Ok(1541) block [] space [5]",
         transfers: "Ok(2) 0 Ok(()) 0",
-        windows: "0x0+2 ; 2 Space(0)+0x5000",
+        windows: "0x0+2 ; 2 Space(1)+0x5000",
     },
     // With the IOMMU off it marks the block.
     Case {
@@ -101,7 +101,7 @@ const CASES: [Case; 6] = [
         addr: 0x2fff,
         values: "Ok(()) Ok(1541) block [] space [2, 3]",
         transfers: "Ok(2) 0 Ok(()) 0",
-        windows: "0x1fff+1 0x0+1 ; 1 Space(0)+0x2fff 1 Space(0)+0x3000",
+        windows: "0x1fff+1 0x0+1 ; 1 Space(1)+0x2fff 1 Space(1)+0x3000",
     },
     // A mapping that leads past the region.
     Case {
@@ -111,13 +111,16 @@ const CASES: [Case; 6] = [
         values: "Err(PartialBuffer { expected: 2, completed: 1 }) \
                  Err(PartialBuffer { expected: 2, completed: 1 }) block [] space [8]",
         transfers: "Ok(1) 1 Err(PartialBuffer { expected: 2, completed: 1 }) 1",
-        windows: "0x1fff+2 ; 1 Space(0)+0x8fff InvalidGuestAddress(GuestAddress(8192))",
+        windows: "0x1fff+2 ; 1 Space(1)+0x8fff InvalidGuestAddress(GuestAddress(8192))",
     },
 ];
 
-// Memory of one region of two pages, behind an IOMMU with these mappings and a space of 16 pages.
+// Memory of one region of two pages, behind an IOMMU of the second table of a host, which has these mappings, and its
+// second space, which has 16 pages.
 fn memory_behind(alloc: Global, host: &mut Host, mappings: &[Mapping]) -> Result<Memory, Fail> {
     let layout = GuestMemoryMmap::from_ranges(alloc, host, &[(GuestAddress(0), 0x2000)])?;
+    let _ = host.new_table()?;
+    let _ = host.new_space(ExclusiveBitmap::with_len(alloc, 0x10000)?)?;
     let table = host.new_table()?;
     let space = host.new_space(ExclusiveBitmap::with_len(alloc, 0x10000)?)?;
     for (iova, to, length, access) in mappings {
@@ -237,18 +240,25 @@ fn parts(memory: &Memory, text: &mut String) -> Result<(), Fail> {
     Ok(())
 }
 
-// A copy of a memory and one with another backend have its other parts. A machine tells which memory is translated.
+// A copy of a memory and one with another backend have its other parts, also where they are served to threads. A
+// machine tells which memory is translated.
 #[test]
 fn a_memory_is_of_its_parts(rt: HostRuntime) -> Result<(), Fail> {
-    let mut host = HostMemory::new(rt.alloc());
-    let mut memory = memory_behind(rt.alloc(), &mut host, &ONE_PAGE)?;
-    let other = GuestMemoryMmap::from_ranges(rt.alloc(), &mut host, &[(GuestAddress(0), 0x4000)])?;
-    let mut text = String::new(rt.alloc());
+    let alloc = rt.alloc();
+    let mut host = HostMemory::new(alloc);
+    let mut memory = memory_behind(alloc, &mut host, &ONE_PAGE)?;
+    let other = GuestMemoryMmap::from_ranges(alloc, &mut host, &[(GuestAddress(0), 0x4000)])?;
+    let mut text = String::new(alloc);
     parts(&memory, &mut text)?;
     memory.set_iommu_enabled(true);
     parts(&memory, &mut text)?;
     parts(&memory.clone()?, &mut text)?;
-    parts(&memory.with_replaced_backend(other.clone()?)?, &mut text)?;
+    let over_other = memory.with_replaced_backend(other.clone()?)?;
+    parts(&over_other, &mut text)?;
+    let shared = GuestMemoryAtomic::new(alloc, memory.clone()?)?;
+    parts(shared.memory(&rt, alloc)?.lend(), &mut text)?;
+    shared.lock(&rt).replace(&rt, alloc, over_other)?;
+    parts(shared.memory(&rt, alloc)?.lend(), &mut text)?;
     let plain: MachineMemory<GuestRegionMmap, TableIommu> = MachineMemory::Plain(other);
     writeln!(text, "{}", plain.translated().is_none())?;
     match MachineMemory::Translated(memory).translated() {
@@ -259,12 +269,14 @@ fn a_memory_is_of_its_parts(rt: HostRuntime) -> Result<(), Fail> {
 }
 
 const PARTS: &str = "\
-0 0 0x1fff false true
-0 0 0x1fff true false
-0 0 0x1fff true false
-0 0 0x3fff true false
+1 1 0x1fff false true
+1 1 0x1fff true false
+1 1 0x1fff true false
+1 1 0x3fff true false
+1 1 0x1fff true false
+1 1 0x3fff true false
 true
-0 0 0x1fff true false
+1 1 0x1fff true false
 ";
 
 const FOUR_PIECES: [Mapping; 4] = [

@@ -8,7 +8,12 @@ use vm_memory::{
     Reason, Reply,
 };
 
-static FAULTS: [Fault; 15] = [
+const RANGE: IovaRange = IovaRange {
+    base: GuestAddress(0x5000),
+    length: 2,
+};
+
+static FAULTS: [Fault; 19] = [
     Fault::InvalidGuestAddress(GuestAddress(0)),
     Fault::InvalidGuestAddress(GuestAddress(0xabc0)),
     Fault::IOError(ErrorKind::Interrupted),
@@ -24,12 +29,21 @@ static FAULTS: [Fault; 15] = [
     Fault::CallbackOutOfRange,
     Fault::GuestAddressOverflow,
     Fault::IommuError(IommuError::CannotResolve {
-        iova_range: IovaRange {
-            base: GuestAddress(0x5000),
-            length: 2,
-        },
+        iova_range: RANGE,
         reason: Reason::MissingMapping,
     }),
+    Fault::IommuError(IommuError::CannotResolve {
+        iova_range: RANGE,
+        reason: Reason::AccessNotAllowed,
+    }),
+    Fault::IommuError(IommuError::Fragmented {
+        iova_range: RANGE,
+        continuous_length: 1,
+    }),
+    Fault::IommuError(IommuError::IommuMisconfigured {
+        reason: Reason::MissingMapping,
+    }),
+    Fault::IommuError(IommuError::Memory),
     Fault::NoMemoryRegion,
     Fault::MemoryRegionOverlap,
     Fault::UnsortedMemoryRegions,
@@ -76,6 +90,10 @@ G5
 G6
 G7
 G8 I1 0x5000+0x2 missing
+G8 I1 0x5000+0x2 access
+G8 I2 0x5000+0x2 1
+G8 I3 missing
+G8 I4
 C1
 C2
 C3

@@ -270,56 +270,88 @@ const TWO_BLOCKS: &[u8] = b"block 1 1\nblock 1 1\n";
 
 const AND_A_BAD_LINE: &[u8] = b"block 1 1\nblock 1 1\nblock 1\n";
 
-// What a script tells whose input or output fails.
-const FAILURES: [(&[u8], Failing, &str); 10] = [
+// What a script tells whose input or output fails. It has some lines so many times.
+const FAILURES: [(usize, &[u8], Failing, &str); 15] = [
     // No reply comes before all of the input is read.
     (
+        1,
         TWO_BLOCKS,
         Failing::Read(0, io::ErrorKind::Other),
         "2 read failed",
     ),
     (
+        1,
         TWO_BLOCKS,
         Failing::Read(13, io::ErrorKind::Other),
         "2 read failed",
     ),
     (
+        1,
         TWO_BLOCKS,
         Failing::Read(20, io::ErrorKind::BrokenPipe),
         "2 read failed",
     ),
-    // A read that was interrupted is tried again.
+    // A read that finds no memory is told as want of memory, and one that was interrupted is tried again.
     (
+        1,
+        TWO_BLOCKS,
+        Failing::Read(13, io::ErrorKind::OutOfMemory),
+        "3 out of memory",
+    ),
+    (
+        1,
         TWO_BLOCKS,
         Failing::Read(13, io::ErrorKind::Interrupted),
         "block 0\nblock 1\n",
     ),
-    (TWO_BLOCKS, Failing::Write(0), "2 write failed"),
-    (TWO_BLOCKS, Failing::Write(9), "block 0\nb2 write failed"),
+    (1, TWO_BLOCKS, Failing::Write(0), "2 write failed"),
+    (1, TWO_BLOCKS, Failing::Write(9), "block 0\nb2 write failed"),
     (
+        1,
         TWO_BLOCKS,
         Failing::Flush,
         "block 0\nblock 1\n2 write failed",
     ),
     // Where a bad line follows, the write of the replies before it comes first.
-    (AND_A_BAD_LINE, Failing::Write(0), "2 write failed"),
+    (1, AND_A_BAD_LINE, Failing::Write(0), "2 write failed"),
     (
+        1,
         AND_A_BAD_LINE,
         Failing::Write(9),
         "block 0\nb2 write failed",
     ),
     (
+        1,
         AND_A_BAD_LINE,
         Failing::Flush,
         "block 0\nblock 1\n2 write failed",
+    ),
+    // Replies that are written before the last of them is made. What a failed write left is not tried again.
+    (5000, b"table\n", Failing::Write(0), "2 write failed"),
+    (
+        5000,
+        b"table\n",
+        Failing::Write(9),
+        "table 0\nt2 write failed",
+    ),
+    (5000, b"plain 0\n", Failing::Write(0), "2 write failed"),
+    (
+        5000,
+        b"plain 0\n",
+        Failing::Write(9),
+        "error NoS2 write failed",
     ),
 ];
 
 #[test]
 fn a_failed_read_or_write_ends_a_script(rt: HostRuntime) -> Result<(), Fail> {
-    for (number, (script, failing, wanted)) in FAILURES.iter().enumerate() {
+    for (number, (times, lines, failing, wanted)) in FAILURES.iter().enumerate() {
+        let mut script = Vec::new(rt.alloc());
+        for _ in 0..*times {
+            script.extend_from_slice(lines)?;
+        }
         let mut input = FailingReader {
-            text: script,
+            text: script.as_slice(),
             at: 0,
             failing: Some(*failing),
         };
