@@ -121,7 +121,8 @@ pub fn expect_cleared<R: Sync + Threads>(rt: &R, alloc: Global, marks: &Marks) -
     tally.expect(marks, true)
 }
 
-// Bitmaps, and lots of them. One round meets few of the moments in which a page can be lost, so there are many.
+// Bitmaps, and lots of them. One round meets few of the moments in which a page can be lost, so there are six of each or
+// more, until a harvest took pages while threads marked.
 #[cfg(test)]
 const MARKS: [Marks; 4] = [
     Marks {
@@ -152,12 +153,20 @@ const MARKS: [Marks; 4] = [
 
 #[test]
 fn words_lose_no_page(rt: HostRuntime) -> Result<(), Fail> {
-    let mut taken = 0usize;
-    for round in 0..24 {
-        let marks = &MARKS[round % MARKS.len()];
-        taken = taken.saturating_add(expect_atomic(&rt, rt.alloc(), marks)?);
-        expect_cleared(&rt, rt.alloc(), marks)?;
+    for marks in &MARKS {
+        let mut taken = 0usize;
+        for round in 0..106 {
+            if round >= 6 && taken > 0 {
+                break;
+            }
+            taken = taken.saturating_add(expect_atomic(&rt, rt.alloc(), marks)?);
+            expect_cleared(&rt, rt.alloc(), marks)?;
+        }
+        assert!(rt;
+            taken > 0,
+            "harvests take pages of {} while threads mark",
+            marks.pages
+        );
     }
-    assert!(rt; taken > 0, "harvests take pages while threads mark");
     Ok(())
 }

@@ -204,8 +204,9 @@ pub fn expect_tracked<R: Sync + Threads>(
     expect_joined(rt, alloc, bitmap, harvester, markers, marks)
 }
 
-// Rounds, and the pages of each. The last are two markers on the pages 0 to 63 and 32 to 95. One round meets few of the
-// moments in which a page can be lost, so there are many.
+// How many rounds there are at least, and the pages of each. The last are two markers on the pages 0 to 63 and 32 to 95.
+// One round meets few of the moments in which a page can be lost, so there are many, and more until a harvest took pages
+// while threads marked.
 #[cfg(test)]
 const ROUNDS: [(usize, Marks); 5] = [
     (
@@ -257,12 +258,19 @@ const ROUNDS: [(usize, Marks); 5] = [
 
 #[test]
 fn markers_and_a_harvester_lose_no_page(rt: HostRuntime) -> Result<(), Fail> {
-    let mut taken = 0usize;
     for (rounds, marks) in &ROUNDS {
-        for _ in 0..*rounds {
+        let mut taken = 0usize;
+        for round in 0..rounds.saturating_add(100) {
+            if round >= *rounds && taken > 0 {
+                break;
+            }
             taken = taken.saturating_add(expect_tracked(&rt, rt.alloc(), marks)?);
         }
+        assert!(rt;
+            taken > 0,
+            "harvests take pages of {} while threads mark",
+            marks.pages
+        );
     }
-    assert!(rt; taken > 0, "harvests take pages while threads mark");
     Ok(())
 }
