@@ -1,6 +1,8 @@
 //! A struct of fixed fields as a value: the header of a request to a block device.
 ghost use Rattle.std.specs.Prelude.{◌≡◌, refl};
-ghost use Rattle.vm_memory_base.specs.lemmas.ByteCodes.{wrapped_code};
+ghost use Rattle.std.specs.Int.{w32, w64};
+ghost use Rattle.vm_memory_base.specs.lemmas.ByteCodes.{wrapped_code, unsigned_code, length-low};
+ghost use Rattle.vm_memory_base.specs.lemmas.PairCodes.{pair_code};
 
 use std::alloc::Global;
 use vm_memory::{ByteSized, ByteValued, Bytes, GuestAddress, GuestMemoryMmap, HostMemory};
@@ -69,9 +71,11 @@ impl ByteValued for Header {
         (self.kind, (self.reserved, self.sector)).known();
     }
 
+    // A pair's bytes stand for its values as those of both parts do.
     ghost laws = { wrapped_code (λ h. (h.kind, (h.reserved, h.sector)))
-        (λ p. record { kind = p.0; reserved = p.1.0; sector = p.1.1 })
-        (λ h. refl) (λ p. refl) ⟦<Fields as ByteValued>⟧.laws };
+        (λ p. record { kind = p.0; reserved = p.1.0; sector = p.1.1 }) (λ h. refl) (λ p. refl)
+        (pair_code (unsigned_code w32) (length-low 0 4)
+        (pair_code (unsigned_code w32) (length-low 0 4) (unsigned_code w64))) };
 }
 
 /// Writes a header, and reads one of its fields and all of it.
