@@ -12,24 +12,36 @@ fn pattern(alloc: Global, size: usize) -> Result<Vec<u8>, AllocError> {
     (0..size).map(|index| (index % 251) as u8).collect(alloc)
 }
 
-// Bytes go to a vector, and from it into another memory.
+// Whether bytes go to a vector, and from it into another memory.
+fn are_moved(
+    alloc: Global,
+    host: &mut HostMemory<()>,
+    from: &GuestMemoryMmap,
+    to: &GuestMemoryMmap,
+    sent: &[u8],
+) -> Result<bool, Fail> {
+    if !host.holds(from) || !host.holds(to) {
+        return Err(Fail::new("the host holds the memories"));
+    }
+    let start = GuestAddress(0);
+    from.write_slice(host, sent, start)?;
+    let mut sink = Vec::new(alloc);
+    from.write_all_volatile_to(host, start, &mut sink, sent.len())?;
+    let mut source = sink.as_slice();
+    to.read_exact_volatile_from(host, start, &mut source, sent.len())?;
+    let mut came = vec![in alloc; 0u8; sent.len()]?;
+    to.read_slice(host, came.as_mut_slice(), start)?;
+    Ok(sink.as_slice() == sent && came.as_slice() == sent)
+}
+
 #[test]
 fn sixteen_mebibytes_go_from_memory_to_memory(rt: HostRuntime) -> Result<(), Fail> {
     let mut host = HostMemory::<()>::new(rt.alloc());
-    let start = GuestAddress(0);
-    let from = GuestMemoryMmap::from_ranges(rt.alloc(), &mut host, &[(start, MOVED)])?;
-    let to = GuestMemoryMmap::from_ranges(rt.alloc(), &mut host, &[(start, MOVED)])?;
+    let ranges = [(GuestAddress(0), MOVED)];
+    let from = GuestMemoryMmap::from_ranges(rt.alloc(), &mut host, &ranges)?;
+    let to = GuestMemoryMmap::from_ranges(rt.alloc(), &mut host, &ranges)?;
     let sent = pattern(rt.alloc(), MOVED)?;
-    assert!(rt; host.holds(&from) && host.holds(&to));
-    from.write_slice(&mut host, sent.as_slice(), start)?;
-    let mut sink = Vec::new(rt.alloc());
-    from.write_all_volatile_to(&host, start, &mut sink, MOVED)?;
-    let mut source = sink.as_slice();
-    to.read_exact_volatile_from(&mut host, start, &mut source, MOVED)?;
-    let mut came = vec![in rt.alloc(); 0u8; MOVED]?;
-    to.read_slice(&host, came.as_mut_slice(), start)?;
-    assert!(rt; sink.as_slice() == sent.as_slice());
-    assert!(rt; came.as_slice() == sent.as_slice());
+    assert!(rt; are_moved(rt.alloc(), &mut host, &from, &to, sent.as_slice())?);
     Ok(())
 }
 

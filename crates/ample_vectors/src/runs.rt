@@ -1,5 +1,6 @@
 //! Long runs of a machine, and a long image.
 
+use std::alloc::Global;
 use std::num::NonZeroUsize;
 use std::test::Fail;
 use test_machines::machine_of;
@@ -11,24 +12,32 @@ use vm_memory::{
 
 type DirtyMachine = Machine<GuestRegionMmap, TableIommu, ExclusiveBitmap>;
 
-// A block of bytes that are all 0, in as many pages, all dirty.
-#[test]
-fn an_image_of_a_mebibyte_is_synced(rt: HostRuntime) -> Result<(), Fail> {
-    let size = 0x10_0000;
-    let mut bitmap = ExclusiveBitmap::new(rt.alloc(), size, NonZeroUsize::MIN)?;
+// A machine of a block of so many bytes, all 0, in as many pages, all dirty.
+fn dirty_machine(alloc: Global, size: usize) -> Result<DirtyMachine, Fail> {
+    let mut bitmap = ExclusiveBitmap::new(alloc, size, NonZeroUsize::MIN)?;
     bitmap.mark_dirty(0, size);
-    let mut host = HostMemory::new(rt.alloc());
+    let mut host = HostMemory::new(alloc);
     host.new_block_with(size, bitmap)?;
-    let (regions, translators) = (Vec::new(rt.alloc()), Vec::new(rt.alloc()));
-    let mut machine: DirtyMachine = Machine::new(rt.alloc(), host, regions, translators);
-    let mut bytes = vec![in rt.alloc(); 7u8; size]?;
-    let image = bytes.as_mut_slice();
+    Ok(Machine::new(alloc, host, Vec::new(alloc), Vec::new(alloc)))
+}
+
+// Fails where an image is not the block of the machine after a sync.
+fn expect_synced(machine: &mut DirtyMachine, image: &mut [u8]) -> Result<(), Fail> {
     if machine.host().shape().block_len(BlockId(0)) != Some(image.len()) {
         return Err(Fail::new("the image is as long as the block"));
     }
     machine.sync(BlockId(0), image)?;
-    assert!(rt; image.iter().all(|byte| *byte == 0));
+    if !image.iter().all(|byte| *byte == 0) {
+        return Err(Fail::new("the image is not the block"));
+    }
     Ok(())
+}
+
+#[test]
+fn an_image_of_a_mebibyte_is_synced(rt: HostRuntime) -> Result<(), Fail> {
+    let mut image = vec![in rt.alloc(); 7u8; 0x10_0000]?;
+    let mut machine = dirty_machine(rt.alloc(), image.len())?;
+    expect_synced(&mut machine, image.as_mut_slice())
 }
 
 #[test]

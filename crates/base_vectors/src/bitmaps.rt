@@ -111,6 +111,14 @@ const MARKS: [(usize, (usize, usize), [u64; 4]); 9] = [
     (0x4000_0000, (0x20_0000_0000, 0), [0; 4]),
 ];
 
+// Whether the bit of a page is set.
+fn is_set(words: &[u64], page: usize) -> bool {
+    match words.get(page / 64) {
+        Some(word) => *word & (1 << (page % 64)) != 0,
+        None => false,
+    }
+}
+
 // What a mark makes dirty a reset of the same bytes makes clean, and each byte is told as its page is.
 #[test]
 fn words_of_marks(rt: HostRuntime) -> Result<(), Fail> {
@@ -121,8 +129,7 @@ fn words_of_marks(rt: HostRuntime) -> Result<(), Fail> {
         assert!(rt; bitmap.len() == 200 && bitmap.byte_size() == bytes);
         bitmap.mark_dirty(offset, len);
         for page in 0..0x100usize {
-            let word = wanted.get(page / 64);
-            let dirty = word.is_some_and(|word| *word & (1 << (page % 64)) != 0);
+            let dirty = is_set(wanted.as_slice(), page);
             let first = page_size.saturating_mul(page);
             let last = first.saturating_add(page_size.saturating_sub(1));
             let is_told = bitmap.dirty_at(first) == dirty && bitmap.dirty_at(last) == dirty;

@@ -240,6 +240,16 @@ const MARKS: [(usize, (usize, usize), &[(usize, bool)], &[(usize, u32)]); 5] = [
     ),
 ];
 
+// Fails where a byte is told otherwise.
+fn expect_marked(marked: &MarkerBitmap, told: &[(usize, bool)]) -> Result<(), Fail> {
+    for (addr, wanted) in told {
+        if marked.dirty_at(*addr) != *wanted {
+            return Err(Fail::new(format_args!("byte {addr:#x} is not {wanted}")));
+        }
+    }
+    Ok(())
+}
+
 // Marks until the marker is handed back.
 #[test]
 fn a_marker_marks_for_a_bitmap_until_it_retires(rt: HostRuntime) -> Result<(), Fail> {
@@ -254,9 +264,7 @@ fn a_marker_marks_for_a_bitmap_until_it_retires(rt: HostRuntime) -> Result<(), F
         let shared = Arc::new(rt.alloc(), bitmap)?;
         let mut marked = MarkerBitmap::new(shared, marker);
         marked.mark_dirty(offset, len);
-        for (addr, wanted) in told {
-            assert!(rt; marked.dirty_at(*addr) == *wanted, "byte {addr:#x}");
-        }
+        expect_marked(&marked, told)?;
         marked.meet(&mut harvester);
         let (shared, marker) = marked.retire().ok_or("there is a marker")?;
         assert!(rt; marked.retire().is_none());

@@ -1,13 +1,13 @@
 //! Guest memory behind an IOMMU that is on and off: values, transfers and windows.
 
 use std::alloc::Global;
-use std::sync::Arc;
+use std::sync::{Arc, Wait};
 use std::test::Fail;
 use test_text::expect_text;
 use vm_memory::{
     BitmapId, Bytes, ExactBitmap, ExclusiveBitmap, GuestAddress, GuestAddressSpace, GuestMemory,
     GuestMemoryAtomic, GuestMemoryBackend, GuestMemoryMmap, GuestRegionMmap, HostMemory, Iommu,
-    IommuMemory, Lends, MachineMemory, NewBitmap, Permissions, TableIommu,
+    IommuMemory, MachineMemory, NewBitmap, Permissions, TableIommu,
 };
 
 type Host = HostMemory<ExclusiveBitmap>;
@@ -240,6 +240,19 @@ fn parts(memory: &Memory, text: &mut String) -> Result<(), Fail> {
     Ok(())
 }
 
+// What is served of a memory, and after it was replaced by another.
+fn served<W: Wait, M: GuestMemory + Drop>(
+    rt: &W,
+    alloc: Global,
+    memory: M,
+    other: M,
+) -> Result<(Arc<M>, Arc<M>), Fail> {
+    let shared = GuestMemoryAtomic::new(alloc, memory)?;
+    let before = shared.memory(rt, alloc)?.into_inner();
+    shared.lock(rt).replace(rt, alloc, other)?;
+    Ok((before, shared.memory(rt, alloc)?.into_inner()))
+}
+
 // A copy of a memory and one with another backend have its other parts, also where they are served to threads. A
 // machine tells which memory is translated.
 #[test]
@@ -255,10 +268,9 @@ fn a_memory_is_of_its_parts(rt: HostRuntime) -> Result<(), Fail> {
     parts(&memory.clone()?, &mut text)?;
     let over_other = memory.with_replaced_backend(other.clone()?)?;
     parts(&over_other, &mut text)?;
-    let shared = GuestMemoryAtomic::new(alloc, memory.clone()?)?;
-    parts(shared.memory(&rt, alloc)?.lend(), &mut text)?;
-    shared.lock(&rt).replace(&rt, alloc, over_other)?;
-    parts(shared.memory(&rt, alloc)?.lend(), &mut text)?;
+    let (before, after) = served(&rt, alloc, memory.clone()?, over_other)?;
+    parts(&*before, &mut text)?;
+    parts(&*after, &mut text)?;
     let plain: MachineMemory<GuestRegionMmap, TableIommu> = MachineMemory::Plain(other);
     writeln!(text, "{}", plain.translated().is_none())?;
     match MachineMemory::Translated(memory).translated() {
