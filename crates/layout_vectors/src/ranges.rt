@@ -141,39 +141,49 @@ const RANGES: [Ranges; 10] = [
     ),
 ];
 
-// Ranges make a memory of just these, or the error, and these blocks.
-#[test]
-fn ranges_make_a_memory_or_an_error(rt: HostRuntime) -> Result<(), Fail> {
-    let alloc = rt.alloc();
-    let many: Vec<(u64, usize)> = (0..500u64)
-        .map(|number| (number.wrapping_mul(0x20), 0x10))
+// Fails where ranges do not make a memory of just these, or do not make this error, and other blocks.
+fn expect_ranges(
+    alloc: Global,
+    ranges: &[(u64, usize)],
+    wanted: &str,
+    sizes: &[usize],
+) -> Result<(), Fail> {
+    let mut host: HostMemory<()> = HostMemory::new(alloc);
+    let all = ranges
+        .iter()
+        .map(|(start, size)| (GuestAddress(*start), *size))
         .collect(alloc)?;
-    let many_sizes = vec![in alloc; 0x10usize; 500]?;
-    for case in 0..RANGES.len().saturating_add(1) {
-        let (ranges, wanted, sizes) = match RANGES.get(case) {
-            Some(ranges) => *ranges,
-            None => (many.as_slice(), "", many_sizes.as_slice()),
-        };
-        let mut host: HostMemory<()> = HostMemory::new(alloc);
-        let all = ranges
-            .iter()
-            .map(|(start, size)| (GuestAddress(*start), *size));
-        let all: Vec<(GuestAddress, usize)> = all.collect(alloc)?;
-        match GuestMemoryMmap::from_ranges(alloc, &mut host, all.as_slice()) {
-            Ok(memory) => {
-                let regions = memory
-                    .iter()
-                    .map(|region| (region.start_addr(), region.get_mmap().size()));
-                let regions: Vec<(GuestAddress, usize)> = regions.collect(alloc)?;
-                assert!(rt; regions.as_slice() == all.as_slice() && host.holds(&memory));
-                expect_text(case, "", wanted)?;
+    let all: Vec<(GuestAddress, usize)> = all;
+    match GuestMemoryMmap::from_ranges(alloc, &mut host, all.as_slice()) {
+        Ok(memory) => {
+            let regions = memory
+                .iter()
+                .map(|region| (region.start_addr(), region.get_mmap().size()));
+            let regions: Vec<(GuestAddress, usize)> = regions.collect(alloc)?;
+            if regions.as_slice() != all.as_slice() || !host.holds(&memory) {
+                return Err(Fail::new("the memory has its ranges, and the host holds it"));
             }
-            Err(refused) => {
-                let text = format!(in alloc; "{refused:?}")?;
-                expect_text(case, text.as_str(), wanted)?;
-            }
+            expect_text(0, "", wanted)?;
         }
-        assert!(rt; sizes_of(alloc, &host)?.as_slice() == sizes, "case {case}");
+        Err(refused) => {
+            let text = format!(in alloc; "{refused:?}")?;
+            expect_text(0, text.as_str(), wanted)?;
+        }
+    }
+    if sizes_of(alloc, &host)?.as_slice() != sizes {
+        return Err(Fail::new(format_args!("{ranges:?} leave other blocks")));
     }
     Ok(())
+}
+
+#[test]
+fn ranges_make_a_memory_or_an_error(rt: HostRuntime) -> Result<(), Fail> {
+    for (ranges, error, sizes) in RANGES.iter() {
+        expect_ranges(rt.alloc(), ranges, error, sizes)?;
+    }
+    let many: Vec<(u64, usize)> = (0..500u64)
+        .map(|number| (number.wrapping_mul(0x20), 0x10))
+        .collect(rt.alloc())?;
+    let sizes = vec![in rt.alloc(); 0x10usize; 500]?;
+    expect_ranges(rt.alloc(), many.as_slice(), "", sizes.as_slice())
 }
