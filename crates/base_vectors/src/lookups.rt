@@ -27,9 +27,14 @@ pub fn next_range(state: &mut u64, addresses: u64, most: u64) -> (u64, usize)
 }
 
 // Writes what is missed, and where the access fails.
-fn write_refusal(text: &mut String, error: LookupError) -> Result<(), Fail> {
+fn write_refusal(
+    text: &mut String,
+    error: LookupError,
+    case: usize,
+    len: usize,
+) -> Result<(), Fail> {
     let LookupError::Fails(fails) = error else {
-        return Err(Fail::new("there is memory"));
+        return Err(Fail::new(format_args!("case {case}: no memory for {len:#x}")));
     };
     write!(text, "misses")?;
     for range in fails.misses.as_slice() {
@@ -58,7 +63,7 @@ pub fn expect_look_up(
                 write!(text, " {:#x}+{:#x}", piece.base.0, piece.length)?;
             }
         }
-        Err(error) => write_refusal(&mut text, error)?,
+        Err(error) => write_refusal(&mut text, error, case, len)?,
     }
     expect_text(case, text.as_str(), wanted)?;
     text.clear();
@@ -68,7 +73,7 @@ pub fn expect_look_up(
                 write!(text, " {:#x}+{:#x}", piece.base.0, piece.length)?;
             }
         }
-        Err(error) => write_refusal(&mut text, error)?,
+        Err(error) => write_refusal(&mut text, error, case, len)?,
     }
     expect_text(case, text.as_str(), wanted)
 }

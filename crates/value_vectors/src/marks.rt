@@ -22,6 +22,8 @@ enum Write {
     At(u64, usize),
     // To the end of a window at an I/O address, which leads to a guest address and so many bytes, from an offset on.
     Mapped(u64, u64, usize, usize),
+    // A store of four bytes at an I/O address, which leads to a guest address.
+    Stored(u64, u64),
     // In a part of a window from 2 on, at an offset.
     Part(usize, usize),
     // Of elements of two bytes in that window, at an offset.
@@ -32,7 +34,7 @@ enum Write {
     Values,
 }
 
-use Write::{Array, At, Front, Mapped, Part, Values};
+use Write::{Array, At, Front, Mapped, Part, Stored, Values};
 
 fn write_bytes<A: Copy, M: Bytes<A>, B: Bitmap>(
     alloc: Global,
@@ -77,6 +79,28 @@ fn write_values<B: Bitmap>(
     Ok(format!(in alloc; "{refused:?} {stored:?} {bytes:?} ")?)
 }
 
+// What a store answers in each window of four bytes at an I/O address, which leads to a guest address.
+fn store_mapped<B: Bitmap>(
+    alloc: Global,
+    host: &mut HostMemory<B>,
+    memory: &GuestMemoryMmap,
+    iova: u64,
+    base: u64,
+) -> Result<String, Fail> {
+    let (at, base) = (GuestAddress(iova), GuestAddress(base));
+    let pieces = vec![in alloc; MappedRange { base, length: 4 }]?;
+    let mut text = String::new(alloc);
+    for window in IommuMemorySliceIterator::of_pieces(memory, pieces, at, SpaceId(0)) {
+        let window = window?;
+        if !host.holds(&window) {
+            return Err(Fail::new("the host holds the window"));
+        }
+        let answer = window.store(host, 7u32, 0, Ordering::SeqCst);
+        write!(text, "{answer:?} ")?;
+    }
+    Ok(text)
+}
+
 // Writes, and tells what that answers.
 fn written<B: Bitmap>(
     alloc: Global,
@@ -99,6 +123,7 @@ fn written<B: Bitmap>(
             }
             Ok(text)
         }
+        Stored(iova, base) => store_mapped(alloc, host, memory, iova, base),
         Part(offset, count) => {
             write_bytes(alloc, host, &window.subslice(offset, count)?, 0, count)
         }
@@ -185,7 +210,7 @@ fn expect_pages<B: NewBitmap + Drop>(alloc: Global, case: usize) -> Result<(), F
 
 // A write in a block whose bytes, and those of a space, each have a page of their own, what it answers, and which pages
 // are dirty then.
-const LONG: [(Write, &str); 16] = [
+const LONG: [(Write, &str); 18] = [
     (At(0x10, 0x1800), "Ok(6144) block 16-6159 space "),
     (At(0xffe, 0x1003), "Ok(4099) block 4094-8192 space "),
     (At(0x2fff, 0x1001), "Ok(1) block 12287-12287 space "),
@@ -221,6 +246,12 @@ const LONG: [(Write, &str); 16] = [
         Mapped(u64::MAX, 0, 0x1002, 1),
         "Ok(4097) block space 0-4096 ",
     ),
+    // The place in the block is aligned or not, whatever is marked.
+    (
+        Stored(0x10, 0x102),
+        "Err(Misaligned { addr: 258, alignment: 4 }) block space ",
+    ),
+    (Stored(0x12, 0x104), "Ok(()) block space 18-21 "),
     (
         Values,
         "Err(Misaligned { addr: 10, alignment: 4 }) Ok(()) [8, 0, 9, 0, 0, 0, 7, 0, 0, 0] \
