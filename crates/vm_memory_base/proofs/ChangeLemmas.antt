@@ -7,7 +7,8 @@ use Rattle.vm_memory_base.specs.Change.{EndBelow, StartFrom, IsKept, if_any, pre
 use Rattle.vm_memory_base.specs.Runs.{AddressRun, IsCanonical, value_at, cut_to}
 use Rattle.vm_memory_base.specs.Table.{Mapping, same_mapping, Says, Set, Invalidate, says_after, canonical_list}
 use Rattle.vm_memory_base.specs.declared.iotlb.Permissions.{Permissions}
-use Rattle.vm_memory_base.proofs.RunsLaws.{run, either, CanFollow, canonical_cons, canonical_pos, canonical_follow, canonical_tail, within_or_not, is_within-in, is_within-below, is_within-above, is_within-join, value_at_in, value_at_past, value_at-cut_to, canonical_cut_to}
+use Rattle.vm_memory_base.proofs.RunsLaws.{run, either, CanFollow, canonical_cons, canonical_pos, canonical_follow, canonical_tail, within_or_not, is_within-in, is_within-below, is_within-above, is_within-join, value_at_in, value_at_past}
+use Rattle.vm_memory_base.proofs.CutLaws.{value_at-cut_to, canonical_cut_to}
 use Rattle.vm_memory_base.proofs.TableLaws.{same_mapping_tests_equality, canonical_list-agree, canonical_list-of_values, set_nothing, invalidate_nothing}
 
 -- ---- where runs begin and end

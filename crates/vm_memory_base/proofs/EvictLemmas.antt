@@ -9,7 +9,7 @@ use Rattle.vm_memory_base.specs.Runs.{AddressRun, IsCanonical, value_at}
 use Rattle.vm_memory_base.specs.Table.{Mapping, same_mapping, Says, Table, says, TableEvent, Set, InvalidateAll, covers, says_after, says_after_all, has_any, first_set, excess, evicted, eviction, events, changed, changed_by, events_of, canonical_list, range_count}
 use Rattle.vm_memory_base.specs.declared.iotlb.Permissions.{Permissions}
 use Rattle.vm_memory_base.proofs.ChangeLemmas.{StartFrom-weaker, tail_starts, kept_stays, nothing_said}
-use Rattle.vm_memory_base.proofs.StoredLemmas.{below-none, from-all}
+use Rattle.vm_memory_base.proofs.StartLemmas.{below-none, from-all}
 use Rattle.vm_memory_base.proofs.RunsLaws.{CanFollow, none_below, value_at_in, value_at_past, within_from, is_within-in, canonical_cons, canonical_pos, canonical_follow, canonical_tail, within_or_not, is_within-below, is_within-above, value_at-runs}
 use Rattle.vm_memory_base.proofs.TableLaws.{same_mapping_tests_equality, canonical_list-agree, canonical_list-of_values, canonical_canonical_list, value_at-canonical_list, says_after-covered, says_after_all-append}
 
@@ -181,7 +181,8 @@ module _ (x : Option ℕ) where
   first_others n rs = take n (filter goes rs)
 
   pub says_without : (n : ℕ) (rs : List (AddressRun Mapping)) → IsCanonical same_mapping rs → (y : ℕ)
-      → value_at (without_first (has_any x) n rs) y ≡ says_after_all (map eviction (first_others n rs)) y (value_at rs y)
+      → value_at (without_first (has_any x) n rs) y ≡ says_after_all (map eviction (first_others n rs)) y
+      (value_at rs y)
   says_without zero rs h y = refl
   says_without (suc n) [] h y = refl
   says_without (suc n) (r ∷ rs) h y =
@@ -193,7 +194,8 @@ module _ (x : Option ℕ) where
         | inl t ↦
             elim (within_or_not r.start r.len y) [
               | inl w ↦
-                  rw (t, w.0) (sym (says_far (first_others (suc n) rs) (r.start + r.len) y (Some r.value) (far (suc n)) w.2))
+                  rw (t, w.0) (sym (says_far (first_others (suc n) rs) (r.start + r.len) y (Some r.value) (far (suc n))
+                  w.2))
               | inr w ↦ rw (t, w.0) (says_without (suc n) rs rest y)
             ]
         | inr t ↦
@@ -205,7 +207,8 @@ module _ (x : Option ℕ) where
                   (evicts_in r y (value_at (r ∷ rs) y) w.0) ∙ says_none (first_others n rs) y))
               | inr w ↦
                   let said : says_after (eviction r) y (value_at (r ∷ rs) y) ≡ value_at rs y =
-                  evicts_out r y (value_at (r ∷ rs) y) w.0 ∙ cond-false (is_within r.start r.len y) (Some r.value) (value_at rs y) w.0 in
+                  evicts_out r y (value_at (r ∷ rs) y) w.0 ∙ cond-false (is_within r.start r.len y) (Some r.value)
+                  (value_at rs y) w.0 in
                   rw t (says_without n rs rest y
                   ∙ sym (ap (says_after_all (map eviction (first_others n rs)) y) said))
             ]
@@ -235,7 +238,8 @@ changed_ranges call t =
     canonical_list-agree (λ y. says_after_all (events call t) y (says t y)) (value_at (without_first (has_any x) n rs))
     (λ y l. ap (says_after_all (map eviction gone) y) (sym (value_at-canonical_list f y l))
     ∙ sym (says_without x n rs canonical y))
-    ∙ canonical_list-of_values (without_first (has_any x) n rs) (canonical_without (has_any x) same_mapping n rs canonical)
+    ∙ canonical_list-of_values (without_first (has_any x) n rs)
+    (canonical_without (has_any x) same_mapping n rs canonical)
     (λ y l. says_without x n rs canonical y
     ∙ ap (says_after_all (map eviction gone) y) (none_past f y l) ∙ says_none gone y)
 
@@ -258,7 +262,8 @@ changed_within call t limit is some =
     let rs = called call t in
     let e = ap length (changed_ranges call t)
     ∙ ap (λ (o : Option ℕ). length (without_first (has_any (first_set call)) (excess o (length rs)) rs)) is in
-    let w = within_without (first_set call) limit rs some (canonical_canonical_list (λ y. says_after call y (says t y))) in
+    let w = within_without (first_set call) limit rs some (canonical_canonical_list
+    (λ y. says_after call y (says t y))) in
     omega arith
 
 -- what is said after a call that changed a table
@@ -375,7 +380,8 @@ pub call_done : (call : TableEvent) (t : Table) (set new : List (AddressRun Mapp
 call_done call t set new is e =
     let gone : without_first (has_any (first_set call)) (excess t.limit (length set)) set
     ≡ without_first (has_any (first_set call)) (excess t.limit (length (called call t))) (called call t) =
-    ap (λ (ys : List (AddressRun Mapping)). without_first (has_any (first_set call)) (excess t.limit (length ys)) ys) is in
+    ap (λ (ys : List (AddressRun Mapping)). without_first (has_any (first_set call)) (excess t.limit (length ys)) ys)
+    is in
     ap (λ (ys : List (AddressRun Mapping)). record t { ranges = ys }) (e ∙ gone ∙ sym (changed_ranges call t))
 
 -- ---- what is set stays
@@ -420,7 +426,8 @@ apart (r ∷ rs) a n v h said x l m =
     elim (within_or_not r.start r.len a) [
       | inl w ↦
           let end = r.start + r.len in
-          let is : r.value ≡ v = same_Some r.value v (sym (value_at_in r rs a w.1 w.2) ∙ said a (omega arith) (omega arith)) in
+          let is : r.value ≡ v = same_Some r.value v (sym (value_at_in r rs a w.1 w.2) ∙ said a (omega arith)
+          (omega arith)) in
           elim (cases_lt x end) [
             | inl k ↦ ((λ f. absurd (true_false (sym w.0 ∙ f))), far_apart x a end rs later k)
             | inr k ↦

@@ -1,10 +1,16 @@
 pub mod PagesLaws
 pub mod EventLaws
 pub mod RunsLaws
+pub mod CutLaws
+pub mod PermissionsLaws
 pub mod TableLaws
 pub mod ChangeLemmas
 pub mod EvictLemmas
+pub mod StartLemmas
 pub mod StoredLemmas
+pub mod SideLemmas
+pub mod PutLemmas
+pub mod SiteLemmas
 pub mod LookupLemmas
 pub mod AlignUp
 pub mod KnownBytesJoined

@@ -13,8 +13,9 @@ use Rattle.vm_memory_base.specs.Walk.{HeadEndsAfter, IsWalk, pieces_left}
 use Rattle.vm_memory_base.specs.declared.iotlb.Permissions.{Permissions}
 use Rattle.vm_memory_base.specs.declared.iotlb.Permissions.TheVariants.{No}
 use Rattle.vm_memory_base.proofs.ChangeLemmas.{StartFrom-weaker, tail_starts, canonical_gap, cut_to-append, cut_to-before, cut_to-behind}
-use Rattle.vm_memory_base.proofs.RunsLaws.{run, canonical_pos, canonical_tail, within_or_not, is_within-in, is_within-below, is_within-above, none_below, value_at_in, value_at_past, same_from_values, canonical_runs, value_at-runs, runs-of_list}
-use Rattle.vm_memory_base.proofs.StoredLemmas.{canonical_prefix, canonical_suffix}
+use Rattle.vm_memory_base.proofs.RunsLaws.{run, canonical_pos, canonical_tail, within_or_not, is_within-in, is_within-below, is_within-above, none_below, value_at_in, value_at_past, same_from_values, canonical_runs, value_at-runs}
+use Rattle.vm_memory_base.proofs.CutLaws.{runs-of_list}
+use Rattle.vm_memory_base.proofs.SideLemmas.{canonical_prefix, canonical_suffix}
 use Rattle.vm_memory_base.proofs.TableLaws.{same_mapping_tests_equality, is_allowed-each, failures-runs, pieces-kept}
 
 -- ---- whether a look-up succeeds

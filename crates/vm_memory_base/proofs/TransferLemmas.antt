@@ -45,7 +45,8 @@ module _ {S : Type 0} (source : S → Option (List Next)) (reads : S → List �
       (done : ℕ) (buf : List ℕ)
       → Again (Reads source reads) (old, take (length buf - done) (drop done buf), flag) given (new, part, interrupted)
       → given ≡ answer
-      → ReadsBehind source reads done (old, buf, flag) answer (new, put_mid done (length buf - done) buf part, interrupted)
+      → ReadsBehind source reads done (old, buf, flag) answer
+      (new, put_mid done (length buf - done) buf part, interrupted)
   reads_behind {part = part} done buf tries is =
       (part, rw is at (rw (take_rest buf done) at tries), placed done buf part)
 

@@ -17,6 +17,7 @@ pub mod Table
 pub mod Change
 pub mod Walk
 pub mod Stored
+pub mod Site
 pub mod Lookup
 pub mod PowerOfTwo
 pub mod Bytes

@@ -5,6 +5,7 @@ ghost use Rattle.vm_memory_base.specs.Permissions as set;
 mod lookup;
 mod mapped_run;
 mod run_map;
+mod site;
 mod table;
 
 use crate::address::GuestAddress;

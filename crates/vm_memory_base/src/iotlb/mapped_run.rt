@@ -154,7 +154,7 @@ impl MappedRun {
 
     // Whether two runs are mapped alike.
     #[inline(always)]
-    fn is_like(&self, other: &MappedRun) -> bool
+    pub(super) fn is_like(&self, other: &MappedRun) -> bool
         ensures { result ≡ same_mapping self.now.value other.now.value }
     {
         self.difference == other.difference && self.permissions == other.permissions
@@ -162,31 +162,11 @@ impl MappedRun {
 
     // Whether a run ends before another begins, or where it begins but is not mapped alike.
     #[inline(always)]
-    fn stays_before(&self, next: &MappedRun) -> bool
+    pub(super) fn stays_before(&self, next: &MappedRun) -> bool
         ensures { result ≡ true → (self.now.start + self.now.len ≤ next.now.start)
             × (self.now.start + self.now.len ≡ next.now.start → same_mapping self.now.value next.now.value ≡ false) }
     {
         self.end < next.start || (self.end == next.start && !self.is_like(next))
-    }
-
-    // Whether a run overlaps no other and joins none, where the last one that starts below its end is known, and the
-    // last one that starts there or before it.
-    #[inline(always)]
-    pub(super) fn stands_alone(&self, before: &Option<MappedRun>, last: &Option<MappedRun>) -> bool
-        ensures before { result ≡ true → IfSome before.now (λ l. (l.start + l.len ≤ self.now.start)
-            × (l.start + l.len ≡ self.now.start → same_mapping l.value self.now.value ≡ false)) }
-        ensures behind { result ≡ true → IfSome last.now (λ r. self.now.start + self.now.len ≡ r.start
-            → same_mapping self.now.value r.value ≡ false) }
-    {
-        if let Some(left) = before {
-            if !left.stays_before(self) {
-                return false;
-            }
-        }
-        match last {
-            Some(right) => self.end != right.start || !self.is_like(right),
-            None => true,
-        }
     }
 
     // The run before another: one run with it where that begins right behind it and is mapped alike.
@@ -206,17 +186,6 @@ impl MappedRun {
             }
             _ => (*self, next),
         }
-    }
-}
-
-// Whether a run, if there is one, has just the addresses from one up to another.
-#[inline(always)]
-pub(super) fn has_just(run: &Option<MappedRun>, start: u64, end: u64) -> bool
-    ensures { result ≡ true → IsSomeAnd run.now (λ r. (r.start ≡ start) × (r.start + r.len ≡ end)) }
-{
-    match run {
-        Some(run) => run.start == start && run.end == end,
-        None => false,
     }
 }
 

@@ -2,11 +2,13 @@
 ghost use Rattle.std.specs.Prelude.{◌≡◌, ◌+◌, ◌-◌, ◌^◌, ◌<◌, ◌≤◌, ◌++◌, ◌∷◌, [], true, false, List, length, IsSome, IfSome, IfNone, OnOk, OnErr};
 ghost use Rattle.std.specs.Iterator.{YieldsFirst, item_count};
 ghost use Rattle.vm_memory_base.specs.Change.{EndBelow, StartFrom, AreAscending, IsKept, IsWithinLimit, if_any, runs_below, runs_from, with_reset, start_or, with_run, without_first, without_range};
-ghost use Rattle.vm_memory_base.specs.Runs.{AddressRun, IsCanonical, cut_to};
+ghost use Rattle.vm_memory_base.specs.Runs.{AddressRun, IsCanonical};
+ghost use Rattle.vm_memory_base.specs.Site.{AreNeighbours, CutsBehind, CutsInFront, IsBehind, IsClear, IsFront, IsLastBelow, IsReplaced, IsSite};
 ghost use Rattle.vm_memory_base.specs.Table.{Mapping, excess, has_any, same_mapping, canonical_list};
 ghost use Rattle.vm_memory_base.specs.Walk.{HeadEndsAfter};
 
-use super::mapped_run::{MappedRun, RunTail, has_just, joined_to};
+use super::mapped_run::{MappedRun, RunTail};
+use super::site::{Edge, Neighbours, Site, has_just};
 use std::alloc::{AllocError, Global};
 use std::collections::BTreeMap;
 use std::collections::btree_map::Range;
@@ -62,35 +64,43 @@ impl RunMap {
     // The last run that starts at an address or before it.
     #[inline(always)]
     fn last_upto(&self, limit: u64) -> Option<MappedRun>
-        ensures none { IfNone result (runs_below (limit + 1) self.now ≡ []) }
-        ensures some { IfSome result (λ r. runs_below (limit + 1) self.now ≡ runs_below r.start self.now ++ r ∷ []) }
+        ensures last { IsLastBelow self.now (limit + 1) result }
         ensures ascending { AreAscending self.now }
     {
         let (start, tail) = self.tails.range(..=limit).next_back()?;
         Some(MappedRun::of_tail(*start, tail))
     }
 
-    // The last run that starts at an address or before it, and the last that starts before it.
+    // The runs on both sides of an address.
     #[inline(always)]
-    fn neighbours(&self, at: u64) -> (Option<MappedRun>, Option<MappedRun>)
-        ensures none { IfNone result.0 (runs_below (at + 1) self.now ≡ []) }
-        ensures some { IfSome result.0 (λ r. runs_below (at + 1) self.now ≡ runs_below r.start self.now ++ r ∷ []) }
-        ensures none_before { IfNone result.1 (runs_below at self.now ≡ []) }
-        ensures some_before { IfSome result.1 (λ r. runs_below at self.now ≡ runs_below r.start self.now ++ r ∷ []) }
+    fn neighbours(&self, at: u64) -> Neighbours
+        ensures near { AreNeighbours self.now at result }
         ensures ascending { AreAscending self.now }
     {
         let mut upto = self.tails.range(..=at);
         let Some((start, tail)) = upto.next_back() else {
-            return (None, None);
+            return Neighbours {
+                before: None,
+                last: None,
+            };
         };
         let last = MappedRun::of_tail(*start, tail);
         if last.start() < at {
-            return (Some(last), Some(last));
+            return Neighbours {
+                before: Some(last),
+                last: Some(last),
+            };
         }
         let Some((start, tail)) = upto.next_back() else {
-            return (Some(last), None);
+            return Neighbours {
+                before: None,
+                last: Some(last),
+            };
         };
-        (Some(last), Some(MappedRun::of_tail(*start, tail)))
+        Neighbours {
+            before: Some(MappedRun::of_tail(*start, tail)),
+            last: Some(last),
+        }
     }
 
     // Puts a run where it belongs, in the place of one that starts where it does. Refused, nothing changes.
@@ -144,134 +154,100 @@ impl RunMap {
         }
     }
 
-    // Puts a run, or none, in the place of those that start from one address up to another, that one included. It is
-    // told where none starts behind the first address. Refused, nothing changes.
+    // Puts a run, or none, in the place of those that start in a site. Refused, nothing changes.
     #[inline(always)]
-    fn put_alone(
-        &mut self,
-        first: u64,
-        run: Option<MappedRun>,
-        last: u64,
-        clear: bool,
-    ) -> Result<(), AllocError>
+    fn put_alone(&mut self, site: &Site, run: Option<MappedRun>) -> Result<(), AllocError>
         requires ascending { AreAscending self.old }
-        requires order { first ≤ last }
-        requires clear { clear ≡ true → runs_from (first + 1) self.old ≡ runs_from (last + 1) self.old }
-        requires starts { IfSome run (λ r. r.start ≡ first) }
+        requires order { site.now.start < site.now.end }
+        requires clear { IsClear self.old site.now }
+        requires starts { IfSome run (λ r. r.start ≡ site.now.start) }
         ensures ok { OnOk result (self.new
-            ≡ runs_below first self.old ++ (if_any run ++ runs_from (last + 1) self.old)) }
+            ≡ runs_below site.now.start self.old ++ (if_any run ++ runs_from site.now.end self.old)) }
         ensures err { OnErr result (self.new ≡ self.old) }
     {
-        match run {
-            Some(run) => {
-                self.insert(run)?;
-                if clear {
-                    return Ok(());
-                }
-                self.remove_between(first + 1, last);
-            }
-            None => {
-                if clear {
-                    self.remove(first);
-                    return Ok(());
-                }
-                self.remove_between(first, last);
-            }
+        let Some(run) = run else {
+            self.take_out(site);
+            return Ok(());
+        };
+        self.insert(run)?;
+        if !site.clear {
+            self.remove_between(site.start + 1, site.end - 1);
         }
         Ok(())
     }
 
-    // Puts up to two runs in the place of those that start from one address up to another, that one included. The
-    // second starts at the other, where it may be stored. Refused, nothing changes.
+    // Takes the runs out that start in a site.
     #[inline(always)]
-    fn put(
-        &mut self,
-        first: u64,
-        run: Option<MappedRun>,
-        behind: Option<MappedRun>,
-        last: u64,
-        stored: bool,
-        clear: bool,
-    ) -> Result<(), AllocError>
+    fn take_out(&mut self, site: &Site)
+        requires order { site.now.start < site.now.end }
+        requires clear { IsClear self.old site.now }
+        ensures { self.new ≡ runs_below site.now.start self.old ++ runs_from site.now.end self.old }
+    {
+        if site.clear {
+            self.remove(site.start);
+        } else {
+            self.remove_between(site.start, site.end - 1);
+        }
+    }
+
+    // Puts a run, or none, in the place of those that start in a site, and the one behind it, or none, where that
+    // belongs. Refused, nothing changes.
+    #[inline(always)]
+    fn put(&mut self, site: &Site, run: Option<MappedRun>) -> Result<(), AllocError>
         requires ascending { AreAscending self.old }
-        requires order { first < last }
-        requires starts { IfSome run (λ r. r.start ≡ first) }
-        requires behind { IfSome behind (λ r. r.start ≡ last) }
-        requires stored { stored ≡ true → IfSome behind (λ r. runs_from last self.old
-            ≡ r ∷ runs_from (last + 1) self.old) }
-        requires absent { stored ≡ false → runs_from last self.old ≡ runs_from (last + 1) self.old }
-        requires clear { clear ≡ true → runs_from (first + 1) self.old ≡ runs_from last self.old }
-        ensures ok { OnOk result (self.new ≡ runs_below first self.old
-            ++ (if_any run ++ (if_any behind ++ runs_from (last + 1) self.old))) }
+        requires site { IsSite self.old site.now }
+        requires starts { IfSome run (λ r. r.start ≡ site.now.start) }
+        ensures ok { OnOk result (self.new ≡ runs_below site.now.start self.old
+            ++ (if_any run ++ (if_any site.now.behind.run ++ runs_from (site.now.end + 1) self.old))) }
         ensures err { OnErr result (self.new ≡ self.old) }
     {
-        let Some(next) = behind else {
-            if stored {
-                return self.put_alone(first, run, last, false);
+        let behind = site.behind;
+        let Some(next) = behind.run else {
+            self.put_alone(site, run)?;
+            if behind.stored {
+                self.remove(site.end);
             }
-            return self.put_alone(first, run, last, clear);
+            return Ok(());
         };
-        if stored {
-            return self.put_alone(first, run, last - 1, clear);
+        if behind.stored {
+            return self.put_alone(site, run);
         }
         self.insert(next)?;
-        let put = self.put_alone(first, run, last - 1, clear);
+        let put = self.put_alone(site, run);
         if put.is_err() {
-            self.remove(last);
+            self.remove(site.end);
         }
         put
     }
 
-    // The same, where besides the last run before them may change, if it does not stay whole.
+    // The same, and the run in front becomes what a site says, if it is not stored so. Refused, nothing changes.
     #[inline(always)]
-    fn replace(
-        &mut self,
-        left: Option<MappedRun>,
-        first: u64,
-        run: Option<MappedRun>,
-        behind: Option<MappedRun>,
-        last: u64,
-        stored: bool,
-        clear: bool,
-        whole: bool,
-    ) -> Result<(), AllocError>
+    fn replace(&mut self, site: &Site, run: Option<MappedRun>) -> Result<(), AllocError>
         requires ascending { AreAscending self.old }
-        requires order { first < last }
-        requires whole { whole ≡ true → IfSome left (λ l. runs_below first self.old
-            ≡ runs_below l.start self.old ++ l ∷ []) }
-        requires left { IfSome left (λ l. (d : AddressRun Mapping) × (d.start ≡ l.start)
-            × (runs_below first self.old ≡ runs_below l.start self.old ++ d ∷ [])) }
-        requires starts { IfSome run (λ r. r.start ≡ first) }
-        requires behind { IfSome behind (λ r. r.start ≡ last) }
-        requires stored { stored ≡ true → IfSome behind (λ r. runs_from last self.old
-            ≡ r ∷ runs_from (last + 1) self.old) }
-        requires absent { stored ≡ false → runs_from last self.old ≡ runs_from (last + 1) self.old }
-        requires clear { clear ≡ true → runs_from (first + 1) self.old ≡ runs_from last self.old }
-        ensures ok { OnOk result (self.new ≡ runs_below (start_or left first) self.old
-            ++ (if_any left ++ (if_any run ++ (if_any behind ++ runs_from (last + 1) self.old)))) }
+        requires site { IsSite self.old site.now }
+        requires starts { IfSome run (λ r. r.start ≡ site.now.start) }
+        ensures ok { OnOk result (IsReplaced self.old site.now run self.new) }
         ensures err { OnErr result (self.new ≡ self.old) }
     {
-        self.put(first, run, behind, last, stored, clear)?;
-        let Some(left) = left else {
+        self.put(site, run)?;
+        let Some(front) = site.front.run else {
             return Ok(());
         };
-        if !whole {
-            self.reset(left);
+        if !site.front.stored {
+            self.reset(front);
         }
         Ok(())
     }
 
-    // The last run that starts below an address, where the last up to another is known.
+    // The last run that starts below an address, where the runs on both sides of a later one are known.
     #[inline(always)]
-    fn last_below(&self, last: &Option<MappedRun>, at: u64, end: u64) -> Option<MappedRun>
+    fn last_below(&self, near: &Neighbours, at: u64, end: u64) -> Option<MappedRun>
         requires ascending { AreAscending self.now }
-        requires order { at ≤ end }
-        requires none { IfNone last.now (runs_below (end + 1) self.now ≡ []) }
-        requires some { IfSome last.now (λ r. runs_below (end + 1) self.now ≡ runs_below r.start self.now ++ r ∷ []) }
-        ensures none { IfNone result (runs_below at self.now ≡ []) }
-        ensures some { IfSome result (λ r. runs_below at self.now ≡ runs_below r.start self.now ++ r ∷ []) }
+        requires order { at < end }
+        requires near { AreNeighbours self.now end near.now }
+        ensures { IsLastBelow self.now at result }
     {
-        let Some(run) = *last else {
+        let Some(run) = near.before else {
             return None;
         };
         if run.start() < at {
@@ -283,87 +259,115 @@ impl RunMap {
         self.last_upto(at - 1)
     }
 
-    // Whether no run starts behind an address up to another, where the last up to that is known.
+    // Whether no run starts between two addresses, where the runs on both sides of the second are known.
     #[inline(always)]
-    fn is_clear(&self, last: &Option<MappedRun>, at: u64, end: u64) -> bool
+    fn is_clear(&self, near: &Neighbours, at: u64, end: u64) -> bool
         requires ascending { AreAscending self.now }
-        requires order { at ≤ end }
-        requires none { IfNone last.now (runs_below (end + 1) self.now ≡ []) }
-        requires some { IfSome last.now (λ r. runs_below (end + 1) self.now ≡ runs_below r.start self.now ++ r ∷ []) }
-        ensures { result ≡ true → runs_from (at + 1) self.now ≡ runs_from (end + 1) self.now }
+        requires order { at < end }
+        requires near { AreNeighbours self.now end near.now }
+        ensures { result ≡ true → runs_from (at + 1) self.now ≡ runs_from end self.now }
     {
-        match *last {
+        match near.before {
             Some(run) => run.start() <= at,
             None => true,
         }
     }
 
-    // The run that starts below an address and reaches it, cut off there, where the last up to another is
-    // known.
+    // The run that starts below an address and reaches it, cut off there. The runs on both sides of a later address
+    // are known.
     #[inline(always)]
-    fn front(&self, last: &Option<MappedRun>, at: u64, end: u64) -> (Option<MappedRun>, bool)
+    fn front(&self, near: &Neighbours, at: u64, end: u64) -> Edge
         requires canonical { IsCanonical same_mapping self.now }
-        requires order { at ≤ end }
-        requires none { IfNone last.now (runs_below (end + 1) self.now ≡ []) }
-        requires some { IfSome last.now (λ r. runs_below (end + 1) self.now ≡ runs_below r.start self.now ++ r ∷ []) }
-        ensures parts { runs_below (start_or result.0 at) self.now ++ if_any result.0 ≡ cut_to 0 at self.now }
-        ensures apart { EndBelow at (runs_below (start_or result.0 at) self.now) }
-        ensures reaches { IfSome result.0 (λ l. (0 < l.len) × (l.start + l.len ≡ at)) }
-        ensures there { IfSome result.0 (λ l. (d : AddressRun Mapping) × (d.start ≡ l.start)
-            × (runs_below at self.now ≡ runs_below l.start self.now ++ d ∷ [])) }
-        ensures whole { result.1 ≡ true
-            → IfSome result.0 (λ l. runs_below at self.now ≡ runs_below l.start self.now ++ l ∷ []) }
+        requires order { at < end }
+        requires near { AreNeighbours self.now end near.now }
+        ensures front { IsFront self.now at result }
+        ensures cut { CutsInFront self.now at result }
+        ensures apart { EndBelow at (runs_below (start_or result.run at) self.now) }
+        ensures reaches { IfSome result.run (λ l. (0 < l.len) × (l.start + l.len ≡ at)) }
     {
-        let Some(run) = self.last_below(last, at, end) else {
-            return (None, false);
+        let Some(run) = self.last_below(near, at, end) else {
+            return Edge {
+                run: None,
+                stored: false,
+            };
         };
         if run.end() < at {
-            return (None, false);
+            return Edge {
+                run: None,
+                stored: false,
+            };
         }
-        (Some(run.before(at)), run.end() == at)
+        Edge {
+            run: Some(run.before(at)),
+            stored: run.end() == at,
+        }
     }
 
     // The same, but where a run starts at the address: then none reaches over it.
     #[inline(always)]
-    fn front_over(&self, last: &Option<MappedRun>, at: u64, end: u64) -> (Option<MappedRun>, bool)
+    fn front_over(&self, near: &Neighbours, at: u64, end: u64) -> Edge
         requires canonical { IsCanonical same_mapping self.now }
-        requires order { at ≤ end }
-        requires none { IfNone last.now (runs_below (end + 1) self.now ≡ []) }
-        requires some { IfSome last.now (λ r. runs_below (end + 1) self.now ≡ runs_below r.start self.now ++ r ∷ []) }
-        ensures parts { runs_below (start_or result.0 at) self.now ++ if_any result.0 ≡ cut_to 0 at self.now }
-        ensures there { IfSome result.0 (λ l. (d : AddressRun Mapping) × (d.start ≡ l.start)
-            × (runs_below at self.now ≡ runs_below l.start self.now ++ d ∷ [])) }
-        ensures whole { result.1 ≡ true
-            → IfSome result.0 (λ l. runs_below at self.now ≡ runs_below l.start self.now ++ l ∷ []) }
+        requires order { at < end }
+        requires near { AreNeighbours self.now end near.now }
+        ensures front { IsFront self.now at result }
+        ensures cut { CutsInFront self.now at result }
     {
-        if let Some(run) = *last {
+        if let Some(run) = near.before {
             if run.start() == at {
-                return (None, false);
+                return Edge {
+                    run: None,
+                    stored: false,
+                };
             }
         }
-        self.front(last, at, end)
+        self.front(near, at, end)
     }
 
-    // The run that starts at an address or before it and reaches over it, from there on, and whether it starts
-    // there. The last one up to it is known.
+    // The run that has an address, from there on. The runs on both sides of it are known.
     #[inline(always)]
-    fn back(&self, last: &Option<MappedRun>, at: u64) -> (Option<MappedRun>, bool)
+    fn behind(&self, near: &Neighbours, at: u64) -> Edge
         requires kept { IsKept self.now }
-        requires none { IfNone last.now (runs_below (at + 1) self.now ≡ []) }
-        requires some { IfSome last.now (λ r. runs_below (at + 1) self.now ≡ runs_below r.start self.now ++ r ∷ []) }
-        ensures parts { if_any result.0 ++ runs_from (at + 1) self.now ≡ cut_to at (2 ^ 64 - at) self.now }
-        ensures starts { IfSome result.0 (λ r. r.start ≡ at) }
-        ensures stored { result.1 ≡ true
-            → IfSome result.0 (λ r. runs_from at self.now ≡ r ∷ runs_from (at + 1) self.now) }
-        ensures absent { result.1 ≡ false → runs_from at self.now ≡ runs_from (at + 1) self.now }
+        requires near { AreNeighbours self.now at near.now }
+        ensures behind { IsBehind self.now at result }
+        ensures cut { CutsBehind self.now at result }
     {
-        let Some(run) = *last else {
-            return (None, false);
+        let Some(run) = near.last else {
+            return Edge {
+                run: None,
+                stored: false,
+            };
         };
         if run.end() <= at {
-            return (None, false);
+            return Edge {
+                run: None,
+                stored: false,
+            };
         }
-        (Some(run.behind(at)), run.start() == at)
+        Edge {
+            run: Some(run.behind(at)),
+            stored: run.start() == at,
+        }
+    }
+
+    // What a change from one address up to another meets, where the run in front is known, and the runs on both
+    // sides of the second.
+    #[inline(always)]
+    fn site(&self, near: &Neighbours, front: Edge, start: u64, end: u64) -> Site
+        requires kept { IsKept self.now }
+        requires order { start < end }
+        requires near { AreNeighbours self.now end near.now }
+        requires front { IsFront self.now start front }
+        ensures site { IsSite self.now result }
+        ensures cut { CutsBehind self.now end result.behind }
+        ensures same { (result.start ≡ start) × (result.end ≡ end) × (result.front ≡ front) }
+    {
+        Site {
+            start,
+            end,
+            front,
+            behind: self.behind(near, end),
+            clear: self.is_clear(near, start, end),
+        }
     }
 
     // Puts a run over what was said of its addresses. It joins those that it touches and that are mapped alike.
@@ -380,17 +384,14 @@ impl RunMap {
     {
         let start = run.start();
         let end = run.end();
-        let (last, before) = self.neighbours(end);
-        if run.stands_alone(&before, &last) {
+        let near = self.neighbours(end);
+        if run.stands_alone(&near) {
             return self.insert(run);
         }
-        let (left, whole) = self.front(&before, start, end - 1);
-        let (right, stored) = self.back(&last, end);
-        let (joined, behind) = run.joined(right);
-        let (begun, next) = joined_to(left, joined);
-        let clear = self.is_clear(&before, start, end - 1);
-        let stays = whole && next.is_some();
-        self.replace(begun, start, next, behind, end, stored, clear, stays)
+        let front = self.front(&near, start, end);
+        let met = self.site(&near, front, start, end);
+        let (site, next) = met.joined(run);
+        self.replace(&site, next)
     }
 
     // Makes the runs say nothing of the addresses from one up to another. Refused, nothing changes.
@@ -403,15 +404,14 @@ impl RunMap {
         ensures growth { length self.new ≤ length self.old + 1 }
         ensures err { OnErr result (self.new ≡ self.old) }
     {
-        let (last, before) = self.neighbours(end);
-        if has_just(&before, start, end) {
+        let near = self.neighbours(end);
+        if has_just(&near.before, start, end) {
             self.remove(start);
             return Ok(());
         }
-        let (left, whole) = self.front_over(&before, start, end - 1);
-        let (right, stored) = self.back(&last, end);
-        let clear = self.is_clear(&before, start, end - 1);
-        self.replace(left, start, None, right, end, stored, clear, whole)
+        let front = self.front_over(&near, start, end);
+        let site = self.site(&near, front, start, end);
+        self.replace(&site, None)
     }
 
     // Evicts what is more than a limit, if there is one.

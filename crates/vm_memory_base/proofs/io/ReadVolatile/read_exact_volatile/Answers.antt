@@ -50,7 +50,8 @@ returns-in-Ok-eq0-clause-reads g c =
     let read = c.read_again in
     let none = c.in-Ok-eq0.is ∙ ap (λ (n : ℕ). Ok n) c.in-Ok-eq0.field-0-test in
     rw (c.ended-in-Ok-eq0.ensures, c.touched.ensures) (
-    fills_by source reads g.Self.ReadVolatile.known_left c.args.self.now read.new.source c.args.buf.now _ read.new.interrupted l.done Dry _
+    fills_by source reads g.Self.ReadVolatile.known_left c.args.self.now read.new.source c.args.buf.now _
+    read.new.interrupted l.done Dry _
     (long g (goal.at.returns-in-Ok-eq0-clause-reads g c).At-loop-done)
     (l.invariant.rest _ _ _
     (NoneMoved c.loop-done-test.true (reads_behind source reads l.done l.buf read.ensures.reads none)))
@@ -75,7 +76,8 @@ returns-in-Err-clause-reads g c =
     let reads = g.Self.ReadVolatile.reads in
     let l = c.loop-done in
     let read = c.read_again in
-    fills_by source reads g.Self.ReadVolatile.known_left c.args.self.now read.new.source c.args.buf.now _ read.new.interrupted l.done
+    fills_by source reads g.Self.ReadVolatile.known_left c.args.self.now read.new.source c.args.buf.now _
+    read.new.interrupted l.done
     (Failed c.in-Err.error) _
     (long g (goal.at.returns-in-Err-clause-reads g c).At-loop-done)
     (l.invariant.rest _ _ _
@@ -85,13 +87,15 @@ returns-in-Err-clause-reads g c =
 pub returns-clause-tells : goal.returns-clause-tells
 returns-clause-tells g c =
     let l = c.loop-done in
-    fills_as g.Self.ReadVolatile.source g.Self.ReadVolatile.reads _ c.args.self.now l.self c.args.buf.now l.buf l.interrupted l.done Whole _
+    fills_as g.Self.ReadVolatile.source g.Self.ReadVolatile.reads _ c.args.self.now l.self c.args.buf.now l.buf
+    l.interrupted l.done Whole _
     (long g (goal.at.returns-clause-tells g c).At-loop-done)
     (l.invariant.rest _ _ _ (AllMoved c.loop-done-test.false)) refl
 
 pub returns-clause-reads : goal.returns-clause-reads
 returns-clause-reads g c =
     let l = c.loop-done in
-    fills_by g.Self.ReadVolatile.source g.Self.ReadVolatile.reads g.Self.ReadVolatile.known_left c.args.self.now l.self c.args.buf.now l.buf l.interrupted l.done Whole _
+    fills_by g.Self.ReadVolatile.source g.Self.ReadVolatile.reads g.Self.ReadVolatile.known_left c.args.self.now l.self
+    c.args.buf.now l.buf l.interrupted l.done Whole _
     (long g (goal.at.returns-clause-reads g c).At-loop-done)
     (l.invariant.rest _ _ _ (AllMoved c.loop-done-test.false)) refl

@@ -10,12 +10,19 @@ use Rattle.vm_memory_base.proofs.io.WriteVolatile.write_all_volatile.Goals.{Afte
 -- what was offered is what is left of the buffer
 turn : (g : Over) (c : After-offer_again g) (answer : Answer) → c.offer_again.result ≡ answer
     → let w = g.Self.WriteVolatile in
-    OffersBehind w.sink w.taken w.may_want w.writes c.args.buf.now c.loop-done.done c.loop-done.self answer c.offer_again.new.sink
+    OffersBehind w.sink w.taken w.may_want w.writes c.args.buf.now c.loop-done.done c.loop-done.self answer
+    c.offer_again.new.sink
 turn g c answer is =
     let w = g.Self.WriteVolatile in
     let offer = c.offer_again in
-    let here = subst (λ (bs : List ℕ). OffersOf w.sink w.taken w.may_want w.writes bs c.loop-done.self offer.result offer.new.sink)
-    (take_rest c.args.buf.now c.loop-done.done) (offer.ensures.tells, offer.ensures.keeps, offer.ensures.wants, offer.ensures.writes) in
+    let here = subst (λ (bs : List ℕ). OffersOf w.sink w.taken w.may_want w.writes bs c.loop-done.self offer.result
+    offer.new.sink)
+    (take_rest c.args.buf.now c.loop-done.done) (
+      offer.ensures.tells,
+      offer.ensures.keeps,
+      offer.ensures.wants,
+      offer.ensures.writes,
+    ) in
     rw is at here
 
 pub loop-done-init : goal.loop-done-init

@@ -8,15 +8,18 @@ loop-left-init g c = λ answer new so. so
 
 pub loop-left-preserved : goal.loop-left-preserved
 loop-left-preserved g c =
-    again_more (Reads g.S.ReadVolatile.source g.S.ReadVolatile.reads) c.loop-left.left c.loop-left.invariant c.loop-left-test.true
+    again_more (Reads g.S.ReadVolatile.source g.S.ReadVolatile.reads) c.loop-left.left c.loop-left.invariant
+    c.loop-left-test.true
     c.read_once-answer.ensures.reads (sym c.is_interrupted.ensures ∙ c.if-not-is_interrupted.false)
 
 pub returns-then-not-is_interrupted-clause-reads : goal.returns-then-not-is_interrupted-clause-reads
 returns-then-not-is_interrupted-clause-reads g c =
-    again_done (Reads g.S.ReadVolatile.source g.S.ReadVolatile.reads) c.loop-left.left c.loop-left.invariant c.read_once-answer.ensures.reads
+    again_done (Reads g.S.ReadVolatile.source g.S.ReadVolatile.reads) c.loop-left.left c.loop-left.invariant
+    c.read_once-answer.ensures.reads
     (inl (sym c.is_interrupted.ensures ∙ c.if-not-is_interrupted.true))
 
 pub returns-clause-reads : goal.returns-clause-reads
 returns-clause-reads g c =
-    again_done (Reads g.S.ReadVolatile.source g.S.ReadVolatile.reads) c.loop-left.left c.loop-left.invariant c.read_once.ensures.reads
+    again_done (Reads g.S.ReadVolatile.source g.S.ReadVolatile.reads) c.loop-left.left c.loop-left.invariant
+    c.read_once.ensures.reads
     (inr c.loop-left-test.false)

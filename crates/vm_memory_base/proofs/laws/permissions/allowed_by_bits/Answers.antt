@@ -1,4 +1,4 @@
-use Rattle.vm_memory_base.proofs.TableLaws.{allow_by_bits, allow-No, ReadWrite-allow, allow-Read, allow-Write, allow_itself, allow_trans, allow_antisym}
+use Rattle.vm_memory_base.proofs.PermissionsLaws.{allow_by_bits, allow-No, ReadWrite-allow, allow-Read, allow-Write, allow_itself, allow_trans, allow_antisym}
 use Rattle.vm_memory_base.proofs.laws.permissions.allowed_by_bits.Goals as goal
 
 pub returns : goal.returns

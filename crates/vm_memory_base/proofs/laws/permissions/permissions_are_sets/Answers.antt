@@ -1,4 +1,4 @@
-use Rattle.vm_memory_base.proofs.TableLaws.{has_read-union, has_write-union, allow-union, union_comm, has_read-intersection, has_write-intersection, intersection-allow, intersection_comm, same_tests_equality}
+use Rattle.vm_memory_base.proofs.PermissionsLaws.{has_read-union, has_write-union, allow-union, union_comm, has_read-intersection, has_write-intersection, intersection-allow, intersection_comm, same_tests_equality}
 use Rattle.vm_memory_base.proofs.laws.permissions.permissions_are_sets.Goals as goal
 
 pub returns : goal.returns

@@ -1,4 +1,4 @@
-use Rattle.vm_memory_base.proofs.RunsLaws.{canonical_cut_to, value_at-cut_to, runs-of_list, runs-part}
+use Rattle.vm_memory_base.proofs.CutLaws.{canonical_cut_to, value_at-cut_to, runs-of_list, runs-part}
 use Rattle.vm_memory_base.proofs.laws.runs.runs_are_cut.Goals as goal
 
 pub returns : goal.returns

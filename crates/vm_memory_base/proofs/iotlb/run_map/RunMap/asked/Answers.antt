@@ -3,7 +3,9 @@ use Rattle.vm_memory_base.specs.Change.{AreAscending, runs_below, runs_from}
 use Rattle.vm_memory_base.specs.Runs.{AddressRun}
 use Rattle.vm_memory_base.specs.Stored.{runs_in}
 use Rattle.vm_memory_base.specs.Table.{Mapping}
-use Rattle.vm_memory_base.proofs.StoredLemmas.{between_from, asked_parts, ascending_below, ascending_from}
+use Rattle.vm_memory_base.proofs.StoredLemmas.{between_from}
+use Rattle.vm_memory_base.proofs.SideLemmas.{asked_parts}
+use Rattle.vm_memory_base.proofs.StartLemmas.{ascending_below, ascending_from}
 use Rattle.vm_memory_base.proofs.iotlb.run_map.RunMap.asked.Goals as goal
 use Rattle.vm_memory_base.proofs.iotlb.run_map.RunMap.asked.Goals.{After-range}
 
@@ -16,7 +18,8 @@ pub invariant_of-result : goal.invariant_of-result
 invariant_of-result c =
     let rs = runs_in c.self.inside.tails.entries in
     subst AreAscending (sym (found c))
-    (ascending_below c.args.end (runs_from (c.args.start + 1) rs) (ascending_from (c.args.start + 1) rs c.self.invariant))
+    (ascending_below c.args.end (runs_from (c.args.start + 1) rs)
+    (ascending_from (c.args.start + 1) rs c.self.invariant))
 
 pub returns : goal.returns
 returns c =

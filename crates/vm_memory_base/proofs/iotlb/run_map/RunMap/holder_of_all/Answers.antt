@@ -1,7 +1,7 @@
 use Rattle.std.proofs.Common.{◌+◌, arith}
 use Rattle.vm_memory_base.specs.Change.{runs_below, runs_from}
 use Rattle.vm_memory_base.specs.Table.{same_mapping}
-use Rattle.vm_memory_base.proofs.StoredLemmas.{whole, starts_behind}
+use Rattle.vm_memory_base.proofs.SideLemmas.{whole, starts_behind}
 use Rattle.vm_memory_base.proofs.ChangeLemmas.{StartFrom-weaker}
 use Rattle.vm_memory_base.proofs.iotlb.run_map.RunMap.holder_of_all.Goals as goal
 

@@ -3,7 +3,8 @@ use Rattle.vm_memory_base.specs.Change.{AreAscending, runs_below, runs_from}
 use Rattle.vm_memory_base.specs.Runs.{AddressRun}
 use Rattle.vm_memory_base.specs.Stored.{run_in, runs_in}
 use Rattle.vm_memory_base.specs.Table.{Mapping}
-use Rattle.vm_memory_base.proofs.StoredLemmas.{inserted, ascending_put}
+use Rattle.vm_memory_base.proofs.StoredLemmas.{inserted}
+use Rattle.vm_memory_base.proofs.StartLemmas.{ascending_put}
 use Rattle.vm_memory_base.proofs.iotlb.run_map.RunMap.insert.Goals as goal
 
 pub invariant_of-self : goal.invariant_of-self

@@ -7,8 +7,8 @@ use Rattle.vm_memory_base.specs.Table.{Mapping}
 use Rattle.vm_memory_base.proofs.StoredLemmas.{between_upto, last_stored}
 use Rattle.vm_memory_base.proofs.iotlb.run_map.RunMap.last_upto.Goals as goal
 
-pub returns-in_err-start-clause-none : goal.returns-in_err-start-clause-none
-returns-in_err-start-clause-none c =
+pub returns-in_err-start-clause-last : goal.returns-in_err-start-clause-last
+returns-in_err-start-clause-last c =
     let none : runs_below (c.args.limit + 1) c.args.self.now ≡ [] =
     subst (λ (rs : List (AddressRun Mapping)). runs_below (c.args.limit + 1) rs ≡ []) c.self.view_is
     (sym (between_upto c.args.limit c.self.inside.tails.entries)
@@ -21,8 +21,8 @@ of_tail-requires c =
     (c.in_ok-start.start.now, c.in_ok-start.tail.now) c.self.invariant (c.range.ensures.between tt)
     c.in_ok-start.ensures.steps).0
 
-pub returns-clause-some : goal.returns-clause-some
-returns-clause-some c =
+pub returns-clause-last : goal.returns-clause-last
+returns-clause-last c =
     let e : ℕ × RunTail = (c.in_ok-start.start.now, c.in_ok-start.tail.now) in
     let told = (last_stored c.args.limit c.self.inside.tails.entries c.range.result c.next_back.new.self e
     c.self.invariant (c.range.ensures.between tt) c.in_ok-start.ensures.steps).1 in

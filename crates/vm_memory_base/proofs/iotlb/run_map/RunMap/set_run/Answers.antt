@@ -1,74 +1,44 @@
-use Rattle.std.proofs.Common.{ℕ, ◌≡◌, ◌+◌, ◌-◌, ◌^◌, ◌<◌, ◌≤◌, ◌++◌, ◌∷◌, [], List, false, Option, length, IfSome, sym, ap, subst, arith}
-use Rattle.vm_memory_base.specs.Change.{EndBelow, IsKept, if_any, prepended, prepended_if_any, runs_below, runs_from, start_or, with_run}
-use Rattle.vm_memory_base.specs.Runs.{AddressRun, cut_to}
-use Rattle.vm_memory_base.specs.Table.{Mapping, same_mapping, canonical_list}
-use Rattle.vm_memory_base.proofs.StoredLemmas.{ascending_canonical, from_starts, parts_length, front_length, length_four, stands_alone}
-use Rattle.vm_memory_base.proofs.ChangeLemmas.{on_ok, either_way, run_is_set, if_any_one}
+use Rattle.std.proofs.Common.{◌≡◌, ◌+◌, ◌<◌, ◌≤◌, ◌++◌, ◌∷◌, false, length, IfSome, sym, ap, subst, ◌∙◌, arith}
+use Rattle.vm_memory_base.specs.Change.{EndBelow, IsKept, runs_below, runs_from, start_or, with_run}
+use Rattle.vm_memory_base.specs.Site.{IsFront, IsReplaced, CutsInFront}
+use Rattle.vm_memory_base.specs.Table.{same_mapping, canonical_list}
+use Rattle.vm_memory_base.specs.declared.iotlb.site.Edge.{Edge}
+use Rattle.vm_memory_base.proofs.StartLemmas.{ascending_canonical}
+use Rattle.vm_memory_base.proofs.SiteLemmas.{replaced_at, set_over, stands_alone}
+use Rattle.vm_memory_base.proofs.ChangeLemmas.{on_ok, either_way}
 use Rattle.vm_memory_base.proofs.iotlb.run_map.RunMap.set_run.Goals as goal
 use Rattle.vm_memory_base.proofs.iotlb.run_map.RunMap.set_run.Goals.{After-insert, After-replace}
 
--- what the steps of the call tell
-module _ (rs : List (AddressRun Mapping)) (k : IsKept rs) (r : AddressRun Mapping) (some : 0 < r.len)
-    (fits : r.start + r.len < 2 ^ 64)
-    (start end first last : ℕ) (at : start ≡ r.start) (to : end ≡ r.start + r.len) (at' : first ≡ r.start)
-    (to' : last ≡ r.start + r.len) (left right : Option (AddressRun Mapping))
-    (parts : runs_below (start_or left start) rs ++ if_any left ≡ cut_to 0 start rs)
-    (apart : EndBelow start (runs_below (start_or left start) rs))
-    (reaches : IfSome left (λ l. (0 < l.len) × (l.start + l.len ≡ start)))
-    (there : IfSome left (λ l. (d : AddressRun Mapping) × (d.start ≡ l.start)
-    × (runs_below start rs ≡ runs_below l.start rs ++ d ∷ [])))
-    (behind_it : if_any right ++ runs_from (end + 1) rs ≡ cut_to end (2 ^ 64 - end) rs)
-    (joined : AddressRun Mapping) (behind : Option (AddressRun Mapping))
-    (is : joined ∷ if_any behind ≡ prepended r (if_any right))
-    (begun next : Option (AddressRun Mapping))
-    (begins : if_any begun ++ if_any next ≡ prepended_if_any left (joined ∷ []))
-    (same : (x : ℕ) → start_or begun x ≡ start_or left x)
-    (room : length (if_any next) + length (if_any begun) ≤ length (if_any left) + 1)
-    (new : List (AddressRun Mapping))
-    (put : new ≡ runs_below (start_or begun first) rs
-    ++ (if_any begun ++ (if_any next ++ (if_any behind ++ runs_from (last + 1) rs)))) where
-  put_there : new ≡ runs_below (start_or left r.start) rs
-      ++ (if_any begun ++ (if_any next ++ (if_any behind ++ runs_from (r.start + r.len + 1) rs)))
-  put_there =
-      let put' : new ≡ runs_below (start_or begun r.start) rs
-      ++ (if_any begun ++ (if_any next ++ (if_any behind ++ runs_from (r.start + r.len + 1) rs))) =
-      rw (at', to') at put in
-      subst (λ (x : ℕ). new ≡ runs_below x rs
-      ++ (if_any begun ++ (if_any next ++ (if_any behind ++ runs_from (r.start + r.len + 1) rs)))) (same r.start) put'
-
-  set : IsKept new × (new ≡ canonical_list (with_run r rs))
-  set =
-      run_is_set rs k r some fits (runs_below (start_or left r.start) rs) (runs_from (r.start + r.len + 1) rs) right
-      (rw at at apart) (rw to at behind_it) (from_starts (r.start + r.len + 1) rs) joined behind is left
-      (rw at at parts) (rw at at reaches) begun next begins new put_there
-
-  grown : length new ≤ length rs + 2
-  grown =
-      let a = length_four (runs_below (start_or left r.start) rs) (if_any begun) (if_any next) (if_any behind)
-      (runs_from (r.start + r.len + 1) rs) new put_there in
-      let b = front_length left r.start rs (rw at at there) in
-      let d = if_any_one behind in
-      let f = parts_length r.start (r.start + r.len + 1) rs (omega arith) in
-      let g = room in
-      omega arith
-
-  pub facts : (IsKept new × (new ≡ canonical_list (with_run r rs))) × (length new ≤ length rs + 2)
-  facts = (set, grown)
-
 told : (c : After-replace)
-    → c.replace.new.self ≡ runs_below (start_or c.joined_to-begun.result.0 c.start-start.result) c.args.self.now
-    ++ (if_any c.joined_to-begun.result.0 ++ (if_any c.joined_to-begun.result.1
-    ++ (if_any c.joined-joined.result.1 ++ runs_from (c.end-end.result + 1) c.args.self.now)))
+    → IsReplaced c.args.self.now c.joined-site.result.0 c.joined-site.result.1 c.replace.new.self
     → (IsKept c.replace.new.self × (c.replace.new.self ≡ canonical_list (with_run c.args.run c.args.self.now)))
     × (length c.replace.new.self ≤ length c.args.self.now + 2)
-told c =
-    facts c.args.self.now c.requires.kept c.args.run c.requires.some c.requires.fits c.start-start.result c.end-end.result
-    c.start-start.result c.end-end.result c.start-start.ensures c.end-end.ensures.value c.start-start.ensures c.end-end.ensures.value
-    c.front-left.result.0 c.back-right.result.0 c.front-left.ensures.parts c.front-left.ensures.apart
-    c.front-left.ensures.reaches c.front-left.ensures.there c.back-right.ensures.parts
-    c.joined-joined.result.0 c.joined-joined.result.1 c.joined-joined.ensures.joined
-    c.joined_to-begun.result.0 c.joined_to-begun.result.1 c.joined_to-begun.ensures.joined
-    c.joined_to-begun.ensures.left c.joined_to-begun.ensures.room c.replace.new.self
+told c e =
+    let rs = c.args.self.now in
+    let start = c.start-start.result in
+    let met = c.site-met.result in
+    let site = c.joined-site.result.0 in
+    let same = c.site-met.ensures.same in
+    let stays = c.joined-site.ensures.same in
+    let front : IsFront rs start met.front × CutsInFront rs start met.front
+    × EndBelow start (runs_below (start_or met.front.run start) rs)
+    × IfSome met.front.run (λ l. (0 < l.len) × (l.start + l.len ≡ start)) =
+    subst (λ (f : Edge). IsFront rs start f × CutsInFront rs start f
+    × EndBelow start (runs_below (start_or f.run start) rs) × IfSome f.run
+    (λ l. (0 < l.len) × (l.start + l.len ≡ start)))
+    (sym same.2) (
+      c.front-front.ensures.front,
+      c.front-front.ensures.cut,
+      c.front-front.ensures.apart,
+      c.front-front.ensures.reaches,
+    ) in
+    let low : start_or site.front.run site.start ≡ start_or met.front.run start =
+    stays.2 ∙ ap (start_or met.front.run) same.0 in
+    set_over rs c.requires.kept c.args.run c.requires.some c.requires.fits start c.end-end.result c.start-start.ensures
+    c.end-end.ensures.value met.front met.behind front.0 front.1 front.2 front.3 c.site-met.ensures.cut site.front.run
+    c.joined-site.result.1 site.behind.run c.joined-site.ensures.joined c.joined-site.ensures.room c.replace.new.self
+    (replaced_at rs site c.joined-site.result.1 c.replace.new.self (start_or met.front.run start) c.end-end.result low
+    (stays.1 ∙ same.1) e)
 
 pub replace-requires-clause-ascending : goal.replace-requires-clause-ascending
 replace-requires-clause-ascending c = ascending_canonical same_mapping c.args.self.now c.requires.kept.canonical
@@ -92,13 +62,13 @@ alone : (c : After-insert) → c.insert.new.self ≡ runs_below c.args.run.start
     → (IsKept c.insert.new.self × (c.insert.new.self ≡ canonical_list (with_run c.args.run c.args.self.now)))
     × (length c.insert.new.self ≤ length c.args.self.now + 2)
 alone c =
-    let near = c.neighbours-last.ensures in
+    let near = c.neighbours-near.result in
     let end = c.end-end.ensures.value in
-    let differs : IfSome c.neighbours-last.result.0 (λ t. c.end-end.result ≡ t.start
+    let differs : IfSome near.last (λ t. c.end-end.result ≡ t.start
     → same_mapping c.args.run.value t.value ≡ false) =
     rw end (c.stands_alone.ensures.behind c.if-stands_alone.true) in
     stands_alone c.args.self.now c.requires.kept c.args.run c.requires.some c.end-end.result end (omega arith)
-    c.neighbours-last.result.0 near.none near.some differs c.neighbours-last.result.1 near.none_before near.some_before
+    near.last c.neighbours-near.ensures.near.last differs near.before c.neighbours-near.ensures.near.before
     (c.stands_alone.ensures.before c.if-stands_alone.true) c.insert.new.self
 
 pub returns-then-stands_alone-clause-ok : goal.returns-then-stands_alone-clause-ok

@@ -21,7 +21,9 @@ returns-clause-ok c =
     ∙ ap (changed call) c.self.view_is
 
 pub returns-clause-says : goal.returns-clause-says
-returns-clause-says c = says_then (Set c.args.iova.0 c.args.map_to.0 c.args.length c.args.perm) c.args.self.now _ (returns-clause-ok c)
+returns-clause-says c =
+    says_then (Set c.args.iova.0 c.args.map_to.0 c.args.length c.args.perm) c.args.self.now _
+    (returns-clause-ok c)
 
 pub returns-clause-set : goal.returns-clause-set
 returns-clause-set c x h =
@@ -30,4 +32,5 @@ returns-clause-set c x h =
 
 pub returns-then-length-eq0-clause-says : goal.returns-then-length-eq0-clause-says
 returns-then-length-eq0-clause-says c =
-    says_then (Set c.args.iova.0 c.args.map_to.0 c.args.length c.args.perm) c.args.self.now _ (returns-then-length-eq0-clause-ok c)
+    says_then (Set c.args.iova.0 c.args.map_to.0 c.args.length c.args.perm) c.args.self.now _
+    (returns-then-length-eq0-clause-ok c)
