@@ -1,8 +1,8 @@
 -- The flags and words of a bitmap.
-use Rattle.std.proofs.Common.{◌≡◌, ◌≢◌, ℕ, zero, suc, ◌+◌, ◌-◌, ◌*◌, ◌/◌, ◌%◌, ◌^◌, ◌<◌, ◌≤◌, Bool, true, false, not, ◌&&◌, ◌||◌, cond, ltb, leb, List, [], ◌∷◌, ◌++◌, length, get_or, take, drop, replicate, Option, Some, None, min, refl, subst, sym, ap, inl, inr, ◌∙◌, arith, add-zero, zero-add, mul-div_cancel, length-append, length-drop}
+use Rattle.std.proofs.Common.{◌≡◌, ◌≢◌, ℕ, zero, suc, ◌+◌, ◌-◌, ◌*◌, ◌/◌, ◌%◌, ◌^◌, ◌<◌, ◌≤◌, Bool, true, false, not, ◌&&◌, cond, ltb, leb, List, [], ◌∷◌, ◌++◌, length, get_or, take, drop, replicate, Option, Some, None, refl, subst, sym, ap, inl, inr, ◌∙◌, arith, add-zero, zero-add, mul-div_cancel, length-drop}
 use Rattle.std.specs.Int.{div_ceil}
 use Rattle.std.specs.List.{All, Contains}
-use Rattle.std.proofs.Math.Nat.{pow-suc, pow-succ', div-div-eq-div-mul, zero-div, zero-mul, mul-zero, suc-mul}
+use Rattle.std.proofs.Math.Nat.{pow-suc, pow-succ', div-div-eq-div-mul, zero-div, mul-zero}
 use Rattle.std.proofs.Math.Pow.{pow_mono}
 use Rattle.std.proofs.lemmas.Bool.{lt-ltb, le-leb, le-ltb, lt-leb, cases_lt, true≢false}
 use Rattle.std.proofs.lemmas.Grind.{div_ceil_times}
@@ -10,8 +10,8 @@ use Rattle.std.proofs.lemmas.Nat.{div_below}
 use Rattle.std.proofs.lemmas.List.Elements.{All-head}
 use Rattle.std.proofs.lemmas.List.{get_or-take, get_or-drop, get_or-replicate, get_or_append_left, get_or-append_right, length-take, length-take-le, length-replicate, take_more, take_all, drop-drop, drop_all}
 use Rattle.std.proofs.lemmas.Option.{none-some, same_Some}
-use Rattle.vm_memory_base.specs.Pages.{Pages, PageSet, shape, is_dirty_at, dirty_from, dirty_pages, dirty_words, takes, flags_after, flags_without, marked, unmarked, new_pages, all_clean, word_of, words_of, IsPageSet, IsCleanFor, pages_with}
-use Rattle.vm_memory_base.proofs.PagesLaws.{from_page, Contains-dirty_pages}
+use Rattle.vm_memory_base.specs.Pages.{Pages, PageSet, shape, is_dirty_at, dirty_from, dirty_pages, dirty_words, takes, marked, unmarked, word_of, words_of, IsPageSet, IsCleanFor, pages_with}
+use Rattle.vm_memory_base.proofs.PagesLaws.{length-flags_set, get_or-flags_unmarked, flags_set_again, from_page, Contains-dirty_pages}
 
 -- ---- pages from one up to another
 
@@ -29,18 +29,6 @@ behind a b i h k = rw (le-leb a i h, le-ltb i b k) refl
 -- these words with the ones from word a up to b all alike
 abbrev pub made_alike : ℕ → ℕ → ℕ → List ℕ → List ℕ
 made_alike a b d words = take a words ++ (replicate (b - a) d ++ drop b words)
-
-pub length-made_alike : (a b : ℕ) (d : ℕ) (words : List ℕ) → a ≤ b → b ≤ length words
-    → length (made_alike a b d words) ≡ length words
-length-made_alike a b d words h k =
-    omega (
-      arith,
-      length-append (take a words) (replicate (b - a) d ++ drop b words),
-      length-append (replicate (b - a) d) (drop b words),
-      length-take-le a words (omega arith),
-      length-drop b words,
-      length-replicate {A = ℕ} (b - a) d,
-    )
 
 pub get_or-made_alike : (a b : ℕ) (d : ℕ) (words : List ℕ) (i : ℕ) → a ≤ b → b ≤ length words
     → get_or (made_alike a b d words) i 0 ≡ cond (leb a i && ltb i b) d (get_or words i 0)
@@ -68,35 +56,6 @@ get_or-made_alike a b d words i h k =
           ]
     ]
 
-pub get_or-flags_without : (test : ℕ → Bool) (k : ℕ) (flags : List Bool) (i : ℕ)
-    → get_or (flags_without test k flags) i false ≡ (get_or flags i false && not (test (k + i)))
-get_or-flags_without test k [] i = refl
-get_or-flags_without test k (dirty ∷ flags) zero = rw add-zero refl
-get_or-flags_without test k (dirty ∷ flags) (suc i) =
-    let e : k + 1 + i ≡ k + suc i = omega arith in
-    rw (← e) (get_or-flags_without test (k + 1) flags i)
-
-pub length-flags_without : (test : ℕ → Bool) (k : ℕ) (flags : List Bool)
-    → length (flags_without test k flags) ≡ length flags
-length-flags_without test k [] = refl
-length-flags_without test k (dirty ∷ flags) = ap suc (length-flags_without test (k + 1) flags)
-
-pub set_if : (t g : Bool) → cond t true g ≡ (g || t)
-set_if true true = refl
-set_if true false = refl
-set_if false true = refl
-set_if false false = refl
-
-pub cleared_if : (t g : Bool) → cond t false g ≡ (g && not t)
-cleared_if true true = refl
-cleared_if true false = refl
-cleared_if false true = refl
-cleared_if false false = refl
-
-pub replicate-all_clean : (flags : List Bool) → replicate (length flags) false ≡ all_clean flags
-replicate-all_clean [] = refl
-replicate-all_clean (dirty ∷ flags) = ap (λ (fs : List Bool). false ∷ fs) (replicate-all_clean flags)
-
 -- ---- the list of the dirty pages, one flag after the other
 
 dirty_from-last : (page : ℕ) (flags : List Bool) (d : Bool)
@@ -111,7 +70,7 @@ dirty_from-last page (false ∷ flags) d =
     dirty_from-last (page + 1) flags d ∙ rw e refl
 
 -- the dirty ones of one page more
-pub dirty_from-more : (flags : List Bool) (page : ℕ) → page < length flags
+dirty_from-more : (flags : List Bool) (page : ℕ) → page < length flags
     → dirty_from 0 (take (page + 1) flags) ≡ dirty_from 0 (take page flags)
     ++ cond (get_or flags page false) (page ∷ []) []
 dirty_from-more flags page inside =
@@ -126,7 +85,7 @@ nothing_dirty None is = refl
 nothing_dirty (Some p) is = absurd (none-some (p.page_size, length p.flags) (sym is))
 
 -- where a byte is dirty, a page is
-pub dirty_from-some : (page k : ℕ) (flags : List Bool) → get_or flags k false ≡ true → dirty_from page flags ≢ []
+dirty_from-some : (page k : ℕ) (flags : List Bool) → get_or flags k false ≡ true → dirty_from page flags ≢ []
 dirty_from-some page k [] at = absurd (true≢false (sym at))
 dirty_from-some page k (true ∷ flags) at = λ none. absurd (cc)
 dirty_from-some page zero (false ∷ flags) at = absurd (true≢false (sym at))
@@ -164,45 +123,10 @@ module _ (size count : ℕ) where
 
 -- ---- words, one bit and one word after the other
 
-pub word_of-lt : (flags : List Bool) → word_of flags < 2 ^ length flags
+word_of-lt : (flags : List Bool) → word_of flags < 2 ^ length flags
 word_of-lt [] = omega arith
 word_of-lt (true ∷ flags) = omega (arith, word_of-lt flags, pow-suc 2 (length flags))
 word_of-lt (false ∷ flags) = omega (arith, word_of-lt flags, pow-suc 2 (length flags))
-
-pub word_of-clean : (flags : List Bool) → word_of (flags ++ false ∷ []) ≡ word_of flags
-word_of-clean [] = refl
-word_of-clean (dirty ∷ flags) = ap (λ (w : ℕ). cond dirty 1 0 + 2 * w) (word_of-clean flags)
-
-pub word_of-dirty : (flags : List Bool) → word_of (flags ++ true ∷ []) ≡ word_of flags + 2 ^ length flags
-word_of-dirty [] = refl
-word_of-dirty (true ∷ flags) = omega (arith, word_of-dirty flags, pow-suc 2 (length flags))
-word_of-dirty (false ∷ flags) = omega (arith, word_of-dirty flags, pow-suc 2 (length flags))
-
-pub words_of-more : (k : ℕ) (flags : List Bool)
-    → words_of (k + 1) flags ≡ words_of k flags ++ word_of (take 64 (drop (64 * k) flags)) ∷ []
-words_of-more zero flags = refl
-words_of-more (suc k) flags =
-    let e : 64 * suc k ≡ 64 + 64 * k = omega arith in
-    let f : suc k + 1 ≡ suc (k + 1) = omega arith in
-    rw (f, e) (ap (λ (ws : List ℕ). word_of (take 64 flags) ∷ ws)
-    (words_of-more k (drop 64 flags)
-    ∙ ap (λ (fs : List Bool). words_of k (drop 64 flags) ++ word_of (take 64 fs) ∷ [])
-    (drop-drop (64 * k) 64 flags)))
-
--- the flags of a word, of which the last may have fewer
-pub word_range : (k n : ℕ) (flags : List Bool) → n ≡ min (length flags) (64 * (k + 1))
-    → take (n - 64 * k) (drop (64 * k) flags) ≡ take 64 (drop (64 * k) flags)
-word_range k n flags e =
-    elim (cases_lt (length flags) (64 * (k + 1))) [
-      | inl l ↦
-          let m : n ≡ length flags = omega arith in
-          let rest : length (drop (64 * k) flags) ≡ length flags - 64 * k = length-drop (64 * k) flags in
-          take_all (n - 64 * k) (drop (64 * k) flags) (omega arith)
-          ∙ sym (take_all 64 (drop (64 * k) flags) (omega arith))
-      | inr l ↦
-          let m : n - 64 * k ≡ 64 = omega arith in
-          ap (λ (j : ℕ). take j (drop (64 * k) flags)) m
-    ]
 
 -- ---- the bits of words
 
@@ -268,47 +192,25 @@ pub is_dirty_at-unmarked : (start len offset : ℕ) (p : Pages)
     → is_dirty_at (unmarked start len (Some p)) offset
     ≡ (is_dirty_at (Some p) offset && not (takes p.page_size start len (offset / p.page_size)))
 is_dirty_at-unmarked start len offset p =
-    get_or-flags_without (takes p.page_size start len) 0 p.flags (offset / p.page_size) ∙ rw zero-add refl
+    get_or-flags_unmarked (takes p.page_size start len) 0 p.flags (offset / p.page_size) ∙ rw zero-add refl
 
 pub shape-unmarked : (start len : ℕ) (set : PageSet) → shape (unmarked start len set) ≡ shape set
 shape-unmarked start len None = refl
 shape-unmarked start len (Some p) =
-    ap (λ (n : ℕ). Some (p.page_size, n)) (length-flags_without (takes p.page_size start len) 0 p.flags)
+    ap (λ (n : ℕ). Some (p.page_size, n)) (length-flags_set false (takes p.page_size start len) 0 p.flags)
 
 pub IsPageSet-unmarked : (start len : ℕ) (set : PageSet) → IsPageSet set → IsPageSet (unmarked start len set)
 IsPageSet-unmarked start len None h = tt
-IsPageSet-unmarked start len (Some p) h = (h.0, rw length-flags_without h.1)
-
-without_after : (test : ℕ → Bool) (k : ℕ) (flags : List Bool)
-    → flags_without test k (flags_after test k flags) ≡ flags_without test k flags
-without_after test k [] = refl
-without_after test k (dirty ∷ flags) = let e = one dirty (test k) in let f = without_after test (k + 1) flags in cc
-  where
-    one : (d t : Bool) → ((d || t) && not t) ≡ (d && not t)
-    one true true = refl
-    one true false = refl
-    one false true = refl
-    one false false = refl
+IsPageSet-unmarked start len (Some p) h = (h.0, rw length-flags_set h.1)
 
 -- a mark is undone with what was dirty of its pages
 pub unmarked-marked : (start len : ℕ) (set : PageSet)
     → unmarked start len (marked start len set) ≡ unmarked start len set
 unmarked-marked start len None = refl
-unmarked-marked start len (Some p) = ap (pages_with p.page_size) (without_after (takes p.page_size start len) 0 p.flags)
+unmarked-marked start len (Some p) =
+    ap (pages_with p.page_size) (flags_set_again false true (takes p.page_size start len) 0 p.flags)
 
--- ---- new pages
-
-pub IsPageSet-new_pages : (size bytes : ℕ) → 0 < size → bytes < 2 ^ 64 → IsPageSet (new_pages size bytes)
-IsPageSet-new_pages size bytes pos fits =
-    let count = div_ceil_times bytes size pos in
-    let some = length-replicate {A = Bool} (div_ceil bytes size) false in
-    (pos, rw some (last (div_ceil bytes size) size bytes count.1 fits pos))
-  where
-    last : (n size bytes : ℕ) → n * size < bytes + size → bytes < 2 ^ 64 → 0 < size → (n - 1) * size < 2 ^ 64
-    last zero size bytes h fits pos = omega (arith, zero-mul size)
-    last (suc n) size bytes h fits pos =
-        let e : suc n - 1 ≡ n = omega arith in
-        rw e (omega (arith, suc-mul n size))
+-- ---- clean pages
 
 pub clean_is_not_dirty : (len offset : ℕ) (set : PageSet) → IsCleanFor len set → is_dirty_at set offset ≡ false
 clean_is_not_dirty len offset None h = refl

@@ -120,7 +120,8 @@ back page set (e ∷ history) (suc i) h = back_later page set e history i (back 
 
 pub since : (page : ℕ) (history : List Event) (i : ℕ) → answers_at page false history i ≡ true
     → Since page false history i
-since page history i h = elim (back page false history i h) [ inl before ↦ absurd (true≢false (sym before.0)) | inr s ↦ s ]
+since page history i h =
+    elim (back page false history i h) [ inl before ↦ absurd (true≢false (sym before.0)) | inr s ↦ s ]
 
 left_by : (page : ℕ) (set : Bool) (e : Event) (history : List Event) (b : Bool) → sets page e ≡ b
     → (after page set e ≡ true) ⊎ ((j : ℕ) × (marks_at page history j ≡ true))

@@ -3,36 +3,35 @@ use Rattle.std.proofs.Common.{◌≡◌, ◌≢◌, ℕ, zero, suc, ◌+◌, ◌
 use Rattle.std.specs.Prelude.{bit_and, bit_or}
 use Rattle.std.specs.Int.{div_ceil, bit_at, bit_not}
 use Rattle.std.specs.List.{range_with_len}
-use Rattle.std.proofs.lemmas.Bool.{lt-ltb, cases_lt, cases_eq}
+use Rattle.std.proofs.lemmas.Bool.{lt-ltb, le-ltb, cases_lt, cases_eq}
+use Rattle.std.proofs.lemmas.Bool.Decides.{nat_tests}
 use Rattle.std.proofs.lemmas.Grind.{div_ceil_times}
 use Rattle.std.proofs.lemmas.List.{get_or-set_same, get_or-set_other, get_or_past, get_or_read, ext_get_or, length-replicate, get_or-replicate}
-use Rattle.std.proofs.lemmas.List.FromFn.{length-map-range_with_len, get_or-map-range_with_len, fill_by_all}
+use Rattle.std.proofs.lemmas.List.FromFn.{get_or-map-range_with_len, fill_by_all}
 use Rattle.std.proofs.lemmas.Nat.{and_le_l}
 use Rattle.std.proofs.lemmas.Nat.Bits.{bit_at-zero, bit_at-lt, bit_at_and, bit_at_or, bit_at_not, bit_at_ones, bit_at_ones_above, bit_at_mask_inside, bit_at_mask_below, bit_at_clear_same, bit_at_clear_other, ones_shl, ones_shr, same_from_bits_below}
 use Rattle.vm_memory_base.specs.Flags.{flag, flags_of, Gets, dirty_among}
-use Rattle.vm_memory_base.specs.Pages.{Pages, dirty_from, dirty_words, flags_after, flags_without, all_clean}
-use Rattle.vm_memory_base.proofs.BitmapLemmas.{get_or-flags_without, length-flags_without, set_if, cleared_if, within, before, behind, made_alike, get_or-made_alike, replicate-all_clean, bit_of-dirty_words, length-dirty_words, dirty_words-lt}
-use Rattle.vm_memory_base.proofs.PagesLaws.{length-flags_after, get_or-flags_after}
+use Rattle.vm_memory_base.specs.Pages.{Pages, dirty_from, dirty_words, takes, flags_set}
+use Rattle.vm_memory_base.specs.Paging.{page_size_of, count_of, pages_in}
+use Rattle.vm_memory_base.specs.declared.bitmap.paging.Paging.{Paging}
+use Rattle.vm_memory_base.specs.lemmas.NewPages.{length-flags_of}
+use Rattle.vm_memory_base.proofs.BitmapLemmas.{within, before, behind, made_alike, get_or-made_alike, bit_of-dirty_words, length-dirty_words, dirty_words-lt}
+use Rattle.vm_memory_base.proofs.PagesLaws.{length-flags_set, get_or-flags_set, get_or-alike}
 
-pub length-flags_of : (words : List ℕ) (count : ℕ) → length (flags_of words count) ≡ count
-length-flags_of words count = length-map-range_with_len (flag words) 0 count
-
-pub get_or-flags_of : (words : List ℕ) (count page : ℕ) → page < count → get_or (flags_of words count) page false ≡ flag words page
-get_or-flags_of words count page inside = get_or-map-range_with_len (flag words) 0 count page page false inside (zero-add page)
+get_or-flags_of : (words : List ℕ) (count page : ℕ) → page < count
+    → get_or (flags_of words count) page false ≡ flag words page
+get_or-flags_of words count page inside =
+    get_or-map-range_with_len (flag words) 0 count page page false inside (zero-add page)
 
 -- ---- words of zeros
 
-zero_word : (n k : ℕ) → ◌≡◌ {A = ℕ} (get_or (replicate n 0) k 0) 0
-zero_word zero k = refl
-zero_word (suc n) zero = refl
-zero_word (suc n) (suc k) = zero_word n k
-
 pub flag-zeros : (n page : ℕ) → flag (replicate n 0) page ≡ false
-flag-zeros n page = let word = zero_word n (page / 64) in rw (word, bit_at-zero (page % 64)) refl
+flag-zeros n page = let word = get_or-alike {A = ℕ} n (page / 64) 0 in rw (word, bit_at-zero (page % 64)) refl
 
 pub flags_of-zeros : (n count : ℕ) → flags_of (replicate n 0) count ≡ replicate count false
 flags_of-zeros n count =
-    sym (fill_by_all (flag (replicate n 0)) (replicate count false) count false (length-replicate {A = Bool} count false)
+    sym (fill_by_all (flag (replicate n 0)) (replicate count false) count false
+    (length-replicate {A = Bool} count false)
     (λ k inside. get_or-replicate count k false false inside ∙ sym (flag-zeros n k)))
 
 -- ---- pages that get a flag
@@ -115,7 +114,8 @@ Gets-words words a b all d h k bits page =
             | inl m ↦
                 rw (at, within a b (page / 64) (omega arith) (omega arith), within (64 * a) (64 * b) page l m)
                 (ap (λ (n : ℕ). eqb n 1) (bits (page % 64) (omega arith)) ∙ bit_is d)
-            | inr m ↦ rw (at, behind a b (page / 64) (omega arith) (omega arith), behind (64 * a) (64 * b) page l m) refl
+            | inr m ↦
+                rw (at, behind a b (page / 64) (omega arith) (omega arith), behind (64 * a) (64 * b) page l m) refl
           ]
     ]
 
@@ -144,7 +144,8 @@ module _ (old mask first end : ℕ)
     (bits : (bit : ℕ) → bit < 64 → bit_at mask bit ≡ cond (leb first bit && ltb bit end) 1 0) where
   pub GetsBits-or : GetsBits old (bit_or old mask) first end true
   GetsBits-or bit small =
-      bit_at_or old mask bit ∙ one (leb first bit && ltb bit end) (bit_at old bit) (bit_at mask bit) (bit_at-lt old bit) (bits bit small)
+      bit_at_or old mask bit
+      ∙ one (leb first bit && ltb bit end) (bit_at old bit) (bit_at mask bit) (bit_at-lt old bit) (bits bit small)
     where
       one : (t : Bool) (o m : ℕ) → o < 2 → m ≡ cond t 1 0 → max o m ≡ cond t 1 o
       one true o m h e = omega (arith, h, e)
@@ -153,8 +154,8 @@ module _ (old mask first end : ℕ)
   pub GetsBits-and : mask < 2 ^ 64 → GetsBits old (bit_and old (bit_not w64 mask)) first end false
   GetsBits-and fits bit small =
       bit_at_and old (bit_not w64 mask) bit
-      ∙ one (leb first bit && ltb bit end) (bit_at old bit) (bit_at (bit_not w64 mask) bit) (bit_at mask bit) (bit_at-lt old bit)
-      (bits bit small) (bit_at_not w64 mask bit fits small)
+      ∙ one (leb first bit && ltb bit end) (bit_at old bit) (bit_at (bit_not w64 mask) bit) (bit_at mask bit)
+      (bit_at-lt old bit) (bits bit small) (bit_at_not w64 mask bit fits small)
     where
       one : (t : Bool) (o n m : ℕ) → o < 2 → m ≡ cond t 1 0 → n ≡ 1 - m → min o n ≡ cond t 0 o
       one true o n m h e f = omega (arith, h, e, f)
@@ -162,29 +163,29 @@ module _ (old mask first end : ℕ)
 
 -- ---- all pages after some got a flag
 
+-- the pages that a mark takes are those from one up to another
+pub taken_between : (p : Paging) (start len page : ℕ) → page < count_of p
+    → takes (page_size_of p) start len page
+    ≡ (leb (pages_in p start len).0 page && ltb page (pages_in p start len).1)
+taken_between p start len page inside =
+    elim (cases_lt 0 len) [
+      | inl l ↦ rw (lt-ltb 0 len l) (grind (arith, nat_tests))
+      | inr l ↦ rw (le-ltb 0 len l) (grind (arith, nat_tests))
+    ]
+
 module _ (old new : List ℕ) (count first end : ℕ) (test : ℕ → Bool)
     (taken : (page : ℕ) → page < count → test page ≡ (leb first page && ltb page end)) where
-  pub flags_of-marked : Gets old new first end true → flags_of new count ≡ flags_after test 0 (flags_of old count)
-  flags_of-marked gets =
+  pub flags_of-set : (d : Bool) → Gets old new first end d
+      → flags_of new count ≡ flags_set d test 0 (flags_of old count)
+  flags_of-set d gets =
       let flags = flags_of old count in
-      sym (fill_by_all (flag new) (flags_after test 0 flags) count false
-      (length-flags_after test 0 flags ∙ length-flags_of old count)
+      sym (fill_by_all (flag new) (flags_set d test 0 flags) count false
+      (length-flags_set d test 0 flags ∙ length-flags_of old count)
       (λ k inside.
       let e : 0 + k ≡ k = zero-add k in
-      get_or-flags_after test 0 flags k
-      ∙ rw (e, length-flags_of old count, lt-ltb k count inside, get_or-flags_of old count k inside)
-      (sym (set_if (test k) (flag old k)) ∙ rw (taken k inside) (sym (gets k)))))
-
-  pub flags_of-unmarked : Gets old new first end false → flags_of new count ≡ flags_without test 0 (flags_of old count)
-  flags_of-unmarked gets =
-      let flags = flags_of old count in
-      sym (fill_by_all (flag new) (flags_without test 0 flags) count false
-      (length-flags_without test 0 flags ∙ length-flags_of old count)
-      (λ k inside.
-      let e : 0 + k ≡ k = zero-add k in
-      get_or-flags_without test 0 flags k
-      ∙ rw (e, get_or-flags_of old count k inside)
-      (sym (cleared_if (test k) (flag old k)) ∙ rw (taken k inside) (sym (gets k)))))
+      get_or-flags_set d test 0 flags k
+      ∙ rw (e, length-flags_of old count, lt-ltb k count inside, get_or-flags_of old count k inside, taken k inside)
+      (sym (gets k))))
 
 -- past the last page none is dirty, whatever those up to it got
 pub clear_after : (old new : List ℕ) (count first end : ℕ) (d : Bool) → end ≤ count
@@ -196,11 +197,10 @@ clear_after old new count first end d inside clear gets page past =
       | inr l ↦ rw (behind first end page l (omega arith)) at (gets page) ∙ clear page past
     ]
 
-pub flags_of-clean : (old : List ℕ) (n count : ℕ) → flags_of (replicate n 0) count ≡ all_clean (flags_of old count)
+pub flags_of-clean : (old : List ℕ) (n count : ℕ)
+    → flags_of (replicate n 0) count ≡ replicate (length (flags_of old count)) false
 flags_of-clean old n count =
-    flags_of-zeros n count
-    ∙ ap (λ (k : ℕ). replicate k false) (sym (length-flags_of old count))
-    ∙ replicate-all_clean (flags_of old count)
+    flags_of-zeros n count ∙ ap (λ (k : ℕ). replicate k false) (sym (length-flags_of old count))
 
 -- ---- the words as those of the dirty pages
 
@@ -233,7 +233,8 @@ module _ (words : List ℕ) (count : ℕ) (clear : (page : ℕ) → count ≤ pa
       let page : (64 * w + b) / 64 ≡ w = omega arith in
       let bit : (64 * w + b) % 64 ≡ b = omega arith in
       sym (bit_of-dirty_words (record { page_size = size; flags = flags_of words count }) w b small
-      ∙ rw (flag-told (64 * w + b), page, bit) (bit_of-flag (bit_at (get_or words w 0) b) (bit_at-lt (get_or words w 0) b)))
+      ∙ rw (flag-told (64 * w + b), page, bit)
+      (bit_of-flag (bit_at (get_or words w 0) b) (bit_at-lt (get_or words w 0) b)))
 
   pub words_are : (size : ℕ) → length words ≡ div_ceil count 64 → ((k : ℕ) → get_or words k 0 < 2 ^ 64)
       → words ≡ dirty_words (Some (record { page_size = size; flags = flags_of words count }))
@@ -245,7 +246,8 @@ module _ (words : List ℕ) (count : ℕ) (clear : (page : ℕ) → count ≤ pa
       same_from_bits_below 64 (get_or words w 0) (get_or (dirty_words (Some p)) w 0) (small w) (dirty_words-lt p w)
       (λ b l. bit_told size w b l))
 
-pub inside_words : (words : List ℕ) (count end : ℕ) → length words ≡ div_ceil count 64 → end ≤ count → end ≤ 64 * length words
+pub inside_words : (words : List ℕ) (count end : ℕ) → length words ≡ div_ceil count 64 → end ≤ count
+    → end ≤ 64 * length words
 inside_words words count end whole inside = let c = div_ceil_times count 64 (omega arith) in omega (arith, c.0)
 
 pub word_read : (words : List ℕ) (count page word : ℕ) → length words ≡ div_ceil count 64 → page < count
@@ -318,8 +320,8 @@ unfolding dirty_among
 lowest_bit word first t small set low =
     let left : ℕ = bit_and word (bit_not w64 (1 * 2 ^ t % 2 ^ 64)) in
     let here : first + t - first ≡ t = omega arith in
-    take_first (λ page. eqb (bit_at word (page - first)) 1) (λ page. eqb (bit_at left (page - first)) 1) first 64 (first + t)
-    (omega arith) (omega arith)
+    take_first (λ page. eqb (bit_at word (page - first)) 1) (λ page. eqb (bit_at left (page - first)) 1) first 64
+    (first + t) (omega arith) (omega arith)
     (λ p l m. ap (λ (n : ℕ). eqb n 1) (low (p - first) (omega arith)))
     (rw here (ap (λ (n : ℕ). eqb n 1) set))
     (rw here (ap (λ (n : ℕ). eqb n 1) (bit_at_clear_same w64 word t small)))
@@ -329,7 +331,9 @@ lowest_bit word first t small set low =
 
 pub no_bits : (first : ℕ) → dirty_among 0 first ≡ []
 unfolding dirty_among
-no_bits first = none_dirty (λ page. eqb (bit_at 0 (page - first)) 1) first 64 (λ p l. ap (λ (n : ℕ). eqb n 1) (bit_at-zero (p - first)))
+no_bits first =
+    none_dirty (λ page. eqb (bit_at 0 (page - first)) 1) first 64
+    (λ p l. ap (λ (n : ℕ). eqb n 1) (bit_at-zero (p - first)))
 
 pub not_empty : (xs : List ℕ) (y : ℕ) (ys : List ℕ) → xs ++ y ∷ ys ≢ []
 not_empty [] y ys e = absurd (cc)
@@ -356,7 +360,8 @@ some_of_word first none = not_empty _ _ _ (sym (one_more first 63 (omega arith))
 
 -- the pages of one word more
 pub dirty_of_word : (words : List ℕ) (k : ℕ)
-    → dirty_by (flag words) 0 (64 * (k + 1)) ≡ dirty_by (flag words) 0 (64 * k) ++ dirty_among (get_or words k 0) (64 * k)
+    → dirty_by (flag words) 0 (64 * (k + 1))
+    ≡ dirty_by (flag words) 0 (64 * k) ++ dirty_among (get_or words k 0) (64 * k)
 unfolding dirty_among
 dirty_of_word words k =
     let at : 0 + 64 * k ≡ 64 * k = omega arith in
@@ -370,7 +375,8 @@ dirty_of_word words k =
     rw (word, bit) refl)))
 
 -- the pages of all words are those up to the last
-pub dirty_of_words : (words : List ℕ) (count all : ℕ) → count ≤ all → ((page : ℕ) → count ≤ page → flag words page ≡ false)
+pub dirty_of_words : (words : List ℕ) (count all : ℕ) → count ≤ all
+    → ((page : ℕ) → count ≤ page → flag words page ≡ false)
     → dirty_by (flag words) 0 all ≡ dirty_by (flag words) 0 count
 dirty_of_words words count all inside clear =
     dirty_by-split (flag words) 0 count (all - count) all (omega arith)
@@ -386,7 +392,8 @@ some_dirty words count k whole inside clear some none =
     let e = dirty_of_words words count all (omega (arith, enough.0)) clear ∙ none in
     let f = dirty_by-split (flag words) 0 (64 * (k + 1)) (all - 64 * (k + 1)) all (omega arith) in
     some (middle (dirty_by (flag words) 0 (64 * k)) (dirty_among (get_or words k 0) (64 * k)) _
-    (ap (λ (ps : List ℕ). ps ++ dirty_by (flag words) (0 + 64 * (k + 1)) (all - 64 * (k + 1))) (sym (dirty_of_word words k))
+    (ap (λ (ps : List ℕ). ps ++ dirty_by (flag words) (0 + 64 * (k + 1)) (all - 64 * (k + 1)))
+    (sym (dirty_of_word words k))
     ∙ sym f ∙ e))
   where
     middle : (xs ys zs : List ℕ) → (xs ++ ys) ++ zs ≡ [] → ys ≡ []

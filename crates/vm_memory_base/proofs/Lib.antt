@@ -21,5 +21,6 @@ pub mod FlagsLemmas
 pub mod WordLemmas
 pub mod NotesLemmas
 pub mod TrackedRule
+pub mod TrackedSeats
 pub mod PieceLemmas
 pub mod TransferLemmas

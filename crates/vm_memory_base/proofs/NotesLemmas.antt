@@ -1,5 +1,5 @@
 -- The notes of a harvest of all words.
-use Rattle.std.proofs.Common.{◌≡◌, ◌≢◌, ℕ, suc, ◌+◌, ◌<◌, ◌≤◌, ◌⊎◌, Bool, max, if◌then◌else◌, inl, inr, ⊎_elim, subst, List, [], ◌∷◌, ◌++◌, length, map, refl, sym, ap, ◌∙◌, arith, eq-eqb, ne_eqb}
+use Rattle.std.proofs.Common.{◌≡◌, ◌≢◌, ℕ, suc, ◌+◌, ◌<◌, ◌≤◌, ◌⊎◌, max, inl, inr, ⊎_elim, List, [], ◌∷◌, ◌++◌, length, map, refl, ap, ◌∙◌, arith, eq-eqb, ne_eqb}
 use mathlib.Core.Logic.{dite}
 use native.Mathlib.Decide.{ℕ_discrete}
 use Rattle.std.proofs.lemmas.List.{length-map, map-append}
@@ -15,8 +15,9 @@ gathered-more word round (y ∷ xs) x notes =
     gathered-more (word + 1) round xs x (note word round y ∷ notes)
     ∙ ap (λ w. note w round x ∷ gathered (word + 1) round xs (note word round y ∷ notes)) e
 
-rounds_here : (w round x : ℕ) (notes : List Note) → length (rounds_of w (note w round x ∷ notes)) ≡ length (rounds_of w notes) + 1
-rounds_here w round x notes = rw (eq-eqb w w refl) (omega arith)
+rounds_here : (w v round x : ℕ) (notes : List Note) → v ≡ w
+    → length (rounds_of w (note v round x ∷ notes)) ≡ length (rounds_of w notes) + 1
+rounds_here w v round x notes e = rw (eq-eqb v w e) (omega arith)
 
 rounds_there : (w v round x : ℕ) (notes : List Note) → v ≢ w → rounds_of w (note v round x ∷ notes) ≡ rounds_of w notes
 rounds_there w v round x notes ne = rw (ne_eqb v w ne) refl
@@ -44,7 +45,7 @@ gathered-each word round (x ∷ xs) notes w h k =
     dite (ℕ_discrete word w)
     (λ (e : word ≡ w).
     ap length (gathered-below (word + 1) round xs (note word round x ∷ notes) w (omega arith))
-    ∙ rw e (rounds_here w round x notes))
+    ∙ rounds_here w word round x notes e)
     (λ (ne : word ≢ w).
     gathered-each (word + 1) round xs (note word round x ∷ notes) w (omega arith) (omega arith)
     ∙ ap (λ l. length l + 1) (rounds_there w word round x notes ne))
@@ -54,7 +55,8 @@ pub after_harvests-more : (round : ℕ) (xs : List ℕ) (x : ℕ) (v : View)
 after_harvests-more round xs x v =
     let here : 0 + length xs ≡ length xs = omega arith in
     let there : 0 + length (map (λ (_ : ℕ). 0) xs) ≡ length xs = omega (arith, length-map {B = ℕ} xs (λ (_ : ℕ). 0)) in
-    let harvests : gathered 0 round (xs ++ x ∷ []) v.harvests ≡ note (length xs) round x ∷ gathered 0 round xs v.harvests =
+    let harvests : gathered 0 round (xs ++ x ∷ []) v.harvests
+    ≡ note (length xs) round x ∷ gathered 0 round xs v.harvests =
     gathered-more 0 round xs x v.harvests ∙ ap (λ w. note w round x ∷ gathered 0 round xs v.harvests) here in
     let rounds : gathered 0 (round + 1) (map (λ (_ : ℕ). 0) (xs ++ x ∷ [])) v.rounds
     ≡ note (length xs) (round + 1) 0 ∷ gathered 0 (round + 1) (map (λ (_ : ℕ). 0) xs) v.rounds =
@@ -79,44 +81,22 @@ noted_either w r p [] ys h = inr h
 noted_either w r p (x ∷ xs) ys (inl h) = inl (inl h)
 noted_either w r p (x ∷ xs) ys (inr h) = ⊎_elim (λ k. inl (inr k)) (λ k. inr k) (noted_either w r p xs ys h)
 
-pub greatest_both : (w limit : ℕ) (xs ys : List Note) → greatest_of w xs ≤ limit → greatest_of w ys ≤ limit
-    → greatest_of w (xs ++ ys) ≤ limit
-greatest_both w limit [] ys h k = k
-greatest_both w limit (x ∷ xs) ys h k =
-    dite (ℕ_discrete x.word w)
-    (λ (e : x.word ≡ w).
-    let first : max x.round (greatest_of w xs) ≤ limit = subst (λ (b : Bool). (if b then max x.round (greatest_of w xs) else greatest_of w xs) ≤ limit) (eq-eqb x.word w e) h in
-    let rest = greatest_both w limit xs ys (omega (arith, first)) k in
-    subst (λ (b : Bool). (if b then max x.round (greatest_of w (xs ++ ys)) else greatest_of w (xs ++ ys)) ≤ limit) (sym (eq-eqb x.word w e))
-    (omega (arith, first, rest)))
-    (λ (ne : x.word ≢ w).
-    let first : greatest_of w xs ≤ limit = subst (λ (b : Bool). (if b then max x.round (greatest_of w xs) else greatest_of w xs) ≤ limit) (ne_eqb x.word w ne) h in
-    subst (λ (b : Bool). (if b then max x.round (greatest_of w (xs ++ ys)) else greatest_of w (xs ++ ys)) ≤ limit) (sym (ne_eqb x.word w ne))
-    (greatest_both w limit xs ys first k))
-
-pub greatest_left : (w : ℕ) (xs ys : List Note) → greatest_of w xs ≤ greatest_of w (xs ++ ys)
-greatest_left w [] ys = omega arith
-greatest_left w (x ∷ xs) ys =
-    let rest = greatest_left w xs ys in
+pub greatest-append : (w : ℕ) (xs ys : List Note)
+    → greatest_of w (xs ++ ys) ≡ max (greatest_of w xs) (greatest_of w ys)
+greatest-append w [] ys = omega arith
+greatest-append w (x ∷ xs) ys =
+    let rest = greatest-append w xs ys in
     dite (ℕ_discrete x.word w) (λ e. rw (eq-eqb x.word w e) (omega (arith, rest))) (λ ne. rw (ne_eqb x.word w ne) rest)
 
-pub greatest_right : (w : ℕ) (xs ys : List Note) → greatest_of w ys ≤ greatest_of w (xs ++ ys)
-greatest_right w [] ys = omega arith
-greatest_right w (x ∷ xs) ys =
-    let rest = greatest_right w xs ys in
-    dite (ℕ_discrete x.word w) (λ e. rw (eq-eqb x.word w e) (omega (arith, rest))) (λ ne. rw (ne_eqb x.word w ne) rest)
-
-greatest_more : (w v round pages : ℕ) (notes : List Note) → greatest_of w notes ≤ greatest_of w (note v round pages ∷ notes)
-greatest_more w v round pages notes = greatest_right w (note v round pages ∷ []) notes
-
-greatest_here : (w round pages : ℕ) (notes : List Note) → round ≤ greatest_of w (note w round pages ∷ notes)
-greatest_here w round pages notes = rw (eq-eqb w w refl) (omega arith)
+greatest_here : (w v round pages : ℕ) (notes : List Note) → v ≡ w
+    → round ≤ greatest_of w (note v round pages ∷ notes)
+greatest_here w v round pages notes e = rw (eq-eqb v w e) (omega arith)
 
 pub gathered-greatest : (word round : ℕ) (xs : List ℕ) (notes : List Note) (w : ℕ)
     → greatest_of w notes ≤ greatest_of w (gathered word round xs notes)
 gathered-greatest word round [] notes w = omega arith
 gathered-greatest word round (x ∷ xs) notes w =
-    let first = greatest_more w word round x notes in
+    let first = greatest-append w (note word round x ∷ []) notes in
     let rest = gathered-greatest (word + 1) round xs (note word round x ∷ notes) w in omega (arith, first, rest)
 
 pub gathered-seen : (word round : ℕ) (xs : List ℕ) (notes : List Note) (w : ℕ) → word ≤ w → w < word + length xs
@@ -125,8 +105,6 @@ gathered-seen word round [] notes w h k = absurd (omega arith)
 gathered-seen word round (x ∷ xs) notes w h k =
     dite (ℕ_discrete word w)
     (λ (e : word ≡ w).
-    let first = greatest_here w round x notes in
-    let rest : greatest_of w (note w round x ∷ notes) ≤ greatest_of w (gathered (word + 1) round xs (note word round x ∷ notes)) =
-    subst (λ j. greatest_of w (note j round x ∷ notes) ≤ greatest_of w (gathered (word + 1) round xs (note word round x ∷ notes))) e
-    (gathered-greatest (word + 1) round xs (note word round x ∷ notes) w) in omega (arith, first, rest))
+    let first = greatest_here w word round x notes e in
+    let rest = gathered-greatest (word + 1) round xs (note word round x ∷ notes) w in omega (arith, first, rest))
     (λ (ne : word ≢ w). gathered-seen (word + 1) round xs (note word round x ∷ notes) w (omega arith) (omega arith))

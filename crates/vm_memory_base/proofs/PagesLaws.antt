@@ -1,133 +1,166 @@
 -- The laws of page sets.
-use Rattle.std.proofs.Common.{◌≡◌, ℕ, zero, suc, ◌+◌, ◌-◌, ◌*◌, ◌/◌, ◌^◌, ◌<◌, ◌≤◌, Bool, true, false, ◌&&◌, ◌||◌, ltb, leb, List, [], ◌∷◌, ◌++◌, length, get_or, Some, None, refl, sym, ap, inl, inr, ◌⊎◌, ◌↔◌, ◌∙◌, add-zero, zero-add, add-one, arith}
+use Rattle.std.proofs.Common.{◌≡◌, ℕ, zero, suc, ◌+◌, ◌-◌, ◌*◌, ◌/◌, ◌^◌, ◌<◌, ◌≤◌, Bool, true, false, not, ◌&&◌, ◌||◌, cond, ltb, leb, List, [], ◌∷◌, ◌++◌, length, get_or, replicate, Some, None, refl, sym, ap, inl, inr, ◌⊎◌, ◌↔◌, ◌∙◌, add-zero, zero-add, add-one, arith}
 use Rattle.std.proofs.Math.Nat.{div-lt_iff_lt-mul, le-div_iff_mul-le, mul-div_cancel, lt-div-mul-add, div-mul-le_self, div-zero}
 use Rattle.std.proofs.lemmas.Nat.{le-div, div_below}
 use Rattle.std.proofs.lemmas.Bool.{or_left, or_right, ltb-true, leb-true, le-leb, lt-leb, and_parts, and_from, and_right, cases_lt, lt-ltb, le-ltb, and_left}
 use Rattle.std.proofs.lemmas.Bool.Decides.{nat_tests}
+use Rattle.std.proofs.lemmas.List.{length-replicate, get_or_past}
 use Rattle.std.proofs.lemmas.List.Elements.{All-nil, All-cons, All-weaker}
 use Rattle.std.specs.List.{All, AllPairs, Contains}
 use Rattle.vm_memory_base.specs.Address.{numbers, is_within}
-use Rattle.vm_memory_base.specs.Pages.{Pages, PageSet, shape, is_dirty_at, dirty_from, dirty_pages, last_byte, takes, flags_after, marked, marked_each, all_clean, cleaned, IsPageSet}
+use Rattle.vm_memory_base.specs.Pages.{Pages, PageSet, shape, is_dirty_at, dirty_from, dirty_pages, last_byte, takes, flags_set, marked, marked_each, cleaned, IsPageSet, pages_with}
+use Rattle.vm_memory_base.specs.lemmas.NewPages.{none_dirty}
 use Rattle.vm_memory_base.proofs.RunsLaws.{is_within-in, within_from}
 
 or-false : (b : Bool) → (b || false) ≡ b
 or-false true = refl
 or-false false = refl
 
-or_assoc : (a b c : Bool) → ((a || b) || c) ≡ (a || (b || c))
-or_assoc true b c = refl
-or_assoc false b c = refl
-
-or_comm : (a b : Bool) → (a || b) ≡ (b || a)
-or_comm true true = refl
-or_comm true false = refl
-or_comm false true = refl
-or_comm false false = refl
-
-or_self : (a : Bool) → (a || a) ≡ a
-or_self true = refl
-or_self false = refl
-
 ltb-suc : (a b : ℕ) → ltb (suc a) (suc b) ≡ ltb a b
 ltb-suc a b = grind (arith, nat_tests)
 
-pub length-flags_after : (test : ℕ → Bool) (k : ℕ) (flags : List Bool)
-    → length (flags_after test k flags) ≡ length flags
-length-flags_after test k [] = refl
-length-flags_after test k (dirty ∷ flags) = ap suc (length-flags_after test (k + 1) flags)
+-- one test and then another, by which a flag is set
+set_twice : (a b flag dirty : Bool) → cond a flag (cond b flag dirty) ≡ cond (b || a) flag dirty
+set_twice true true flag dirty = refl
+set_twice true false flag dirty = refl
+set_twice false b flag dirty = rw or-false refl
+
+-- only the later flag is left
+set_again : (a flag other dirty : Bool) → cond a flag (cond a other dirty) ≡ cond a flag dirty
+set_again true flag other dirty = refl
+set_again false flag other dirty = refl
+
+pub length-flags_set : (flag : Bool) (test : ℕ → Bool) (k : ℕ) (flags : List Bool)
+    → length (flags_set flag test k flags) ≡ length flags
+length-flags_set flag test k [] = refl
+length-flags_set flag test k (dirty ∷ flags) = ap suc (length-flags_set flag test (k + 1) flags)
 
 -- only what a test says of the pages matters
-pub flags_after_agree : (p q : ℕ → Bool) → ((j : ℕ) → p j ≡ q j) → (k : ℕ) (flags : List Bool)
-    → flags_after p k flags ≡ flags_after q k flags
-flags_after_agree p q h k [] = refl
-flags_after_agree p q h k (dirty ∷ flags) = let e = h k in let f = flags_after_agree p q h (k + 1) flags in cc
+flags_set_agree : (flag : Bool) (p q : ℕ → Bool) → ((j : ℕ) → p j ≡ q j) → (k : ℕ) (flags : List Bool)
+    → flags_set flag p k flags ≡ flags_set flag q k flags
+flags_set_agree flag p q h k [] = refl
+flags_set_agree flag p q h k (dirty ∷ flags) =
+    let e = h k in let f = flags_set_agree flag p q h (k + 1) flags in cc
 
-pub flags_after-none : (test : ℕ → Bool) → ((j : ℕ) → test j ≡ false) → (k : ℕ) (flags : List Bool)
-    → flags_after test k flags ≡ flags
-flags_after-none test h k [] = refl
-flags_after-none test h k (dirty ∷ flags) =
-    let e = or-false dirty in let g = h k in let f = flags_after-none test h (k + 1) flags in cc
+none_taken : (flag : Bool) (test : ℕ → Bool) (page : ℕ) (flags : List Bool)
+    → ((j : ℕ) → j < page + length flags → test j ≡ false) → flags_set flag test page flags ≡ flags
+none_taken flag test page [] h = refl
+none_taken flag test page (dirty ∷ flags) h =
+    let g = h page (omega arith) in
+    let f = none_taken flag test (page + 1) flags (λ j l. h j (omega arith)) in
+    cc
 
-pub flags_after_twice : (p q : ℕ → Bool) (k : ℕ) (flags : List Bool)
-    → flags_after p k (flags_after q k flags) ≡ flags_after (λ j. q j || p j) k flags
-flags_after_twice p q k [] = refl
-flags_after_twice p q k (dirty ∷ flags) =
-    let e = or_assoc dirty (q k) (p k) in let f = flags_after_twice p q (k + 1) flags in cc
+flags_set_twice : (flag : Bool) (p q : ℕ → Bool) (k : ℕ) (flags : List Bool)
+    → flags_set flag p k (flags_set flag q k flags) ≡ flags_set flag (λ j. q j || p j) k flags
+flags_set_twice flag p q k [] = refl
+flags_set_twice flag p q k (dirty ∷ flags) =
+    let e = set_twice (p k) (q k) flag dirty in let f = flags_set_twice flag p q (k + 1) flags in cc
 
--- a mark of no bytes takes no page
-pub takes_nothing : (size start page : ℕ) → takes size start 0 page ≡ false
-takes_nothing size start page = refl
-
--- the same pages with other flags
-abbrev with_flags : Pages → List Bool → PageSet
-with_flags p flags = Some (record { page_size = p.page_size; flags = flags })
+pub flags_set_again : (flag other : Bool) (test : ℕ → Bool) (k : ℕ) (flags : List Bool)
+    → flags_set flag test k (flags_set other test k flags) ≡ flags_set flag test k flags
+flags_set_again flag other test k [] = refl
+flags_set_again flag other test k (dirty ∷ flags) =
+    let e = set_again (test k) flag other dirty in let f = flags_set_again flag other test (k + 1) flags in cc
 
 -- a mark of no bytes changes nothing
 pub marked-empty : (start : ℕ) (set : PageSet) → marked start 0 set ≡ set
 marked-empty start None = refl
 marked-empty start (Some p) =
-    ap (with_flags p) (flags_after-none (takes p.page_size start 0) (takes_nothing p.page_size start) 0 p.flags)
+    ap (pages_with p.page_size) (none_taken true (takes p.page_size start 0) 0 p.flags (λ j l. refl))
 
 -- a mark keeps the page size and the number of pages
 pub shape-marked : (start len : ℕ) (set : PageSet) → shape (marked start len set) ≡ shape set
 shape-marked start len None = refl
 shape-marked start len (Some p) =
-    ap (λ (n : ℕ). Some (p.page_size, n)) (length-flags_after (takes p.page_size start len) 0 p.flags)
+    ap (λ (n : ℕ). Some (p.page_size, n)) (length-flags_set true (takes p.page_size start len) 0 p.flags)
 
 -- after a mark there are as many pages of the same size
 pub pages-marked : (start len : ℕ) (p : Pages) → (q : Pages) × (marked start len (Some p) ≡ Some q)
     × (q.page_size ≡ p.page_size) × (length q.flags ≡ length p.flags)
 pages-marked start len p = (
-  record { page_size = p.page_size; flags = flags_after (takes p.page_size start len) 0 p.flags },
+  record { page_size = p.page_size; flags = flags_set true (takes p.page_size start len) 0 p.flags },
   refl,
   refl,
-  length-flags_after (takes p.page_size start len) 0 p.flags,
+  length-flags_set true (takes p.page_size start len) 0 p.flags,
 )
 
 pub IsPageSet-marked : (start len : ℕ) (set : PageSet) → IsPageSet set → IsPageSet (marked start len set)
 IsPageSet-marked start len None h = tt
-IsPageSet-marked start len (Some p) h = (h.0, rw length-flags_after h.1)
+IsPageSet-marked start len (Some p) h = (h.0, rw length-flags_set h.1)
+
+-- the pages that the test takes have the flag
+pub get_or-flags_set : (flag : Bool) (test : ℕ → Bool) (k : ℕ) (flags : List Bool) (i : ℕ)
+    → get_or (flags_set flag test k flags) i false
+    ≡ cond (ltb i (length flags) && test (k + i)) flag (get_or flags i false)
+get_or-flags_set flag test k [] i = rw (le-ltb i 0 (omega arith)) refl
+get_or-flags_set flag test k (dirty ∷ flags) zero = rw (add-zero, lt-ltb 0 (suc (length flags)) (omega arith)) refl
+get_or-flags_set flag test k (dirty ∷ flags) (suc i) =
+    let e : k + 1 + i ≡ k + suc i = omega arith in
+    rw (← e, ltb-suc i (length flags)) (get_or-flags_set flag test (k + 1) flags i)
 
 -- dirty after a mark: what was dirty, and the pages that the test takes
-pub get_or-flags_after : (test : ℕ → Bool) (k : ℕ) (flags : List Bool) (i : ℕ)
-    → get_or (flags_after test k flags) i false ≡ (get_or flags i false || (ltb i (length flags) && test (k + i)))
-get_or-flags_after test k [] i = sym (and_left (ltb i 0) (test (k + i)) (le-ltb i 0 (omega arith)))
-get_or-flags_after test k (dirty ∷ flags) zero = rw (add-zero, lt-ltb 0 (suc (length flags)) (omega arith))
-get_or-flags_after test k (dirty ∷ flags) (suc i) =
-    let e : k + 1 + i ≡ k + suc i = omega arith in
-    rw (← e, ltb-suc i (length flags)) (get_or-flags_after test (k + 1) flags i)
+pub get_or-flags_marked : (test : ℕ → Bool) (k : ℕ) (flags : List Bool) (i : ℕ)
+    → get_or (flags_set true test k flags) i false ≡ (get_or flags i false || (ltb i (length flags) && test (k + i)))
+get_or-flags_marked test k flags i =
+    get_or-flags_set true test k flags i ∙ one (ltb i (length flags) && test (k + i)) (get_or flags i false)
+  where
+    one : (t g : Bool) → cond t true g ≡ (g || t)
+    one true true = refl
+    one true false = refl
+    one false g = sym (or-false g)
+
+-- dirty after some pages are made clean: what was dirty, but for the pages that the test takes
+pub get_or-flags_unmarked : (test : ℕ → Bool) (k : ℕ) (flags : List Bool) (i : ℕ)
+    → get_or (flags_set false test k flags) i false ≡ (get_or flags i false && not (test (k + i)))
+get_or-flags_unmarked test k flags i =
+    elim (cases_lt i (length flags)) [
+      | inl l ↦
+          get_or-flags_set false test k flags i
+          ∙ rw (lt-ltb i (length flags) l) (one (test (k + i)) (get_or flags i false))
+      | inr l ↦
+          get_or-flags_set false test k flags i ∙ rw (le-ltb i (length flags) l, get_or_past flags i false l) refl
+    ]
+  where
+    one : (t g : Bool) → cond t false g ≡ (g && not t)
+    one true true = refl
+    one true false = refl
+    one false true = refl
+    one false false = refl
 
 pub is_dirty_at-marked : (start len offset : ℕ) (p : Pages)
     → is_dirty_at (marked start len (Some p)) offset
     ≡ (is_dirty_at (Some p) offset
     || (ltb (offset / p.page_size) (length p.flags) && takes p.page_size start len (offset / p.page_size)))
 is_dirty_at-marked start len offset p =
-    get_or-flags_after (takes p.page_size start len) 0 p.flags (offset / p.page_size) ∙ rw zero-add
+    get_or-flags_marked (takes p.page_size start len) 0 p.flags (offset / p.page_size) ∙ rw zero-add
 
 -- of two marks
 pub marked-marked : (a m b n : ℕ) (p : Pages)
     → marked a m (marked b n (Some p))
-    ≡ with_flags p (flags_after (λ k. takes p.page_size b n k || takes p.page_size a m k) 0 p.flags)
+    ≡ pages_with p.page_size (flags_set true (λ k. takes p.page_size b n k || takes p.page_size a m k) 0 p.flags)
 marked-marked a m b n p =
-    ap (with_flags p) (flags_after_twice (takes p.page_size a m) (takes p.page_size b n) 0 p.flags)
+    ap (pages_with p.page_size) (flags_set_twice true (takes p.page_size a m) (takes p.page_size b n) 0 p.flags)
 
 -- marks may be made in any order
 pub marked_comm : (a m b n : ℕ) (set : PageSet) → marked a m (marked b n set) ≡ marked b n (marked a m set)
 marked_comm a m b n None = refl
 marked_comm a m b n (Some p) =
     marked-marked a m b n p
-    ∙ ap (with_flags p) (flags_after_agree (λ k. takes p.page_size b n k || takes p.page_size a m k)
+    ∙ ap (pages_with p.page_size) (flags_set_agree true (λ k. takes p.page_size b n k || takes p.page_size a m k)
     (λ k. takes p.page_size a m k || takes p.page_size b n k)
     (λ k. or_comm (takes p.page_size b n k) (takes p.page_size a m k)) 0 p.flags)
     ∙ sym (marked-marked b n a m p)
+  where
+    or_comm : (a b : Bool) → (a || b) ≡ (b || a)
+    or_comm true true = refl
+    or_comm true false = refl
+    or_comm false b = sym (or-false b)
 
 -- a mark made twice is one
 pub marked_twice : (start len : ℕ) (set : PageSet) → marked start len (marked start len set) ≡ marked start len set
 marked_twice start len None = refl
 marked_twice start len (Some p) =
-    marked-marked start len start len p
-    ∙ ap (with_flags p) (flags_after_agree (λ k. takes p.page_size start len k || takes p.page_size start len k)
-    (takes p.page_size start len) (λ k. or_self (takes p.page_size start len k)) 0 p.flags)
+    ap (pages_with p.page_size) (flags_set_again true true (takes p.page_size start len) 0 p.flags)
 
 -- ---- byte by byte
 
@@ -169,7 +202,8 @@ marked_more : (start n : ℕ) (set : PageSet) → start + (n + 1) ≤ 2 ^ 64
 marked_more start n None fits = refl
 marked_more start n (Some p) fits =
     marked-marked (start + 1) n start 1 p
-    ∙ ap (with_flags p) (flags_after_agree (λ k. takes p.page_size start 1 k || takes p.page_size (start + 1) n k)
+    ∙ ap (pages_with p.page_size) (flags_set_agree true
+    (λ k. takes p.page_size start 1 k || takes p.page_size (start + 1) n k)
     (takes p.page_size start (n + 1)) (λ k. takes_more p.page_size start n k fits) 0 p.flags)
 
 -- a mark is a mark of each of its bytes, whatever the page size
@@ -241,23 +275,15 @@ marked_to_the_end start len (Some p) l h =
     let b : last_byte start (2 ^ 64 - start) ≡ 2 ^ 64 - 1 = omega arith in
     let c : ltb 0 len ≡ true = lt-ltb 0 len (omega arith) in
     let d : ltb 0 (2 ^ 64 - start) ≡ true = lt-ltb 0 (2 ^ 64 - start) (omega arith) in
-    ap (with_flags p) (flags_after_agree (takes p.page_size start len) (takes p.page_size start (2 ^ 64 - start))
+    ap (pages_with p.page_size)
+    (flags_set_agree true (takes p.page_size start len) (takes p.page_size start (2 ^ 64 - start))
     (λ k. rw (a, b, c, d)) 0 p.flags)
-
-none_taken : (test : ℕ → Bool) (page : ℕ) (flags : List Bool) → ((j : ℕ) → j < page + length flags → test j ≡ false)
-    → flags_after test page flags ≡ flags
-none_taken test page [] h = refl
-none_taken test page (dirty ∷ flags) h =
-    let e = or-false dirty in
-    let g = h page (omega arith) in
-    let f = none_taken test (page + 1) flags (λ j l. h j (omega arith)) in
-    cc
 
 -- a mark past the last page changes nothing
 pub marked_past : (start len : ℕ) (p : Pages) → length p.flags ≤ start / p.page_size
     → marked start len (Some p) ≡ Some p
 marked_past start len p h =
-    ap (with_flags p) (none_taken (takes p.page_size start len) 0 p.flags (λ j l.
+    ap (pages_with p.page_size) (none_taken true (takes p.page_size start len) 0 p.flags (λ j l.
     and_right (ltb 0 len) (leb (start / p.page_size) j && leb j (last_byte start len / p.page_size))
     (and_left (leb (start / p.page_size) j) (leb j (last_byte start len / p.page_size))
     (lt-leb (start / p.page_size) j (omega arith)))))
@@ -366,34 +392,27 @@ is_dirty_at-marked_own x offset p l h k =
 
 -- ---- all clean
 
-length-all_clean : (flags : List Bool) → length (all_clean flags) ≡ length flags
-length-all_clean [] = refl
-length-all_clean (dirty ∷ flags) = ap suc (length-all_clean flags)
-
-get_or-all_clean : (flags : List Bool) (i : ℕ) → get_or (all_clean flags) i false ≡ false
-get_or-all_clean [] i = refl
-get_or-all_clean (dirty ∷ flags) zero = refl
-get_or-all_clean (dirty ∷ flags) (suc i) = get_or-all_clean flags i
-
-dirty_from-all_clean : (page : ℕ) (flags : List Bool) → dirty_from page (all_clean flags) ≡ []
-dirty_from-all_clean page [] = refl
-dirty_from-all_clean page (dirty ∷ flags) = dirty_from-all_clean (page + 1) flags
+-- of elements that are all alike each is, and so is what is read past the last
+pub get_or-alike : {A : Type 0} (n i : ℕ) (x : A) → get_or (replicate n x) i x ≡ x
+get_or-alike zero i x = refl
+get_or-alike (suc n) zero x = refl
+get_or-alike (suc n) (suc i) x = get_or-alike n i x
 
 pub shape-cleaned : (set : PageSet) → shape (cleaned set) ≡ shape set
 shape-cleaned None = refl
-shape-cleaned (Some p) = ap (λ (n : ℕ). Some (p.page_size, n)) (length-all_clean p.flags)
+shape-cleaned (Some p) = ap (λ (n : ℕ). Some (p.page_size, n)) (length-replicate {A = Bool} (length p.flags) false)
 
 pub IsPageSet-cleaned : (set : PageSet) → IsPageSet set → IsPageSet (cleaned set)
 IsPageSet-cleaned None h = tt
-IsPageSet-cleaned (Some p) h = (h.0, rw length-all_clean h.1)
+IsPageSet-cleaned (Some p) h = (h.0, rw (length-replicate {A = Bool} (length p.flags) false) h.1)
 
 pub dirty_pages-cleaned : (set : PageSet) → dirty_pages (cleaned set) ≡ []
 dirty_pages-cleaned None = refl
-dirty_pages-cleaned (Some p) = dirty_from-all_clean 0 p.flags
+dirty_pages-cleaned (Some p) = none_dirty 0 (length p.flags)
 
 pub is_dirty_at-cleaned : (set : PageSet) (offset : ℕ) → is_dirty_at (cleaned set) offset ≡ false
 is_dirty_at-cleaned None offset = refl
-is_dirty_at-cleaned (Some p) offset = get_or-all_clean p.flags (offset / p.page_size)
+is_dirty_at-cleaned (Some p) offset = get_or-alike (length p.flags) (offset / p.page_size) false
 
 -- ---- the list of the dirty pages
 

@@ -1,5 +1,6 @@
 pub mod Address
 pub mod Pages
+pub mod Paging
 pub mod Flags
 pub mod Exclusive
 pub mod Shared

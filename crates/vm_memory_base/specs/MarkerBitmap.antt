@@ -1,8 +1,9 @@
 -- What contracts see of a `MarkerBitmap`.
 use Rattle.std.specs.Prelude.{◌≡◌, ℕ, ◌/◌, ◌<◌, ◌≤◌, Bool, false, length, Option, Some, None, option_map}
 use Rattle.std.specs.Int.{div_ceil}
-use Rattle.vm_memory_base.specs.Markers.{count_of, page_size_of, marker_table, harvester_table, known_to, known_by}
+use Rattle.vm_memory_base.specs.Markers.{paging_of, marker_table, harvester_table, known_to, known_by}
 use Rattle.vm_memory_base.specs.Notes.{rounds_of}
+use Rattle.vm_memory_base.specs.Paging.{page_size_of, count_of}
 use Rattle.vm_memory_base.specs.Tracked.{MarksRange, HasSameRecords, seen_of}
 use Rattle.vm_memory_base.specs.declared.bitmap.tracked.TrackedBitmap.{TrackedBitmap}
 use Rattle.vm_memory_base.specs.declared.bitmap.tracked.Marker.{Marker}
@@ -18,12 +19,12 @@ abbrev pub MarksHeld : Option (TrackedBitmap × Marker) → ℕ → ℕ → Opti
 MarksHeld None offset len new = new ≡ None
 MarksHeld (Some h) offset len new =
     (m : Marker) × (new ≡ Some (h.0, m)) × (marker_table m ≡ marker_table h.1)
-    × MarksRange (page_size_of h.0) (count_of h.0) offset len (known_to h.1) (known_to m)
+    × MarksRange (paging_of h.0) offset len (known_to h.1) (known_to m)
 
 -- a byte past the last page is told clean. Where there is no marker, each is
 abbrev pub TellsHeld : Option (TrackedBitmap × Marker) → ℕ → Bool → Type 0
 TellsHeld None offset told = told ≡ false
-TellsHeld (Some h) offset told = count_of h.0 ≤ offset / page_size_of h.0 → told ≡ false
+TellsHeld (Some h) offset told = count_of (paging_of h.0) ≤ offset / page_size_of (paging_of h.0) → told ≡ false
 
 -- the marker meets the harvester. Where there is none, nothing is changed
 abbrev pub Meets : Option (TrackedBitmap × Marker) → Harvester
@@ -33,5 +34,5 @@ Meets (Some h) harvester new after =
     (m : Marker) × (new ≡ Some (h.0, m)) × (marker_table m ≡ marker_table h.1)
     × (harvester_table after ≡ harvester_table harvester)
     × HasSameRecords (known_to h.1) (known_to m) × HasSameRecords (known_by harvester) (known_by after)
-    × ((word : ℕ) → word < div_ceil (count_of h.0) 32
+    × ((word : ℕ) → word < div_ceil (count_of (paging_of h.0)) 32
     → seen_of word (known_to m) ≡ length (rounds_of word (known_by after).harvests))

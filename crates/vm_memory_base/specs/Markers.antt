@@ -1,25 +1,22 @@
 -- What contracts see of a `TrackedBitmap`, its markers and its harvester.
 use Rattle.std.specs.Prelude.{◌≡◌, ℕ, List, All, length}
-use Rattle.std.specs.NonZero.{non_zero_usize_get}
 use Rattle.atomic_table.specs.Seated.{TableId}
 use Rattle.vm_memory_base.specs.Notes.{rounds_of}
+use Rattle.vm_memory_base.specs.Paging.{count_of}
 use Rattle.vm_memory_base.specs.Tracked.{newcomer}
+use Rattle.vm_memory_base.specs.declared.bitmap.paging.Paging.{Paging}
 use Rattle.vm_memory_base.specs.declared.bitmap.tracked.Harvester.{Harvester}
 use Rattle.vm_memory_base.specs.declared.bitmap.tracked.Marker.{Marker}
 use Rattle.vm_memory_base.specs.declared.bitmap.tracked.TrackedBitmap.{TrackedBitmap}
 use Rattle.vm_memory_base.specs.declared.bitmap.tracked.view.View.{View}
 
--- the number of pages
-abbrev pub count_of : TrackedBitmap → ℕ
-count_of b = b.count
-
--- the number of bytes of a page
-abbrev pub page_size_of : TrackedBitmap → ℕ
-page_size_of b = non_zero_usize_get b.page_size
+-- how many bytes it tracks, in pages of which size
+abbrev pub paging_of : TrackedBitmap → Paging
+paging_of b = b.paging
 
 -- the words of a bitmap with the number of its pages, and of which a marker and a harvester are
 abbrev pub table_of : TrackedBitmap → TableId × ℕ
-table_of b = (b.table.shared.table_id, b.count)
+table_of b = (b.table.shared.table_id, count_of b.paging)
 
 abbrev pub marker_table : Marker → TableId × ℕ
 marker_table m = (m.seat.table_id, m.seat.me.0.count)

@@ -1,5 +1,5 @@
 -- What a bitmap tracks: pages of one size, each of them clean or dirty.
-use Rattle.std.specs.Prelude.{ℕ, zero, suc, ◌+◌, ◌-◌, ◌*◌, ◌/◌, ◌%◌, ◌^◌, ◌<◌, ◌≤◌, ◌≡◌, min, Bool, false, not, ◌&&◌, ◌||◌, if◌then◌else◌, nat_lt, nat_le, List, [], ◌∷◌, length, take, drop, replicate, slice_index_or, Option, Some, None, option_map}
+use Rattle.std.specs.Prelude.{ℕ, zero, suc, ◌+◌, ◌-◌, ◌*◌, ◌/◌, ◌%◌, ◌^◌, ◌<◌, ◌≤◌, ◌≡◌, min, Bool, true, false, ◌&&◌, if◌then◌else◌, nat_lt, nat_le, List, [], ◌∷◌, length, take, drop, replicate, slice_index_or, Option, Some, None, option_map}
 use Rattle.std.specs.Int.{div_ceil}
 
 -- pages of one size, and of each whether it is dirty
@@ -46,15 +46,15 @@ abbrev pub takes : ℕ → ℕ → ℕ → ℕ → Bool
 takes size start len page =
     nat_lt 0 len && (nat_le (start / size) page && nat_le page (last_byte start len / size))
 
--- the flags, the first of which is that of this page, after a mark that takes the pages with the test
-abbrev pub flags_after : (ℕ → Bool) → ℕ → List Bool → List Bool
-flags_after test page [] = []
-flags_after test page (dirty ∷ flags) = (dirty || test page) ∷ flags_after test (page + 1) flags
+-- the flags, the first of which is that of this page, after the pages that pass the test got this one
+abbrev pub flags_set : Bool → (ℕ → Bool) → ℕ → List Bool → List Bool
+flags_set flag test page [] = []
+flags_set flag test page (dirty ∷ flags) = (if test page then flag else dirty) ∷ flags_set flag test (page + 1) flags
 
 -- the pages after a mark of len bytes from start on. Pages past the last are no pages
 abbrev pub marked : ℕ → ℕ → PageSet → PageSet
 marked start len None = None
-marked start len (Some p) = pages_with p.page_size (flags_after (takes p.page_size start len) 0 p.flags)
+marked start len (Some p) = pages_with p.page_size (flags_set true (takes p.page_size start len) 0 p.flags)
 
 -- the pages after a mark of one byte at each of these offsets, in order
 abbrev pub marked_each : List ℕ → PageSet → PageSet
@@ -65,25 +65,15 @@ marked_each (offset ∷ offsets) set = marked_each offsets (marked offset 1 set)
 abbrev pub in_view : ℕ → ℕ → ℕ
 in_view base offset = (base + offset) % 2 ^ 64
 
--- the flags, the first of which is that of this page, after the pages that pass the test are made clean
-abbrev pub flags_without : (ℕ → Bool) → ℕ → List Bool → List Bool
-flags_without test page [] = []
-flags_without test page (dirty ∷ flags) = (dirty && not (test page)) ∷ flags_without test (page + 1) flags
-
 -- the pages after those that a mark of len bytes from start on takes are made clean
 abbrev pub unmarked : ℕ → ℕ → PageSet → PageSet
 unmarked start len None = None
-unmarked start len (Some p) = pages_with p.page_size (flags_without (takes p.page_size start len) 0 p.flags)
-
--- as many flags, all of clean pages
-abbrev pub all_clean : List Bool → List Bool
-all_clean [] = []
-all_clean (dirty ∷ flags) = false ∷ all_clean flags
+unmarked start len (Some p) = pages_with p.page_size (flags_set false (takes p.page_size start len) 0 p.flags)
 
 -- the same pages, all clean
 abbrev pub cleaned : PageSet → PageSet
 cleaned None = None
-cleaned (Some p) = pages_with p.page_size (all_clean p.flags)
+cleaned (Some p) = pages_with p.page_size (replicate (length p.flags) false)
 
 -- so many bytes in pages of this size, all clean. The last page may be cut
 abbrev pub new_pages : ℕ → ℕ → PageSet

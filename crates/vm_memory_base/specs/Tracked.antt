@@ -1,12 +1,13 @@
 -- The rule of a bitmap that several threads mark while one harvests, and what each step tells.
 -- The low half of a word has 32 pages as bits, and its high half the number of its harvests, its round.
-use Rattle.std.specs.Prelude.{ℕ, zero, suc, ◌+◌, ◌-◌, ◌*◌, ◌/◌, ◌%◌, ◌^◌, ◌<◌, ◌≤◌, ◌≡◌, ◌≢◌, ◌⊎◌, List, [], ◌∷◌, ◌++◌, map, length, slice_index, min, max, Bool, false, ◌==◌, nat_lt, if◌then◌else◌}
+use Rattle.std.specs.Prelude.{ℕ, zero, suc, ◌+◌, ◌-◌, ◌*◌, ◌/◌, ◌%◌, ◌^◌, ◌<◌, ◌≤◌, ◌≡◌, ◌≢◌, ◌⊎◌, List, [], ◌∷◌, ◌++◌, map, length, slice_index, max, Bool, false, ◌==◌}
 use Rattle.std.specs.Int.{bit_at, div_ceil}
 use mathlib.Core.Option.{some}
 use lib.ListN.{get_elem?}
 use Rattle.atomic_table.specs.Table.{State, Me, Step}
-use Rattle.vm_memory_base.specs.Pages.{last_byte}
+use Rattle.vm_memory_base.specs.Paging.{pages_in}
 use Rattle.vm_memory_base.specs.Notes.{Note, note, IsNoted, rounds_of, greatest_of, gathered}
+use Rattle.vm_memory_base.specs.declared.bitmap.paging.Paging.{Paging}
 use Rattle.vm_memory_base.specs.declared.bitmap.tracked.view.View.{View}
 
 abbrev pub pages_of : ℕ → ℕ
@@ -142,13 +143,9 @@ abbrev pub MarksPages : ℕ → ℕ → View → View → Type 0
 MarksPages zero first v w = w ≡ v
 MarksPages (suc n) first v w = (u : View) × MarksPages n first v u × MarksPage (first + n) u w
 
--- the page behind the last that a mark of len bytes from addr on takes, of count pages of this size
-abbrev pub end_page : ℕ → ℕ → ℕ → ℕ → ℕ
-end_page size count addr len = if nat_lt 0 len then min (last_byte addr len / size + 1) count else 0
-
--- a mark of len bytes from addr on: of the pages from that of its first byte to that of its last
-abbrev pub MarksRange : ℕ → ℕ → ℕ → ℕ → View → View → Type 0
-MarksRange size count addr len v w = MarksPages (end_page size count addr len - addr / size) (addr / size) v w
+-- a mark of the pages of len bytes from addr on
+abbrev pub MarksRange : Paging → ℕ → ℕ → View → View → Type 0
+MarksRange p addr len v w = let taken = pages_in p addr len in MarksPages (taken.1 - taken.0) taken.0 v w
 
 -- the view after these pages of the words, from the first on, were taken in this round
 abbrev pub after_harvests : ℕ → List ℕ → View → View

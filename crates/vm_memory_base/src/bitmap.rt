@@ -1,11 +1,11 @@
 //! Dirty tracking: which pages of a block or a space were written.
-ghost use Rattle.std.specs.Prelude.{◌≡◌, ◌≢◌, [], ℕ, Bool, ◌/◌, ◌<◌, IfOk, OnOk, OnErr};
-ghost use Rattle.std.specs.NonZero.{non_zero_usize_get};
+ghost use Rattle.std.specs.Prelude.{◌≡◌, ◌≢◌, [], ℕ, Bool, IfOk, OnOk, OnErr};
 ghost use Rattle.vm_memory_base.specs.Pages.{PageSet, IsPageSet, IsCleanFor, in_view};
 ghost use Rattle.vm_memory_base.specs.Pages as page_set;
 
 mod atomic;
 mod exclusive;
+mod paging;
 mod slice;
 mod tracked;
 
@@ -14,23 +14,6 @@ pub use self::exclusive::ExclusiveBitmap;
 pub use self::slice::{ArcSlice, BaseSlice, RefSlice};
 pub use self::tracked::{HarvestError, Harvester, Marker, MarkerBitmap, TrackedBitmap};
 use std::alloc::{AllocError, Global};
-use std::num::NonZeroUsize;
-
-// The page of the first of `len` bytes from `start` on, and that of the last.
-#[inline(always)]
-fn pages_between(start: usize, len: usize, page_size: NonZeroUsize) -> (usize, usize)
-    requires { 0 < len }
-    ensures first { result.0 ≡ start / non_zero_usize_get page_size }
-    ensures last { result.1 ≡ page_set.last_byte start len / non_zero_usize_get page_size }
-{
-    let page_size = page_size.get();
-    let first = start / page_size;
-    // Most ranges lie in one page, and need no second division.
-    if len <= page_size - start % page_size {
-        return (first, first);
-    }
-    (first, start.saturating_add(len - 1) / page_size)
-}
 
 /// Tracks which parts of a range of bytes were written.
 ///

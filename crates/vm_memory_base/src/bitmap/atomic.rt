@@ -2,9 +2,11 @@
 ghost use Rattle.std.specs.Prelude.{◌≡◌, ℕ, ◌+◌, ◌*◌, ◌/◌, ◌^◌, ◌<◌, ◌≤◌, false, length, IfOk, OnOk, OnErr, IsOk};
 ghost use Rattle.std.specs.NonZero.{non_zero_usize_get};
 ghost use Rattle.std.specs.Int.{div_ceil};
+ghost use Rattle.vm_memory_base.specs.Paging.{bytes_of, page_size_of, count_of};
 ghost use Rattle.vm_memory_base.specs.Words.{IsWithin, AreWithin};
 
-use super::{Bitmap, NewBitmap, pages_between};
+use super::paging::Paging;
+use super::{Bitmap, NewBitmap};
 use std::alloc::{AllocError, Global};
 use std::num::NonZeroUsize;
 use std::sync::atomic::{AtomicU64, Ordering};
@@ -33,104 +35,80 @@ pub trait SharedBitmap: Bitmap {
 #[derive(Drop)]
 pub struct AtomicBitmap {
     map: Vec<AtomicU64>,
-    size: usize,
-    byte_size: usize,
-    page_size: NonZeroUsize,
-    ghost pages: { size ≡ div_ceil byte_size (non_zero_usize_get page_size) },
-    ghost words: { length map.items ≡ div_ceil size 64 },
+    paging: Paging,
+    ghost words: { length map.items ≡ div_ceil (count_of paging) 64 },
 }
 
 impl AtomicBitmap {
-    ghost use Rattle.vm_memory_base.specs.Shared.{bytes_of, page_size_of, len_of};
+    ghost use Rattle.vm_memory_base.specs.Shared.{paging_of};
 
     /// A clean bitmap for `byte_size` bytes in pages of `page_size` bytes, the last of which may be cut.
     /// `AllocError` where its allocation fails.
     pub fn new(alloc: Global, byte_size: usize, page_size: NonZeroUsize) -> Result<Self, AllocError>
-        ensures bytes { IfOk result (λ b. bytes_of b ≡ byte_size) }
-        ensures page_size { IfOk result (λ b. page_size_of b ≡ non_zero_usize_get page_size) }
+        ensures bytes { IfOk result (λ b. bytes_of (paging_of b) ≡ byte_size) }
+        ensures page_size { IfOk result (λ b. page_size_of (paging_of b) ≡ non_zero_usize_get page_size) }
     {
-        let size = byte_size.div_ceil(page_size.get());
+        let paging = Paging::new(byte_size, page_size);
         let mut map = Vec::new(alloc);
-        map.resize_with(size.div_ceil(64), || AtomicU64::new(0))?;
-        Ok(AtomicBitmap {
-            map,
-            size,
-            byte_size,
-            page_size,
-        })
+        map.resize_with(paging.count().div_ceil(64), || AtomicU64::new(0))?;
+        Ok(AtomicBitmap { map, paging })
     }
 
     /// Tracks `additional_size` bytes more. They fill the last page first, and then new pages, which are clean. The
     /// sizes together have to fit 64 bits. `AllocError` where the allocation of the pages fails, and then nothing
     /// changes.
     pub fn enlarge(&mut self, additional_size: usize) -> Result<(), AllocError>
-        requires { bytes_of self.old + additional_size < 2 ^ 64 }
-        ensures bytes { OnOk result (bytes_of self.new ≡ bytes_of self.old + additional_size) }
-        ensures refused { OnErr result (bytes_of self.new ≡ bytes_of self.old) }
-        ensures page_size { page_size_of self.new ≡ page_size_of self.old }
+        requires { bytes_of (paging_of self.old) + additional_size < 2 ^ 64 }
+        ensures bytes { OnOk result (bytes_of (paging_of self.new)
+            ≡ bytes_of (paging_of self.old) + additional_size) }
+        ensures refused { OnErr result (bytes_of (paging_of self.new) ≡ bytes_of (paging_of self.old)) }
+        ensures page_size { page_size_of (paging_of self.new) ≡ page_size_of (paging_of self.old) }
     {
-        let byte_size = self.byte_size + additional_size;
-        let size = byte_size.div_ceil(self.page_size.get());
+        let byte_size = self.byte_size() + additional_size;
+        let paging = Paging::new(byte_size, self.paging.page_size());
         self.map
-            .resize_with(size.div_ceil(64), || AtomicU64::new(0))?;
-        self.byte_size = byte_size;
-        self.size = size;
+            .resize_with(paging.count().div_ceil(64), || AtomicU64::new(0))?;
+        self.paging = paging;
         Ok(())
     }
 
     /// The number of pages.
     #[inline]
     pub fn len(&self) -> usize
-        ensures { result ≡ len_of self.now }
+        ensures { result ≡ count_of (paging_of self.now) }
     {
-        self.size
+        self.paging.count()
     }
 
     /// The number of bytes that it tracks.
     #[inline]
     pub fn byte_size(&self) -> usize
-        ensures { result ≡ bytes_of self.now }
+        ensures { result ≡ bytes_of (paging_of self.now) }
     {
-        self.byte_size
+        self.paging.byte_size()
     }
 
     /// Whether page `index` is dirty. A page at or past the number of pages is not.
     #[inline]
     pub fn is_bit_set(&self, index: usize) -> bool
-        ensures { len_of self.now ≤ index → result ≡ false }
+        ensures { count_of (paging_of self.now) ≤ index → result ≡ false }
     {
-        index < self.size && self.map[index / 64].load(Ordering::SeqCst) & (1 << (index % 64)) != 0
+        index < self.len() && self.map[index / 64].load(Ordering::SeqCst) & (1 << (index % 64)) != 0
     }
 
     /// Whether the page of the byte at `addr` is dirty. Past the last page no byte is.
     #[inline]
     pub fn is_addr_set(&self, addr: usize) -> bool
-        ensures { len_of self.now ≤ addr / page_size_of self.now → result ≡ false }
+        ensures { count_of (paging_of self.now) ≤ addr / page_size_of (paging_of self.now)
+            → result ≡ false }
     {
-        self.is_bit_set(addr / self.page_size.get())
-    }
-
-    // The pages of `len` bytes from `start` on, among those that there are: from one page up to another.
-    #[inline]
-    fn taken(&self, start: usize, len: usize) -> (usize, usize)
-        ensures { result.1 ≤ len_of self.now }
-    {
-        if len == 0 {
-            return (0, 0);
-        }
-        let (first, last) = pages_between(start, len, self.page_size);
-        let end = if last < self.size {
-            last + 1
-        } else {
-            self.size
-        };
-        (first, end)
+        self.is_bit_set(self.paging.page_of(addr))
     }
 
     /// Makes the pages of `len` bytes from `start` on dirty, one after another: none, where `len` is 0. A range that
     /// passes 2^64 - 1 ends there, and what lies past the last page is left out.
     pub fn set_addr_range(&self, start: usize, len: usize) {
-        let (first, end) = self.taken(start, len);
+        let (first, end) = self.paging.pages_in(start, len);
         let map = self.map.as_slice();
         let mut left = None;
         for page in first..end {
@@ -143,7 +121,7 @@ impl AtomicBitmap {
 
     /// Makes clean, one after another, the pages that `set_addr_range` would make dirty.
     pub fn reset_addr_range(&self, start: usize, len: usize) {
-        let (first, end) = self.taken(start, len);
+        let (first, end) = self.paging.pages_in(start, len);
         for page in first..end {
             self.map[page / 64].fetch_and(!(1 << (page % 64)), Ordering::SeqCst);
         }
@@ -152,7 +130,7 @@ impl AtomicBitmap {
     /// Makes page `index` dirty, if there is one.
     #[inline]
     pub fn set_bit(&self, index: usize) {
-        if index < self.size {
+        if index < self.len() {
             self.map[index / 64].fetch_or(1 << (index % 64), Ordering::SeqCst);
         }
     }
@@ -160,7 +138,7 @@ impl AtomicBitmap {
     /// Makes page `index` clean, if there is one.
     #[inline]
     pub fn reset_bit(&self, index: usize) {
-        if index < self.size {
+        if index < self.len() {
             self.map[index / 64].fetch_and(!(1 << (index % 64)), Ordering::SeqCst);
         }
     }
@@ -168,10 +146,10 @@ impl AtomicBitmap {
     // What a word, which has this number, says of the pages that there are.
     #[inline]
     fn within(&self, k: usize, word: u64) -> u64
-        requires { k < div_ceil (len_of self.now) 64 }
-        ensures { IsWithin (len_of self.now) k result }
+        requires { k < div_ceil (count_of (paging_of self.now)) 64 }
+        ensures { IsWithin (count_of (paging_of self.now)) k result }
     {
-        let pages = self.size - 64 * k;
+        let pages = self.len() - 64 * k;
         if pages < 64 {
             word & ((1 << pages) - 1)
         } else {
@@ -182,8 +160,8 @@ impl AtomicBitmap {
     /// Takes the dirty pages as words, and makes them clean: each word in one step, in order. No word has a bit at
     /// or past the number of pages. `AllocError` where the allocation of the words fails, and then nothing changes.
     pub fn get_and_reset(&self, alloc: Global) -> Result<Vec<u64>, AllocError>
-        ensures words { IfOk result (λ words. length words.items ≡ div_ceil (len_of self.now) 64) }
-        ensures within { IfOk result (λ words. AreWithin (len_of self.now) words.items) }
+        ensures words { IfOk result (λ words. length words.items ≡ div_ceil (count_of (paging_of self.now)) 64) }
+        ensures within { IfOk result (λ words. AreWithin (count_of (paging_of self.now)) words.items) }
     {
         let mut words = Vec::with_capacity(alloc, self.map.len())?;
         let map = self.map.as_slice();
@@ -220,9 +198,9 @@ fn set_in(word: &AtomicU64, bit: u64, left: Option<u64>) -> u64 {
 /// A clone tracks the same number of bytes in pages of the same size. Those pages are dirty that were found dirty.
 /// `AllocError` where its allocation fails.
 impl Clone for AtomicBitmap {
-    ghost use Rattle.vm_memory_base.specs.Shared.{bytes_of, page_size_of};
+    ghost use Rattle.vm_memory_base.specs.Shared.{paging_of};
 
-    ghost is_clone = { λ b c. (bytes_of c ≡ bytes_of b) × (page_size_of c ≡ page_size_of b) };
+    ghost is_clone = { λ b c. paging_of c ≡ paging_of b };
 
     fn clone(&self) -> Result<Self, AllocError> {
         let mut map = Vec::with_capacity(*self.map.allocator(), self.map.len())?;
@@ -231,22 +209,21 @@ impl Clone for AtomicBitmap {
         }
         Ok(AtomicBitmap {
             map,
-            size: self.size,
-            byte_size: self.byte_size,
-            page_size: self.page_size,
+            paging: self.paging,
         })
     }
 }
 
 /// Nothing is said about which pages are dirty, since any thread may change them. Pages past the end never are.
 impl Bitmap for AtomicBitmap {
-    ghost use Rattle.vm_memory_base.specs.Shared.{bytes_of, page_size_of, len_of};
+    ghost use Rattle.vm_memory_base.specs.Shared.{paging_of};
 
     ghost marks = { λ old offset len new. new ≡ old };
 
-    ghost tells = { λ b offset told. len_of b ≤ offset / page_size_of b → told ≡ false };
+    ghost tells = { λ b offset told. count_of (paging_of b) ≤ offset / page_size_of (paging_of b)
+        → told ≡ false };
 
-    ghost made = { λ len b. (bytes_of b ≡ len) × (page_size_of b ≡ 0x1000) };
+    ghost made = { λ len b. (bytes_of (paging_of b) ≡ len) × (page_size_of (paging_of b) ≡ 0x1000) };
 
     #[inline]
     fn mark_dirty(&mut self, offset: usize, len: usize) {

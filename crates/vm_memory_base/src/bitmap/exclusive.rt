@@ -2,11 +2,12 @@
 ghost use Rattle.std.specs.Prelude.{◌≡◌, ◌≢◌, [], ℕ, Bool, false, ◌+◌, ◌-◌, ◌*◌, ◌/◌, ◌^◌, ◌<◌, ◌≤◌, ◌&&◌, if◌then◌else◌, nat_le, nat_lt, ◌++◌, length, slice_index, take, drop, replicate, Some, IfOk, OnOk, OnErr};
 ghost use Rattle.std.specs.NonZero.{non_zero_usize_get};
 ghost use Rattle.std.specs.Int.{div_ceil, bit_at};
-ghost use Rattle.vm_memory_base.specs.Flags.{flag, flags_of, dirty_among, Gets};
+ghost use Rattle.vm_memory_base.specs.Flags.{flag, dirty_among, Gets};
 ghost use Rattle.vm_memory_base.specs.Pages as page_set;
-ghost use Rattle.vm_memory_base.specs.Pages.{IsPageSet, pages_with};
+ghost use Rattle.vm_memory_base.specs.Paging.{bytes_of, count_of};
 
-use super::{Bitmap, ExactBitmap, NewBitmap, pages_between};
+use super::paging::Paging;
+use super::{Bitmap, ExactBitmap, NewBitmap};
 use std::alloc::{AllocError, Global};
 use std::mem;
 use std::num::NonZeroUsize;
@@ -26,32 +27,24 @@ use std::num::NonZeroUsize;
 #[derive(Debug, Drop)]
 pub struct ExclusiveBitmap {
     words: Vec<u64>,
-    len: usize,
-    byte_size: usize,
-    page_size: NonZeroUsize,
-    ghost fits: { IsPageSet (pages_with (non_zero_usize_get page_size) (flags_of words.items len)) },
-    ghost whole: { length words.items ≡ div_ceil len 64 },
-    ghost clear: { (page : ℕ) → len ≤ page → flag words.items page ≡ false },
+    paging: Paging,
+    ghost whole: { length words.items ≡ div_ceil (count_of paging) 64 },
+    ghost clear: { (page : ℕ) → count_of paging ≤ page → flag words.items page ≡ false },
 }
 
 impl ExclusiveBitmap {
-    ghost use Rattle.vm_memory_base.specs.Exclusive.{pages_of, bytes_of};
+    ghost use Rattle.vm_memory_base.specs.Exclusive.{paging_of, pages_of};
 
     /// A clean bitmap for `byte_size` bytes in pages of `page_size` bytes, the last of which may be cut.
     /// `AllocError` where its allocation fails.
     pub fn new(alloc: Global, byte_size: usize, page_size: NonZeroUsize) -> Result<Self, AllocError>
         ensures pages { IfOk result (λ b. Some (pages_of b)
             ≡ page_set.new_pages (non_zero_usize_get page_size) byte_size) }
-        ensures bytes { IfOk result (λ b. bytes_of b ≡ byte_size) }
+        ensures bytes { IfOk result (λ b. bytes_of (paging_of b) ≡ byte_size) }
     {
-        let len = byte_size.div_ceil(page_size.get());
-        let words = vec![in alloc; 0u64; len.div_ceil(64)]?;
-        Ok(ExclusiveBitmap {
-            words,
-            len,
-            byte_size,
-            page_size,
-        })
+        let paging = Paging::new(byte_size, page_size);
+        let words = vec![in alloc; 0u64; paging.count().div_ceil(64)]?;
+        Ok(ExclusiveBitmap { words, paging })
     }
 
     /// The number of pages.
@@ -59,56 +52,43 @@ impl ExclusiveBitmap {
     pub fn len(&self) -> usize
         ensures { result ≡ length (pages_of self.now).flags }
     {
-        self.len
+        self.paging.count()
     }
 
     /// The number of bytes that it was made for.
     #[inline]
     pub fn byte_size(&self) -> usize
-        ensures { result ≡ bytes_of self.now }
+        ensures { result ≡ bytes_of (paging_of self.now) }
     {
-        self.byte_size
-    }
-
-    #[inline]
-    fn count(&self) -> usize
-        ensures { result ≡ self.now.len }
-    {
-        self.len
-    }
-
-    // The pages that a mark takes, among those that there are: from one page up to another.
-    #[inline]
-    fn taken(&self, start: usize, len: usize) -> (usize, usize)
-        ensures ordered { result.0 ≤ result.1 }
-        ensures inside { result.1 ≤ self.now.len }
-        ensures taken { (page : ℕ) → page < self.now.len
-            → page_set.takes (pages_of self.now).page_size start len page
-            ≡ (nat_le result.0 page && nat_lt page result.1) }
-    {
-        if len == 0 {
-            return (0, 0);
-        }
-        let (first, last) = pages_between(start, len, self.page_size);
-        let count = self.count();
-        let end = if last < count { last + 1 } else { count };
-        (end.min(first), end)
+        self.paging.byte_size()
     }
 
     /// Makes clean the pages that a mark of `len` bytes from `start` on would make dirty: none, where `len` is 0,
     /// and none past the last page.
     pub fn reset_addr_range(&mut self, start: usize, len: usize)
         ensures pages { Some (pages_of self.new) ≡ page_set.unmarked start len (Some (pages_of self.old)) }
-        ensures bytes { bytes_of self.new ≡ bytes_of self.old }
+        ensures bytes { bytes_of (paging_of self.new) ≡ bytes_of (paging_of self.old) }
     {
-        let (first, end) = self.taken(start, len);
-        set_flags(&mut self.words, first, end, false);
+        self.set_range(start, len, false);
+    }
+
+    // Gives the pages of `len` bytes from `start` on this flag.
+    #[inline(always)]
+    fn set_range(&mut self, start: usize, len: usize, dirty: bool)
+        ensures pages { pages_of self.new ≡ record (pages_of self.old) {
+          flags = page_set.flags_set dirty (page_set.takes (pages_of self.old).page_size start len) 0
+              (pages_of self.old).flags;
+        } }
+        ensures paging { paging_of self.new ≡ paging_of self.old }
+    {
+        let (first, end) = self.paging.pages_in(start, len);
+        set_flags(&mut self.words, first, end, dirty);
     }
 
     /// Makes every page clean.
     pub fn reset(&mut self)
         ensures pages { Some (pages_of self.new) ≡ page_set.cleaned (Some (pages_of self.old)) }
-        ensures bytes { bytes_of self.new ≡ bytes_of self.old }
+        ensures bytes { bytes_of (paging_of self.new) ≡ bytes_of (paging_of self.old) }
     {
         self.words.fill(0);
     }
@@ -119,7 +99,7 @@ impl ExclusiveBitmap {
         ensures words { IfOk result (λ words. words.items ≡ page_set.dirty_words (Some (pages_of self.old))) }
         ensures clean { OnOk result (Some (pages_of self.new) ≡ page_set.cleaned (Some (pages_of self.old))) }
         ensures refused { OnErr result (pages_of self.new ≡ pages_of self.old) }
-        ensures bytes { bytes_of self.new ≡ bytes_of self.old }
+        ensures bytes { bytes_of (paging_of self.new) ≡ bytes_of (paging_of self.old) }
     {
         let clean = vec![in alloc; 0u64; self.words.len()]?;
         fit(&self.words);
@@ -199,12 +179,11 @@ fn set_across(words: &mut [u64], first: usize, end: usize, dirty: bool)
 // Gives the pages from one up to another this flag.
 #[inline]
 fn set_flags(words: &mut [u64], first: usize, end: usize, dirty: bool)
-    requires ordered { first ≤ end }
-    requires inside { end ≤ 64 * length words.old }
+    requires { end ≤ 64 * length words.old }
     ensures len { length words.new ≡ length words.old }
     ensures flags { Gets words.old words.new first end dirty }
 {
-    if first == end {
+    if first >= end {
         return;
     }
     let (low, high) = (first / 64, (end - 1) / 64);
@@ -247,38 +226,37 @@ fn add_pages(pages: &mut Vec<usize>, first: usize, word: u64) -> Result<(), Allo
 }
 
 impl Bitmap for ExclusiveBitmap {
-    ghost use Rattle.vm_memory_base.specs.Exclusive.{pages_of, bytes_of};
+    ghost use Rattle.vm_memory_base.specs.Exclusive.{paging_of, pages_of};
 
     ghost marks = { λ old offset len new.
         (Some (pages_of new) ≡ page_set.marked offset len (Some (pages_of old)))
-        × (bytes_of new ≡ bytes_of old) };
+        × (bytes_of (paging_of new) ≡ bytes_of (paging_of old)) };
 
     ghost tells = { λ b offset told. told ≡ page_set.is_dirty_at (Some (pages_of b)) offset };
 
-    ghost made = { λ len b. (Some (pages_of b) ≡ page_set.new_pages 0x1000 len) × (bytes_of b ≡ len) };
+    ghost made = { λ len b. (Some (pages_of b) ≡ page_set.new_pages 0x1000 len) × (bytes_of (paging_of b) ≡ len) };
 
     #[inline]
     fn mark_dirty(&mut self, offset: usize, len: usize) {
-        let (first, end) = self.taken(offset, len);
-        set_flags(&mut self.words, first, end, true);
+        self.set_range(offset, len, true);
     }
 
     #[inline]
     fn dirty_at(&self, offset: usize) -> bool {
-        let page = offset / self.page_size.get();
-        page < self.len && (self.words[page / 64] >> (page % 64)) & 1 == 1
+        let page = self.paging.page_of(offset);
+        page < self.paging.count() && (self.words[page / 64] >> (page % 64)) & 1 == 1
     }
 }
 
 impl ExactBitmap for ExclusiveBitmap {
     ghost use Rattle.std.proofs.Common.{subst, sym, arith};
     ghost use Rattle.vm_memory_base.specs.Pages.{IsCleanFor};
-    ghost use Rattle.vm_memory_base.specs.lemmas.NewPages.{new_pages_are_clean};
-    ghost use Rattle.vm_memory_base.specs.Exclusive.{pages_of, bytes_of};
+    ghost use Rattle.vm_memory_base.specs.lemmas.NewPages.{new_pages_are_clean, flags_fit};
+    ghost use Rattle.vm_memory_base.specs.Exclusive.{paging_of, pages_of};
 
     ghost pages = { λ b. Some (pages_of b) };
 
-    ghost fits = { λ b. b.fits };
+    ghost fits = { λ b. flags_fit b.words.items b.paging };
 
     ghost marks_pages = { λ old new offset len h. h.0 };
 
@@ -289,7 +267,7 @@ impl ExactBitmap for ExclusiveBitmap {
 
     #[inline]
     fn shape(&self) -> Option<(usize, usize)> {
-        Some((self.page_size.get(), self.len))
+        Some((self.paging.page_size().get(), self.paging.count()))
     }
 
     fn dirty_pages(&self, alloc: Global) -> Result<Vec<usize>, AllocError> {
@@ -305,7 +283,7 @@ impl ExactBitmap for ExclusiveBitmap {
         ensures clean { OnOk result (Some (pages_of self.new) ≡ page_set.cleaned (Some (pages_of self.old))) }
         ensures refused { OnErr result ((self.new ≡ self.old)
             × (page_set.dirty_pages (Some (pages_of self.old)) ≢ [])) }
-        ensures bytes { bytes_of self.new ≡ bytes_of self.old }
+        ensures bytes { bytes_of (paging_of self.new) ≡ bytes_of (paging_of self.old) }
     {
         let dirty = self.dirty_pages(alloc)?;
         self.reset();

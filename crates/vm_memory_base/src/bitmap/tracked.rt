@@ -3,6 +3,7 @@ ghost use Rattle.std.specs.Prelude.{◌≡◌, ℕ, ◌+◌, ◌-◌, ◌/◌, �
 ghost use Rattle.std.specs.NonZero.{non_zero_usize_get};
 ghost use Rattle.std.specs.Int.{div_ceil};
 ghost use Rattle.vm_memory_base.specs.Notes.{rounds_of};
+ghost use Rattle.vm_memory_base.specs.Paging.{bytes_of, page_size_of, count_of};
 ghost use Rattle.vm_memory_base.specs.Tracked as tracked;
 
 mod marker_bitmap;
@@ -12,6 +13,7 @@ mod view;
 pub use self::marker_bitmap::MarkerBitmap;
 use self::plays::{Both, Counts, Harvests, Looks, Marks, Newcomer, Note, Rounds};
 use self::view::View;
+use super::paging::Paging;
 use atomic_table::{Seat, Shared, Table};
 use std::alloc::{AllocError, Global};
 use std::num::NonZeroUsize;
@@ -21,10 +23,9 @@ use thiserror::Error;
 #[derive(Drop)]
 pub struct TrackedBitmap {
     table: Table<(), View, usize, Rounds, Global>,
-    count: usize,
-    page_size: NonZeroUsize,
-    ghost fits: { (table.shared.key ≡ count)
-        × (table.shared.table_id.words ≡ tracked.words_for count)
+    paging: Paging,
+    ghost fits: { (table.shared.key ≡ count_of paging)
+        × (table.shared.table_id.words ≡ tracked.words_for (count_of paging))
         × (table.shared.table_id.slots ≡ 0) },
 }
 
@@ -59,8 +60,7 @@ pub enum HarvestError {
 impl TrackedBitmap {
     ghost use Rattle.vm_memory_base.specs.Markers.{
       AreNew,
-      count_of,
-      page_size_of,
+      paging_of,
       table_of,
       marker_table,
       harvester_table,
@@ -78,37 +78,34 @@ impl TrackedBitmap {
         page_size: NonZeroUsize,
         markers: usize,
     ) -> Result<(TrackedBitmap, Harvester, Vec<Marker>), AllocError>
-        ensures pages { IfOk result (λ r. (count_of r.0 ≡ div_ceil byte_size (non_zero_usize_get page_size))
-            × (page_size_of r.0 ≡ non_zero_usize_get page_size)) }
+        ensures pages { IfOk result (λ r. (bytes_of (paging_of r.0) ≡ byte_size)
+            × (page_size_of (paging_of r.0) ≡ non_zero_usize_get page_size)) }
         ensures harvester { IfOk result (λ r. (harvester_table r.1 ≡ table_of r.0)
-            × (known_by r.1 ≡ tracked.newcomer (count_of r.0))) }
+            × (known_by r.1 ≡ tracked.newcomer (count_of (paging_of r.0)))) }
         ensures markers { IfOk result (λ r. (length r.2.items ≡ markers)
             × AreNew (table_of r.0) r.2.items) }
     {
-        let count = byte_size.div_ceil(page_size.get());
+        let paging = Paging::new(byte_size, page_size);
+        let count = paging.count();
         let words = count.div_ceil(32).max(1);
         let zeros = vec![in alloc; 0u64; words]?;
         let (table, mut seat) = Table::of_words(alloc, &zeros, &count)?;
         let markers = Marker::deal(alloc, &table.shared, &mut seat, markers)?;
-        let bitmap = TrackedBitmap {
-            table,
-            count,
-            page_size,
-        };
+        let bitmap = TrackedBitmap { table, paging };
         Ok((bitmap, Harvester { seat, round: 0 }, markers))
     }
 
     /// The number of pages.
     pub fn len(&self) -> usize
-        ensures { result ≡ count_of self.now }
+        ensures { result ≡ count_of (paging_of self.now) }
     {
-        self.count
+        self.paging.count()
     }
 
     // Marks one page.
     fn mark_page(&self, marker: &mut Marker, page: usize)
         requires own { marker_table marker.old ≡ table_of self.now }
-        requires inside { page < count_of self.now }
+        requires inside { page < count_of (paging_of self.now) }
         ensures same { marker_table marker.new ≡ marker_table marker.old }
         ensures marks { tracked.MarksPage page (known_to marker.old) (known_to marker.new) }
     {
@@ -117,29 +114,17 @@ impl TrackedBitmap {
             .fetch_or::<Marks>(&mut marker.seat, page / 32, 1 << (page % 32));
     }
 
-    // The page behind the last that a mark takes.
-    fn end_of(&self, addr: usize, len: usize) -> usize
-        ensures { result ≡ tracked.end_page (page_size_of self.now) (count_of self.now) addr len }
-    {
-        if len == 0 {
-            return 0;
-        }
-        let last = addr.saturating_add(len - 1) / self.page_size.get();
-        let count = self.len();
-        if last < count { last + 1 } else { count }
-    }
-
     /// Marks the pages of `len` bytes from `addr` on, ascending, each by one step: none, where `len` is 0. A range
     /// that passes 2^64 - 1 ends there, and what lies past the last page is left out. The marker has to be one of
     /// this bitmap's.
     pub fn mark(&self, marker: &mut Marker, addr: usize, len: usize)
         requires own { marker_table marker.old ≡ table_of self.now }
         ensures same { marker_table marker.new ≡ marker_table marker.old }
-        ensures marks { tracked.MarksRange (page_size_of self.now) (count_of self.now) addr len
+        ensures marks { tracked.MarksRange (paging_of self.now) addr len
             (known_to marker.old) (known_to marker.new) }
     {
-        let end = self.end_of(addr, len);
-        for page in addr / self.page_size.get()..end {
+        let (first, end) = self.paging.pages_in(addr, len);
+        for page in first..end {
             self.mark_page(marker, page);
         }
     }
@@ -149,12 +134,13 @@ impl TrackedBitmap {
     pub fn is_addr_set(&self, marker: &mut Marker, addr: usize) -> bool
         requires own { marker_table marker.old ≡ table_of self.now }
         ensures same { marker_table marker.new ≡ marker_table marker.old }
-        ensures sees { addr / page_size_of self.now < count_of self.now
-            → tracked.Sees (addr / page_size_of self.now) (known_to marker.old) (known_to marker.new) result }
-        ensures past { count_of self.now ≤ addr / page_size_of self.now
+        ensures sees { addr / page_size_of (paging_of self.now) < count_of (paging_of self.now)
+            → tracked.Sees (addr / page_size_of (paging_of self.now)) (known_to marker.old) (known_to marker.new)
+            result }
+        ensures past { count_of (paging_of self.now) ≤ addr / page_size_of (paging_of self.now)
             → (result ≡ false) × (marker.new ≡ marker.old) }
     {
-        let page = addr / self.page_size.get();
+        let page = self.paging.page_of(addr);
         if page >= self.len() {
             return false;
         }
@@ -164,7 +150,7 @@ impl TrackedBitmap {
     // Whether a page is set.
     fn look(&self, marker: &mut Marker, page: usize) -> bool
         requires own { marker_table marker.old ≡ table_of self.now }
-        requires inside { page < count_of self.now }
+        requires inside { page < count_of (paging_of self.now) }
         ensures same { marker_table marker.new ≡ marker_table marker.old }
         ensures sees { tracked.Sees page (known_to marker.old) (known_to marker.new) result }
     {
@@ -175,9 +161,9 @@ impl TrackedBitmap {
     /// Whether the page of the byte at `addr` was set at some moment. It takes no marker, and promises only that past
     /// the last page none is.
     pub fn glance(&self, addr: usize) -> bool
-        ensures { count_of self.now ≤ addr / page_size_of self.now → result ≡ false }
+        ensures { count_of (paging_of self.now) ≤ addr / page_size_of (paging_of self.now) → result ≡ false }
     {
-        let page = addr / self.page_size.get();
+        let page = self.paging.page_of(addr);
         if page >= self.len() {
             return false;
         }
@@ -192,7 +178,7 @@ impl TrackedBitmap {
         requires round { (round ≡ length (rounds_of word seat.old.me.0.harvests)) × (round + 1 < 2 ^ 32) }
         ensures same { (seat.new.table_id ≡ seat.old.table_id) × (seat.new.id ≡ seat.old.id) }
         ensures takes { seat.new.me.0 ≡ tracked.after_harvest word round result seat.old.me.0 }
-        ensures within { tracked.IsWordBelow (count_of self.now) word result }
+        ensures within { tracked.IsWordBelow (count_of (paging_of self.now)) word result }
     {
         let found = self
             .table
@@ -211,12 +197,12 @@ impl TrackedBitmap {
     ) -> Result<Vec<u32>, HarvestError>
         requires own { harvester_table harvester.old ≡ table_of self.now }
         ensures same { harvester_table harvester.new ≡ harvester_table harvester.old }
-        ensures taken { IfOk result (λ words. (length words.items ≡ div_ceil (count_of self.now) 32)
+        ensures taken { IfOk result (λ words. (length words.items ≡ div_ceil (count_of (paging_of self.now)) 32)
             × (known_by harvester.new
             ≡ tracked.after_harvests (harvests_of harvester.old) words.items (known_by harvester.old))) }
-        ensures within { IfOk result (λ words. tracked.AreWordsBelow (count_of self.now) words.items) }
+        ensures within { IfOk result (λ words. tracked.AreWordsBelow (count_of (paging_of self.now)) words.items) }
         ensures refused { OnErr result (harvester.new ≡ harvester.old) }
-        ensures spent { (result ≡ Err RoundsSpent) ↔ ((0 < count_of self.now)
+        ensures spent { (result ≡ Err RoundsSpent) ↔ ((0 < count_of (paging_of self.now))
             × (harvests_of harvester.old ≡ 2 ^ 32 - 1)) }
     {
         let words = self.len().div_ceil(32);
@@ -243,7 +229,7 @@ impl TrackedBitmap {
         ensures same { (seat.new.table_id ≡ seat.old.table_id) × (seat.new.id ≡ seat.old.id) }
         ensures room { length pages.new ≡ length pages.old }
         ensures takes { seat.new.me.0 ≡ tracked.after_harvests round.old pages.new seat.old.me.0 }
-        ensures within { tracked.AreWordsBelow (count_of self.now) pages.new }
+        ensures within { tracked.AreWordsBelow (count_of (paging_of self.now)) pages.new }
         ensures next { round.new ≡ round.old + 1 }
     {
         for word in 0..pages.len() {
@@ -274,7 +260,7 @@ impl TrackedBitmap {
             × (harvester_table harvester.new ≡ harvester_table harvester.old) }
         ensures records { tracked.HasSameRecords (known_to marker.old) (known_to marker.new)
             × tracked.HasSameRecords (known_by harvester.old) (known_by harvester.new) }
-        ensures seen { (word : ℕ) → word < div_ceil (count_of self.now) 32
+        ensures seen { (word : ℕ) → word < div_ceil (count_of (paging_of self.now)) 32
             → tracked.seen_of word (known_to marker.new) ≡ length (rounds_of word (known_by harvester.new).harvests) }
     {
         let shared = &self.table.shared;
@@ -293,21 +279,18 @@ impl TrackedBitmap {
         alloc: Global,
     ) -> Result<Vec<u32>, (TrackedBitmap, Harvester)>
         requires own { harvester_table harvester ≡ table_of self }
-        ensures left { IfOk result (λ words. (length words.items ≡ div_ceil (count_of self) 32)
+        ensures left { IfOk result (λ words. (length words.items ≡ div_ceil (count_of (paging_of self)) 32)
             × tracked.IsLeft (known_by harvester) words.items) }
-        ensures last { IfOk result (λ words. tracked.AreLastPages (count_of self) (known_by harvester) words.items) }
-        ensures within { IfOk result (λ words. tracked.AreWordsBelow (count_of self) words.items) }
+        ensures last { IfOk result (λ words. tracked.AreLastPages (count_of (paging_of self)) (known_by harvester)
+            words.items) }
+        ensures within { IfOk result (λ words. tracked.AreWordsBelow (count_of (paging_of self)) words.items) }
         ensures refused { OnErr result (result ≡ Err (self, harvester)) }
     {
         let words = self.len().div_ceil(32);
         let Ok(mut pages) = vec![in alloc; 0u32; words] else {
             return Err((self, harvester));
         };
-        let TrackedBitmap {
-            table,
-            count: _,
-            page_size: _,
-        } = self;
+        let TrackedBitmap { table, paging: _ } = self;
         let Harvester { seat, round: _ } = harvester;
         let closed = table.close_with(seat);
         for word in 0..words {

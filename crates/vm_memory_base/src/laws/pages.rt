@@ -2,7 +2,7 @@
 ghost use Rattle.std.specs.Prelude.{◌≡◌, ◌↔◌, ℕ, ◌+◌, ◌-◌, ◌*◌, ◌/◌, ◌%◌, ◌^◌, ◌<◌, ◌≤◌, Bool, false, true, not, ◌||◌, ◌&&◌, nat_lt, if◌then◌else◌, List, [], ◌++◌, None, Some, length, slice_index, slice_index_or, AllPairs, Contains};
 ghost use Rattle.std.specs.Int.{div_ceil};
 ghost use Rattle.vm_memory_base.specs.Address.{is_within, numbers};
-ghost use Rattle.vm_memory_base.specs.Pages.{Pages, PageSet, shape, is_dirty_at, dirty_pages, takes, flags_after, flags_without, marked, marked_each, unmarked, cleaned, new_pages, dirty_words, IsPageSet, IsCleanFor};
+ghost use Rattle.vm_memory_base.specs.Pages.{Pages, PageSet, shape, is_dirty_at, dirty_pages, takes, flags_set, marked, marked_each, unmarked, cleaned, new_pages, dirty_words, IsPageSet, IsCleanFor};
 
 /// A mark of no bytes changes nothing, and any mark is a mark of each of its bytes, one after another. So marks
 /// of neighbouring ranges are one mark.
@@ -47,7 +47,7 @@ pub fn marked_bytes_are_dirty()
         → (takes size start len page ≡ true) ↔ ((offset : ℕ) × (is_within start len offset ≡ true)
         × (offset < 2 ^ 64) × (offset / size ≡ page)) }
     ensures pages { (test : ℕ → Bool) (page : ℕ) (flags : List Bool) (i : ℕ)
-        → slice_index_or (flags_after test page flags) i false
+        → slice_index_or (flags_set true test page flags) i false
         ≡ (slice_index_or flags i false || (nat_lt i (length flags) && test (page + i))) }
     ensures bytes { (start len offset : ℕ) (p : Pages)
         → is_dirty_at (marked start len (Some p)) offset
@@ -82,7 +82,7 @@ pub fn cleaned_is_clean()
     ensures shape { (set : PageSet) → shape (cleaned set) ≡ shape set }
     ensures valid { (set : PageSet) → IsPageSet set → IsPageSet (cleaned set) }
     ensures undone_pages { (test : ℕ → Bool) (page : ℕ) (flags : List Bool) (i : ℕ)
-        → slice_index_or (flags_without test page flags) i false
+        → slice_index_or (flags_set false test page flags) i false
         ≡ (slice_index_or flags i false && not (test (page + i))) }
     ensures undone_bytes { (start len offset : ℕ) (p : Pages) → is_dirty_at (unmarked start len (Some p)) offset
         ≡ (is_dirty_at (Some p) offset && not (takes p.page_size start len (offset / p.page_size))) }

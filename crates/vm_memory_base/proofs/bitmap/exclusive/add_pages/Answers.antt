@@ -15,7 +15,9 @@ returns-in_err-push-clause-refused c =
     let more = lowest_bit c.bits.left c.args.first (trailing_zeros w64 c.bits.left) low.0 low.1 low.2 in
     let p = err_from_is_err_and c.from_residual.result c.from_residual.ensures.1 in
     rw p.1
-    (λ none. not_empty c.bits.invariant.0 _ _ (sym (c.bits.invariant.2 ∙ ap (λ (ps : List ℕ). c.bits.invariant.0 ++ ps) more) ∙ none))
+    (λ none.
+    not_empty c.bits.invariant.0 _ _
+    (sym (c.bits.invariant.2 ∙ ap (λ (ps : List ℕ). c.bits.invariant.0 ++ ps) more) ∙ none))
 
 pub bits-smaller : goal.bits-smaller
 bits-smaller c =

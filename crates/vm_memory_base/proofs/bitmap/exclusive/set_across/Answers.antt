@@ -6,7 +6,9 @@ pub returns-clause-flags : goal.returns-clause-flags
 returns-clause-flags c =
     let first = c.args.first in
     let end = c.args.end in
-    let low = Gets-at _ _ first (64 * (first / 64 + 1)) _ _ _ (omega arith) (omega arith) c.set_in_word.ensures.flags in
-    let high = Gets-at _ _ (64 * ((end - 1) / 64)) end _ _ _ (omega arith) (omega arith) c.set_in_word-2.ensures.flags in
-    Gets-both _ _ _ first (64 * (first / 64 + 1)) end _ (omega arith) (omega arith) low
-    (Gets-both _ _ _ (64 * (first / 64 + 1)) (64 * ((end - 1) / 64)) end _ (omega arith) (omega arith) c.set_words.ensures.flags high)
+    let behind = 64 * (first / 64 + 1) in
+    let last = 64 * ((end - 1) / 64) in
+    let low = Gets-at _ _ first behind _ _ _ (omega arith) (omega arith) c.set_in_word.ensures.flags in
+    let high = Gets-at _ _ last end _ _ _ (omega arith) (omega arith) c.set_in_word-2.ensures.flags in
+    Gets-both _ _ _ first behind end _ (omega arith) (omega arith) low
+    (Gets-both _ _ _ behind last end _ (omega arith) (omega arith) c.set_words.ensures.flags high)

@@ -3,6 +3,7 @@ use Rattle.std.proofs.lemmas.Grind.{div_ceil_times}
 use Rattle.std.proofs.lemmas.List.{get_or_read}
 use Rattle.std.proofs.lemmas.Result.{err_from_is_err_and}
 use Rattle.vm_memory_base.specs.Flags.{dirty_among}
+use Rattle.vm_memory_base.specs.Paging.{count_of}
 use Rattle.vm_memory_base.proofs.FlagsLemmas.{dirty_of_word, dirty_of_words, some_dirty}
 use Rattle.vm_memory_base.proofs.bitmap.exclusive.ExclusiveBitmapExactBitmap.dirty_pages.Goals as goal
 
@@ -13,7 +14,8 @@ returns-in_err-add_pages-clause-refused c =
     let word = get_or_read b.words.items k c.index.result.now (omega arith) c.index.ensures 0 in
     let p = err_from_is_err_and c.from_residual.result c.from_residual.ensures.1 in
     rw p.1
-    (some_dirty b.words.items b.len k b.whole (omega arith) b.clear (rw word at c.in_err-add_pages.ensures.refused))
+    (some_dirty b.words.items (count_of b.paging) k b.whole (omega arith) b.clear
+    (rw word at c.in_err-add_pages.ensures.refused))
 
 pub loop-k-preserved : goal.loop-k-preserved
 loop-k-preserved c =
@@ -28,5 +30,6 @@ loop-k-preserved c =
 pub returns-clause-dirty : goal.returns-clause-dirty
 returns-clause-dirty c =
     let b = c.args.self.now in
-    let enough = div_ceil_times b.len 64 (omega arith) in
-    c.loop-k.invariant ∙ dirty_of_words b.words.items b.len (64 * c.loop-k.k) (omega (arith, enough.0, b.whole)) b.clear
+    let enough = div_ceil_times (count_of b.paging) 64 (omega arith) in
+    c.loop-k.invariant ∙ dirty_of_words b.words.items (count_of b.paging) (64 * c.loop-k.k)
+    (omega (arith, enough.0, b.whole)) b.clear

@@ -4,18 +4,21 @@ use Rattle.atomic_table.specs.Seated.{TableId}
 use Rattle.vm_memory_base.specs.declared.bitmap.tracked.Marker.{Marker}
 use Rattle.vm_memory_base.specs.declared.bitmap.tracked.view.View.{View}
 use Rattle.vm_memory_base.specs.Tracked.{newcomer}
-use Rattle.vm_memory_base.specs.Markers.{AreNew}
-use Rattle.vm_memory_base.proofs.TrackedRule.{deals_allowed}
+use Rattle.vm_memory_base.specs.Markers.{AreNew, marker_table, known_to}
+use Rattle.vm_memory_base.proofs.TrackedSeats.{deals_allowed}
 use Rattle.vm_memory_base.proofs.bitmap.tracked.Marker.deal.Goals as goal
 
 one_more : (table : TableId × ℕ) (markers : List Marker) (m : Marker) → AreNew table markers
-    → ((m.seat.table_id, m.seat.me.0.count) ≡ table) × (m.seat.me.0 ≡ newcomer table.1) → AreNew table (markers ++ m ∷ [])
+    → (marker_table m ≡ table) × (known_to m ≡ newcomer table.1) → AreNew table (markers ++ m ∷ [])
 one_more table markers m all is =
-    All-push (λ (y : Marker). ((y.seat.table_id, y.seat.me.0.count) ≡ table) × (y.seat.me.0 ≡ newcomer table.1)) markers m all is
+    All-push (λ (y : Marker). (marker_table y ≡ table) × (known_to y ≡ newcomer table.1)) markers m all is
 
 pub split_seat-requires : goal.split_seat-requires
-split_seat-requires c =
-    (c.loop.invariant.0 ∙ c.requires.own, c.requires.some, deals_allowed c.args.shared.now.key c.loop.seat.id c.loop.seat.me.0)
+split_seat-requires c = (
+  c.loop.invariant.0 ∙ c.requires.own,
+  c.requires.some,
+  deals_allowed c.args.shared.now.key c.loop.seat.id c.loop.seat.me.0,
+)
 
 pub loop-preserved : goal.loop-preserved
 loop-preserved c =

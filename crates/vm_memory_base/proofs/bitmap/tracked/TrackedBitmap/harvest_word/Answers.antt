@@ -6,14 +6,15 @@ use Rattle.vm_memory_base.proofs.bitmap.tracked.TrackedBitmap.harvest_word.Goals
 
 pub swap-found-requires : goal.swap-found-requires
 swap-found-requires c =
-    let fits = c.args.self.now.fits in
-    let count = c.requires.round in
-    let next : (c.args.round + 1) * 2 ^ 32 % 2 ^ 64 ≡ (length (rounds_of c.args.word c.args.seat.now.me.0.harvests) + 1) * 2 ^ 32 =
-    omega (arith, count.0, count.1) in (
+    let bitmap = c.args.self.now in
+    let seat = c.args.seat.now in
+    let round = c.requires.round in
+    let next : (c.args.round + 1) * 2 ^ 32 % 2 ^ 64 ≡ (length (rounds_of c.args.word seat.me.0.harvests) + 1) * 2 ^ 32 =
+    omega (arith, round.0, round.1) in (
       ap (λ t. t.0) c.requires.own,
       c.requires.inside,
-      harvests_allowed c.args.self.now.table.shared.key c.args.self.now.table.shared.table_id.slots c.args.seat.now.id c.args.word
-          c.requires.first (omega (arith, fits.0, c.requires.inside)) c.args.seat.now.me.0 c.args.seat.now.me.1
+      harvests_allowed bitmap.table.shared.key bitmap.table.shared.table_id.slots seat.id c.args.word c.requires.first
+          (omega (arith, bitmap.fits.0, bitmap.fits.1, c.requires.inside)) seat.me.0 seat.me.1
           ((c.args.round + 1) * 2 ^ 32 % 2 ^ 64) next,
     )
 

@@ -1,10 +1,11 @@
 use Rattle.std.proofs.Common.{◌≡◌, ℕ, ◌+◌, ◌<◌, ◌++◌, List, [], ◌∷◌, length, take, set, refl, sym, ap, ◌∙◌, arith}
-use Rattle.std.proofs.lemmas.List.{length-take-le, take_more_set}
+use Rattle.std.proofs.lemmas.List.{length-set, length-take-le, take_more_set}
 use Rattle.vm_memory_base.specs.declared.bitmap.tracked.view.View.{View}
 use Rattle.vm_memory_base.specs.Notes.{rounds_of}
-use Rattle.vm_memory_base.specs.Tracked.{after_harvest, after_harvests}
+use Rattle.vm_memory_base.specs.Paging.{count_of}
+use Rattle.vm_memory_base.specs.Tracked.{IsWordBelow, after_harvest, after_harvests}
 use Rattle.vm_memory_base.proofs.NotesLemmas.{gathered-above, after_harvests-more}
-use Rattle.vm_memory_base.proofs.TrackedRule.{length-set, all_below, below_more}
+use Rattle.vm_memory_base.proofs.TrackedRule.{all_below, put_more}
 use Rattle.vm_memory_base.proofs.bitmap.tracked.TrackedBitmap.harvest_words.Goals as goal
 
 pub harvest_word-requires-clause-own : goal.harvest_word-requires-clause-own
@@ -17,7 +18,7 @@ pub returns-clause-within : goal.returns-clause-within
 returns-clause-within c =
     let inv = c.loop-word.invariant in
     let least = c.loop-word-test.false in
-    all_below c.args.self.now.count c.loop-word.pages (λ k h. inv.5 k (omega (arith, least, h)))
+    all_below (count_of c.args.self.now.paging) c.loop-word.pages (λ k h. inv.5 k (omega (arith, least, h)))
 
 pub harvest_word-requires-clause-round : goal.harvest_word-requires-clause-round
 harvest_word-requires-clause-round c =
@@ -46,7 +47,8 @@ loop-word-preserved c =
     let pages : List ℕ = take word c.loop-word.pages in
     let x : ℕ = c.harvest_word.result in
     let size : length pages ≡ word = length-take-le word c.loop-word.pages (omega (arith, inside)) in
-    let next : take (word + 1) (set c.loop-word.pages word x) ≡ pages ++ x ∷ [] = take_more_set c.loop-word.pages word x (omega (arith, inside)) in (
+    let next : take (word + 1) (set c.loop-word.pages word x) ≡ pages ++ x ∷ [] =
+    take_more_set c.loop-word.pages word x (omega (arith, inside)) in (
       c.harvest_word.ensures.same.0 ∙ inv.0,
       c.harvest_word.ensures.same.1 ∙ inv.1,
       refl,
@@ -56,5 +58,6 @@ loop-word-preserved c =
           ∙ ap (λ (w : ℕ). after_harvest w round x (after_harvests round pages v)) (sym size)
           ∙ sym (after_harvests-more round pages x v)
           ∙ ap (λ (l : List ℕ). after_harvests round l v) (sym next),
-      below_more c.args.self.now.count c.loop-word.pages word x (omega (arith, inside)) c.harvest_word.ensures.within inv.5,
+      put_more (IsWordBelow (count_of c.args.self.now.paging)) c.loop-word.pages word x (omega (arith, inside))
+          c.harvest_word.ensures.within inv.5,
     )

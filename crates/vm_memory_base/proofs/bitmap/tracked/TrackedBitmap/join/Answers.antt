@@ -2,7 +2,7 @@ use Rattle.std.proofs.Common.{ℕ, inl, sym, ap, ◌∙◌, subst, arith}
 use Rattle.atomic_table.specs.Seated.{TableId}
 use Rattle.vm_memory_base.specs.declared.bitmap.tracked.view.View.{View}
 use Rattle.vm_memory_base.specs.Tracked.{AreHarvested, AreSeen}
-use Rattle.vm_memory_base.proofs.TrackedRule.{joins_allowed, still_harvested}
+use Rattle.vm_memory_base.proofs.TrackedSeats.{joins_allowed, still_harvested}
 use Rattle.vm_memory_base.proofs.bitmap.tracked.TrackedBitmap.join.Goals as goal
 
 pub join_seat-requires : goal.join_seat-requires
@@ -22,8 +22,9 @@ invariant_of-harvester c =
     let was = c.args.harvester.now.harvests_all in
     let j = c.join_seat.ensures in
     let round : ℕ = c.args.harvester.now.round in
+    let harvester = c.args.harvester.now.seat in
     let still =
     subst (λ (y : TableId × View). AreHarvested y.0.words round y.1.harvests × AreSeen y.0.words round y.1)
     (λ i. (sym j.0 i, ap (λ m. m.0) (sym j.2) i))
-    (still_harvested c.args.harvester.now.seat.table_id.words round c.args.harvester.now.seat.me.0 c.args.marker.seat.me.0 was.2 was.3) in
+    (still_harvested harvester.table_id.words round harvester.me.0 c.args.marker.seat.me.0 was.2 was.3) in
     record { harvests_all = (j.1 ∙ was.0, was.1, still.0, still.1) }

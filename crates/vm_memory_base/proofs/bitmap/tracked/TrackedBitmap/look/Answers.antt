@@ -9,11 +9,13 @@ use Rattle.vm_memory_base.proofs.bitmap.tracked.TrackedBitmap.look.Goals as goal
 
 pub load-found-requires : goal.load-found-requires
 load-found-requires c =
+    let table = c.args.self.now.table.shared in
+    let seat = c.args.marker.now.seat in
     let fits = c.args.self.now.fits in (
       ap (λ t. t.0) c.requires.own,
       omega (arith, fits.1, c.requires.inside),
-      looks_allowed c.args.self.now.table.shared.key c.args.self.now.table.shared.table_id.slots c.args.marker.now.seat.id (c.args.page / 32)
-          (omega (arith, fits.0, fits.1, c.requires.inside)) c.args.marker.now.seat.me.0 c.args.marker.now.seat.me.1,
+      looks_allowed table.key table.table_id.slots seat.id (c.args.page / 32)
+          (omega (arith, fits.0, fits.1, c.requires.inside)) seat.me.0 seat.me.1,
     )
 
 pub returns-clause-sees : goal.returns-clause-sees

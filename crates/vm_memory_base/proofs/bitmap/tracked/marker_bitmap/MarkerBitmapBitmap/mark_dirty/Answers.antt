@@ -1,6 +1,6 @@
 use Rattle.std.proofs.Common.{refl, subst}
-use Rattle.std.specs.NonZero.{non_zero_usize_get}
 use Rattle.vm_memory_base.specs.declared.bitmap.tracked.TrackedBitmap.{TrackedBitmap}
+use Rattle.vm_memory_base.specs.Markers.{known_to}
 use Rattle.vm_memory_base.specs.Tracked.{MarksRange}
 use Rattle.vm_memory_base.proofs.bitmap.tracked.marker_bitmap.MarkerBitmapBitmap.mark_dirty.Goals as goal
 
@@ -12,6 +12,6 @@ returns-in-Some c =
       c.mark.ensures.same,
       subst
           (λ (b : TrackedBitmap).
-          MarksRange (non_zero_usize_get b.page_size) b.count c.args.offset c.args.len c.in-Some.held.marker.seat.me.0 c.mark.new.marker.seat.me.0)
+          MarksRange b.paging c.args.offset c.args.len (known_to c.in-Some.held.marker) (known_to c.mark.new.marker))
           c.deref.ensures c.mark.ensures.marks,
     )

@@ -1,0 +1,170 @@
+-- The seats of a tracked bitmap keep its rule: the first, one more, two made one, and the last.
+use Rattle.std.proofs.Common.{◌≡◌, ◌≢◌, ◌⊎◌, ℕ, zero, suc, ◌<◌, ◌≤◌, List, [], ◌∷◌, ◌++◌, length, replicate, set, refl, sym, ap, ◌∙◌, subst, inl, inr, ⊎_elim, arith}
+use Rattle.std.specs.Prelude.{slice_index}
+use Rattle.std.specs.Int.{bit_at}
+use Rattle.std.proofs.lemmas.Nat.Bits.{bit_at-zero}
+use Rattle.std.proofs.lemmas.List.{length-replicate}
+use mathlib.Core.Option.{some, some-injective, some-ne-none}
+use mathlib.Core.Logic.{dite}
+use native.Mathlib.Decide.{ℕ_discrete}
+use lib.ListN.{get_elem?}
+use Rattle.atomic_table.specs.Table.{Splits, Joins, Final, Seen}
+use Rattle.atomic_table.proofs.Lists.{set_else, at_snoc, at_longer, set_again}
+use Rattle.vm_memory_base.specs.Notes.{Note, IsNoted, rounds_of}
+use Rattle.vm_memory_base.proofs.NotesLemmas.{noted_left, noted_right, noted_either, greatest-append}
+use Rattle.vm_memory_base.proofs.PagesLaws.{get_or-alike}
+use Rattle.vm_memory_base.proofs.TrackedRule.{set_at, all_below, still_marked, replaced_keeps, own_harvests, rounds_told}
+use Rattle.vm_memory_base.specs.declared.bitmap.tracked.view.View.{View}
+use Rattle.vm_memory_base.specs.Tracked.{pages_of, round_of, rounds_before, seen_of, newcomer, note_of, both, words_for, IsWordBelow, AreWordsBelow, IsPage, IsTrue, IsKept, Holds, IsLeft, AreLastPages, AreHarvested, AreSeen}
+
+-- who noted nothing tells no lie
+nothing_noted : (words : List ℕ) (harvests : List Note) (count : ℕ) → IsTrue words harvests (newcomer count)
+nothing_noted words harvests count =
+    record { marks = λ w r p h. absurd h; sightings = λ w r p h. absurd h; rounds = λ w. omega arith }
+
+-- ---- the beginning
+
+starts_clean : (n w r p : ℕ) → IsPage (replicate n 0) [] w r p → ⊥
+starts_clean n w r p (inr noted) = absurd noted
+starts_clean n w r p (inl (e, b)) =
+    let none_set = ap (λ x. bit_at (pages_of x) p) (get_or-alike n w 0) ∙ bit_at-zero p in omega arith
+
+pub begins : (count : ℕ) → IsKept count (replicate (words_for count) 0) (newcomer count ∷ [])
+begins count = record {
+  words_are = length-replicate (words_for count) 0;
+  harvests = [];
+  first = (newcomer count, refl, refl, refl);
+  alone = λ id v e ne. ap (λ (x : View). x.harvests) (sym (one id v e));
+  rounds = λ w. ap (λ x. rounds_before (round_of x)) (sym (get_or-alike (words_for count) w 0));
+  true_of = λ id v e.
+      subst (IsTrue (replicate (words_for count) 0) []) (one id v e)
+      (nothing_noted (replicate (words_for count) 0) [] count);
+  marked = λ w r p h. absurd (starts_clean (words_for count) w r p h);
+  below = λ w p h.
+      absurd (starts_clean (words_for count) w (round_of (slice_index (replicate (words_for count) 0) w)) p
+      (inl (refl, h)));
+}
+  where
+    one : (id : ℕ) (v : View) → get_elem? (newcomer count ∷ []) id ≡ some v → newcomer count ≡ v
+    one zero v e = some-injective (newcomer count) v e
+    one (suc id) v e = absurd (some-ne-none v (sym e))
+
+-- ---- one more view
+
+module _ (count id : ℕ) (v x : View) (none_there : x.harvests ≡ [])
+    (says : (words : List ℕ) (harvests : List Note) → IsTrue words harvests v → IsTrue words harvests x) where
+  added_allowed : Splits {S = Unit {0}} (Holds count) id v v x
+  added_allowed s kept at =
+      let is = says s.words kept.harvests (kept.true_of id v at) in
+      subst (λ (l : List View). IsKept count s.words (l ++ x ∷ [])) (sym (set_again s.views id v at))
+      (record {
+        words_are = kept.words_are;
+        harvests = kept.harvests;
+        first = (kept.first.0, at_longer s.views (x ∷ []) 0 kept.first.0 kept.first.1, kept.first.2, kept.first.3);
+        alone = λ id v e ne.
+            ⊎_elim (λ h. kept.alone id v h ne) (λ (h : x ≡ v). ap (λ (y : View). y.harvests) (sym h) ∙ none_there)
+            (at_snoc s.views x v id e);
+        rounds = kept.rounds;
+        true_of = λ id v e.
+            ⊎_elim (λ h. kept.true_of id v h) (λ (h : x ≡ v). subst (IsTrue s.words kept.harvests) h is)
+            (at_snoc s.views x v id e);
+        marked = λ w r p h.
+            let m = kept.marked w r p h in (m.0, m.1, at_longer s.views (x ∷ []) m.0 m.1 m.2, m.3);
+        below = kept.below;
+      })
+
+pub deals_allowed : (count id : ℕ) (v : View) → Splits {S = Unit {0}} (Holds count) id v v (newcomer v.count)
+deals_allowed count id v =
+    added_allowed count id v (newcomer v.count) refl (λ words harvests _. nothing_noted words harvests v.count)
+
+pub notes_allowed : (count id : ℕ) (v : View) → Splits {S = Unit {0}} (Holds count) id v v (note_of v)
+notes_allowed count id v =
+    added_allowed count id v (note_of v) refl
+    (λ words harvests is.
+    record { marks = λ w r p h. absurd h; sightings = λ w r p h. absurd h; rounds = is.rounds })
+
+-- ---- two views made one
+
+both_true : (words : List ℕ) (harvests : List Note) (v w : View) → IsTrue words harvests v → IsTrue words harvests w
+    → IsTrue words harvests (both v w)
+both_true words harvests v w one two = record {
+  marks = λ k r p h.
+      ⊎_elim (λ n. two.marks k r p n) (λ n. one.marks k r p n) (noted_either k r p w.marks v.marks h);
+  sightings = λ k r p h.
+      ⊎_elim (λ n. two.sightings k r p n) (λ n. one.sightings k r p n)
+      (noted_either k r p w.sightings v.sightings h);
+  rounds = λ k. omega (arith, greatest-append k w.rounds v.rounds, one.rounds k, two.rounds k);
+}
+
+-- the first seat's view is never spent: it takes in another, or the other knows no number of pages
+pub joins_allowed : (count id other : ℕ) (v w : View) → w.harvests ≡ [] → (id ≡ 0) ⊎ (w.count ≡ 0)
+    → Joins {S = Unit {0}} (Holds count) id v other w (both v w) (newcomer 0)
+joins_allowed count id other v w plain later s kept at apart there =
+    let b : View = both v w in
+    let was : get_elem? s.views other ≡ some w = sym (set_else s.views id other b apart) ∙ there in
+    let one : IsKept count s.words (set s.views id b) =
+    replaced_keeps count s.words s.views kept id v at b refl (λ _. refl)
+    (both_true s.words kept.harvests v w (kept.true_of id v at) (kept.true_of other w was))
+    (λ k r p. still_marked count s.words s.views kept id v at b k r p (noted_right k r p w.marks v.marks)) in
+    let spent : View = newcomer 0 in
+    let no_count : other ≡ 0 → spent.count ≡ w.count =
+    λ e. ⊎_elim (λ (first : id ≡ 0). absurd (apart (e ∙ sym first))) (λ (z : w.count ≡ 0). sym z) later in
+    let mine : get_elem? (set (set s.views id b) other spent) id ≡ some b =
+    set_else (set s.views id b) other id spent (λ e. apart (sym e)) ∙ set_at s.views id v b at in
+    replaced_keeps count s.words (set s.views id b) one other w there spent (sym plain) no_count
+    (nothing_noted s.words one.harvests 0)
+    (λ k r p (j, x, e, noted).
+    dite (ℕ_discrete j other)
+    (λ (is : j ≡ other).
+    let same : x ≡ w = some-injective x w (sym e ∙ ap (get_elem? (set s.views id b)) is ∙ there) in
+    (id, b, mine, noted_left k r p w.marks v.marks (subst (λ (y : View). IsNoted k r p y.marks) same noted)))
+    (λ (ne : j ≢ other). (j, x, set_else (set s.views id b) other j spent ne ∙ e, noted)))
+
+-- each of the two has seen what the other saw, and the harvester all that it opened
+pub meets : (w : ℕ) (mine his : View) → length (rounds_of w his.harvests) ≤ seen_of w his
+    → seen_of w (both his (note_of mine)) ≤ length (rounds_of w his.harvests)
+    → seen_of w (both mine (note_of (both his (note_of mine)))) ≡ length (rounds_of w his.harvests)
+meets w mine his least most =
+    let all : List Note = mine.rounds ++ his.rounds in
+    omega (arith, greatest-append w mine.rounds his.rounds, greatest-append w all mine.rounds, least, most)
+
+pub still_harvested : (words round : ℕ) (v w : View) → AreHarvested words round v.harvests → AreSeen words round v
+    → AreHarvested words round (both v w).harvests × AreSeen words round (both v w)
+still_harvested words round v w all seen =
+    (all, λ k h. omega (arith, seen k h, greatest-append k w.rounds v.rounds))
+
+-- ---- the end
+
+pub elem_index : (l : List ℕ) (i n : ℕ) → get_elem? l i ≡ some n → slice_index l i ≡ n
+elem_index [] i n e = absurd (some-ne-none n (sym e))
+elem_index (x ∷ xs) zero n e = some-injective x n e
+elem_index (x ∷ xs) (suc i) n e = elem_index xs i n e
+
+-- of the words that are left these pages were read
+module _ (count id : ℕ) (first : id ≡ 0) (v : View) (words : List ℕ) (slots : List (Unit {0}))
+    (end : Final (Seen (Holds count) id v) words slots) (pages : List ℕ)
+    (reads : (k : ℕ) → k < length pages → slice_index pages k ≡ pages_of (slice_index words k)) where
+  read : (k : ℕ) → k < length pages → slice_index pages k ≡ pages_of (slice_index end.0.words k)
+  read k h = reads k h ∙ ap (λ l. pages_of (slice_index l k)) (sym end.2)
+
+  at_first : get_elem? end.0.views 0 ≡ some v
+  at_first = ap (get_elem? end.0.views) (sym first) ∙ end.1.1
+
+  pub closes : IsLeft v pages
+  closes w r p inside noted =
+      let kept = end.1.0 in
+      let own = kept.true_of 0 v at_first in
+      ⊎_elim
+      (λ (h : (r ≡ round_of (slice_index end.0.words w)) × (bit_at (pages_of (slice_index end.0.words w)) p ≡ 1)).
+      inr (
+        h.0 ∙ sym (rounds_told count end.0.words end.0.views kept v at_first w),
+        ap (λ n. bit_at n p) (read w inside) ∙ h.1,
+      ))
+      (λ h. inl (subst (IsNoted w r p) (sym (own_harvests count end.0.words end.0.views kept v at_first)) h))
+      (⊎_elim (λ h. own.marks w r p h) (λ h. own.sightings w r p h) noted)
+
+  pub closes_below : AreWordsBelow count pages
+  closes_below = all_below count pages (λ w h. subst (IsWordBelow count w) (sym (read w h)) (end.1.0.below w))
+
+  pub closes_last : AreLastPages count v pages
+  closes_last = (end.0, end.1.0, at_first, read)
