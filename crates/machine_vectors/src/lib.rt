@@ -4,11 +4,11 @@
 #[cfg(test)]
 mod atomic;
 #[cfg(test)]
+mod chain;
+#[cfg(test)]
 mod iommu;
 #[cfg(test)]
 mod machines;
-#[cfg(test)]
-mod queue;
 #[cfg(test)]
 mod rounds;
 #[cfg(test)]

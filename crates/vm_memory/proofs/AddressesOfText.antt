@@ -7,8 +7,8 @@ use Rattle.vm_memory_base.specs.declared.iotlb.Permissions.{Permissions}
 use Rattle.vm_memory_guest.specs.Access.{AccessFault, Meets, Reached, Reaches, Stops, allowed, meets, onto, refusal}
 use Rattle.vm_memory_guest.specs.Memory.{Route}
 use Rattle.vm_memory_guest.specs.Region.{Region}
-use Rattle.vm_memory.specs.Queue.{Entry, access_len, entries_from, meets_entry, text, text_path}
-use Rattle.vm_memory.specs.declared.queue.Segment.{Segment}
+use Rattle.vm_memory.specs.Chain.{Entry, access_len, entries_from, meets_entry, text, text_path}
+use Rattle.vm_memory.specs.declared.chain.Segment.{Segment}
 
 -- the addresses of a segment
 addresses-entries_from : (a n : ℕ) → map (λ (e : Entry). e.address) (entries_from a n) ≡ numbers a n

@@ -65,7 +65,8 @@ module _ {R I B : Type 0} (region : R → Region) (number_of : I → ℕ) (pages
     harvest_is_step dirty after listed clean =
         rw (seen, with_pages-with_bitmap pages m.host id after, listed, clean) (inl refl)
 
-    pub refusal_is_step : dirty_pages (pages b) ≢ [] → Step (state_of region number_of pages m) (command.Harvest id) reply.Memory
+    pub refusal_is_step : dirty_pages (pages b) ≢ []
+        → Step (state_of region number_of pages m) (command.Harvest id) reply.Memory
         (state_of region number_of pages (record m { host = with_bitmap m.host id b }))
     refusal_is_step some = rw (seen, with_bitmap-same m.host id b there) (inr (refl, some, refl))
 

@@ -1,49 +1,49 @@
--- How calls over a text end: what they reached, what they answer, and what is left of the text.
-use Rattle.std.proofs.Common.{◌≡◌, ◌∙◌, ℕ, zero, suc, ◌+◌, ◌-◌, ◌<◌, ◌≤◌, ◌==◌, Bool, true, false, cond, List, [], ◌++◌, length, take, drop, Option, Some, None, option_map, Result, Ok, Err, refl, sym, ap, subst, arith, inl, inr, length-append, length-drop, append_assoc}
+-- Calls over a text, access by access: what they did so far, and how they end.
+use Rattle.std.proofs.Common.{◌≡◌, ◌∙◌, ℕ, zero, suc, ◌+◌, ◌-◌, ◌<◌, ◌≤◌, ◌==◌, Bool, true, false, cond, List, [], ◌++◌, length, take, drop, Option, Some, None, option_map, Result, Ok, Err, refl, sym, ap, subst, arith, inl, inr, length-append, length-drop}
 use Rattle.std.specs.Option.{MatchOption}
 use Rattle.std.proofs.lemmas.Bool.{eqb-true}
-use Rattle.std.proofs.lemmas.List.{map-append, length-map, drop-drop, drop-take, drop_at, take-append-drop, drop-append-le, length-take-le}
+use Rattle.std.proofs.lemmas.List.{drop-drop, drop-take, length-take-le}
 use Rattle.std.proofs.Math.Seq.{take-append_seam}
-use borrow.Rule.Slice.PartMut.{put_mid}
 use Rattle.vm_memory_base.specs.Table.{Table}
 use Rattle.vm_memory_base.specs.declared.iotlb.Permissions.{Permissions}
-use Rattle.vm_memory_guest.specs.Access.{AccessFault, Reached}
-use Rattle.vm_memory_guest.specs.Answer.{filled_buffer}
-use Rattle.vm_memory_guest.specs.Dirt.{path_cells}
+use Rattle.vm_memory_guest.specs.Access.{Access, AccessFault, Reached, windows}
+use Rattle.vm_memory_guest.specs.Answer.{Outcome}
 use Rattle.vm_memory_guest.specs.Error.{error_of}
-use Rattle.vm_memory_guest.specs.Host.{byte_at, bytes_at}
-use Rattle.vm_memory_guest.specs.Memory.{IsOn, Memory, route}
+use Rattle.vm_memory_guest.specs.Memory.{IsOn, Memory, NeedsTranslation, route}
 use Rattle.vm_memory_guest.specs.Transfer.{ended}
+use Rattle.vm_memory_guest.specs.Window.{span}
 use Rattle.vm_memory_guest.specs.declared.region.GuestMemoryError.{GuestMemoryError}
 use Rattle.vm_memory_guest.specs.declared.region.GuestMemoryError.TheVariants as errors
-use Rattle.vm_memory.specs.Queue.{Entry, Extent, Moves, extent_of, text_path}
-use Rattle.vm_memory.specs.QueueText.{Runs}
+use Rattle.vm_memory_guest.proofs.PathLaws.{access-ends, length-access, span-windows}
+use Rattle.vm_memory.specs.Chain.{Entry, Extends, Extent, Moves, extent_of, text_path}
+use Rattle.vm_memory.specs.ChainText.{GoesOn, IsNext, Runs}
 use Rattle.vm_memory.specs.Reply.{reached_by}
-use Rattle.vm_memory.proofs.QueueLemmas.{SoFar, path_ends, fault_ends, path_stops, runs-within, runs-some}
+use Rattle.vm_memory.proofs.AccessLemmas.{ended_is}
+use Rattle.vm_memory.proofs.ReachOfText.{SoFar, fault_ends, path_ends, path_stops, runs-some, runs-within, so_far_more, so_far_none}
 
 -- ---- answers
 
 -- an access that reached all had no fault, and one that did not had one
-pub none_if_whole : (o : Option AccessFault) (k n : ℕ) → MatchOption o (k ≡ n) (λ f. k < n) → n ≤ k → o ≡ None
+none_if_whole : (o : Option AccessFault) (k n : ℕ) → MatchOption o (k ≡ n) (λ f. k < n) → n ≤ k → o ≡ None
 none_if_whole None k n h whole = refl
 none_if_whole (Some f) k n h whole = absurd (omega arith)
 
-pub some_if_short : (o : Option AccessFault) (k n : ℕ) → MatchOption o (k ≡ n) (λ f. k < n) → k < n
+some_if_short : (o : Option AccessFault) (k n : ℕ) → MatchOption o (k ≡ n) (λ f. k < n) → k < n
     → (f : AccessFault) × (o ≡ Some f)
 some_if_short None k n h short = absurd (omega arith)
 some_if_short (Some f) k n h short = (f, refl)
 
 -- bytes before an access that counted some are counted with them
-pub ended_more : {E : Type 0} (t k : ℕ) (e : E) → Ok k ≡ ended k (Some e) → Ok (t + k) ≡ ended (t + k) (Some e)
-ended_more t zero e h = absurd (cc)
-ended_more {E} t (suc k) e h = go (t + suc k == 0) refl
+ended_more : {E : Type 0} (t n k : ℕ) (e : E) → Ok k ≡ ended n (Some e) → Ok (t + k) ≡ ended (t + n) (Some e)
+ended_more t zero k e h = absurd (cc)
+ended_more {E} t (suc n) k e h = go (t + suc n == 0) refl
   where
-    go : (b : Bool) → (t + suc k == 0) ≡ b → Ok (t + suc k) ≡ cond b (Err e) (Ok (t + suc k))
-    go true is = let none : t + suc k ≡ 0 = eqb-true (t + suc k) 0 is in absurd (omega arith)
-    go false is = refl
+    go : (b : Bool) → (t + suc n == 0) ≡ b → Ok (t + k) ≡ cond b (Err e) (Ok (t + suc n))
+    go true is = let none : t + suc n ≡ 0 = eqb-true (t + suc n) 0 is in absurd (omega arith)
+    go false is = ap (λ j. Ok (t + j)) (ended_is (suc n) (Some e) k h)
 
 -- an access that answers an error reached nothing, and this is its fault
-pub failed_at_once : (k : ℕ) (o : Option AccessFault) (e : GuestMemoryError) → Err e ≡ ended k (option_map error_of o)
+failed_at_once : (k : ℕ) (o : Option AccessFault) (e : GuestMemoryError) → Err e ≡ ended k (option_map error_of o)
     → (k ≡ 0) × ((f : AccessFault) × (o ≡ Some f) × (e ≡ error_of f))
 failed_at_once k None e h = absurd (cc)
 failed_at_once k (Some f) e h = go (k == 0) refl h
@@ -56,158 +56,182 @@ failed_at_once k (Some f) e h = go (k == 0) refl h
 -- ---- the rest of a text
 
 -- what is left of the front of a text
-pub rest_is : {X : Type 0} (xs : List X) (n total : ℕ) → total ≤ n → drop total (take n xs)
+rest_is : {X : Type 0} (xs : List X) (n total : ℕ) → total ≤ n → drop total (take n xs)
     ≡ take (n - total) (drop total xs)
 rest_is xs n total h =
     let all : n ≡ total + (n - total) = omega arith in
     ap (λ k. drop total (take k xs)) all ∙ drop-take total (n - total) xs
 
-pub runs_rest : (a n : ℕ) (before now : List Entry) (most total : ℕ) → total ≤ most → now ≡ drop total before
+runs_rest : (a n : ℕ) (before now : List Entry) (most total : ℕ) → total ≤ most → now ≡ drop total before
     → Runs a n (take (most - total) now) → Runs a n (drop total (take most before))
 runs_rest a n before now most total within place h =
     subst (λ es. Runs a n es) (ap (take (most - total)) place ∙ sym (rest_is before most total within)) h
 
--- ---- how a call ends
+-- ---- calls, access by access
 
-module _ (m : Memory) (tables : List Table) (access : Permissions) (before : List Entry) (most total : ℕ)
-    (reached : List Reached) (h : SoFar m.regions (route m tables) access (take most before) total reached) where
-  -- nothing is left
-  pub path_left : drop total (take most before) ≡ [] → (extent_of m tables access (take most before)).path ≡ reached
-  path_left none = path_ends m.regions (route m tables) access (take most before) total reached h none
+-- an access of n bytes of a memory answered, and left what it was lent or had its effect
+abbrev pub Accessed : Memory → List Table → Permissions → ℕ → ℕ → Type 0 → Type 0 → Result ℕ GuestMemoryError
+    → Type 0
+Accessed m tables access a n unchanged effect moved =
+    let x = reached_by m tables a n access in
+    Outcome errors.Memory (NeedsTranslation m n) (ended (span (windows x.path)) (option_map error_of x.fault)) unchanged
+    effect moved
 
-  pub moves_left : (left : List Entry) → drop total (take most before) ≡ [] → left ≡ drop total before
-      → Moves m tables access before most (extent_of m tables access (take most before)) (Ok total) left
-  moves_left left none place =
-      let path_is = path_left none in
-      let fault_is = fault_ends m.regions (route m tables) access (take most before) total reached h none in
-      record {
-        reached = inl refl;
-        answered = rw (fault_is, path_is, h.count) refl;
-        place = place ∙ ap (λ k. drop k before) (sym h.count ∙ ap length (sym path_is));
-      }
+module _ (m : Memory) (tables : List Table) (access : Permissions) (before : List Entry) (most : ℕ) where
+  -- a call came so far: each access reached all, the place is behind them, and this was done of what they reached
+  pub record CameTo (Did : List Reached → Type 0) (total : ℕ) (at : List Entry) : Type 0 where
+    pub reached : List Reached
+    pub so_far : SoFar m.regions (route m tables) access (take most before) total reached
+    pub within : total ≤ most
+    pub place : at ≡ drop total before
+    pub did : Did reached
 
-  module _ (a n : ℕ) (run : Runs a n (drop total (take most before))) where
-    -- an access is stopped
-    pub path_stopped : (f : AccessFault) → (reached_by m tables a n access).fault ≡ Some f
-        → (extent_of m tables access (take most before)).path ≡ reached ++ (reached_by m tables a n access).path
-    path_stopped f fault =
-        (path_stops m.regions (route m tables) access (take most before) total reached a n f h run fault).0
+  -- a call ended, and this was done of what it reached
+  abbrev pub Ended : (List Reached → Type 0) → Result ℕ GuestMemoryError → List Entry → Type 0
+  Ended Did answer left = (x : Extent) × Moves m tables access before most x answer left × Did x.path
 
-    pub moves_stopped : (f : AccessFault) (answer : Result ℕ GuestMemoryError) (left : List Entry)
-        → (reached_by m tables a n access).fault ≡ Some f
-        → answer ≡ ended (total + length (reached_by m tables a n access).path) (Some (error_of f))
-        → left ≡ drop (total + length (reached_by m tables a n access).path) before
-        → Moves m tables access before most (extent_of m tables access (take most before)) answer left
-    moves_stopped f answer left fault told place =
-        let p = (reached_by m tables a n access).path in
-        let path_is = path_stopped f fault in
-        let fault_is =
-        (path_stops m.regions (route m tables) access (take most before) total reached a n f h run fault).1 in
-        let count : length (reached ++ p) ≡ total + length p = length-append reached p
-        ∙ ap (λ k. k + length p) h.count in
-        record {
-          reached = inl refl;
-          answered = rw (fault_is, path_is, count) told;
-          place = place ∙ ap (λ k. drop k before) (sym count ∙ ap length (sym path_is));
-        }
+  ended_at : (Did : List Reached → Type 0) (x : Extent) (xs : List Reached) (answer : Result ℕ GuestMemoryError)
+      (left : List Entry) → Extends m tables access (take most before) x → x.path ≡ xs
+      → answer ≡ ended (length xs) x.error → left ≡ drop (length xs) before → Did xs → Ended Did answer left
+  ended_at Did x xs answer left reached is told place did = (
+    x,
+    record {
+      reached = reached;
+      answered = told ∙ ap (λ (ys : List Reached). ended (length ys) x.error) (sym is);
+      place = place ∙ ap (λ (ys : List Reached). drop (length ys) before) (sym is);
+    },
+    subst Did (sym is) did,
+  )
 
-    -- there was no memory
-    wanting : Extent
-    wanting = record {
-      path = take total (extent_of m tables access (take most before)).path;
-      error = Some errors.Memory;
-    }
+  pub came_to_none : (Did : List Reached → Type 0) → Did [] → CameTo Did 0 before
+  came_to_none Did did = record {
+    reached = [];
+    so_far = so_far_none m.regions (route m tables) access (take most before);
+    within = omega arith;
+    place = refl;
+    did = did;
+  }
 
-    pub path_wanting : (take total (extent_of m tables access (take most before)).path) ≡ reached
-    path_wanting =
-        let rest = text_path m.regions (route m tables) access true (drop total (take most before)) in
-        ap (take total) h.path_is ∙ ap (λ k. take k (reached ++ rest)) (sym h.count) ∙ take-append_seam reached rest
+  module _ {Did : List Reached → Type 0} {total : ℕ} {at : List Entry} (c : CameTo Did total at) where
+    -- nothing is left
+    pub ended_whole : take (most - total) at ≡ [] → Ended Did (Ok total) at
+    ended_whole none =
+        let rest : drop total (take most before) ≡ [] =
+        rest_is before most total c.within ∙ ap (take (most - total)) (sym c.place) ∙ none in
+        let fault_is = fault_ends m.regions (route m tables) access (take most before) total c.reached c.so_far rest in
+        ended_at Did (extent_of m tables access (take most before)) c.reached (Ok total) at (inl refl)
+        (path_ends m.regions (route m tables) access (take most before) total c.reached c.so_far rest)
+        (rw (fault_is, c.so_far.count) refl) (c.place ∙ ap (λ k. drop k before) (sym c.so_far.count)) c.did
 
-    pub moves_wanting : (left : List Entry) → IsOn m → left ≡ drop total before
-        → Moves m tables access before most (record {
-          path = take total (extent_of m tables access (take most before)).path;
-          error = Some errors.Memory;
-        }) (ended total (Some errors.Memory)) left
-    moves_wanting left on place =
-        let rest = text_path m.regions (route m tables) access true (drop total (take most before)) in
-        let some = runs-some a n (drop total (take most before)) run in
-        let inside = runs-within a n (drop total (take most before)) run in
-        let more : total < length (take most before) = omega (
-          arith,
-          some,
-          inside,
-          length-drop total (take most
-              before),
-        ) in
-        let long : length (extent_of m tables access (take most before)).path ≡ total + length rest =
-        ap length h.path_is ∙ length-append reached rest ∙ ap (λ k. k + length rest) h.count in
-        let count : length (take total (extent_of m tables access (take most before)).path) ≡ total =
-        ap length path_wanting ∙ h.count in
-        record {
-          reached = inr (
+    module _ (Does : List Reached → Type 0) (a n : ℕ) (next : IsNext a n (most - total) at) where
+      abbrev here : Access
+      here = reached_by m tables a n access
+
+      pub runs_here : Runs a n (drop total (take most before))
+      runs_here = runs_rest a n before at most total c.within c.place next.runs
+
+      at_most : length here.path ≤ n
+      at_most = length-access m.regions (route m tables) a n access
+
+      place_behind : (k : ℕ) (left : List Entry) → left ≡ drop k at → left ≡ drop (total + k) before
+      place_behind k left place = place ∙ ap (drop k) c.place ∙ drop-drop k total before
+
+      spans : ended (span (windows here.path)) (option_map error_of here.fault)
+          ≡ ended (length here.path) (option_map error_of here.fault)
+      spans = ap (λ k. ended k (option_map error_of here.fault)) (span-windows here.path)
+
+      -- the access reached all
+      went_on : (count : ℕ) (left : List Entry) → count ≡ length here.path → n ≤ count → left ≡ drop count at
+          → Does (c.reached ++ here.path) → CameTo Does (total + count) left
+      went_on count left is whole place did =
+          let len : length here.path ≡ n = omega (arith, at_most) in
+          let none = none_if_whole here.fault (length here.path) n
+          (access-ends m.regions (route m tables) a n access) (omega arith) in
+          let reached_all = so_far_more m.regions (route m tables) access (take most before) total c.reached a n
+          c.so_far runs_here none len in
+          record {
+            reached = c.reached ++ here.path;
+            so_far = subst (λ k. SoFar m.regions (route m tables) access (take most before) (total + k)
+                (c.reached ++ here.path)) (sym (is ∙ len)) reached_all;
+            within = omega (arith, next.fits, c.within, is, len);
+            place = place_behind count left place;
+            did = did;
+          }
+
+      -- the access was stopped
+      stopped : (f : AccessFault) (answer : Result ℕ GuestMemoryError) (left : List Entry) → here.fault ≡ Some f
+          → answer ≡ ended (total + length here.path) (Some (error_of f)) → left ≡ drop (length here.path) at
+          → Does (c.reached ++ here.path) → Ended Does answer left
+      stopped f answer left fault told place did =
+          let is = path_stops m.regions (route m tables) access (take most before) total c.reached a n f c.so_far
+          runs_here fault in
+          let count : length (c.reached ++ here.path) ≡ total + length here.path =
+          length-append c.reached here.path ∙ ap (λ k. k + length here.path) c.so_far.count in
+          ended_at Does (extent_of m tables access (take most before)) (c.reached ++ here.path) answer left (inl refl)
+          is.0 (rw (is.1, count) told)
+          (place_behind (length here.path) left place ∙ ap (λ k. drop k before) (sym count)) did
+
+      -- there was no memory for it
+      wanted : (answer : Result ℕ GuestMemoryError) (left : List Entry) → IsOn m
+          → answer ≡ ended total (Some errors.Memory) → left ≡ at → Does c.reached → Ended Does answer left
+      wanted answer left on told place did =
+          let whole = extent_of m tables access (take most before) in
+          let rest = text_path m.regions (route m tables) access true (drop total (take most before)) in
+          let some = runs-some a n (drop total (take most before)) runs_here in
+          let inside = runs-within a n (drop total (take most before)) runs_here in
+          let more : total < length (take most before) =
+          omega (arith, some, inside, length-drop total (take most before)) in
+          let long : length whole.path ≡ total + length rest =
+          ap length c.so_far.path_is ∙ length-append c.reached rest ∙ ap (λ k. k + length rest) c.so_far.count in
+          let is : take total whole.path ≡ c.reached =
+          ap (take total) c.so_far.path_is ∙ ap (λ k. take k (c.reached ++ rest)) (sym c.so_far.count)
+          ∙ take-append_seam c.reached rest in
+          ended_at Does (record { path = take total whole.path; error = Some errors.Memory }) c.reached answer left
+          (inr (
             total,
-            record {
-              on = on;
-              more = more;
-              begins = h.begins more;
-              reached = omega (arith, long);
-            },
+            record { on = on; more = more; begins = c.so_far.begins more; reached = omega (arith, long) },
             refl,
-          );
-          answered = rw count refl;
-          place = place ∙ ap (λ k. drop k before) (sym count);
-        }
+          )) is (told ∙ ap (λ k. ended k (Some errors.Memory)) (sym c.so_far.count))
+          (place ∙ c.place ∙ ap (λ k. drop k before) (sym c.so_far.count)) did
 
--- ---- buffers
+      -- the call goes on behind the next access, or ends there
+      pub turn : (Unchanged Effect : Type 0) (moved : Result ℕ GuestMemoryError)
+          (answer : Option (Result ℕ GuestMemoryError)) (sum : ℕ) (left : List Entry)
+          → Accessed m tables access a n Unchanged Effect moved → GoesOn n moved total at answer sum left
+          → (Unchanged → Does c.reached) → (Effect → Does (c.reached ++ here.path))
+          → MatchOption answer (CameTo Does sum left) (λ r. Ended Does r left)
+      turn U E (Ok count) None sum left (told, effect) (whole, sum_is, place) stays does =
+          let is = ended_is (length here.path) (option_map error_of here.fault) count (told ∙ spans) in
+          subst (λ k. CameTo Does k left) (sym sum_is) (went_on count left is whole place (does effect))
+      turn U E (Ok count) (Some r) sum left (told, effect) (short, r_is, place) stays does =
+          let is = ended_is (length here.path) (option_map error_of here.fault) count (told ∙ spans) in
+          let stop = some_if_short here.fault (length here.path) n (access-ends m.regions (route m tables) a n access)
+          (omega arith) in
+          stopped stop.0 r left stop.1
+          (r_is ∙ ended_more total (length here.path) count (error_of stop.0)
+          (told ∙ spans ∙ ap (λ o. ended (length here.path) (option_map error_of o)) stop.1))
+          (place ∙ ap (λ k. drop k at) is) (does effect)
+      turn U E (Err e) None sum left h goes stays does = absurd goes
+      turn U E (Err e) (Some r) sum left (inl (want, on, unchanged)) (r_is, place) stays does =
+          wanted r left on.0 (r_is ∙ ap (λ (d : GuestMemoryError). ended total (Some d)) want) place (stays unchanged)
+      turn U E (Err e) (Some r) sum left (inr (told, effect)) (r_is, place) stays does =
+          let stop = failed_at_once (length here.path) here.fault e (told ∙ spans) in
+          let all : total ≡ total + length here.path = omega (arith, stop.0) in
+          stopped stop.1.0 r left stop.1.1
+          (r_is ∙ ap (λ (d : GuestMemoryError). ended total (Some d)) stop.1.2
+          ∙ ap (λ k. ended k (Some (error_of stop.1.0))) all)
+          (place ∙ ap (λ k. drop k at) (sym stop.0)) (does effect)
 
--- the front of a part of a buffer is filled behind what is filled before
-pub filled_part : (blocks : List (List ℕ)) (xs ys : List Reached) (buffer now new : List ℕ) (total most : ℕ)
-    → now ≡ filled_buffer blocks (path_cells xs) buffer → length xs ≡ total → length ys ≤ most
-    → total + most ≤ length buffer
-    → new ≡ filled_buffer blocks (path_cells ys) (take (total + most - total) (drop total now))
-    → put_mid total (total + most - total) now new ≡ filled_buffer blocks (path_cells (xs ++ ys)) buffer
-filled_part blocks xs ys buffer now new total most is count short fits filled =
-    let done = bytes_at blocks (path_cells xs) in
-    let came = bytes_at blocks (path_cells ys) in
-    let k = length (path_cells ys) in
-    let rest = drop total buffer in
-    let k_is : k ≡ length ys = length-map ys (λ (y : Reached). y.cell) in
-    let cells_len : length (path_cells xs) ≡ total = length-map xs (λ (x : Reached). x.cell) ∙ count in
-    let done_len : length done ≡ total = length-map (path_cells xs) (byte_at blocks) ∙ cells_len in
-    let len : total + most - total ≡ most = omega arith in
-    let front : take total now ≡ done =
-    ap (take total) is ∙ ap (λ n. take n (done ++ drop (length (path_cells xs)) buffer)) (sym done_len)
-    ∙ take-append_seam done (drop (length (path_cells xs)) buffer) in
-    let left : drop total now ≡ rest =
-    ap (drop total) is ∙ drop_at done (drop (length (path_cells xs)) buffer) total done_len
-    ∙ ap (λ n. drop n buffer) cells_len in
-    let new_is : new ≡ came ++ drop k (take most rest) =
-    filled ∙ ap (λ n. came ++ drop k (take n (drop total now))) len ∙ ap (λ r. came ++ drop k (take most r)) left in
-    let behind : drop (total + most - total) (drop total now) ≡ drop most rest =
-    ap (λ n. drop n (drop total now)) len ∙ ap (drop most) left in
-    let enough : most ≤ length rest = omega (arith, length-drop total buffer) in
-    let within : k ≤ length (take most rest) = omega (arith, length-take-le most rest enough) in
-    let tail : drop k (take most rest) ++ drop most rest ≡ drop (total + k) buffer =
-    sym (drop-append-le k (take most rest) (drop most rest) within) ∙ ap (drop k) (take-append-drop most rest)
-    ∙ drop-drop k total buffer in
-    let cells_are : path_cells (xs ++ ys) ≡ path_cells xs ++ path_cells ys = map-append (λ (x : Reached). x.cell) xs
-    ys in
-    let bytes_are : bytes_at blocks (path_cells (xs ++ ys)) ≡ done ++ came =
-    ap (bytes_at blocks) cells_are ∙ map-append (byte_at blocks) (path_cells xs) (path_cells ys) in
-    let all_len : length (path_cells (xs ++ ys)) ≡ total + k =
-    ap length cells_are ∙ length-append (path_cells xs) (path_cells ys) ∙ ap (λ n. n + k) cells_len in
-    ap (λ bs. bs ++ (new ++ drop (total + most - total) (drop total now))) front
-    ∙ ap (λ bs. done ++ (bs ++ drop (total + most - total) (drop total now))) new_is
-    ∙ ap (λ bs. done ++ ((came ++ drop k (take most rest)) ++ bs)) behind
-    ∙ ap (λ bs. done ++ bs) (append_assoc came (drop k (take most rest)) (drop most rest) ∙ ap (λ bs. came ++ bs) tail)
-    ∙ sym (append_assoc done came (drop (total + k) buffer))
-    ∙ ap (λ bs. bs ++ drop (total + k) buffer) (sym bytes_are)
-    ∙ ap (λ n. bytes_at blocks (path_cells (xs ++ ys)) ++ drop n buffer) (sym all_len)
+-- a call that goes on has moved the bytes of the access
+pub goes_further : (n total sum : ℕ) (moved : Result ℕ GuestMemoryError) (at left : List Entry)
+    → GoesOn n moved total at None sum left → total + n ≤ sum
+goes_further n total sum (Ok count) at left (whole, sum_is, place) = omega arith
+goes_further n total sum (Err e) at left goes = absurd goes
 
 -- the part of a buffer that an access is lent
-pub part_len : (total n : ℕ) (now : List ℕ) → n ≤ length now - total → 0 < n
+pub part_len : (total n : ℕ) (now : List ℕ) → n ≤ length now - total
     → length (take (total + n - total) (drop total now)) ≡ n
-part_len total n now fits some =
+part_len total n now fits =
     let len : total + n - total ≡ n = omega arith in
     let enough : n ≤ length (drop total now) = omega (arith, length-drop total now, fits) in
     ap (λ k. length (take k (drop total now))) len ∙ length-take-le n (drop total now) enough

@@ -1,14 +1,14 @@
 -- Where writes to a text are cut into windows.
-use Rattle.std.proofs.Common.{◌≡◌, ◌⊎◌, ◌∙◌, ℕ, zero, suc, ◌+◌, ◌<◌, ◌≤◌, Bool, true, false, cond, List, [], ◌∷◌, ◌++◌, length, map, take, drop, refl, ap, subst, arith, inl, inr, length-drop}
+use Rattle.std.proofs.Common.{◌≡◌, ◌⊎◌, ◌∙◌, ℕ, zero, suc, ◌+◌, ◌<◌, ◌≤◌, Bool, true, false, cond, List, [], ◌∷◌, ◌++◌, length, map, take, drop, refl, ap, subst, arith, inl, inr, length-append, length-drop, sym}
 use Rattle.std.proofs.lemmas.List.{map-append}
 use Rattle.vm_memory_base.specs.declared.iotlb.Permissions.{Permissions}
 use Rattle.vm_memory_guest.specs.Access.{Reached, Stretch, is_cut, lengthened, stretches, window_of, windows}
 use Rattle.vm_memory_guest.specs.Memory.{Route}
 use Rattle.vm_memory_guest.specs.Region.{Region}
-use Rattle.vm_memory.specs.Queue.{Entry, begins_at, entries_from, text_stretches, text_windows}
-use Rattle.vm_memory.specs.QueueText.{Runs}
-use Rattle.vm_memory.specs.declared.queue.Segment.{Segment}
-use Rattle.vm_memory.proofs.QueueLemmas.{SoFar, runs-some, runs-within}
+use Rattle.vm_memory.specs.Chain.{Entry, begins_at, entries_from, text_stretches, text_windows}
+use Rattle.vm_memory.specs.ChainText.{Runs}
+use Rattle.vm_memory.specs.declared.chain.Segment.{Segment}
+use Rattle.vm_memory.proofs.ReachOfText.{SoFar, runs-some, runs-within}
 
 abbrev alone : Reached → Stretch
 alone x = record { first = x; len = 1 }
@@ -92,7 +92,7 @@ cut-take (suc n) [] (x ∷ xs) within = refl
 cut-take (suc n) (e ∷ es) (x ∷ xs) within =
     ap (λ (ss : List Stretch). cond e.ends (alone x ∷ ss) (lengthened x ss)) (cut-take n es xs (omega arith))
 
-pub text_windows-take : (n : ℕ) (es : List Entry) (xs : List Reached) → length xs ≤ n → text_windows (take n es) xs
+text_windows-take : (n : ℕ) (es : List Entry) (xs : List Reached) → length xs ≤ n → text_windows (take n es) xs
     ≡ text_windows es xs
 text_windows-take n es xs within = ap (map window_of) (cut-take n es xs within)
 
@@ -101,18 +101,22 @@ unfolding text_stretches
 text_windows-none es = refl
 
 -- an access has its own windows behind those before it
-pub text_windows-more : (regions : List Region) (route : Route) (access : Permissions) (es : List Entry) (total : ℕ)
-    (reached ys : List Reached) (a n : ℕ) → SoFar regions route access es total reached → Runs a n (drop total es)
-    → length ys ≤ n → text_windows es (reached ++ ys) ≡ text_windows es reached ++ windows ys
-text_windows-more regions route access es total reached ys a n h run within =
-    let some = runs-some a n (drop total es) run in
-    let inside = runs-within a n (drop total es) run in
-    let more : total < length es = omega (arith, some, inside, length-drop total es) in
-    let begins : begins_at true es (length reached) ≡ true = ap (begins_at true es) h.count ∙ h.begins more in
-    ap (map window_of) (cut-append true es reached ys begins
-    ∙ ap (λ k. text_stretches es reached ++ text_stretches (drop k es) ys) h.count
-    ∙ ap (λ (ss : List Stretch). text_stretches es reached ++ ss) (cut-access a n (drop total es) ys run within))
-    ∙ map-append window_of (text_stretches es reached) (stretches ys)
+pub text_windows-more : (regions : List Region) (route : Route) (access : Permissions) (most : ℕ) (es : List Entry)
+    (total : ℕ) (reached ys : List Reached) (a n : ℕ) → SoFar regions route access (take most es) total reached
+    → Runs a n (drop total (take most es)) → length ys ≤ n → total + n ≤ most
+    → text_windows es (reached ++ ys) ≡ text_windows es reached ++ windows ys
+text_windows-more regions route access most es total reached ys a n h run within fits =
+    let cut = take most es in
+    let some = runs-some a n (drop total cut) run in
+    let inside = runs-within a n (drop total cut) run in
+    let more : total < length cut = omega (arith, some, inside, length-drop total cut) in
+    let begins : begins_at true cut (length reached) ≡ true = ap (begins_at true cut) h.count ∙ h.begins more in
+    sym (text_windows-take most es (reached ++ ys) (omega (arith, h.count, length-append reached ys)))
+    ∙ ap (map window_of) (cut-append true cut reached ys begins
+    ∙ ap (λ k. text_stretches cut reached ++ text_stretches (drop k cut) ys) h.count
+    ∙ ap (λ (ss : List Stretch). text_stretches cut reached ++ ss) (cut-access a n (drop total cut) ys run within))
+    ∙ map-append window_of (text_stretches cut reached) (stretches ys)
+    ∙ ap (λ ws. ws ++ windows ys) (text_windows-take most es reached (omega (arith, h.count)))
 
 -- ---- the windows of a segment
 
@@ -151,4 +155,5 @@ pub text_windows-segment : (s : Segment) (es : List Entry) (xs ys : List Reached
     → (length xs ≡ s.len) ⊎ ((length xs < s.len) × (ys ≡ []))
     → text_windows (entries_from s.addr.0 s.len ++ es) (xs ++ ys) ≡ windows xs ++ text_windows es ys
 text_windows-segment s es xs ys h =
-    ap (map window_of) (cut-segment s.addr.0 s.len es xs ys h) ∙ map-append window_of (stretches xs) (text_stretches es ys)
+    ap (map window_of) (cut-segment s.addr.0 s.len es xs ys h)
+    ∙ map-append window_of (stretches xs) (text_stretches es ys)

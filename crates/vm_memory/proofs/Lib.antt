@@ -18,7 +18,7 @@ pub mod ListLemmas
 pub mod MemoryLemmas
 pub mod NamedLemmas
 pub mod PatchLemmas
-pub mod QueueLemmas
+pub mod ReachOfText
 pub mod ReadsOfText
 pub mod RoundsLemmas
 pub mod RunLemmas

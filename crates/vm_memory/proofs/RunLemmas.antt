@@ -36,7 +36,8 @@ Run-step old (d ∷ cs) (q ∷ rs) mid c r new ran step = (ran.0, ran.1, Run-ste
 -- what holds of whatever a run reaches holds at each of its states
 pub at_each_state : (P : List Command → List Reply → State → Type 0) (old : State) (cs : List Command) (rs : List Reply)
     (new : State) (run : Run old cs rs new)
-    → ((ds : List Command) (qs : List Reply) (s : State) → Run old ds qs s → P ds qs s) → AtEachState P old cs rs new run
+    → ((ds : List Command) (qs : List Reply) (s : State) → Run old ds qs s → P ds qs s)
+    → AtEachState P old cs rs new run
 at_each_state P old [] [] new run all = all [] [] new run
 at_each_state P old [] (r ∷ rs) new run all = absurd run
 at_each_state P old (c ∷ cs) [] new run all = absurd run

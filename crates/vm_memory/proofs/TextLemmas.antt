@@ -1,17 +1,18 @@
 -- Texts of segments, and how chains divide their segments.
-use Rattle.std.proofs.Common.{◌≡◌, ◌∙◌, ℕ, zero, suc, ◌+◌, ◌-◌, ◌<◌, ◌≤◌, ◌^◌, Bool, true, false, not, ◌&&◌, ◌||◌, cond, List, [], ◌∷◌, ◌++◌, length, take, drop, Some, None, All, refl, sym, ap, subst, nat_le, min, leb-true, leb-false, arith, inl, inr, ◌⊎◌, length-append, append-nil, zero-add, get_or, length-drop}
+use Rattle.std.proofs.Common.{◌≡◌, ◌∙◌, ℕ, zero, suc, ◌+◌, ◌-◌, ◌<◌, ◌≤◌, ◌^◌, Bool, true, false, not, ◌&&◌, ◌||◌, cond, List, [], ◌∷◌, ◌++◌, length, take, drop, Some, None, All, refl, sym, ap, subst, nat_le, min, arith, inl, inr, ◌⊎◌, length-append, append-nil, zero-add, get_or, length-drop}
 use Rattle.std.specs.List.{list_any}
 use Rattle.std.specs.Option.{option_or}
+use Rattle.std.proofs.lemmas.Bool.{cases_lt}
 use Rattle.std.proofs.lemmas.List.{take_all, drop_all, take-append-le, drop-append-le, take_more, take-append-drop}
 use Rattle.std.proofs.Math.Seq.{drop-length, drop-cons}
-use Rattle.std.proofs.lemmas.List.Elements.{filter-append, All-push, All-tail}
+use Rattle.std.proofs.lemmas.List.Elements.{filter-append, All-push, All-head, All-tail}
 use Rattle.std.proofs.lemmas.List.Folds.{list_any-append}
 use Rattle.std.proofs.lemmas.List.Sums.{sum_by-append, sum_by-cons}
-use Rattle.vm_memory.specs.Queue.{Entry, entries_from, text, total_len, readable, writable, fault_behind, fault_after, chain_fault}
-use Rattle.vm_memory.specs.QueueText.{Divides, Fits, Runs, entries}
-use Rattle.vm_memory.specs.declared.queue.Segment.{Segment}
-use Rattle.vm_memory.specs.declared.queue.ChainFault.{ChainFault}
-use Rattle.vm_memory.specs.declared.queue.ChainFault.TheVariants.{Range, Order, TooLong}
+use Rattle.vm_memory.specs.Chain.{Entry, access_len, entries_from, text, total_len, readable, writable, fault_behind, fault_after, chain_fault}
+use Rattle.vm_memory.specs.ChainText.{Divides, Fits, IsNext, IsPlace, Runs, entries}
+use Rattle.vm_memory.specs.declared.chain.Segment.{Segment}
+use Rattle.vm_memory.specs.declared.chain.ChainFault.{ChainFault}
+use Rattle.vm_memory.specs.declared.chain.ChainFault.TheVariants.{Range, Order, TooLong}
 
 -- ---- texts
 
@@ -82,24 +83,75 @@ runs_front a (suc (suc n)) (suc (suc rest)) (suc room) es some r s (inr h) = (
       (inr (omega arith)),
 )
 
--- nothing is left of a text
-pub take-entries_none : (a rest room : ℕ) (ss : List Segment) → rest ≡ 0 → length ss ≡ 0
+-- the first access of a text goes up to the end of the segment
+access_len-entries_from : (a n : ℕ) (es : List Entry) → 0 < n → access_len (entries_from a n ++ es) ≡ n
+unfolding entries_from access_len
+access_len-entries_from a zero es some = absurd (omega arith)
+access_len-entries_from a (suc zero) es some = refl
+access_len-entries_from a (suc (suc n)) es some =
+    ap (λ k. k + 1) (access_len-entries_from (a + 1) (suc n) es (omega arith)) ∙ omega arith
+
+pub access_len-place : (a rest : ℕ) (ss : List Segment) → IsPlace a rest ss → access_len (entries a rest ss) ≡ rest
+unfolding entries_from access_len
+access_len-place a zero ss h = ap (λ rs. access_len (entries a 0 rs)) (h.next refl)
+access_len-place a (suc rest) ss h = access_len-entries_from a (suc rest) (text ss) (omega arith)
+
+-- an access of no byte is the next one only where there is no room or no byte is left
+pub none_next : (a rest room : ℕ) (ss : List Segment) → IsPlace a rest ss → min room rest ≡ 0
     → take room (entries a rest ss) ≡ []
 unfolding entries_from
-take-entries_none a zero zero [] e f = refl
-take-entries_none a zero (suc room) [] e f = refl
-take-entries_none a (suc rest) room ss e f = absurd (omega arith)
-take-entries_none a rest room (s ∷ ss) e f = absurd (omega arith)
+none_next a rest zero ss h none = refl
+none_next a zero (suc room) ss h none = ap (λ rs. take (suc room) (entries a 0 rs)) (h.next refl)
+none_next a (suc rest) (suc room) ss h none = absurd (omega arith)
 
--- where nothing is left of a segment, the next one begins
-pub entries-next : (a rest : ℕ) (ss behind : List Segment) (s : Segment) → rest ≡ 0 → ss ≡ s ∷ behind
-    → entries a rest ss ≡ entries s.addr.0 s.len behind
+pub some_next : (a rest room : ℕ) (ss : List Segment) → IsPlace a rest ss → 0 < min room rest
+    → IsNext a (min room rest) room (entries a rest ss)
+some_next a rest room ss h some =
+    let len = access_len-place a rest ss h in
+    record {
+      runs = runs_front a (min room rest) rest room (text ss) some (omega arith) (omega arith) (least room rest);
+      fits = omega arith;
+      inside = omega arith;
+    }
+  where
+    least : (x y : ℕ) → (min x y ≡ x) ⊎ (min x y ≡ y)
+    least x y = elim (cases_lt x y) [ inl h ↦ inl (omega arith) | inr h ↦ inr (omega arith) ]
+
+-- a place goes on inside its segment, and behind it
+pub place_inside : (a rest count : ℕ) (ss : List Segment) → IsPlace a rest ss → count < rest
+    → IsPlace (a + count) (rest - count) ss
+place_inside a rest count ss h inside =
+    let ends = h.ends in record { ends = omega arith; fit = h.fit; next = λ none. absurd (omega arith) }
+
+pub drop-inside : (a rest count : ℕ) (ss : List Segment) → count ≤ rest
+    → entries (a + count) (rest - count) ss ≡ drop count (entries a rest ss)
+drop-inside a rest count ss inside = sym (drop-entries_from a rest count (text ss) inside)
+
+pub drop-segment : (a rest count : ℕ) (ss : List Segment) → count ≡ rest → text ss ≡ drop count (entries a rest ss)
 unfolding entries_from
-entries-next a rest ss behind s none is =
-    ap (λ n. entries a n ss) none ∙ ap (λ rs. entries a 0 rs) is
+drop-segment a rest count ss all =
+    let none : rest - count ≡ 0 = omega arith in
+    ap (λ n. entries (a + count) n ss) (sym none) ∙ drop-inside a rest count ss (omega arith)
+
+pub within_place : (a rest count : ℕ) (ss : List Segment) (es : List Entry) → IsPlace a rest ss
+    → entries a rest ss ≡ es → count ≤ access_len es → count ≤ rest
+within_place a rest count ss es h is within = omega (arith, ap access_len is, access_len-place a rest ss h)
 
 pub fit_behind : (ss behind : List Segment) (s : Segment) → ss ≡ s ∷ behind → All Fits ss → All Fits behind
 fit_behind ss behind s is h = All-tail Fits s behind (subst (λ rs. All Fits rs) is h)
+
+-- where segments begin with one that has a byte, a place is there, and else behind it
+pub place_first : (ss behind : List Segment) (s : Segment) → ss ≡ s ∷ behind → All Fits ss → 0 < s.len
+    → IsPlace s.addr.0 s.len behind
+place_first ss behind s is fit some = record {
+  ends = All-head Fits s behind (subst (λ rs. All Fits rs) is fit);
+  fit = fit_behind ss behind s is fit;
+  next = λ none. absurd (omega arith);
+}
+
+pub text-others : (ss behind : List Segment) (s : Segment) → ss ≡ s ∷ behind → s.len ≡ 0 → text behind ≡ text ss
+unfolding entries_from
+text-others ss behind s is none = ap (λ n. entries s.addr.0 n behind) (sym none) ∙ ap text (sym is)
 
 -- ---- chains
 
@@ -311,20 +363,6 @@ divided_next_readable ss i d count readable_len total sum writes h before w none
     subst (λ b. Divided b (count + 1) sum sum writes) (sym (take_more ss i d h))
     (divided_readable (take i ss) count readable_len total sum writes (get_or ss i d) before w
     (unseen_before writes total (get_or ss i d) none w) fits is)
-
--- the first access of a text, of at most so many bytes
-pub runs_first : (a rest room : ℕ) (ss : List Segment) → 0 < rest → 0 < room
-    → Runs a (min room rest) (take room (entries a rest ss))
-runs_first a rest room ss some more =
-    runs_front a (min room rest) rest room (text ss) (omega arith) (omega arith) (omega arith)
-    (least room rest)
-  where
-    least : (x y : ℕ) → (min x y ≡ x) ⊎ (min x y ≡ y)
-    least x y = go (nat_le x y) refl
-      where
-        go : (b : Bool) → nat_le x y ≡ b → (min x y ≡ x) ⊎ (min x y ≡ y)
-        go true e = inl (let h : x ≤ y = leb-true x y e in omega arith)
-        go false e = inr (let h : y < x = leb-false x y e in omega arith)
 
 -- how many bytes the segments of either kind have
 pub len_front : (ss : List Segment) (count readable_len writable_len : ℕ) → Divides ss count readable_len writable_len

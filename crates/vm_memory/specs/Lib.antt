@@ -1,3 +1,5 @@
+pub mod Chain
+pub mod ChainText
 pub mod Commands
 pub mod Copy
 pub mod Tables
@@ -12,8 +14,6 @@ pub mod Lawful
 pub mod Machine
 pub mod Memories
 pub mod Parts
-pub mod Queue
-pub mod QueueText
 pub mod Reply
 pub mod Rounds
 pub mod Script

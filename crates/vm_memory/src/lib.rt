@@ -2,12 +2,12 @@
 //! theorems, and the machine.
 #![tactic(auto)]
 
+mod chain;
+pub mod chain_laws;
 mod iommu;
 pub mod machine;
 pub mod machine_examples;
 pub mod machine_laws;
-mod queue;
-pub mod queue_laws;
 pub mod script;
 
 pub use iommu::{Iommu, IommuMemory, TableIommu};
@@ -20,7 +20,7 @@ pub use machine::{Machine, run};
 pub use script::{DriveFault, drive};
 
 // Chains of descriptors.
-pub use queue::{Chain, ChainFault, ChainReader, ChainWriter, Segment};
+pub use chain::{Chain, ChainFault, ChainReader, ChainWriter, Segment};
 
 // Bitmaps that several threads mark.
 pub use vm_memory_base::{HarvestError, Harvester, Marker, MarkerBitmap, TrackedBitmap};

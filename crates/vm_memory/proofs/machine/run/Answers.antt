@@ -48,7 +48,8 @@ returns-clause-ran g c =
     g.B.ExactBitmap.pages (parts_of c.machine.inside) c.machine.invariant) in
     let layouts = c.runs_keep_layouts.ensures in
     let set_last = c.accesses_go_through_what_was_set_last.ensures.all in
-    let reaches : (ds : List Command) (qs : List Reply) (s : State) → Run before ds qs s → ReachesAsTold before ds qs s =
+    let reaches : (ds : List Command) (qs : List Reply) (s : State) → Run before ds qs s
+    → ReachesAsTold before ds qs s =
     λ ds qs s made.
     let here = layouts.kept before s ds qs lawful made in
     record {

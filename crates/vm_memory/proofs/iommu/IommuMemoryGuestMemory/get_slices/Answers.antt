@@ -36,14 +36,15 @@ returns-in-Ok-clause-answer g c =
     let it = c.self.inside in
     let at = there g (goal.at.returns-in-Ok-clause-answer g c).After-table-table in
     rw (← c.self.view_is) (gives-on g.M.R.GuestMemoryRegion.region (g.M.GuestMemoryBackend.regions it.backend)
-    (g.I.Iommu.number it.iommu.value) it.space.0 it.use_iommu c.if-not-self.false c.args.host.now.tables c.table-table.result.now at
-    c.args.addr.0 c.args.count c.args.access c.pieces_are_the_access.ensures c.in-Ok.pieces.items c.in-Ok.ensures
-    c.of_pieces.result c.of_pieces.ensures)
+    (g.I.Iommu.number it.iommu.value) it.space.0 it.use_iommu c.if-not-self.false c.args.host.now.tables
+    c.table-table.result.now at c.args.addr.0 c.args.count c.args.access c.pieces_are_the_access.ensures
+    c.in-Ok.pieces.items c.in-Ok.ensures c.of_pieces.result c.of_pieces.ensures)
 
 pub returns-in-Err-clause-answer : goal.returns-in-Err-clause-answer
 returns-in-Err-clause-answer g c =
     let it = c.self.inside in
     let at = there g (goal.at.returns-in-Err-clause-answer g c).After-table-table in
     rw (← c.self.view_is) (fails-on g.M.R.GuestMemoryRegion.region (g.M.GuestMemoryBackend.regions it.backend)
-    (g.I.Iommu.number it.iommu.value) it.space.0 it.use_iommu c.if-not-self.false c.args.host.now.tables c.table-table.result.now at
-    c.args.addr.0 c.args.count c.args.access c.in-Err.error c.in-Err.ensures c.error_of_translation.result c.error_of_translation.ensures)
+    (g.I.Iommu.number it.iommu.value) it.space.0 it.use_iommu c.if-not-self.false c.args.host.now.tables
+    c.table-table.result.now at c.args.addr.0 c.args.count c.args.access c.in-Err.error c.in-Err.ensures
+    c.error_of_translation.result c.error_of_translation.ensures)

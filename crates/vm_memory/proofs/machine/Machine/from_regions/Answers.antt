@@ -17,4 +17,5 @@ add_layout-requires g c =
     let names : HoldsRegions region inside.host layout =
     rw c.in-Ok-from_arc_regions.ensures.1
     (c.regions_are_held_one_by_one.ensures.among (shape_of inside.host) pool chosen held.pool among) in
-    subst (λ (m : Parts g.row.R.Denot g.row.I.Denot g.row.B.Denot). HoldsRegions region m.host layout) c.self.view_is names
+    subst (λ (m : Parts g.row.R.Denot g.row.I.Denot g.row.B.Denot). HoldsRegions region m.host layout) c.self.view_is
+    names

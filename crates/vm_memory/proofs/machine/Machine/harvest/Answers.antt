@@ -13,8 +13,8 @@ returns g c =
     elim c.match-taken.branch [
       | in-Ok w ↦
           rw (w.result-is, w.from_vec.ensures, ← c.self.view_is)
-          (harvest_is_step region g.I.Iommu.number pages parts c.args.bitmap bitmap there w.in-Ok.pages.items c.harvest-taken.new.self
-          w.in-Ok.ensures.dirty w.in-Ok.ensures.clean)
+          (harvest_is_step region g.I.Iommu.number pages parts c.args.bitmap bitmap there w.in-Ok.pages.items
+          c.harvest-taken.new.self w.in-Ok.ensures.dirty w.in-Ok.ensures.clean)
       | in-Err w ↦
           rw (w.result-is, w.in-Err.ensures.refused.0, ← c.self.view_is)
           (refusal_is_step region g.I.Iommu.number pages parts c.args.bitmap bitmap there w.in-Err.ensures.refused.1)

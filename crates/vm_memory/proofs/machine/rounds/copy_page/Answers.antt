@@ -10,4 +10,5 @@ returns c =
     let first : start ≡ min (c.args.page * size) len = omega arith in
     let last : c.min-end.result ≡ min (start + size) len = omega arith in
     rw c.copy_part.ensures
-    (page_copied size c.args.page c.requires.some c.args.block.now c.args.image.now c.requires.len start c.min-end.result first last)
+    (page_copied size c.args.page c.requires.some c.args.block.now c.args.image.now c.requires.len start
+    c.min-end.result first last)

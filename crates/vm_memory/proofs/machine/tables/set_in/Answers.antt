@@ -4,6 +4,6 @@ use Rattle.vm_memory.proofs.machine.tables.set_in.Goals as goal
 
 pub returns-in-Err-clause-answer : goal.returns-in-Err-clause-answer
 returns-in-Err-clause-answer g c =
-    let w = wanted c.args.host.now c.args.table c.table_mut.result.now c.set_mapping-set.new.self c.table_mut.ensures.value
-    c.in-Err.ensures.err.2 c.args.iova.0 c.args.len (search rules) in
+    let w = wanted c.args.host.now c.args.table c.table_mut.result.now c.set_mapping-set.new.self
+    c.table_mut.ensures.value c.in-Err.ensures.err.2 c.args.iova.0 c.args.len (search rules) in
     inr (refl, w.0, w.1, c.in-Err.ensures.err.1, w.2)

@@ -1,8 +1,0 @@
-use Rattle.vm_memory.proofs.TextLemmas.{len_front}
-use Rattle.vm_memory.proofs.queue.Chain.reader.Goals as goal
-
-pub new-requires-clause-len : goal.new-requires-clause-len
-new-requires-clause-len c =
-    let division = c.self.inside.division in
-    rw c.as_slice.ensures.value (len_front c.self.inside.segments.items division.readable division.readable_len
-    division.writable_len c.self.invariant)

@@ -1,0 +1,196 @@
+//! Chains of descriptors, as those of a virtqueue: a reader and a writer above the accesses of guest memory.
+//!
+//! A driver describes a request by segments of guest memory: those that the device reads, and behind them those
+//! that it writes. A [`ChainReader`] gives the bytes of the readable segments one after the other, and a
+//! [`ChainWriter`] fills the writable ones, over any guest memory, with an IOMMU or without.
+//!
+//! Behind an IOMMU that is on, each access allocates for its translation. Where this fails behind the first access
+//! of a call, the call ends with a short count. Nothing tells that count from one that ends at an address with no
+//! byte.
+ghost use Rattle.std.specs.Prelude.{◌≡◌, length, None, Some, MatchResult};
+ghost use Rattle.vm_memory_guest.specs.Host.{shape_of, Holds};
+ghost use Rattle.vm_memory.specs.Chain.{ReadsText, WritesText, chain_fault, readable, text, writable};
+
+mod text;
+
+use self::text::{Division, Text, divided};
+use std::marker::Model;
+use thiserror::Error;
+use vm_memory_base::{Bitmap, GuestAddress};
+use vm_memory_guest::{GuestMemory, GuestMemoryResult, HostMemory};
+
+/// A segment of a chain: `len` bytes of guest memory from an address on.
+#[derive(Clone, Copy, Debug, PartialEq, Eq)]
+pub struct Segment {
+    /// The guest address of its first byte.
+    pub addr: GuestAddress,
+    /// How many bytes it has.
+    pub len: u32,
+    /// Whether the device writes it. Else the device reads it.
+    pub writable: bool,
+}
+
+/// Why segments make no chain.
+#[derive(Clone, Copy, Debug, PartialEq, Eq, Error)]
+pub enum ChainFault {
+    /// A readable segment stands behind a writable one.
+    #[error("chain order")]
+    Order,
+    /// The segments have more than 2^32 - 1 bytes.
+    #[error("chain too long")]
+    TooLong,
+    /// The address and the length of a segment have a sum above 2^64 - 1.
+    #[error("chain range")]
+    Range,
+}
+
+/// A chain of segments: readable ones, and behind them writable ones.
+///
+/// ```text
+/// let chain = Chain::new(segments)?;
+/// let count = chain.reader().read(&memory, &host, &mut header)?;
+/// chain.writer().write(&memory, &mut host, &[0])?;
+/// ```
+#[derive(Drop)]
+pub struct Chain {
+    segments: Vec<Segment>,
+    division: Division,
+}
+
+impl Model for Chain {
+    ghost use Rattle.std.specs.Prelude.{List};
+    ghost use Rattle.vm_memory.specs.declared.chain.Segment.{Segment};
+    ghost use Rattle.vm_memory.specs.ChainText.{Divides};
+
+    ghost Value = { List Segment };
+
+    ghost view = { λ c. c.segments.items };
+
+    ghost invariant = { λ c.
+        Divides c.segments.items c.division.readable c.division.readable_len c.division.writable_len };
+}
+
+impl Chain {
+    /// The chain of these segments. They are tested in order, each for `Range`, for `Order`, and for `TooLong` with
+    /// those before it. It allocates nothing, and there may be no segments.
+    #[inline(always)]
+    pub fn new(segments: Vec<Segment>) -> Result<Chain, ChainFault>
+        ensures { MatchResult result (λ chain. (chain ≡ segments.items) × (chain_fault segments.items ≡ None))
+            (λ fault. chain_fault segments.items ≡ Some fault) }
+    {
+        let division = divided(segments.as_slice())?;
+        Ok(Chain { segments, division })
+    }
+
+    /// A reader of the readable segments, from their first byte on.
+    #[inline(always)]
+    pub fn reader(&self) -> ChainReader<'_>
+        ensures { result ≡ text (readable self.now) }
+    {
+        let segments = &self.segments.as_slice()[..self.division.readable];
+        let len = self.division.readable_len as usize;
+        ChainReader {
+            text: Text::new(segments, len),
+        }
+    }
+
+    /// A writer of the writable segments, from their first byte on.
+    #[inline(always)]
+    pub fn writer(&self) -> ChainWriter<'_>
+        ensures { result ≡ text (writable self.now) }
+    {
+        let segments = &self.segments.as_slice()[self.division.readable..];
+        let len = self.division.writable_len as usize;
+        ChainWriter {
+            text: Text::new(segments, len),
+        }
+    }
+}
+
+/// A place in the readable segments of a chain: it reads what lies behind it. A read requires that the host holds
+/// what the memory names.
+#[derive(Drop)]
+pub struct ChainReader<'c> {
+    text: Text<'c>,
+}
+
+impl<'c> Model for ChainReader<'c> {
+    ghost use Rattle.std.specs.Prelude.{List};
+    ghost use Rattle.vm_memory.specs.Chain.{Entry};
+
+    ghost Value = { List Entry };
+
+    ghost view = { λ r. r.text };
+}
+
+impl<'c> ChainReader<'c> {
+    /// How many bytes lie behind its place.
+    #[inline(always)]
+    pub fn left(&self) -> usize
+        ensures { result ≡ length self.now }
+    {
+        self.text.left()
+    }
+
+    /// Reads into the beginning of the buffer, and answers how many bytes that is. Its place moves by as many. It
+    /// makes one access a segment, up to and with the first that counts fewer bytes than it was to read, or that
+    /// fails. Where the first access fails, its error is the answer, and nothing changes. Where a later one fails,
+    /// the answer counts what came before. Of an empty buffer, or with nothing left, it is `Ok(0)`.
+    #[inline(always)]
+    pub fn read<M: GuestMemory, B: Bitmap>(
+        &mut self,
+        mem: &M,
+        host: &HostMemory<B>,
+        buf: &mut [u8],
+    ) -> GuestMemoryResult<usize>
+        requires { Holds (shape_of host.now) (M.names mem.now) }
+        ensures { ReadsText (M.memory mem.now) host.now self.old buf.old result self.new buf.new }
+    {
+        self.text.read(mem, host, buf)
+    }
+}
+
+/// A place in the writable segments of a chain: it writes what lies behind it. A write requires that the host holds
+/// what the memory names.
+#[derive(Drop)]
+pub struct ChainWriter<'c> {
+    text: Text<'c>,
+}
+
+impl<'c> Model for ChainWriter<'c> {
+    ghost use Rattle.std.specs.Prelude.{List};
+    ghost use Rattle.vm_memory.specs.Chain.{Entry};
+
+    ghost Value = { List Entry };
+
+    ghost view = { λ w. w.text };
+}
+
+impl<'c> ChainWriter<'c> {
+    /// How many bytes lie behind its place.
+    #[inline(always)]
+    pub fn left(&self) -> usize
+        ensures { result ≡ length self.now }
+    {
+        self.text.left()
+    }
+
+    /// Writes the beginning of the buffer, and answers how many bytes that is. Its place moves by as many, and
+    /// their pages are marked. It makes one access a segment, up to and with the first that counts fewer bytes than
+    /// it was to write, or that fails. Where the first access fails, its error is the answer, and nothing changes.
+    /// Where a later one fails, the answer counts what came before. Of an empty buffer, or with nothing left, it is
+    /// `Ok(0)`.
+    #[inline(always)]
+    pub fn write<M: GuestMemory, B: Bitmap>(
+        &mut self,
+        mem: &M,
+        host: &mut HostMemory<B>,
+        buf: &[u8],
+    ) -> GuestMemoryResult<usize>
+        requires { Holds (shape_of host.old) (M.names mem.now) }
+        ensures wrote { WritesText B.marks (M.memory mem.now) self.old buf.now host.old result self.new host.new }
+        ensures shape { shape_of host.new ≡ shape_of host.old }
+    {
+        self.text.write(mem, host, buf)
+    }
+}
