@@ -1,13 +1,18 @@
-//! A machine that two threads command, one after the other.
+//! A machine that threads command at once, and one that two command one after the other.
 
-use crate::calls::set_up;
 use std::alloc::{AllocError, Global};
 use std::sync::{Barrier, Wait};
 use std::test::Fail;
 use std::thread::{self, Threads};
 use test_machines::{TestShared, read_of, write_of};
 use test_text::expect_text;
+use test_threads::{expect_calls, set_up};
 use vm_memory::{CallError, Command, Journal, Reply, SharedMachine};
+
+#[test]
+fn calls_of_threads_are_one_run(rt: HostRuntime) -> Result<(), Fail> {
+    expect_calls(&rt, rt.alloc())
+}
 
 // Calls before the other thread goes on, or when the other has its answer.
 fn call_in_turn<R: Wait>(

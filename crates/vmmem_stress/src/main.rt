@@ -14,7 +14,7 @@ use std::sync::Wait;
 use std::test::Fail;
 use std::thread::Threads;
 use std::time::{Clock, Instant};
-use thread_vectors::{
+use test_threads::{
     Marks, expect_added, expect_atomic, expect_calls, expect_cleared, expect_layouts,
     expect_tracked,
 };

@@ -129,8 +129,3 @@ pub fn expect_calls<R: Sync + Threads + Wait>(rt: &R, alloc: Global) -> Result<(
     }
     Ok(())
 }
-
-#[test]
-fn calls_of_threads_are_one_run(rt: HostRuntime) -> Result<(), Fail> {
-    expect_calls(&rt, rt.alloc())
-}

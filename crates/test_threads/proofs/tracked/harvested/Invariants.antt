@@ -1,5 +1,5 @@
 use Rattle.test_regions.specs.Markers.{IsHarvesterOf}
-use Rattle.thread_vectors.proofs.tracked.harvested.Given as goal
+use Rattle.test_threads.proofs.tracked.harvested.Given as goal
 
 abbrev pub invariant-loop : goal.invariant-loop
 invariant-loop l = IsHarvesterOf l.harvester l.bitmap
