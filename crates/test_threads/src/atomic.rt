@@ -1,6 +1,6 @@
 //! An `AtomicBitmap` of which four threads change pages, while one harvests or none.
 
-use crate::marks::{DONE, HARVESTS, MET, Marks, Tally, meet};
+use crate::marks::{DONE, HARVESTS, MET, Marks, Tally, Work, meet};
 use std::alloc::Global;
 use std::num::NonZeroUsize;
 use std::sync::atomic::{AtomicUsize, Ordering};
@@ -20,16 +20,10 @@ enum Change {
 use Change::{ClearEach, ClearLots, SetEach, SetLots};
 
 // Changes the pages of a thread.
-fn change_pages(
-    bitmap: &AtomicBitmap,
-    change: Change,
-    thread: usize,
-    marks: &Marks,
-    gate: &AtomicUsize,
-) {
-    meet(gate, MET);
-    for number in 0..marks.count(thread) {
-        let (start, len) = marks.run_of(thread, number);
+fn change_pages(bitmap: &AtomicBitmap, change: Change, thread: usize, work: &Work) {
+    meet(&work.gate, MET);
+    for number in 0..work.marks.count(thread) {
+        let (start, len) = work.marks.run_of(thread, number);
         let end = start.saturating_add(len);
         match change {
             SetLots => bitmap.set_addr_range(start, len),
@@ -38,32 +32,26 @@ fn change_pages(
             ClearEach => (start..end).for_each(|page| bitmap.reset_bit(page)),
         }
     }
-    gate.fetch_add(1, Ordering::SeqCst);
+    work.gate.fetch_add(1, Ordering::SeqCst);
 }
 
 // Changes the pages of the four threads.
-fn change_all<R: Sync + Threads>(
-    rt: &R,
-    bitmap: &AtomicBitmap,
-    changes: [Change; 4],
-    marks: &Marks,
-    gate: &AtomicUsize,
-) {
+fn change_all<R: Sync + Threads>(rt: &R, bitmap: &AtomicBitmap, changes: [Change; 4], work: &Work) {
     let [first, second, third, fourth] = changes;
     thread::join(
         rt,
         || {
             thread::join(
                 rt,
-                || change_pages(bitmap, first, 0, marks, gate),
-                || change_pages(bitmap, second, 1, marks, gate),
+                || change_pages(bitmap, first, 0, work),
+                || change_pages(bitmap, second, 1, work),
             )
         },
         || {
             thread::join(
                 rt,
-                || change_pages(bitmap, third, 2, marks, gate),
-                || change_pages(bitmap, fourth, 3, marks, gate),
+                || change_pages(bitmap, third, 2, work),
+                || change_pages(bitmap, fourth, 3, work),
             )
         },
     );
@@ -93,12 +81,15 @@ pub fn expect_atomic<R: Sync + Threads>(
 ) -> Result<usize, Fail> {
     let bitmap = AtomicBitmap::new(alloc, marks.pages, NonZeroUsize::MIN)?;
     let tally = Tally::new(alloc, marks.pages)?;
-    let gate = AtomicUsize::new(0);
+    let work = Work {
+        marks: *marks,
+        gate: AtomicUsize::new(0),
+    };
     let changes = [SetLots, SetEach, SetLots, SetEach];
     let (_, mut tally) = thread::join(
         rt,
-        || change_all(rt, &bitmap, changes, marks, &gate),
-        || harvested(alloc, &bitmap, tally, &gate),
+        || change_all(rt, &bitmap, changes, &work),
+        || harvested(alloc, &bitmap, tally, &work.gate),
     );
     tally.add(64, bitmap.get_and_reset(alloc)?.as_slice(), false);
     tally.expect(marks, false)?;
@@ -114,8 +105,12 @@ pub fn expect_cleared<R: Sync + Threads>(rt: &R, alloc: Global, marks: &Marks) -
             bitmap.set_bit(page);
         }
     }
+    let work = Work {
+        marks: *marks,
+        gate: AtomicUsize::new(1),
+    };
     let changes = [ClearLots, ClearEach, SetLots, SetEach];
-    change_all(rt, &bitmap, changes, marks, &AtomicUsize::new(1));
+    change_all(rt, &bitmap, changes, &work);
     let mut tally = Tally::new(alloc, marks.pages)?;
     tally.add(64, bitmap.get_and_reset(alloc)?.as_slice(), false);
     tally.expect(marks, true)

@@ -54,6 +54,13 @@ impl Marks {
     }
 }
 
+/// What several threads change, and the gate where they meet: before they begin, and when they are done.
+#[derive(Drop)]
+pub struct Work {
+    pub marks: Marks,
+    pub gate: AtomicUsize,
+}
+
 /// Four threads and a harvester meet.
 pub const MET: usize = 5;
 

@@ -1,7 +1,7 @@
 //! A `TrackedBitmap` that four threads mark while one harvests.
 ghost use Rattle.test_regions.specs.Markers.{IsMarkerOf, IsHarvesterOf, AreNewOf};
 
-use crate::marks::{DONE, HARVESTS, MET, Marks, Tally, meet};
+use crate::marks::{DONE, HARVESTS, MET, Marks, Tally, Work, meet};
 use std::alloc::Global;
 use std::num::NonZeroUsize;
 use std::sync::atomic::{AtomicUsize, Ordering};
@@ -11,22 +11,16 @@ use test_regions::next_marker;
 use vm_memory::{Harvester, Marker, TrackedBitmap};
 
 // Marks the pages of a thread.
-fn marked(
-    bitmap: &TrackedBitmap,
-    mut marker: Marker,
-    thread: usize,
-    marks: &Marks,
-    gate: &AtomicUsize,
-) -> Marker
+fn marked(bitmap: &TrackedBitmap, mut marker: Marker, thread: usize, work: &Work) -> Marker
     requires { IsMarkerOf marker bitmap.now }
     ensures { IsMarkerOf result bitmap.now }
 {
-    meet(gate, MET);
-    for number in 0..marks.count(thread) {
-        let (start, len) = marks.run_of(thread, number);
+    meet(&work.gate, MET);
+    for number in 0..work.marks.count(thread) {
+        let (start, len) = work.marks.run_of(thread, number);
         bitmap.mark(&mut marker, start, len);
     }
-    gate.fetch_add(1, Ordering::SeqCst);
+    work.gate.fetch_add(1, Ordering::SeqCst);
     marker
 }
 
@@ -35,8 +29,7 @@ fn marked_by_two<R: Sync + Threads>(
     bitmap: &TrackedBitmap,
     markers: (Marker, Marker),
     threads: (usize, usize),
-    marks: &Marks,
-    gate: &AtomicUsize,
+    work: &Work,
 ) -> (Marker, Marker)
     requires { IsMarkerOf markers.0 bitmap.now × IsMarkerOf markers.1 bitmap.now }
     ensures { IsMarkerOf result.0 bitmap.now × IsMarkerOf result.1 bitmap.now }
@@ -47,11 +40,11 @@ fn marked_by_two<R: Sync + Threads>(
         || -> Marker
             requires { IsMarkerOf one bitmap.now }
             ensures { IsMarkerOf result bitmap.entry.now }
-        { marked(bitmap, one, threads.0, marks, gate) },
+        { marked(bitmap, one, threads.0, work) },
         || -> Marker
             requires { IsMarkerOf other bitmap.now }
             ensures { IsMarkerOf result bitmap.entry.now }
-        { marked(bitmap, other, threads.1, marks, gate) },
+        { marked(bitmap, other, threads.1, work) },
     )
 }
 
@@ -59,13 +52,13 @@ fn marked_by_two<R: Sync + Threads>(
 fn harvested(
     alloc: Global,
     bitmap: &TrackedBitmap,
-    mut harvester: Harvester,
-    mut tally: Tally,
+    harvest: (Harvester, Tally),
     gate: &AtomicUsize,
 ) -> (Harvester, Tally)
-    requires { IsHarvesterOf harvester bitmap.now }
+    requires { IsHarvesterOf harvest.0 bitmap.now }
     ensures { IsHarvesterOf result.0 bitmap.now }
 {
+    let (mut harvester, mut tally) = harvest;
     meet(gate, MET);
     for _ in 0..HARVESTS {
         if gate.load(Ordering::SeqCst) >= DONE {
@@ -88,13 +81,11 @@ fn harvested_beside_two<R: Sync + Threads>(
     rt: &R,
     alloc: Global,
     bitmap: &TrackedBitmap,
-    harvester: Harvester,
+    harvest: (Harvester, Tally),
     markers: (Marker, Marker),
-    marks: &Marks,
-    tally: Tally,
-    gate: &AtomicUsize,
+    work: &Work,
 ) -> (Harvester, Tally)
-    requires harvester { IsHarvesterOf harvester bitmap.now }
+    requires harvest { IsHarvesterOf harvest.0 bitmap.now }
     requires markers { IsMarkerOf markers.0 bitmap.now × IsMarkerOf markers.1 bitmap.now }
     ensures { IsHarvesterOf result.0 bitmap.now }
 {
@@ -103,11 +94,11 @@ fn harvested_beside_two<R: Sync + Threads>(
         || -> (Marker, Marker)
             requires { IsMarkerOf markers.0 bitmap.now × IsMarkerOf markers.1 bitmap.now }
             ensures { IsMarkerOf result.0 bitmap.entry.now × IsMarkerOf result.1 bitmap.entry.now }
-        { marked_by_two(rt, bitmap, markers, (2, 3), marks, gate) },
+        { marked_by_two(rt, bitmap, markers, (2, 3), work) },
         || -> (Harvester, Tally)
-            requires { IsHarvesterOf harvester bitmap.now }
+            requires { IsHarvesterOf harvest.0 bitmap.now }
             ensures { IsHarvesterOf result.0 bitmap.entry.now }
-        { harvested(alloc, bitmap, harvester, tally, gate) },
+        { harvested(alloc, bitmap, harvest, &work.gate) },
     );
     bitmap.join(&mut harvester, one);
     bitmap.join(&mut harvester, other);
@@ -119,13 +110,11 @@ fn harvested_beside_four<R: Sync + Threads>(
     rt: &R,
     alloc: Global,
     bitmap: &TrackedBitmap,
-    harvester: Harvester,
+    harvest: (Harvester, Tally),
     markers: ((Marker, Marker), (Marker, Marker)),
-    marks: &Marks,
-    tally: Tally,
-    gate: &AtomicUsize,
+    work: &Work,
 ) -> (Harvester, Tally)
-    requires harvester { IsHarvesterOf harvester bitmap.now }
+    requires harvest { IsHarvesterOf harvest.0 bitmap.now }
     requires one { IsMarkerOf markers.0.0 bitmap.now × IsMarkerOf markers.0.1 bitmap.now }
     requires other { IsMarkerOf markers.1.0 bitmap.now × IsMarkerOf markers.1.1 bitmap.now }
     ensures { IsHarvesterOf result.0 bitmap.now }
@@ -136,12 +125,12 @@ fn harvested_beside_four<R: Sync + Threads>(
         || -> (Marker, Marker)
             requires { IsMarkerOf one.0 bitmap.now × IsMarkerOf one.1 bitmap.now }
             ensures { IsMarkerOf result.0 bitmap.entry.now × IsMarkerOf result.1 bitmap.entry.now }
-        { marked_by_two(rt, bitmap, one, (0, 1), marks, gate) },
+        { marked_by_two(rt, bitmap, one, (0, 1), work) },
         || -> (Harvester, Tally)
-            requires harvester { IsHarvesterOf harvester bitmap.now }
+            requires harvest { IsHarvesterOf harvest.0 bitmap.now }
             requires other { IsMarkerOf other.0 bitmap.now × IsMarkerOf other.1 bitmap.now }
             ensures { IsHarvesterOf result.0 bitmap.entry.now }
-        { harvested_beside_two(rt, alloc, bitmap, harvester, other, marks, tally, gate) },
+        { harvested_beside_two(rt, alloc, bitmap, harvest, other, work) },
     );
     bitmap.join(&mut harvester, a);
     bitmap.join(&mut harvester, b);
@@ -170,15 +159,17 @@ fn expect_joined<R: Sync + Threads>(
     ) else {
         return Err(Fail::new("there are four markers"));
     };
+    let work = Work {
+        marks: *marks,
+        gate: AtomicUsize::new(0),
+    };
     let (harvester, mut tally) = harvested_beside_four(
         rt,
         alloc,
         &bitmap,
-        harvester,
+        (harvester, tally),
         ((a, b), (c, d)),
-        marks,
-        tally,
-        &AtomicUsize::new(0),
+        &work,
     );
     match bitmap.close(harvester, alloc) {
         Ok(left) => tally.add_halves(alloc, left.as_slice(), false),

@@ -1,6 +1,6 @@
 //! Windows: parts and views of them, and access to their bytes.
 
-use crate::accesses::expect_accesses;
+use crate::accesses::{Access, expect_accesses};
 use crate::cells::Cells;
 use std::test::Fail;
 use test_regions::window_of;
@@ -143,8 +143,8 @@ fn a_view_lies_in_its_window(rt: HostRuntime) -> Result<(), Fail> {
     Ok(())
 }
 
-// Of a window of 8 bytes: an offset, a count, and what an access answers and one that is to move all.
-const ACCESSES: [(usize, usize, &str, &str); 6] = [
+// To a window of 8 bytes, by an offset.
+const ACCESSES: [Access<usize>; 6] = [
     (0, 8, "Ok(8)", "Ok(())"),
     (6, 2, "Ok(2)", "Ok(())"),
     (
@@ -163,8 +163,8 @@ const ACCESSES: [(usize, usize, &str, &str); 6] = [
     (usize::MAX, 0, "Ok(0)", "Ok(())"),
 ];
 
-// Of the cells of such a window, by a number.
-const CELLS: [(u16, usize, &str, &str); 4] = [
+// To the cells of such a window, by a number.
+const CELLS: [Access<u16>; 4] = [
     (0, 8, "Ok(8)", "Ok(())"),
     (1, 4, "Ok(4)", "Ok(())"),
     (
@@ -186,13 +186,8 @@ fn an_access_reaches_to_the_end_of_its_window(rt: HostRuntime) -> Result<(), Fai
     let alloc = rt.alloc();
     let mut host: HostMemory<()> = HostMemory::new(alloc);
     let window = window_of(&mut host, &[0; 8])?;
-    for (case, (offset, count, any, all)) in ACCESSES.iter().enumerate() {
-        expect_accesses(alloc, &mut host, &window, case, *offset, *count, any, all)?;
-    }
-    let cells = Cells { window };
-    for (case, (cell, count, any, all)) in CELLS.iter().enumerate() {
-        expect_accesses(alloc, &mut host, &cells, case, *cell, *count, any, all)?;
-    }
+    expect_accesses(alloc, &mut host, &window, &ACCESSES)?;
+    expect_accesses(alloc, &mut host, &Cells { window }, &CELLS)?;
     // Beside a part of a window nothing is written.
     let whole = window_of(&mut host, &[0; 8])?;
     let part = whole.subslice(2, 4)?;
