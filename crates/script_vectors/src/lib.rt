@@ -4,6 +4,8 @@
 #[cfg(test)]
 mod ends;
 #[cfg(test)]
+mod interruptions;
+#[cfg(test)]
 mod long;
 #[cfg(test)]
 mod scripts;

@@ -4,9 +4,9 @@ use crate::scripts::told;
 use std::alloc::{AllocError, Global};
 use std::test::Fail;
 
-// A part of a text that is repeated. A number is `m` times the number of the time, and `a`.
+/// A part of a text that is repeated. A number is `m` times the number of the time, and `a`.
 #[derive(Clone, Copy)]
-enum Piece {
+pub enum Piece {
     Text(&'static str),
     /// The number `m * time + a` in decimal.
     Number(u64, u64),
@@ -20,8 +20,8 @@ enum Piece {
 
 use Piece::{Byte, Hex, Long, Number, Text};
 
-// Parts of a text, each with how often it is repeated.
-type Rows = &'static [(usize, &'static [Piece])];
+/// Parts of a text, each with how often it is repeated.
+pub type Rows = &'static [(usize, &'static [Piece])];
 
 // What a number is multiplied by that falls.
 const DOWN: u64 = u64::MAX;
@@ -46,8 +46,8 @@ fn text_of(alloc: Global, rows: Rows) -> Result<String, AllocError> {
     Ok(text)
 }
 
-// Fails where a script has other replies than the text that belongs to it.
-fn expect_long(alloc: Global, scripts: &[(Rows, Rows)]) -> Result<(), Fail> {
+/// Fails where a script has other replies than the text that belongs to it.
+pub fn expect_long(alloc: Global, scripts: &[(Rows, Rows)]) -> Result<(), Fail> {
     for (case, (script, wanted)) in scripts.iter().enumerate() {
         let script = text_of(alloc, script)?;
         let wanted = text_of(alloc, wanted)?;
@@ -539,116 +539,4 @@ fn scripts_have_room_for_many_regions_and_long_lines(rt: HostRuntime) -> Result<
         LATE_LINE,
     ];
     expect_long(rt.alloc(), &scripts)
-}
-
-// A source or a sink is tried again when it was interrupted, up to 64 times in a row. Each script begins with zeros.
-const INTERRUPTED: [(Rows, Rows); 8] = [
-    (
-        &[
-            (1, &[Text(ZEROS), Text("fromx 0 0 4 ")]),
-            (64, &[Text("i:-,")]),
-            (1, &[Text("g:01,")]),
-            (64, &[Text("i:-,")]),
-            (1, &[Text("g:020304\nread 0 0 4\n")]),
-        ],
-        &[(1, &[Text(MADE), Text("ok\nbytes 01020304\n")])],
-    ),
-    (
-        &[
-            (1, &[Text(ZEROS), Text("fromx 0 0 4 g:01")]),
-            (65, &[Text(",i:-")]),
-            (1, &[Text("\nread 0 0 4\n")]),
-        ],
-        &[(
-            1,
-            &[Text(MADE), Text("error G2 Interrupted\nbytes 01000000\n")],
-        )],
-    ),
-    // One try more than 64, and then what would have come.
-    (
-        &[
-            (1, &[Text(ZEROS), Text("fromx 0 0 4 g:01,")]),
-            (65, &[Text("i:-,")]),
-            (1, &[Text("g:020304\nread 0 0 4\n")]),
-        ],
-        &[(
-            1,
-            &[Text(MADE), Text("error G2 Interrupted\nbytes 01000000\n")],
-        )],
-    ),
-    // A source that ends.
-    (
-        &[
-            (1, &[Text(ZEROS), Text("fromx 0 0 4 g:01,")]),
-            (64, &[Text("i:-,")]),
-            (1, &[Text("g:02\nread 0 0 4\n")]),
-        ],
-        &[(1, &[Text(MADE), Text("error G3 4 2\nbytes 01020000\n")])],
-    ),
-    (
-        &[
-            (1, &[Text(ZEROS), Text("from 0 0 4 ")]),
-            (64, &[Text("i:-,")]),
-            (1, &[Text("g:01020304\nread 0 0 4\n")]),
-        ],
-        &[(1, &[Text(MADE), Text("count 4\nbytes 01020304\n")])],
-    ),
-    (
-        &[
-            (1, &[Text(ZEROS), Text("from 0 0 4 ")]),
-            (65, &[Text("i:-,")]),
-            (1, &[Text("g:01020304\nread 0 0 4\n")]),
-        ],
-        &[(
-            1,
-            &[Text(MADE), Text("error G2 Interrupted\nbytes 00000000\n")],
-        )],
-    ),
-    (
-        &[
-            (1, &[Text(ZEROS), Text("write 0 0 01020304\nto 0 0 4 ")]),
-            (64, &[Text("i,")]),
-            (1, &[Text("t:4\ntox 0 0 4 ")]),
-            (64, &[Text("i,")]),
-            (1, &[Text("t:1,")]),
-            (64, &[Text("i,")]),
-            (1, &[Text("t:3\n")]),
-        ],
-        &[
-            (
-                1,
-                &[Text(MADE), Text("count 4\nsent count 4 taken 01020304\n")],
-            ),
-            (1, &[Text("sent ok taken 01020304\n")]),
-        ],
-    ),
-    (
-        &[
-            (1, &[Text(ZEROS), Text("write 0 0 01020304\nto 0 0 4 ")]),
-            (65, &[Text("i,")]),
-            (1, &[Text("t:4\ntox 0 0 4 t:1,")]),
-            (65, &[Text("i,")]),
-            (1, &[Text("t:3\n")]),
-        ],
-        &[
-            (
-                1,
-                &[
-                    Text(MADE),
-                    Text("count 4\nsent error G2 Interrupted taken -\n"),
-                ],
-            ),
-            (1, &[Text("sent error G2 Interrupted taken 01\n")]),
-        ],
-    ),
-];
-
-// Two blocks of four bytes, one after the other.
-const ZEROS: &str = "block 4 1\nblock 4 1\nregion 0 0\nregion 1 4\nlayout 0 1\nplain 0\n";
-
-const MADE: &str = "block 0\nblock 1\nregion 0\nregion 1\nlayout 0\nmemory 0\n";
-
-#[test]
-fn sixty_four_interruptions_are_tried_again(rt: HostRuntime) -> Result<(), Fail> {
-    expect_long(rt.alloc(), &INTERRUPTED)
 }
