@@ -28,7 +28,7 @@ struct Seen {
     wrong: usize,
 }
 
-// Reads until both layouts were seen, and so many snapshots.
+// Reads until both layouts were seen, and so many snapshots, or one that is wrong.
 fn watch<R: Wait>(rt: &R, alloc: Global, space: &Space, gate: &AtomicUsize) -> Seen {
     let mut seen = Seen {
         twos: 0,
@@ -36,7 +36,8 @@ fn watch<R: Wait>(rt: &R, alloc: Global, space: &Space, gate: &AtomicUsize) -> S
         wrong: 0,
     };
     for number in 0..200_000usize {
-        if number >= 2000 && seen.twos > 0 && seen.fives > 0 {
+        let is_enough = number >= 2000 && seen.twos > 0 && seen.fives > 0;
+        if is_enough || seen.wrong > 0 {
             break;
         }
         let Ok(kept) = space.memory(rt, alloc) else {
