@@ -5,10 +5,11 @@ use std::sync::atomic::{AtomicUsize, Ordering};
 use std::test::Fail;
 use std::thread;
 
-/// Pages that up to four threads change, by lots: of twelve lots in a row thread `k` has `width`, from the lot `2k` on.
+/// Pages that up to four threads change, by lots: of 13 lots in a row thread `k` has `width`, from the lot `2k` on.
 ///
 /// With a width of 1 no two threads have a page in common, and between two threads' lots lies one that none has. With
-/// 3 neighbours share a lot, and with 4 two. Where a lot is short, all threads share each word.
+/// 3 neighbours share a lot, and with 4 two. Where a lot is short, all threads share each word. As 13 is odd, runs of
+/// lots with an odd number of pages begin at each place in a word, and end at each.
 #[derive(Clone, Copy)]
 pub struct Marks {
     /// The number of pages.
@@ -21,10 +22,13 @@ pub struct Marks {
     pub threads: usize,
 }
 
+// How many lots in a row are dealt out.
+const LOTS: usize = 13;
+
 impl Marks {
     /// How many of these threads change a page.
     pub fn owners(&self, page: usize, from: usize, to: usize) -> usize {
-        let lot = page / self.lot.max(1) % 12;
+        let lot = page / self.lot.max(1) % LOTS;
         let mut owners = 0usize;
         for thread in from..to.min(self.threads) {
             let first = thread.saturating_mul(2);
@@ -38,7 +42,7 @@ impl Marks {
     /// How often a thread changes pages.
     pub fn count(&self, thread: usize) -> usize {
         if thread < self.threads {
-            self.pages / self.lot.max(1) / 12 + 1
+            self.pages / self.lot.max(1) / LOTS + 1
         } else {
             0
         }
@@ -47,7 +51,7 @@ impl Marks {
     /// The first of the pages that a thread changes at this time, which may be past the last, and how many they are.
     pub fn run_of(&self, thread: usize, number: usize) -> (usize, usize) {
         let lots = number
-            .saturating_mul(12)
+            .saturating_mul(LOTS)
             .saturating_add(thread.saturating_mul(2));
         let lot = self.lot.max(1);
         (lots.saturating_mul(lot), self.width.saturating_mul(lot))

@@ -3,9 +3,9 @@
 use std::test::Fail;
 use test_threads::{Marks, expect_atomic, expect_cleared, expect_tracked};
 
-// How many rounds there are at least, and the pages of each. The last are two markers on the pages 0 to 63 and 32 to 95.
-// One round meets few of the moments in which a page can be lost, so there are many, and more until a harvest took pages
-// while threads marked.
+// How many rounds there are at least, and the pages of each. The last are two markers on the pages 0 to 63 and 32 to
+// 95. One round meets few of the moments in which a page can be lost, so there are many, and more until a harvest took
+// pages while threads marked.
 const ROUNDS: [(usize, Marks); 5] = [
     (
         7,
@@ -73,9 +73,9 @@ fn markers_and_a_harvester_lose_no_page(rt: HostRuntime) -> Result<(), Fail> {
     Ok(())
 }
 
-// Bitmaps, and lots of them. One round meets few of the moments in which a page can be lost, so there are six of each or
-// more, until a harvest took pages while threads marked.
-const MARKS: [Marks; 4] = [
+// Bitmaps, and lots of them. One round meets few of the moments in which a page can be lost, so there are six of each
+// or more, until a harvest took pages while threads marked.
+const MARKS: [Marks; 5] = [
     Marks {
         pages: 30_000,
         lot: 1,
@@ -98,6 +98,15 @@ const MARKS: [Marks; 4] = [
         pages: 20_000,
         lot: 1,
         width: 4,
+        threads: 4,
+    },
+    // Runs of three pages, each before three pages of no thread. Those of the first thread begin 39 pages apart. So its
+    // run 36 has the pages 1404 to 1406, of which the last is page 62 of its word, and page 1407, the last of the word,
+    // stays as it was.
+    Marks {
+        pages: 10_000,
+        lot: 3,
+        width: 1,
         threads: 4,
     },
 ];
