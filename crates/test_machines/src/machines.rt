@@ -10,7 +10,7 @@ use std::sync::Arc;
 use std::test::Fail;
 use test_regions::{Place, TestRegion, regions_of};
 use vm_memory::{Command, HostMemory, Journal, Machine, Reply, SharedMachine, TableIommu, run};
-use vm_memory_guest::host_laws::regions_are_held_one_by_one;
+use vm_memory_guest::laws::host::regions_are_held_one_by_one;
 
 /// A machine of such regions.
 pub type TestMachine = Machine<TestRegion, TableIommu, ()>;

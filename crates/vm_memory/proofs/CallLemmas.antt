@@ -15,7 +15,7 @@ use Rattle.vm_memory_guest.specs.Error.{of_window}
 use Rattle.vm_memory_guest.specs.Host.{Host}
 use Rattle.vm_memory_guest.specs.Lent.{MarksChanges}
 use Rattle.vm_memory_guest.specs.Window.{Window}
-use Rattle.vm_memory_guest.specs.declared.region.GuestMemoryError.{GuestMemoryError}
+use Rattle.vm_memory_guest.specs.declared.region.error.GuestMemoryError.{GuestMemoryError}
 
 changed_by-append : (xs ys : List TableEvent) (t : Table) → changed_by (xs ++ ys) t ≡ changed_by ys (changed_by xs t)
 changed_by-append [] ys t = refl

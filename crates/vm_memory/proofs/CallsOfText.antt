@@ -12,8 +12,8 @@ use Rattle.vm_memory_guest.specs.Error.{error_of}
 use Rattle.vm_memory_guest.specs.Memory.{IsOn, Memory, NeedsTranslation, route}
 use Rattle.vm_memory_guest.specs.Transfer.{ended}
 use Rattle.vm_memory_guest.specs.Window.{span}
-use Rattle.vm_memory_guest.specs.declared.region.GuestMemoryError.{GuestMemoryError}
-use Rattle.vm_memory_guest.specs.declared.region.GuestMemoryError.TheVariants as errors
+use Rattle.vm_memory_guest.specs.declared.region.error.GuestMemoryError.{GuestMemoryError}
+use Rattle.vm_memory_guest.specs.declared.region.error.GuestMemoryError.TheVariants as errors
 use Rattle.vm_memory_guest.proofs.PathLaws.{access-ends, length-access, span-windows}
 use Rattle.vm_memory.specs.Chain.{Entry, Extends, Extent, Moves, extent_of, text_path}
 use Rattle.vm_memory.specs.ChainText.{GoesOn, IsNext, Runs}

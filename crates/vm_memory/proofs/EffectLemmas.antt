@@ -18,8 +18,8 @@ use Rattle.vm_memory_guest.specs.Memory.{Memory, IsOn, behind_of}
 use Rattle.vm_memory_guest.specs.Region.{Region, IsRegion, IsLayout, layout_error}
 use Rattle.vm_memory_guest.specs.Typed.{path_given}
 use Rattle.vm_memory_guest.specs.Window.{bitmap_of, with_bitmap}
-use Rattle.vm_memory_guest.specs.declared.region.GuestRegionCollectionError.{GuestRegionCollectionError}
-use Rattle.vm_memory_guest.specs.declared.region.GuestRegionCollectionError.TheVariants as layouts
+use Rattle.vm_memory_guest.specs.declared.region.error.GuestRegionCollectionError.{GuestRegionCollectionError}
+use Rattle.vm_memory_guest.specs.declared.region.error.GuestRegionCollectionError.TheVariants as layouts
 use Rattle.vm_memory.specs.Copy.{copied, has_block, ends_inside}
 use Rattle.vm_memory.specs.Effect.{Effect, Replies, AddsLayout, AddsMemory, SetsMemory, Leaves}
 use Rattle.vm_memory.specs.Effect.{if_there, laid_out, without, leaves}

@@ -13,7 +13,7 @@ use Rattle.vm_memory_guest.specs.Memory.{Route, Through, behind_if, says_of, rou
 use Rattle.vm_memory_guest.specs.Pieces.{marking, walk_of_pieces}
 use Rattle.vm_memory_guest.specs.Region.{Region}
 use Rattle.vm_memory_guest.specs.Walk.{reach_of, GivesAccess, RefusesAccess, WantsMemory}
-use Rattle.vm_memory_guest.specs.declared.region.GuestMemoryError.{GuestMemoryError}
+use Rattle.vm_memory_guest.specs.declared.region.error.GuestMemoryError.{GuestMemoryError}
 use Rattle.vm_memory_base.specs.declared.iotlb.IommuError.TheVariants as iommu
 use Rattle.vm_memory.specs.Iommu.{Translates, RefusesTranslation, behind, of_translation}
 

@@ -7,8 +7,8 @@ use Rattle.vm_memory_base.specs.Pages.{PageSet}
 use Rattle.vm_memory_base.specs.declared.address.GuestAddress.{GuestAddress}
 use Rattle.vm_memory_guest.specs.Layout.{inserted, is_exactly, behind_first, removed, IsFault}
 use Rattle.vm_memory_guest.specs.Region.{Region, layout_error}
-use Rattle.vm_memory_guest.specs.declared.region.GuestRegionCollectionError.{GuestRegionCollectionError}
-use Rattle.vm_memory_guest.specs.declared.region.GuestRegionCollectionError.TheVariants as layout
+use Rattle.vm_memory_guest.specs.declared.region.error.GuestRegionCollectionError.{GuestRegionCollectionError}
+use Rattle.vm_memory_guest.specs.declared.region.error.GuestRegionCollectionError.TheVariants as layout
 use Rattle.vm_memory.specs.Commands.{MayWant}
 use Rattle.vm_memory.specs.Machine.{Step, outcome}
 use Rattle.vm_memory.specs.Effect.{AddsLayout, apply, laid_out, without}

@@ -12,7 +12,7 @@ use Rattle.vm_memory_guest.specs.Host.{Cell, Host, bytes_at}
 use Rattle.vm_memory_guest.specs.Memory.{Memory, route}
 use Rattle.vm_memory_guest.specs.Region.{IsRegion}
 use Rattle.vm_memory_guest.specs.Window.{cells}
-use Rattle.vm_memory_guest.specs.declared.region.GuestMemoryError.{GuestMemoryError}
+use Rattle.vm_memory_guest.specs.declared.region.error.GuestMemoryError.{GuestMemoryError}
 use Rattle.vm_memory_guest.proofs.AccessLaws.{cells-access}
 use Rattle.vm_memory_guest.proofs.PathLaws.{length-access}
 use Rattle.vm_memory_guest.proofs.WrittenLaws.{filled_more}

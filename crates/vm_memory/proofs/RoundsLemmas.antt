@@ -30,8 +30,8 @@ use Rattle.vm_memory_guest.specs.Memory.{Memory, Translation, Direct, physical, 
 use Rattle.vm_memory_guest.specs.Region.{Region, Lies, Backed, Unbacked, Unmapped, cell}
 use Rattle.vm_memory_guest.specs.Typed.{path_given, whole_path}
 use Rattle.vm_memory_guest.specs.Window.{Window, with_bitmap}
-use Rattle.vm_memory_guest.specs.declared.region.GuestMemoryError.{GuestMemoryError}
-use Rattle.vm_memory_guest.specs.declared.region.GuestMemoryError.TheVariants as errors
+use Rattle.vm_memory_guest.specs.declared.region.error.GuestMemoryError.{GuestMemoryError}
+use Rattle.vm_memory_guest.specs.declared.region.error.GuestMemoryError.TheVariants as errors
 use Rattle.vm_memory.specs.Machine.{Step, outcome}
 use Rattle.vm_memory.specs.Reply.{reached_by, access_result, reply_of}
 use Rattle.vm_memory.specs.Rounds.{patched, patched_by, patched_with, bytes_of_block, pages_of_block, image_now, image_after, MirrorsBlock, RepliesAsImage, Cover, IsTracked}

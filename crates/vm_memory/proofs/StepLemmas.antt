@@ -10,8 +10,8 @@ use Rattle.vm_memory_guest.specs.Error.{of_window}
 use Rattle.vm_memory_guest.specs.Host.{Host}
 use Rattle.vm_memory_guest.specs.Transfer.{ended}
 use Rattle.vm_memory_guest.specs.Typed.{path_given}
-use Rattle.vm_memory_guest.specs.declared.region.GuestMemoryError.{GuestMemoryError}
-use Rattle.vm_memory_guest.specs.declared.region.GuestMemoryError.TheVariants as errors
+use Rattle.vm_memory_guest.specs.declared.region.error.GuestMemoryError.{GuestMemoryError}
+use Rattle.vm_memory_guest.specs.declared.region.error.GuestMemoryError.TheVariants as errors
 use Rattle.vm_memory.specs.Reply.{moved_as, reply_of, reply_of_error, is_partial}
 use Rattle.vm_memory.proofs.TransferLemmas.{RefusedLaw, io_of_window, is_io, scripts_fail_so}
 use Rattle.vm_memory.specs.declared.machine.command.Reply.{Reply}

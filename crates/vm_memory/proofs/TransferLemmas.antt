@@ -22,8 +22,8 @@ use Rattle.vm_memory_guest.specs.Lent.{fails_as}
 use Rattle.vm_memory_guest.specs.Memory.{Memory, Route, route}
 use Rattle.vm_memory_guest.specs.Region.{Region, IsRegion}
 use Rattle.vm_memory_guest.specs.Window.{cells}
-use Rattle.vm_memory_guest.specs.declared.region.GuestMemoryError.{GuestMemoryError}
-use Rattle.vm_memory_guest.specs.declared.region.GuestMemoryError.TheVariants as errors
+use Rattle.vm_memory_guest.specs.declared.region.error.GuestMemoryError.{GuestMemoryError}
+use Rattle.vm_memory_guest.specs.declared.region.error.GuestMemoryError.TheVariants as errors
 use Rattle.vm_memory.specs.Reply.{reached_by}
 use Rattle.vm_memory.specs.Transfers.{given_by}
 

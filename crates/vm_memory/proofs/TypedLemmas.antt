@@ -8,8 +8,8 @@ use Rattle.vm_memory_guest.specs.Dirt.{after_write}
 use Rattle.vm_memory_guest.specs.Host.{Host}
 use Rattle.vm_memory_guest.specs.Memory as memories
 use Rattle.vm_memory_guest.specs.Typed.{answered, path_given}
-use Rattle.vm_memory_guest.specs.declared.region.GuestMemoryError.{GuestMemoryError}
-use Rattle.vm_memory_guest.specs.declared.region.GuestMemoryError.TheVariants as errors
+use Rattle.vm_memory_guest.specs.declared.region.error.GuestMemoryError.{GuestMemoryError}
+use Rattle.vm_memory_guest.specs.declared.region.error.GuestMemoryError.TheVariants as errors
 use Rattle.vm_memory.specs.Reply.{reply_of, reply_of_error}
 use Rattle.vm_memory.specs.Typed.{stores_bytes, taken_by}
 use Rattle.vm_memory.specs.declared.machine.command.Reply.{Reply}

@@ -26,10 +26,10 @@ use Rattle.vm_memory_guest.specs.Region.{Region, last, first_error, neighbours_e
 use Rattle.vm_memory_guest.specs.Transfer.{all_of, ended}
 use Rattle.vm_memory_guest.specs.Typed.{answered, is_uncut, whole_path}
 use Rattle.vm_memory_guest.specs.Window.{Window}
-use Rattle.vm_memory_guest.specs.declared.region.GuestMemoryError.{GuestMemoryError}
-use Rattle.vm_memory_guest.specs.declared.region.GuestMemoryError.TheVariants as errors
-use Rattle.vm_memory_guest.specs.declared.region.GuestRegionCollectionError.{GuestRegionCollectionError}
-use Rattle.vm_memory_guest.specs.declared.region.GuestRegionCollectionError.TheVariants as layouts
+use Rattle.vm_memory_guest.specs.declared.region.error.GuestMemoryError.{GuestMemoryError}
+use Rattle.vm_memory_guest.specs.declared.region.error.GuestMemoryError.TheVariants as errors
+use Rattle.vm_memory_guest.specs.declared.region.error.GuestRegionCollectionError.{GuestRegionCollectionError}
+use Rattle.vm_memory_guest.specs.declared.region.error.GuestRegionCollectionError.TheVariants as layouts
 use Rattle.vm_memory.specs.Reply.{access_result, whole_of, moved_as, reached_by, reads, reads_whole, reply_of, reply_of_error, reply_of_layout_error, writes}
 use Rattle.vm_memory.specs.Tables.{looks_up}
 use Rattle.vm_memory.specs.Transfers.{beside_taken, dealt_to, given_by, receives, sends}

@@ -14,7 +14,7 @@ use Rattle.vm_memory_guest.specs.Host.{Host}
 use Rattle.vm_memory_guest.specs.Memory.{Memory, route}
 use Rattle.vm_memory_guest.specs.Region.{IsRegion}
 use Rattle.vm_memory_guest.specs.Window.{Window, Writes, cells, cells_of, span}
-use Rattle.vm_memory_guest.specs.declared.region.GuestMemoryError.{GuestMemoryError}
+use Rattle.vm_memory_guest.specs.declared.region.error.GuestMemoryError.{GuestMemoryError}
 use Rattle.vm_memory_guest.proofs.AccessLaws.{cells-access, follows-access}
 use Rattle.vm_memory_guest.proofs.MarkLaws.{Writes-append, Writes-from_take, Writes-take, tables-Writes}
 use Rattle.vm_memory_guest.proofs.PathLaws.{length-access}

@@ -14,8 +14,8 @@ use Rattle.vm_memory_guest.specs.Memory.{Memory, Route, IsOn, route}
 use Rattle.vm_memory_guest.specs.Region.{Region}
 use Rattle.vm_memory_guest.specs.Transfer.{ended}
 use Rattle.vm_memory_guest.specs.Window.{Window, Writes, cells}
-use Rattle.vm_memory_guest.specs.declared.region.GuestMemoryError.{GuestMemoryError}
-use Rattle.vm_memory_guest.specs.declared.region.GuestMemoryError.TheVariants as errors
+use Rattle.vm_memory_guest.specs.declared.region.error.GuestMemoryError.{GuestMemoryError}
+use Rattle.vm_memory_guest.specs.declared.region.error.GuestMemoryError.TheVariants as errors
 use Rattle.vm_memory.specs.declared.chain.ChainFault.{ChainFault}
 use Rattle.vm_memory.specs.declared.chain.ChainFault.TheVariants.{Range, Order, TooLong}
 use Rattle.vm_memory.specs.declared.chain.Segment.{Segment}

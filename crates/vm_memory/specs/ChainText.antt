@@ -1,7 +1,7 @@
 -- How the texts of chains are kept. No public clause cites this module.
 use Rattle.std.specs.Prelude.{◌≡◌, ◌⊎◌, ℕ, zero, suc, ◌+◌, ◌<◌, ◌≤◌, ◌^◌, true, false, List, [], ◌∷◌, ◌++◌, length, take, drop, Option, Some, None, Result, Ok, Err, All}
 use Rattle.vm_memory_guest.specs.Transfer.{ended}
-use Rattle.vm_memory_guest.specs.declared.region.GuestMemoryError.{GuestMemoryError}
+use Rattle.vm_memory_guest.specs.declared.region.error.GuestMemoryError.{GuestMemoryError}
 use Rattle.vm_memory.specs.Chain.{Entry, access_len, entries_from, text, readable, writable, total_len}
 use Rattle.vm_memory.specs.declared.chain.Segment.{Segment}
 

@@ -4,7 +4,7 @@ use Rattle.vm_memory_base.specs.Pages.{PageSet}
 use Rattle.vm_memory_guest.specs.Host.{Host}
 use Rattle.vm_memory_guest.specs.Memory as guest
 use Rattle.vm_memory_guest.specs.Region.{Region}
-use Rattle.vm_memory_guest.specs.declared.region.GuestRegionCollectionError.{GuestRegionCollectionError}
+use Rattle.vm_memory_guest.specs.declared.region.error.GuestRegionCollectionError.{GuestRegionCollectionError}
 use Rattle.vm_memory.specs.Reply.{reply_of_layout_error}
 use Rattle.vm_memory.specs.State.{State}
 use Rattle.vm_memory.specs.declared.machine.command.Fault.TheVariants.{NoMemoryRegion}

@@ -11,8 +11,8 @@ use Rattle.vm_memory_base.specs.declared.iotlb.lookup.MappedRange.{MappedRange}
 use Rattle.vm_memory_guest.specs.Host.{Name, Space, Tlb}
 use Rattle.vm_memory_guest.specs.Memory.{Memory}
 use Rattle.vm_memory_guest.specs.Region.{Region, region_names}
-use Rattle.vm_memory_guest.specs.declared.region.GuestMemoryError.{GuestMemoryError}
-use Rattle.vm_memory_guest.specs.declared.region.GuestMemoryError.TheVariants as errors
+use Rattle.vm_memory_guest.specs.declared.region.error.GuestMemoryError.{GuestMemoryError}
+use Rattle.vm_memory_guest.specs.declared.region.error.GuestMemoryError.TheVariants as errors
 
 -- a translation that is allowed gives the pieces of a look-up
 abbrev pub Translates : Says → ℕ → ℕ → Permissions → List MappedRange → Type 0

@@ -11,7 +11,7 @@ use Rattle.vm_memory_guest.specs.Dirt.{bytes_read}
 use Rattle.vm_memory_guest.specs.Error.{error_of, of_window}
 use Rattle.vm_memory_guest.specs.Host.{Host}
 use Rattle.vm_memory_guest.specs.Memory.{Memory}
-use Rattle.vm_memory_guest.specs.declared.region.GuestMemoryError.{GuestMemoryError}
+use Rattle.vm_memory_guest.specs.declared.region.error.GuestMemoryError.{GuestMemoryError}
 use Rattle.vm_memory.specs.Reply.{moved_as, reached_by}
 use Rattle.vm_memory.specs.declared.machine.command.Ending.TheVariants as ending
 use Rattle.vm_memory.specs.declared.machine.command.Reply.{Reply}

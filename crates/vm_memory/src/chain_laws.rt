@@ -13,7 +13,7 @@ ghost use Rattle.vm_memory.specs.Chain.{AreWindowsOf, Entry, entries_from, text,
 ghost use Rattle.vm_memory.specs.declared.chain.Segment.{Segment};
 
 use vm_memory_base::ExactBitmap;
-use vm_memory_guest::access_laws::writes_to_the_windows_of_a_path_are_by_bytes;
+use vm_memory_guest::laws::accesses::writes_to_the_windows_of_a_path_are_by_bytes;
 
 /// The text of segments has their addresses, in order. Each byte that a call reaches is what the address at the
 /// same place of the text leads to. The bytes of a segment have the windows of one access, which is an access in

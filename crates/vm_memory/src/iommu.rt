@@ -12,8 +12,8 @@ use vm_memory_base::{
     Bitmap, GuestAddress, IommuError, Iotlb, IovaRange, IovaRangeList, LookupError, MappedRange,
     Permissions, Reason,
 };
-use vm_memory_guest::host_laws::names_are_held_one_by_one;
-use vm_memory_guest::path_laws::pieces_are_the_access;
+use vm_memory_guest::laws::host::names_are_held_one_by_one;
+use vm_memory_guest::laws::paths::pieces_are_the_access;
 use vm_memory_guest::{
     GuestMemory, GuestMemoryBackend, GuestMemoryError, GuestMemoryResult, HostMemory, HostShape,
     IommuMemorySliceIterator, Named, SpaceId, TlbId,

@@ -34,7 +34,7 @@ use std::alloc::{AllocError, Global};
 use std::marker::Model;
 use std::sync::Arc;
 use vm_memory_base::ExactBitmap;
-use vm_memory_guest::host_laws::blocks_are_short;
+use vm_memory_guest::laws::host::blocks_are_short;
 use vm_memory_guest::{GuestMemoryRegion, GuestRegionCollection, HostMemory};
 
 /// A host, pools of regions and of translators, and the layouts and memories that commands made, each kind by number

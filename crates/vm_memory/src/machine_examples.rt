@@ -14,8 +14,8 @@ ghost use Rattle.vm_memory_base.specs.declared.iotlb.Permissions.TheVariants.{No
 ghost use Rattle.vm_memory_base.specs.declared.iotlb.Permissions.TheVariants as permissions;
 ghost use Rattle.vm_memory_base.specs.declared.iotlb.Reason.TheVariants.{MissingMapping, AccessNotAllowed};
 ghost use Rattle.vm_memory_guest.specs.Region.{Region};
-ghost use Rattle.vm_memory_guest.specs.declared.region.GuestMemoryError.TheVariants as errors;
-ghost use Rattle.vm_memory_guest.specs.declared.region.GuestRegionCollectionError.TheVariants as layouts;
+ghost use Rattle.vm_memory_guest.specs.declared.region.error.GuestMemoryError.TheVariants as errors;
+ghost use Rattle.vm_memory_guest.specs.declared.region.error.GuestRegionCollectionError.TheVariants as layouts;
 ghost use Rattle.vm_memory.specs.examples.Fixtures.{at, low, high, unbacked, block_pages, space_pages, host, machine, translated_memory};
 ghost use Rattle.vm_memory.specs.examples.Fixtures.{marked_host, marked_machine, range, failed, two_bytes, four_bytes};
 ghost use Rattle.vm_memory.specs.examples.Fixtures.{with_bytes, with_translated_bytes, no_region_at, not_translated, in_block};

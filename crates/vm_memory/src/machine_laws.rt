@@ -45,11 +45,11 @@ use vm_memory_base::laws::table::{
     targets_follow_addresses,
 };
 use vm_memory_guest::GuestMemoryRegion;
-use vm_memory_guest::effect_laws::{
+use vm_memory_guest::laws::effects::{
     dirt_stays, named_pages_are_dirty, other_bytes_stay, path_writes_keep_shapes,
 };
-use vm_memory_guest::region_laws::{layouts_pass_the_tests, one_region_holds_an_address};
-use vm_memory_guest::transfer_laws::{
+use vm_memory_guest::laws::regions::{layouts_pass_the_tests, one_region_holds_an_address};
+use vm_memory_guest::laws::transfers::{
     refused_transfers_in_change_nothing, transfers_in_mark_what_they_change,
 };
 

@@ -32,7 +32,8 @@ chosen : (P : List Reached → Type 0) (b : Bool) (x y : Access)
 chosen P true x y t f = t refl
 chosen P false x y t f = f refl
 
--- what is taken from the laws of tables: an access that is allowed is empty, or it ends at an address and each address grants it
+-- what is taken from the laws of tables: an access that is allowed is empty, or it ends at an address and each
+-- address grants it
 abbrev pub AllowedWhereGranted : Type 0
 AllowedWhereGranted = (f : Says) (a n : ℕ) (access : Permissions) → (is_allowed f a n access ≡ true)
     ↔ ((n ≡ 0) ⊎ ((a + n < 2 ^ 64) × ((x : ℕ) → a ≤ x → x < a + n → grants access (f x) ≡ true)))

@@ -1,7 +1,7 @@
 -- Moves between a buffer and the windows of a walk, one after the other, and what they answer.
 use Rattle.std.specs.List.{AllByRecursion}
 use Rattle.std.specs.Prelude.{is_none}
-use Rattle.std.proofs.Common.{MatchResult, ◌≡◌, ◌⊎◌, ℕ, Bool, true, false, ◌+◌, ◌-◌, ◌<◌, ◌≤◌, List, [], ◌∷◌, ◌++◌, map, take, drop, length, All, Option, Some, None, option_map, Result, Ok, Err, IfOk, refl, sym, ap, ap₂, subst, ◌∙◌, inl, inr, append_assoc, append-nil, take-append-drop, length-take-le, length-drop, arith}
+use Rattle.std.proofs.Common.{MatchResult, ◌≡◌, ◌⊎◌, ℕ, Bool, true, false, ◌+◌, ◌-◌, ◌≤◌, List, [], ◌∷◌, ◌++◌, map, take, drop, length, All, Option, Some, None, option_map, Result, Ok, Err, IfOk, refl, sym, ap, ap₂, subst, ◌∙◌, inl, inr, append_assoc, append-nil, take-append-drop, length-take-le, length-drop, arith}
 use Rattle.std.proofs.lemmas.Bool.{cond_both}
 use Rattle.std.proofs.lemmas.Bool.Decides.{nat_tests}
 use borrow.Rule.Slice.PartMut.{put_mid}
@@ -16,8 +16,8 @@ use Rattle.vm_memory_guest.specs.Host.{Host, Shape, Cell, Name, Holds, shape_of,
 use Rattle.vm_memory_guest.specs.Memory.{Memory, Switched, NeedsTranslation, behind_if, behind_of, route, route_behind, switched_names, memory_names}
 use Rattle.vm_memory_guest.specs.Region.{IsRegion}
 use Rattle.vm_memory_guest.specs.Window.{window_names, span, cells, cells_of, Writes, Window}
-use Rattle.vm_memory_guest.specs.declared.region.GuestMemoryError.{GuestMemoryError}
-use Rattle.vm_memory_guest.specs.declared.region.GuestMemoryError.TheVariants as errors
+use Rattle.vm_memory_guest.specs.declared.region.error.GuestMemoryError.{GuestMemoryError}
+use Rattle.vm_memory_guest.specs.declared.region.error.GuestMemoryError.TheVariants as errors
 use Rattle.vm_memory_guest.proofs.MarkLaws.{Writes-append, Writes-take, Writes-from_take, shape_of-Writes}
 use Rattle.vm_memory_guest.proofs.PathLaws.{route_names, windows-held, span-windows, length-access}
 use Rattle.vm_memory_guest.proofs.WrittenLaws.{span-append, span-cons, cells-append, cells-one, length-cells, length-cells_from, filled_more}
@@ -61,6 +61,16 @@ gave walk next item w gives is =
       windows = ap (λ (r : Reach GuestMemoryError). r.windows) told_is;
       fault = ap (λ (r : Reach GuestMemoryError). r.fault) told_is;
     }
+
+-- the window that comes next
+next-window : (walk : Reach AccessFault) (item : Result Window GuestMemoryError)
+    (items : List (Result Window GuestMemoryError)) (w : Window) → items_of walk ≡ item ∷ items → item ≡ Ok w
+    → walk.windows ≡ w ∷ (told_in items).windows
+unfolding told_in first_told
+next-window walk item items w gives is =
+    let told_is : told error_of walk ≡ first_told (Ok w) (told_in items) = sym (told-items walk) ∙ ap told_in gives
+    ∙ ap (λ (x : Result Window GuestMemoryError). first_told x (told_in items)) is in
+    ap (λ (r : Reach GuestMemoryError). r.windows) told_is
 
 -- a walk has no window left, and this error, if any
 pub record Ends (walk : Reach AccessFault) (error : Option GuestMemoryError) : Type 0 where
@@ -107,14 +117,12 @@ came_more {start} {left} {next} {done} {w} {total} came gives len is = record {
 }
 
 -- the window that comes next still fits
-pub came-fits : {start left next : Reach AccessFault} {done : List Window} {w : Window} {total : ℕ}
-    → Came start left done total → Gave left next w → (n : ℕ) → span start.windows ≤ n → total + w.size ≤ n
-came-fits {start} {left} {next} {done} {w} {total} came gives n fits =
-    let all : start.windows ≡ done ++ w ∷ next.windows =
-    came.windows ∙ ap (λ (ws : List Window). done ++ ws) gives.windows in
-    let a : span start.windows ≡ span done + span (w ∷ next.windows) =
-    ap span all ∙ span-append done (w ∷ next.windows) in
-    let b = span-cons w next.windows in
+pub came-fits : {start left : Reach AccessFault} {done rest : List Window} {w : Window} {total : ℕ}
+    → Came start left done total → left.windows ≡ w ∷ rest → (n : ℕ) → span start.windows ≤ n → total + w.size ≤ n
+came-fits {start} {left} {done} {rest} {w} {total} came gives n fits =
+    let all : start.windows ≡ done ++ w ∷ rest = came.windows ∙ ap (λ (ws : List Window). done ++ ws) gives in
+    let a : span start.windows ≡ span done + span (w ∷ rest) = ap span all ∙ span-append done (w ∷ rest) in
+    let b = span-cons w rest in
     let c = came.count in
     omega arith
 
@@ -122,12 +130,20 @@ all_at : (P : Window → Type 0) (ws vs : List Window) (v : Window) → AllByRec
 all_at P [] vs v h = h.0
 all_at P (w ∷ ws) vs v h = all_at P ws vs v h.1
 
--- what holds of all windows holds of the one that comes next
-pub came-all : {start left next : Reach AccessFault} {done : List Window} {w : Window} {total : ℕ}
-    → Came start left done total → Gave left next w → (P : Window → Type 0) → AllByRecursion P start.windows → P w
-came-all {start} {left} {next} {done} {w} {total} came gives P each =
-    all_at P done next.windows w
-    (subst (AllByRecursion P) (came.windows ∙ ap (λ (ws : List Window). done ++ ws) gives.windows) each)
+-- of a walk that came so far, and gives a window next
+module _ {start left : Reach AccessFault} {done : List Window} {total : ℕ} {item : Result Window GuestMemoryError}
+    {items : List (Result Window GuestMemoryError)} {w : Window} where
+  -- that window still fits
+  pub next_fits : Came start left done total → items_of left ≡ item ∷ items → item ≡ Ok w → (n : ℕ)
+      → span start.windows ≤ n → total + w.size ≤ n
+  next_fits came gives is n fits = came-fits came (next-window left item items w gives is) n fits
+
+  -- and what holds of all windows holds of it
+  pub next_all : Came start left done total → items_of left ≡ item ∷ items → item ≡ Ok w → (P : Window → Type 0)
+      → AllByRecursion P start.windows → P w
+  next_all came gives is P each =
+      let all = came.windows ∙ ap (λ (ws : List Window). done ++ ws) (next-window left item items w gives is) in
+      all_at P done (told_in items).windows w (subst (AllByRecursion P) all each)
 
 -- at the end all windows are done
 came-done : {start left : Reach AccessFault} {done : List Window} {total : ℕ} {error : Option GuestMemoryError}
@@ -165,7 +181,7 @@ module _ {B : Type 0} (marks : B → ℕ → ℕ → B → Type 0) where
       let done = wrote.done in
       let n = span done in
       let count = wrote.came.count in
-      let inside = came-fits wrote.came gives (length buf) fits in
+      let inside = came-fits wrote.came gives.windows (length buf) fits in
       let enough : n ≤ length buf = omega arith in
       let all : take n buf ++ drop n buf ≡ buf = take-append-drop n buf in
       let long : total + len - total ≡ span (w ∷ []) = let one = span-one w in omega arith in
@@ -183,14 +199,15 @@ module _ {B : Type 0} (marks : B → ℕ → ℕ → B → Type 0) where
       }
 
   -- the window that comes next is held
-  pub wrote-held : {start left next : Reach AccessFault} {w : Window} {buf : List ℕ} {old now : Host B} {total : ℕ}
-      → Wrote start left buf old now total → Gave left next w
+  pub wrote-held : {start left : Reach AccessFault} {w : Window} {item : Result Window GuestMemoryError}
+      {items : List (Result Window GuestMemoryError)} {buf : List ℕ} {old now : Host B} {total : ℕ}
+      → Wrote start left buf old now total → items_of left ≡ item ∷ items → item ≡ Ok w
       → AllByRecursion (λ v. Holds (shape_of old) (window_names v)) start.windows
       → Holds (shape_of now) (window_names w)
-  wrote-held {start} {left} {next} {w} {buf} {old} {now} wrote gives held =
+  wrote-held {start} {left} {w} {item} {items} {buf} {old} {now} wrote gives is held =
       subst (λ (shape : Shape). Holds shape (window_names w))
       (sym (shape_of-Writes marks wrote.done buf old now wrote.writes))
-      (came-all wrote.came gives (λ v. Holds (shape_of old) (window_names v)) held)
+      (next_all wrote.came gives is (λ v. Holds (shape_of old) (window_names v)) held)
 
   -- at the end all windows are written
   pub wrote-ends : {start left : Reach AccessFault} {buf : List ℕ} {old now : Host B} {total : ℕ}
@@ -342,8 +359,8 @@ pub outcome-refused : (memory : Memory) (tables : List Table) (a n : ℕ) (acces
     (Effect : List Window → Type 0) (e : GuestMemoryError)
     → (WantsMemory memory n e ⊎ RefusesAccess memory tables a n access e) → unchanged → Effect []
     → let x = told error_of (reached memory tables a n access) in
-    Outcome {T = ℕ} errors.Memory (NeedsTranslation memory n) (ended (span x.windows) x.fault) unchanged (Effect x.windows)
-    (Err e)
+    Outcome {T = ℕ} errors.Memory (NeedsTranslation memory n) (ended (span x.windows) x.fault) unchanged
+    (Effect x.windows) (Err e)
 outcome-refused memory tables a n access unchanged Effect e why kept done = elim why [
   | inl wanted ↦ inl (wanted.0, wanted.1, kept)
   | inr refused ↦

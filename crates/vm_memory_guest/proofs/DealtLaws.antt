@@ -40,7 +40,8 @@ module _ {S B : Type 0} (source : S → Option (List Next)) (reads : S → List 
       → IsDealt x y → Again (LendsWindow source reads marks w) x answer z
       → Does IsDealt (λ x. ⊥) x answer z (again (lent w) y)
   again_lends w x z answer y like tries =
-      again_does IsDealt (λ x. ⊥) (LendsWindow source reads marks w) (lent w) (lends_does w) (λ x z a t no. no) tries y like
+      again_does IsDealt (λ x. ⊥) (LendsWindow source reads marks w) (lent w) (lends_does w) (λ x z a t no. no)
+      tries y like
 
   pub fills_does : (known : S → Option ℕ) (until_full : Bool) (w : Window) (x z : S × Host B)
       (answer : Answer) (y : List Next × Host PageSet) → IsDealt x y
@@ -48,7 +49,8 @@ module _ {S B : Type 0} (source : S → Option (List Next)) (reads : S → List 
       → Does IsDealt (λ x. ⊥) x answer z (dealt until_full w y)
   fills_does known false w x z answer y like tries = again_lends w x z answer y like tries
   fills_does known true w x z answer y like rest =
-      elim (rest_does IsDealt (λ x. ⊥) (λ filled. Again (LendsWindow source reads marks (part w filled (w.size - filled))))
+      elim (rest_does IsDealt (λ x. ⊥)
+      (λ filled. Again (LendsWindow source reads marks (part w filled (w.size - filled))))
       (λ filled. again (lent (part w filled (w.size - filled)))) w.size
       (λ filled x z a y some. again_lends (part w filled (w.size - filled)) x z a y) (λ done x z a t no. no)
       rest.tried w.size (omega arith) y like) [

@@ -105,7 +105,8 @@ windows_dirtied (w ∷ ws) host = windows_dirtied ws (marks_pages w.bitmap.id w.
 abbrev pub Fits : Window → Type 0
 Fits w = w.bitmap.base + w.size ≤ 2 ^ 64
 
--- what is taken from the laws of page sets: a mark is a mark of each of its bytes, and a mark of no bytes changes nothing
+-- what is taken from the laws of page sets: a mark is a mark of each of its bytes, and a mark of no bytes changes
+-- nothing
 abbrev pub MarkIsByBytes : Type 0
 MarkIsByBytes = (start len : ℕ) (set : PageSet) → start + len ≤ 2 ^ 64
     → marked_each (numbers start len) set ≡ marked start len set

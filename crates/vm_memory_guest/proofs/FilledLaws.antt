@@ -1,5 +1,5 @@
 -- Windows that a source filled whole: what their transfer answered, and that each of their bytes is dirty.
-use Rattle.std.proofs.Common.{◌≡◌, ◌≢◌, ℕ, zero, suc, ◌+◌, ◌-◌, ◌%◌, ◌^◌, ◌<◌, ◌≤◌, ◌==◌, Bool, true, false, MatchBool, List, [], ◌∷◌, map, Option, Some, Result, Ok, Err, IfOk, IfErr, Contains, ◌⊎◌, if◌then◌else◌, inl, inr, refl, sym, ap, subst, ◌∙◌, None, arith}
+use Rattle.std.proofs.Common.{◌≡◌, ◌≢◌, ℕ, zero, suc, ◌+◌, ◌-◌, ◌%◌, ◌^◌, ◌<◌, ◌≤◌, ◌==◌, Bool, true, false, MatchBool, List, [], ◌∷◌, Option, Some, Result, Ok, Err, IfOk, IfErr, ◌⊎◌, if◌then◌else◌, inl, inr, refl, sym, ap, subst, ◌∙◌, None, arith}
 use Rattle.std.proofs.Math.Nat.{mod-eq_of_lt}
 use Rattle.std.proofs.lemmas.Bool.{cases_lt}
 use Rattle.std.proofs.lemmas.Bool.Decides.{nat_tests}
@@ -252,7 +252,8 @@ module _ {S B : Type 0} (source : S → Option (List Next)) (reads : S → List 
           subst (λ (host : Host PageSet). Dirtier (seen x) host) (sym is) dirtier,
           λ count told at within p has inside fits.
               let same : len ≡ count = ap (marked_of w.size) told in
-              dirty_after shape_stays stays dirties (pages_at id mid) base len at p (now ∙ has) (omega arith) inside fits,
+              dirty_after shape_stays stays dirties (pages_at id mid) base len at p (now ∙ has) (omega arith) inside
+              fits,
         )
 
     again_leaves : (w : Window) {more : ℕ} {x z : S × Host B} {answer : Answer}
@@ -293,8 +294,10 @@ module _ {S B : Type 0} (source : S → Option (List Next)) (reads : S → List 
         → AllWhole (Fills source reads known marks UntilWhole) ws x z
         → Dirtier (seen x) (seen z) × AreDirty ws (seen z)
     unfolding AllWhole
-    all_leave known [] x z h =
-        (subst (λ (y : S × Host B). Dirtier (seen x) (seen y)) (sym h) (same_pages (seen x)), λ w among. absurd (omega (arith, among.1)))
+    all_leave known [] x z h = (
+      subst (λ (y : S × Host B). Dirtier (seen x) (seen y)) (sym h) (same_pages (seen x)),
+      λ w among. absurd (omega (arith, among.1)),
+    )
     all_leave known (w ∷ ws) x z h =
         let m = filled_leaves known w x h.0 h.1 in
         let more = all_leave known ws h.0 z h.2 in

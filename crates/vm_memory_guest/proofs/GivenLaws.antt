@@ -17,7 +17,8 @@ use Rattle.vm_memory_guest.specs.lemmas.Orders.{Then, order_does}
 use Rattle.vm_memory_guest.proofs.WrittenLaws.{bytes_at-append, span-cons}
 
 module _ {S E : Type 0} (sink : S → Option Sink) (taken : S → Option (List ℕ)) (wants : S → Type 0)
-    (writes : S → List ℕ → Answer → S → Type 0) (blocks : List (List ℕ)) (failure : VolatileMemoryError → E) (fault : Option E) where
+    (writes : S → List ℕ → Answer → S → Type 0) (blocks : List (List ℕ)) (failure : VolatileMemoryError → E)
+    (fault : Option E) where
   -- there was no memory for what the sink takes, where it may want some
   abbrev pub Wanted : Result ℕ E → S → Type 0
   Wanted answer old = (answer ≡ Err (failure Memory)) × wants old

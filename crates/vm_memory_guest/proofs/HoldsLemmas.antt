@@ -1,5 +1,5 @@
 -- What a host holds, over lists of names.
-use Rattle.std.proofs.Common.{◌≡◌, ℕ, suc, ◌+◌, ◌<◌, ◌≤◌, ◌↔◌, List, [], ◌∷◌, ◌++◌, map, flat_map, drop, length, get_or, slice_index, refl, sym, subst, ap, ◌∙◌, add-one, length-append, None, Result, Ok, Err, OnOk, OnErr, All, Contains, arith}
+use Rattle.std.proofs.Common.{◌≡◌, ℕ, suc, ◌+◌, ◌<◌, ◌≤◌, ◌↔◌, List, [], ◌∷◌, ◌++◌, map, flat_map, drop, length, get_or, slice_index, refl, sym, subst, ap, ◌∙◌, add-one, length-append, Result, Ok, Err, OnOk, OnErr, All, Contains, arith}
 use Rattle.std.proofs.lemmas.List.{get_or_append_left, map-append}
 use Rattle.std.proofs.lemmas.List.Elements.{All-nil, All-cons, All-head, All-tail, All-weaker, All-contains, All-from_recursion, recursion_from_All}
 use Rattle.std.proofs.Math.Seq.{drop-cons}

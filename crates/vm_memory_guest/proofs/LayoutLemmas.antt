@@ -13,8 +13,8 @@ use Rattle.vm_memory_guest.proofs.RegionLaws.{length-starts, start-at, apart}
 use Rattle.std.specs.List.{All, insert, remove}
 use Rattle.vm_memory_guest.specs.Layout.{inserted, is_exactly, behind_first, removed, digits_within, binary_digits, IsFault}
 use Rattle.vm_memory_guest.specs.Region.{Region, IsRegion, IsLayout, last, layout_error, fault_of}
-use Rattle.vm_memory_guest.specs.declared.region.GuestRegionCollectionError.{GuestRegionCollectionError}
-use Rattle.vm_memory_guest.specs.declared.region.GuestRegionCollectionError.TheVariants as layout
+use Rattle.vm_memory_guest.specs.declared.region.error.GuestRegionCollectionError.{GuestRegionCollectionError}
+use Rattle.vm_memory_guest.specs.declared.region.error.GuestRegionCollectionError.TheVariants as layout
 
 module _ {X : Type 0} (region : X → Region) where
   -- behind the last region that starts no higher, and before the first that starts above, is the place

@@ -18,8 +18,8 @@ use Rattle.vm_memory_guest.specs.RegionBytes.{as_guest, moved_in}
 use Rattle.vm_memory_guest.specs.Typed.{answered}
 use Rattle.vm_memory_guest.specs.lemmas.TypedFacts.{subslice-sized}
 use Rattle.vm_memory_guest.specs.Window.{Window, span, subslice_of}
-use Rattle.vm_memory_guest.specs.declared.region.GuestMemoryError.{GuestMemoryError}
-use Rattle.vm_memory_guest.specs.declared.region.GuestMemoryError.TheVariants as errors
+use Rattle.vm_memory_guest.specs.declared.region.error.GuestMemoryError.{GuestMemoryError}
+use Rattle.vm_memory_guest.specs.declared.region.error.GuestMemoryError.TheVariants as errors
 use Rattle.vm_memory_guest.proofs.AccessLemmas.{Came, Gave, Ends, came_first, came_more, came-fits, accessed-refused}
 use Rattle.vm_memory_guest.specs.lemmas.Orders.{Then}
 
@@ -89,14 +89,16 @@ module _ {X : Type 0} (Moves : Window → X → Answer → X → Type 0) where
       done = m.done ++ w ∷ [];
       came = came_more m.came gives count all;
       rest = λ answer new so. to_left answer new
-          (order_more of_window (option_map error_of start.fault) Moves w next.windows total now mid moved moves count answer new is all so);
+          (order_more of_window (option_map error_of start.fault) Moves w next.windows total now mid moved moves count
+          answer new is all so);
     }
 
     pub moved_part : (count : ℕ) → moved ≡ Ok count → count ≢ w.size
         → Walked Moves start start.windows 0 initial (Ok (total + count)) mid
     moved_part count is part =
         to_left (Ok (total + count)) mid
-        (order_stops of_window (option_map error_of start.fault) Moves w next.windows total now mid moved moves count is part)
+        (order_stops of_window (option_map error_of start.fault) Moves w next.windows total now mid moved moves count
+        is part)
 
     pub moved_fails : (e : VolatileMemoryError) → moved ≡ Err e
         → Walked Moves start start.windows 0 initial (Err (of_window e)) mid
@@ -104,7 +106,7 @@ module _ {X : Type 0} (Moves : Window → X → Answer → X → Type 0) where
         (order_fails of_window (option_map error_of start.fault) Moves w next.windows total now mid moved moves e is)
 
     pub moved_within : (count : ℕ) → count ≤ w.size → total + count ≤ span start.windows
-    moved_within count within = let a = came-fits m.came gives (span start.windows) (omega arith) in omega arith
+    moved_within count within = let a = came-fits m.came gives.windows (span start.windows) (omega arith) in omega arith
 
   module _ {start left : Reach AccessFault} {initial now : X} {total : ℕ} (m : Moved start left initial now total) where
     pub moved_ends : {error : Option GuestMemoryError} → Ends left error

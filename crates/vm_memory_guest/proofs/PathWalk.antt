@@ -5,37 +5,35 @@ use Rattle.std.proofs.lemmas.Bool.{cond-true, cond-false, cases_lt, cases_Bool, 
 use Rattle.vm_memory_base.specs.Address.{step, is_within}
 use Rattle.vm_memory_base.specs.Table.{Mapping}
 use Rattle.vm_memory_base.specs.declared.bitmap.BitmapId.TheVariants.{Block}
-use Rattle.vm_memory_guest.specs.Access.{AccessFault, NoRegion, NoHostBytes, Reached, Meets, Reaches, Stops, meets_at, meets, onto, or_fault, path, first_fault, same_mappings, is_cut, Stretch, lengthened, stretches, window_of, windows}
+use Rattle.vm_memory_guest.specs.Access.{Access, AccessFault, NoRegion, NoHostBytes, Reached, Meets, Reaches, Stops, meets_at, meets, onto, or_fault, path, first_fault, same_mappings, is_cut, Stretch, lengthened, stretches, window_of, windows}
 use Rattle.vm_memory_guest.specs.Error.{error_of}
 use Rattle.vm_memory_guest.specs.Walk.{reach_of, error_item, items_of, walk_of}
 use Rattle.vm_memory_guest.specs.Host.{Cell}
 use Rattle.vm_memory_guest.specs.Memory.{Direct}
 use Rattle.vm_memory_guest.specs.Region.{Region, IsRegion, IsLayout, Lies, Backed, Unbacked, Unmapped, containing_region, cell, lies_in, lies_from, same_region, window_at}
-use Rattle.vm_memory_guest.specs.declared.region.GuestMemoryError.{GuestMemoryError}
-use Rattle.vm_memory_guest.specs.declared.region.GuestMemoryError.TheVariants.{InvalidGuestAddress, HostAddressNotAvailable}
+use Rattle.vm_memory_guest.specs.declared.region.error.GuestMemoryError.{GuestMemoryError}
+use Rattle.vm_memory_guest.specs.declared.region.error.GuestMemoryError.TheVariants.{InvalidGuestAddress, HostAddressNotAvailable}
 use Rattle.vm_memory_guest.specs.Window.{Window}
 use Rattle.vm_memory_guest.proofs.LayoutLaws.{IsLayout-tail}
 
 shifted : (i d : ℕ) → i + suc d ≡ i + 1 + d
 shifted i d = omega arith
 
--- two accesses that meet the same reach the same
-pub path_agree : (m k : ℕ → Meets) (i j n : ℕ) → ((d : ℕ) → d < n → m (i + d) ≡ k (j + d)) → path m i n ≡ path k j n
-unfolding path
-path_agree m k i j zero h = refl
-path_agree m k i j (suc n) h =
-    ap₂ onto (ap m (sym (add-zero i)) ∙ h 0 (omega arith) ∙ ap k (add-zero j))
-    (path_agree m k (i + 1) (j + 1) n
-    (λ d p. ap m (sym (shifted i d)) ∙ h (suc d) (omega arith) ∙ ap k (shifted j d)))
+-- a walk: its path, and what stops it
+abbrev pub walked : (ℕ → Meets) → ℕ → ℕ → Access
+walked m i n = record { path = path m i n; fault = first_fault m i n }
 
--- and are stopped by the same
-pub first_fault_agree : (m k : ℕ → Meets) (i j n : ℕ) → ((d : ℕ) → d < n → m (i + d) ≡ k (j + d))
-    → first_fault m i n ≡ first_fault k j n
-unfolding first_fault
-first_fault_agree m k i j zero h = refl
-first_fault_agree m k i j (suc n) h =
-    ap₂ or_fault (ap m (sym (add-zero i)) ∙ h 0 (omega arith) ∙ ap k (add-zero j))
-    (first_fault_agree m k (i + 1) (j + 1) n
+abbrev pub onward : Meets → Access → Access
+onward o rest = record { path = onto o rest.path; fault = or_fault o rest.fault }
+
+-- walks that meet the same are the same
+pub walk_agree : (m k : ℕ → Meets) (i j n : ℕ) → ((d : ℕ) → d < n → m (i + d) ≡ k (j + d))
+    → walked m i n ≡ walked k j n
+unfolding path first_fault
+walk_agree m k i j zero h = refl
+walk_agree m k i j (suc n) h =
+    ap₂ onward (ap m (sym (add-zero i)) ∙ h 0 (omega arith) ∙ ap k (add-zero j))
+    (walk_agree m k (i + 1) (j + 1) n
     (λ d p. ap m (sym (shifted i d)) ∙ h (suc d) (omega arith) ∙ ap k (shifted j d)))
 
 -- no bytes
@@ -362,6 +360,15 @@ module _ (regions : List Region) (a : ℕ) (r : Region) (first : Cell) (is_regio
         ∙ one (a + j) (is_within-from r.start r.len (a + j) (omega arith) h)) some
         ∙ ap (λ (p : ℕ). Reaches (reached_in r first p)) at
 
+    -- the access goes on from the address that it came to
+    goes_on : (k n : ℕ) → walked (meets regions Direct a) (0 + k) n ≡ walked (meets regions Direct (step a k)) 0 n
+    goes_on k n =
+        let m = meets regions Direct a in
+        let later = meets regions Direct (step a k) in
+        walk_agree m later (0 + k) 0 n
+        (λ d h. ap m (ap (λ (j : ℕ). j + d) (zero-add k)) ∙ direct-step regions a k d
+        ∙ ap later (sym (zero-add d)))
+
     -- the bytes of one region are one stretch, and then the access goes on
     stretches-in_region : (k n : ℕ) → a + suc k ≤ r.start + r.len → (n ≡ 0) ⊎ (a + suc k ≡ r.start + r.len)
         → stretches (path (meets regions Direct a) 0 (suc k + n)) ≡ record { first = reached_in r first a; len = suc k }
@@ -373,23 +380,15 @@ module _ (regions : List Region) (a : ℕ) (r : Region) (first : Cell) (is_regio
         cut_behind (0 + suc k) n (x (0 + k)) refl refl (elim ends [ inl e ↦ inl e | inr e ↦ inr (omega arith) ]) in
         let joined : is_cut (x 0) (x 0) ≡ false = ap (λ (b : Bool). not (b && true)) (same_region-itself r) in
         let run = stretches-past m x 0 k n (λ d h. byte_at (0 + d) (omega arith)) (λ d h. joined) behind in
-        let rest : path m (0 + suc k) n ≡ path (meets regions Direct (step a (suc k))) 0 n =
-        path_agree m (meets regions Direct (step a (suc k))) (0 + suc k) 0 n
-        (λ d h. ap m (ap (λ (j : ℕ). j + d) (zero-add (suc k))) ∙ direct-step regions a (suc k) d
-        ∙ ap (meets regions Direct (step a (suc k))) (sym (zero-add d))) in
-        run ∙ ap₂ (λ (p : ℕ) (ys : List Reached). stretch (reached_in r first p) (suc k) ∷ stretches ys)
-        (add-zero a) rest
+        run ∙ ap₂ (λ (p : ℕ) (w : Access). stretch (reached_in r first p) (suc k) ∷ stretches w.path)
+        (add-zero a) (goes_on (suc k) n)
 
     first_fault-in_region : (k n : ℕ) → a + k ≤ r.start + r.len
         → first_fault (meets regions Direct a) 0 (k + n) ≡ first_fault (meets regions Direct (step a k)) 0 n
     first_fault-in_region k n inside =
         let m = meets regions Direct a in
         let x = λ (j : ℕ). reached_in r first (a + j) in
-        let rest : first_fault m (0 + k) n ≡ first_fault (meets regions Direct (step a k)) 0 n =
-        first_fault_agree m (meets regions Direct (step a k)) (0 + k) 0 n
-        (λ d h. ap m (ap (λ (j : ℕ). j + d) (zero-add k)) ∙ direct-step regions a k d
-        ∙ ap (meets regions Direct (step a k)) (sym (zero-add d))) in
-        first_fault-past m x 0 k n (λ d h. byte_at (0 + d) (omega arith)) ∙ rest
+        first_fault-past m x 0 k n (λ d h. byte_at (0 + d) (omega arith)) ∙ ap (λ (w : Access). w.fault) (goes_on k n)
 
 -- the window of len bytes of a region from an address on
 abbrev pub window_in : Region → Cell → ℕ → ℕ → Window
@@ -402,7 +401,8 @@ len_in r a n = min (r.len - (a - r.start)) n
 module _ (regions : List Region) (a n : ℕ) (r : Region) (first : Cell) (is_region : IsRegion r)
     (some : r.place ≡ Some first) (found : containing_region regions a ≡ Some r)
     (one : (b : ℕ) → is_within r.start r.len b ≡ true → containing_region regions b ≡ Some r) (more : 0 < n) where
-  -- what of a path lies in the region of its first byte is one stretch, where that region is found at each of its addresses
+  -- what of a path lies in the region of its first byte is one stretch, where that region is found at each of its
+  -- addresses
   pub stretches-in_found_region : stretches (path (meets regions Direct a) 0 n)
       ≡ record { first = reached_in r first a; len = len_in r a n }
       ∷ stretches (path (meets regions Direct (step a (len_in r a n))) 0 (n - len_in r a n))
@@ -442,7 +442,8 @@ module _ (regions : List Region) (a n : ℕ) (r : Region) (first : Cell) (is_reg
       (λ (ss : List Stretch) (o : Option AccessFault). map (λ w. Ok w) (map window_of ss)
       ++ error_item o) stretches-in_found_region first_fault-in_found_region
 
--- a walk from an address of a region with host bytes: one window of what of it lies in the region, and then the walk from the next address
+-- a walk from an address of a region with host bytes: one window of what of it lies in the region, and then the
+-- walk from the next address
 pub walk-in_region : (regions : List Region) (a n : ℕ) (r : Region) (first : Cell) → IsLayout regions
     → containing_region regions a ≡ Some r → r.place ≡ Some first → IsRegion r → 0 < n
     → direct_items regions a n ≡ Ok (window_in r first a (len_in r a n))

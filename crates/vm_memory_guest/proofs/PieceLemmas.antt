@@ -10,7 +10,7 @@ use Rattle.vm_memory_base.specs.Table.{Mapping, Says, same_mapping, target, piec
 use Rattle.vm_memory_base.specs.Lookup.{mapped_ranges}
 use Rattle.vm_memory_base.specs.declared.bitmap.BitmapId.TheVariants.{Space}
 use Rattle.vm_memory_base.specs.declared.iotlb.Permissions.{Permissions}
-use Rattle.vm_memory_guest.specs.Access.{AccessFault, Reached, Meets, Reaches, Stops, meets_at, meets, onto, or_fault, path, first_fault, same_mappings, is_cut, Stretch, lengthened, stretches, window_of, windows, refusal, access_of}
+use Rattle.vm_memory_guest.specs.Access.{Access, AccessFault, Reached, Meets, Reaches, Stops, meets_at, meets, onto, or_fault, path, first_fault, same_mappings, is_cut, Stretch, lengthened, stretches, window_of, windows, refusal, access_of}
 use Rattle.vm_memory_guest.specs.Answer.{Reach}
 use Rattle.vm_memory_guest.specs.Memory.{Direct, Through, translated}
 use Rattle.vm_memory_guest.specs.Pieces.{unless_stopped, followed_by, walk_of_pieces, marking_from, marking}
@@ -18,7 +18,7 @@ use Rattle.vm_memory_guest.specs.Region.{Region, Lies, Backed, Unbacked, Unmappe
 use Rattle.vm_memory_guest.specs.Walk.{reach_of, walk_of}
 use Rattle.vm_memory_guest.specs.Window.{Window, span}
 use Rattle.vm_memory_guest.proofs.AccessLaws.{AllowedWhereGranted}
-use Rattle.vm_memory_guest.proofs.PathWalk.{stretch, path_agree, first_fault_agree, lengthened-first, stretches-cut, IsCutFrom}
+use Rattle.vm_memory_guest.proofs.PathWalk.{stretch, onward, walked, walk_agree, lengthened-first, stretches-cut, IsCutFrom}
 use Rattle.vm_memory_guest.proofs.PathLaws.{length-path, path-all, path-ends, span-windows, meets-arrives}
 
 shifted : (i d : ℕ) → i + suc d ≡ i + 1 + d
@@ -31,6 +31,9 @@ led mapping space x y = record { cell = y.cell; region = y.region; mapping = map
 led_from : Option Mapping → ℕ → ℕ → List Reached → List Reached
 led_from mapping space x [] = []
 led_from mapping space x (y ∷ ys) = led mapping space x y ∷ led_from mapping space (x + 1) ys
+
+abbrev led_walk : Option Mapping → ℕ → ℕ → Access → Access
+led_walk mapping space x w = record { path = led_from mapping space x w.path; fault = w.fault }
 
 led_meets : Option Mapping → ℕ → ℕ → Meets → Meets
 led_meets mapping space x (Reaches y) = Reaches (led mapping space x y)
@@ -67,79 +70,49 @@ module _ (m k : ℕ → Meets) (mapping : Option Mapping) (space : ℕ) where
   leads-rest x i j n h d p = ap m (sym (shifted i d))
       ∙ (h (suc d) (omega arith) ∙ ap₂ (λ (y t : ℕ). led_meets mapping space y (k t)) (shifted x d) (shifted j d))
 
-  path-led : (x i j n : ℕ) → Leads x i j n → path m i n ≡ led_from mapping space x (path k j n)
-  unfolding path led_from led_meets
-  path-led x i j zero h = refl
-  path-led x i j (suc n) h =
-      ap₂ onto (leads-first x i j n h) (path-led (x + 1) (i + 1) (j + 1) n (leads-rest x i j n h)) ∙ go (k j)
+  walk-led : (x i j n : ℕ) → Leads x i j n → walked m i n ≡ led_walk mapping space x (walked k j n)
+  unfolding path first_fault led_from led_meets
+  walk-led x i j zero h = refl
+  walk-led x i j (suc n) h =
+      ap₂ onward (leads-first x i j n h) (walk-led (x + 1) (i + 1) (j + 1) n (leads-rest x i j n h)) ∙ go (k j)
     where
-      go : (o : Meets) → onto (led_meets mapping space x o) (led_from mapping space (x + 1) (path k (j + 1) n))
-          ≡ led_from mapping space x (onto o (path k (j + 1) n))
+      go : (o : Meets) → onward (led_meets mapping space x o) (led_walk mapping space (x + 1) (walked k (j + 1) n))
+          ≡ led_walk mapping space x (onward o (walked k (j + 1) n))
       go (Reaches y) = refl
       go (Stops fault) = refl
 
-  first_fault-led : (x i j n : ℕ) → Leads x i j n → first_fault m i n ≡ first_fault k j n
-  unfolding first_fault led_meets
-  first_fault-led x i j zero h = refl
-  first_fault-led x i j (suc n) h =
-      ap₂ or_fault (leads-first x i j n h) (first_fault-led (x + 1) (i + 1) (j + 1) n (leads-rest x i j n h)) ∙ go (k j)
-    where
-      go : (o : Meets) → or_fault (led_meets mapping space x o) (first_fault k (j + 1) n)
-          ≡ or_fault o (first_fault k (j + 1) n)
-      go (Reaches y) = refl
-      go (Stops fault) = refl
-
--- a path on from one that nothing stops, and one that something stops
+-- a walk on from one that nothing stops, and one that something stops
 module _ (m : ℕ → Meets) where
   size : (k n : ℕ) → suc k + n ≡ suc (k + n)
   size k n = omega arith
 
-  path-on : (i k n : ℕ) → first_fault m i k ≡ None → path m i (k + n) ≡ path m i k ++ path m (i + k) n
+  abbrev joined_at : List Reached → ℕ → ℕ → Access
+  joined_at xs i n = record { path = xs ++ path m i n; fault = first_fault m i n }
+
+  walk-on : (i k n : ℕ) → first_fault m i k ≡ None → walked m i (k + n) ≡ joined_at (path m i k) (i + k) n
   unfolding path first_fault
-  path-on i zero n h = ap₂ (λ (j t : ℕ). path m j t) (sym (add-zero i)) (zero-add n)
-  path-on i (suc k) n h = ap (path m i) (size k n) ∙ go (path-on (i + 1) k n) (m i) h
+  walk-on i zero n h = ap₂ (λ (j t : ℕ). walked m j t) (sym (add-zero i)) (zero-add n)
+  walk-on i (suc k) n h = ap (walked m i) (size k n) ∙ go (walk-on (i + 1) k n) (m i) h
     where
-      go : (first_fault m (i + 1) k ≡ None → path m (i + 1) (k + n) ≡ path m (i + 1) k ++ path m (i + 1 + k) n)
+      go : (first_fault m (i + 1) k ≡ None → walked m (i + 1) (k + n) ≡ joined_at (path m (i + 1) k) (i + 1 + k) n)
           → (o : Meets) → or_fault o (first_fault m (i + 1) k) ≡ None
-          → onto o (path m (i + 1) (k + n)) ≡ onto o (path m (i + 1) k) ++ path m (i + suc k) n
+          → onward o (walked m (i + 1) (k + n)) ≡ joined_at (onto o (path m (i + 1) k)) (i + suc k) n
       go ih (Reaches x) none =
-          ap (λ (xs : List Reached). x ∷ xs)
-          (ih none ∙ ap (λ (j : ℕ). path m (i + 1) k ++ path m j n) (sym (shifted i k)))
+          ap (onward (Reaches x)) (ih none)
+          ∙ ap (λ (j : ℕ). joined_at (x ∷ path m (i + 1) k) j n) (sym (shifted i k))
       go ih (Stops fault) none = absurd (cc)
 
-  first_fault-on : (i k n : ℕ) → first_fault m i k ≡ None → first_fault m i (k + n) ≡ first_fault m (i + k) n
-  unfolding first_fault
-  first_fault-on i zero n h = ap₂ (λ (j t : ℕ). first_fault m j t) (sym (add-zero i)) (zero-add n)
-  first_fault-on i (suc k) n h = ap (first_fault m i) (size k n) ∙ go (first_fault-on (i + 1) k n) (m i) h
-    where
-      go : (first_fault m (i + 1) k ≡ None → first_fault m (i + 1) (k + n) ≡ first_fault m (i + 1 + k) n) → (o : Meets)
-          → or_fault o (first_fault m (i + 1) k) ≡ None
-          → or_fault o (first_fault m (i + 1) (k + n)) ≡ first_fault m (i + suc k) n
-      go ih (Reaches x) none = ih none ∙ ap (λ (j : ℕ). first_fault m j n) (sym (shifted i k))
-      go ih (Stops fault) none = absurd (cc)
-
-  path-stopped : (i k n : ℕ) (fault : AccessFault) → first_fault m i k ≡ Some fault → path m i (k + n) ≡ path m i k
+  walk-stopped : (i k n : ℕ) (fault : AccessFault) → first_fault m i k ≡ Some fault
+      → walked m i (k + n) ≡ walked m i k
   unfolding path first_fault
-  path-stopped i zero n fault h = absurd (cc)
-  path-stopped i (suc k) n fault h = ap (path m i) (size k n) ∙ go (path-stopped (i + 1) k n fault) (m i) h
+  walk-stopped i zero n fault h = absurd (cc)
+  walk-stopped i (suc k) n fault h = ap (walked m i) (size k n) ∙ go (walk-stopped (i + 1) k n fault) (m i) h
     where
-      go : (first_fault m (i + 1) k ≡ Some fault → path m (i + 1) (k + n) ≡ path m (i + 1) k) → (o : Meets)
+      go : (first_fault m (i + 1) k ≡ Some fault → walked m (i + 1) (k + n) ≡ walked m (i + 1) k) → (o : Meets)
           → or_fault o (first_fault m (i + 1) k) ≡ Some fault
-          → onto o (path m (i + 1) (k + n)) ≡ onto o (path m (i + 1) k)
-      go ih (Reaches x) some = ap (λ (xs : List Reached). x ∷ xs) (ih some)
+          → onward o (walked m (i + 1) (k + n)) ≡ onward o (walked m (i + 1) k)
+      go ih (Reaches x) some = ap (onward (Reaches x)) (ih some)
       go ih (Stops other) some = refl
-
-  first_fault-stopped : (i k n : ℕ) (fault : AccessFault) → first_fault m i k ≡ Some fault
-      → first_fault m i (k + n) ≡ Some fault
-  unfolding first_fault
-  first_fault-stopped i zero n fault h = absurd (cc)
-  first_fault-stopped i (suc k) n fault h = ap (first_fault m i) (size k n)
-      ∙ go (first_fault-stopped (i + 1) k n fault) (m i) h
-    where
-      go : (first_fault m (i + 1) k ≡ Some fault → first_fault m (i + 1) (k + n) ≡ Some fault) → (o : Meets)
-          → or_fault o (first_fault m (i + 1) k) ≡ Some fault → or_fault o (first_fault m (i + 1) (k + n)) ≡ Some fault
-      go ih (Reaches x) some = ih some
-      go ih (Stops other) some = some
 
 -- paths with a cut between them
 stretches-append : (xs ys : List Reached) → AllByRecursion (λ x. IsCutFrom x ys) xs
@@ -356,11 +329,7 @@ marking_all space x walk = record { windows = marking_on space x walk.windows; f
 
 -- an access that is translated, without its leave
 abbrev through : List Region → Says → ℕ → ℕ → ℕ → Reach AccessFault
-through regions f space a n =
-    record {
-      windows = windows (path (meets regions (Through f space) a) 0 n);
-      fault = first_fault (meets regions (Through f space) a) 0 n;
-    }
+through regions f space a n = reach_of (walked (meets regions (Through f space) a) 0 n)
 
 module _ (regions : List Region) (f : Says) (space : ℕ) where
   -- an access goes on as one from the address that it came to
@@ -368,18 +337,10 @@ module _ (regions : List Region) (f : Says) (space : ℕ) where
   moved a j i = ap (λ (x : ℕ). meets_at (Through f space) x (f x) (translated x (f x))
       (cell regions (translated x (f x)))) (sym (add_assoc a j i))
 
-  path-moved : (a j n : ℕ)
-      → path (meets regions (Through f space) a) (0 + j) n ≡ path (meets regions (Through f space) (a + j)) 0 n
-  path-moved a j n = path_agree (meets regions (Through f space) a) (meets regions (Through f space) (a + j))
+  walk-moved : (a j n : ℕ)
+      → walked (meets regions (Through f space) a) (0 + j) n ≡ walked (meets regions (Through f space) (a + j)) 0 n
+  walk-moved a j n = walk_agree (meets regions (Through f space) a) (meets regions (Through f space) (a + j))
       (0 + j) 0 n (λ d h. ap (meets regions (Through f space) a) (ap (λ (i : ℕ). i + d) (zero-add j))
-      ∙ (moved a j d ∙ ap (meets regions (Through f space) (a + j)) (sym (zero-add d))))
-
-  first_fault-moved : (a j n : ℕ)
-      → first_fault (meets regions (Through f space) a) (0 + j) n
-      ≡ first_fault (meets regions (Through f space) (a + j)) 0 n
-  first_fault-moved a j n =
-      first_fault_agree (meets regions (Through f space) a) (meets regions (Through f space) (a + j)) (0 + j) 0 n
-      (λ d h. ap (meets regions (Through f space) a) (ap (λ (i : ℕ). i + d) (zero-add j))
       ∙ (moved a j d ∙ ap (meets regions (Through f space) (a + j)) (sym (zero-add d))))
 
   -- the addresses of one run
@@ -392,24 +353,17 @@ module _ (regions : List Region) (f : Says) (space : ℕ) where
       ∙ ap (λ (y : ℕ). led_meets (Some m) space y (meets regions Direct (target a m) (0 + d)))
       (ap (λ (i : ℕ). a + i) (zero-add d))
 
-  path-run : (a k : ℕ) (m : Mapping) → AreMapped f a k m
-      → path (meets regions (Through f space) a) 0 k
-      ≡ led_from (Some m) space a (path (meets regions Direct (target a m)) 0 k)
-  path-run a k m said = path-led (meets regions (Through f space) a) (meets regions Direct (target a m))
+  walk-run : (a k : ℕ) (m : Mapping) → AreMapped f a k m → walked (meets regions (Through f space) a) 0 k
+      ≡ led_walk (Some m) space a (walked (meets regions Direct (target a m)) 0 k)
+  walk-run a k m said = walk-led (meets regions (Through f space) a) (meets regions Direct (target a m))
       (Some m) space a 0 0 k (leads-run a k m said)
-
-  first_fault-run : (a k : ℕ) (m : Mapping) → AreMapped f a k m
-      → first_fault (meets regions (Through f space) a) 0 k ≡ first_fault (meets regions Direct (target a m)) 0 k
-  first_fault-run a k m said =
-      first_fault-led (meets regions (Through f space) a) (meets regions Direct (target a m)) (Some m) space a 0 0 k
-      (leads-run a k m said)
 
   module _ (same : TestsEquality same_mapping) where
     windows-run : (a k : ℕ) (m : Mapping) → AreMapped f a k m
         → windows (path (meets regions (Through f space) a) 0 k)
         ≡ marking_on space a (walk_of regions (target a m) k).windows
     windows-run a k m said =
-        ap windows (path-run a k m said)
+        ap (λ (w : Access). windows w.path) (walk-run a k m said)
         ∙ (ap (map window_of) (stretches-led (Some m) (same.1 m) space a (path (meets regions Direct (target a m)) 0 k)
         (bare-path regions (target a m) 0 k))
         ∙ windows-led (Some m) space a (stretches (path (meets regions Direct (target a m)) 0 k)))
@@ -479,13 +433,14 @@ module _ (regions : List Region) (f : Says) (space : ℕ) where
           let T = meets regions (Through f space) a in
           let ys = path (meets regions Direct (target a m)) 0 k in
           let zs = path (meets regions (Through f space) (a + k)) 0 n in
+          let run = walk-run a k m said in
           let whole : path T 0 (k + n) ≡ led_from (Some m) space a ys ++ zs =
-          path-on T 0 k n (first_fault-run a k m said ∙ none)
-          ∙ ap₂ (λ (xs vs : List Reached). xs ++ vs) (path-run a k m said) (path-moved a k n) in
+          ap (λ (w : Access). w.path) (walk-on T 0 k n (ap (λ (w : Access). w.fault) run ∙ none))
+          ∙ ap₂ (λ (w v : Access). w.path ++ v.path) run (walk-moved a k n) in
           let parts : stretches (led_from (Some m) space a ys ++ zs) ≡ stretches (led_from (Some m) space a ys)
           ++ stretches zs = stretches-append (led_from (Some m) space a ys) zs (led-all a m zs cut a ys) in
           let first : windows (led_from (Some m) space a ys) ≡ marking_on space a walk =
-          ap windows (sym (path-run a k m said)) ∙ windows-run a k m said in
+          ap (λ (w : Access). windows w.path) (sym run) ∙ windows-run a k m said in
           let second : windows zs ≡ marking_on space (a + k) rest.windows =
           ap (λ (w : Reach AccessFault). w.windows) behind in
           ap windows whole
@@ -500,15 +455,15 @@ module _ (regions : List Region) (f : Says) (space : ℕ) where
       unfolding walk
       run-access None none =
           let T = meets regions (Through f space) a in
+          let run = ap (λ (w : Access). w.fault) (walk-run a k m said) in
           let fault : first_fault T 0 (k + n) ≡ rest.fault =
-          first_fault-on T 0 k n (first_fault-run a k m said ∙ none)
-          ∙ (first_fault-moved a k n ∙ ap (λ (w : Reach AccessFault). w.fault) behind) in
+          ap (λ (w : Access). w.fault) (walk-on T 0 k n (run ∙ none))
+          ∙ (ap (λ (w : Access). w.fault) (walk-moved a k n) ∙ ap (λ (w : Reach AccessFault). w.fault) behind) in
           ap₂ reach (windows-both none) fault
       run-access (Some fault) some =
           let T = meets regions (Through f space) a in
-          let stopped : first_fault T 0 k ≡ Some fault = first_fault-run a k m said ∙ some in
-          ap₂ reach (ap windows (path-stopped T 0 k n fault stopped) ∙ windows-run a k m said)
-          (first_fault-stopped T 0 k n fault stopped)
+          let stopped : first_fault T 0 k ≡ Some fault = ap (λ (w : Access). w.fault) (walk-run a k m said) ∙ some in
+          ap reach_of (walk-stopped T 0 k n fault stopped) ∙ ap₂ reach (windows-run a k m said) stopped
 
     -- the walks over the pieces of a chain are the access
     chain-access : (a n : ℕ) (rs : List (AddressRun Mapping)) → IsChain f a n rs
@@ -583,8 +538,5 @@ module _ (same : TestsEquality same_mapping) (allowed_where : AllowedWhereGrante
   pieces-access regions f space a n access ok =
       sym (pieces-through regions f space a n access ok)
       ∙ sym (ap reach_of (cond-true (is_allowed f a n access)
-      (record {
-        path = path (meets regions (Through f space) a) 0 n;
-        fault = first_fault (meets regions (Through f space) a) 0 n;
-      })
+      (walked (meets regions (Through f space) a) 0 n)
       (record { path = []; fault = Some (refusal (Through f space) a n) }) ok))

@@ -1,5 +1,5 @@
 -- The walk over pieces, one call after the other.
-use Rattle.std.proofs.Common.{◌≡◌, ℕ, List, [], ◌∷◌, ◌++◌, map, Option, Some, None, option_map, Result, Ok, Err, refl, sym, ap, ap₂, ◌∙◌}
+use Rattle.std.proofs.Common.{◌≡◌, ℕ, List, [], ◌∷◌, ◌++◌, map, Option, Some, None, option_map, Result, Ok, Err, refl, sym, ap, ◌∙◌}
 use Rattle.std.proofs.lemmas.Option.{same_Some}
 use Rattle.vm_memory_base.specs.Address.{step}
 use Rattle.vm_memory_base.specs.declared.bitmap.BitmapId.TheVariants.{Space}
@@ -10,11 +10,11 @@ use Rattle.vm_memory_guest.specs.Pieces.{unless_stopped, walk_of_pieces, marking
 use Rattle.vm_memory_guest.specs.Region.{Region}
 use Rattle.vm_memory_guest.specs.Walk.{items_of, walk_of}
 use Rattle.vm_memory_guest.specs.Window.{Window}
-use Rattle.vm_memory_guest.specs.declared.region.GuestMemoryError.{GuestMemoryError}
+use Rattle.vm_memory_guest.specs.declared.region.error.GuestMemoryError.{GuestMemoryError}
 use Rattle.vm_memory_guest.proofs.AccessLemmas.{gave, ends_in, ends_whole}
 
 -- a walk over no byte
-pub no-walk : (regions : List Region) (a : ℕ) → walk_of regions a 0 ≡ record { windows = []; fault = None }
+no-walk : (regions : List Region) (a : ℕ) → walk_of regions a 0 ≡ record { windows = []; fault = None }
 unfolding path first_fault stretches
 no-walk regions a = refl
 
@@ -111,9 +111,22 @@ left-next walk new old left none gives is =
     ∙ sym (ap (λ (p : PiecesLeft). marking p.space p.iova
     (unless_stopped new.windows new.fault (walk_of_pieces left.regions left.pieces))) is))
 
--- before the first piece
-pub left-first : (regions : List Region) (a : ℕ) (walk : Reach AccessFault) (p q : PiecesLeft)
-    → walk ≡ walk_of regions a 0 → p ≡ q
-    → left_of walk (Some p) ≡ marking q.space q.iova (walk_of_pieces q.regions q.pieces)
-left-first regions a walk p q empty is =
-    ap₂ (λ (w : Reach AccessFault) (r : PiecesLeft). left_of w (Some r)) (empty ∙ no-walk regions a) is
+-- the first piece is walked through
+pub left-first : (new : Reach AccessFault) (all old left : PiecesLeft) → old ≡ all
+    → walk_of_pieces old.regions old.pieces
+    ≡ unless_stopped new.windows new.fault (walk_of_pieces left.regions left.pieces)
+    → left ≡ record old { pieces = left.pieces }
+    → left_of new (Some left) ≡ marking all.space all.iova (walk_of_pieces all.regions all.pieces)
+left-first new all old left same gives is =
+    sym (left-next (record { windows = []; fault = None }) new old left refl gives is)
+    ∙ ap (λ (p : PiecesLeft). marking p.space p.iova (walk_of_pieces p.regions p.pieces)) same
+
+-- there is no piece
+pub left-no_piece : (regions : List Region) (a : ℕ) (walk : Reach AccessFault) (all old : PiecesLeft)
+    → walk ≡ walk_of regions a 0 → old ≡ all
+    → walk_of_pieces old.regions old.pieces ≡ record { windows = []; fault = None }
+    → walk ≡ marking all.space all.iova (walk_of_pieces all.regions all.pieces)
+left-no_piece regions a walk all old empty same none =
+    empty ∙ no-walk regions a
+    ∙ sym (ap (λ (p : PiecesLeft). marking p.space p.iova (walk_of_pieces p.regions p.pieces)) (sym same)
+    ∙ ap (marking old.space old.iova) none)

@@ -12,7 +12,7 @@ use Rattle.vm_memory_guest.specs.Region.{Region, region_names}
 use Rattle.vm_memory_guest.specs.declared.mmap.FromRangesError.{FromRangesError}
 use Rattle.vm_memory_guest.specs.declared.mmap.GuestRegionMmap.{GuestRegionMmap}
 use Rattle.vm_memory_guest.specs.declared.mmap.FromRangesError.TheVariants.{Collection}
-use Rattle.vm_memory_guest.specs.declared.region.GuestRegionCollectionError.TheVariants as layout
+use Rattle.vm_memory_guest.specs.declared.region.error.GuestRegionCollectionError.TheVariants as layout
 use Rattle.vm_memory_guest.proofs.HoldsLemmas.{Holds-each}
 
 -- one range more

@@ -12,8 +12,8 @@ use Rattle.std.specs.List.{All}
 use Rattle.std.specs.declared.alloc.Global.{Global}
 use Rattle.std.specs.declared.sync.Arc.{Arc}
 use Rattle.vm_memory_guest.specs.Collection.{IsIndexed, each_is_region}
-use Rattle.vm_memory_guest.specs.declared.region.GuestRegionCollectionError.{GuestRegionCollectionError}
-use Rattle.vm_memory_guest.specs.declared.region.GuestRegionCollectionError.TheVariants as layout
+use Rattle.vm_memory_guest.specs.declared.region.error.GuestRegionCollectionError.{GuestRegionCollectionError}
+use Rattle.vm_memory_guest.specs.declared.region.error.GuestRegionCollectionError.TheVariants as layout
 use Rattle.vm_memory_guest.specs.Region.{Region, IsRegion, last, has_address, containing_region, containing_in, IsLayout}
 use Rattle.vm_memory_guest.specs.Region.{neighbours_of, first_error, neighbours_error, layout_error, fault_of}
 

@@ -41,8 +41,9 @@ sends_of sink taken wants writes blocks w old new bytes result is sends wanted =
 
 -- a sink was offered the bytes of a window by one try
 pub offers_of : {S : Type 0} (sink : S → Option Sink) (taken : S → Option (List ℕ)) (wants : S → Type 0)
-    (writes : S → List ℕ → Answer → S → Type 0) (blocks : List (List ℕ)) (w : Window) (old new : S) (bytes : List ℕ) (result : Answer)
-    → bytes ≡ bytes_at blocks (cells_of w) → IfOk result (λ count. count ≤ length bytes)
+    (writes : S → List ℕ → Answer → S → Type 0) (blocks : List (List ℕ)) (w : Window) (old new : S)
+    (bytes : List ℕ) (result : Answer) → bytes ≡ bytes_at blocks (cells_of w)
+    → IfOk result (λ count. count ≤ length bytes)
     → OffersAs (wants old) (sink old) (length bytes) result (sink new)
     → Again (λ s. writes s bytes) old result new
     → Keeps (taken old) bytes (count_of result) (taken new)

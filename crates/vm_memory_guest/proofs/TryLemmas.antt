@@ -5,7 +5,7 @@ use Rattle.vm_memory_base.specs.Address.{step}
 use Rattle.vm_memory_base.specs.declared.address.MemoryRegionAddress.{MemoryRegionAddress}
 use Rattle.vm_memory_guest.specs.Region.{Region, containing_in}
 use Rattle.vm_memory_guest.specs.TryAccess.{CallsAt, CallsIn, Ends, GoesOn, after_call, answer_at_unmapped, TryAccess, Nowhere, Last, More}
-use Rattle.vm_memory_guest.specs.declared.region.GuestMemoryError.{GuestMemoryError}
+use Rattle.vm_memory_guest.specs.declared.region.error.GuestMemoryError.{GuestMemoryError}
 
 module _ {R F : Type 0} (region : R → Region) (rs : List R)
     (call : Mut F (ℕ × (ℕ × (MemoryRegionAddress × (Bor R × Unit {0})))) (Result ℕ GuestMemoryError))

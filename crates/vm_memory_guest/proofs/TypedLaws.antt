@@ -12,8 +12,8 @@ use Rattle.vm_memory_guest.specs.Memory.{Route}
 use Rattle.vm_memory_guest.specs.Region.{Region, IsRegion}
 use Rattle.vm_memory_guest.specs.Typed.{answered, given, first_aligned, is_uncut, place_of, typed_path, whole_path, path_given}
 use Rattle.vm_memory_guest.specs.Window.{Window, Writes, cells, cells_of}
-use Rattle.vm_memory_guest.specs.declared.region.GuestMemoryError.{GuestMemoryError}
-use Rattle.vm_memory_guest.specs.declared.region.GuestMemoryError.TheVariants.{InvalidBackendAddress}
+use Rattle.vm_memory_guest.specs.declared.region.error.GuestMemoryError.{GuestMemoryError}
+use Rattle.vm_memory_guest.specs.declared.region.error.GuestMemoryError.TheVariants.{InvalidBackendAddress}
 use Rattle.vm_memory_guest.proofs.AccessLaws.{cells-access}
 use Rattle.vm_memory_guest.proofs.PathLaws.{length-access}
 use Rattle.vm_memory_guest.proofs.WrittenLaws.{cells-one}

@@ -1,6 +1,6 @@
 -- Values in guest memory, by the walk of their access.
 use Rattle.std.specs.List.{AllByRecursion}
-use Rattle.std.proofs.Common.{◌≡◌, ◌⊎◌, ℕ, ◌+◌, ◌-◌, ◌%◌, ◌<◌, ◌≤◌, ◌&&◌, ◌==◌, Bool, true, false, cond, if◌then◌else◌, List, [], ◌∷◌, ◌++◌, take, drop, length, Option, Some, None, option_map, Result, Ok, Err, sym, ap, subst, ◌∙◌, inl, inr, arith, append_assoc, append-nil, drop-drop}
+use Rattle.std.proofs.Common.{◌≡◌, ◌⊎◌, ℕ, ◌+◌, ◌-◌, ◌%◌, ◌≤◌, ◌&&◌, ◌==◌, Bool, true, false, cond, if◌then◌else◌, List, [], ◌∷◌, ◌++◌, take, drop, length, Option, Some, None, option_map, Result, Ok, Err, sym, ap, subst, ◌∙◌, inl, inr, arith, append_assoc, append-nil, drop-drop}
 use Rattle.std.proofs.lemmas.Bool.Decides.{nat_tests}
 use Rattle.std.proofs.lemmas.List.{drop_all}
 use borrow.Rule.Slice.PartMut.{put_mid}
@@ -15,8 +15,8 @@ use Rattle.vm_memory_guest.specs.Transfer.{all_of, ended}
 use Rattle.vm_memory_guest.specs.Typed.{answered, given, first_aligned, place_of}
 use Rattle.vm_memory_guest.specs.Walk.{reached, GivesAccess, RefusesAccess, WantsMemory}
 use Rattle.vm_memory_guest.specs.Window.{Window, Writes, cells, cells_of, span}
-use Rattle.vm_memory_guest.specs.declared.region.GuestMemoryError.{GuestMemoryError}
-use Rattle.vm_memory_guest.specs.declared.region.GuestMemoryError.TheVariants as errors
+use Rattle.vm_memory_guest.specs.declared.region.error.GuestMemoryError.{GuestMemoryError}
+use Rattle.vm_memory_guest.specs.declared.region.error.GuestMemoryError.TheVariants as errors
 use Rattle.vm_memory_guest.proofs.AccessLemmas.{Gave, Wrote, Filled, accessed-refused, wrote_more, filled-more}
 use Rattle.vm_memory_guest.proofs.HostLemmas.{span-one}
 use Rattle.vm_memory_guest.proofs.MarkLaws.{Writes-take}
@@ -38,8 +38,8 @@ first-held P size (w ∷ ws) fault v is each =
 module _ (memory : Memory) (tables : List Table) (a n : ℕ) (access : Permissions) where
   -- a load or a store that is refused changes nothing, and tells why
   pub typed-refused : {T : Type 0} (f : Window → T) (unchanged : Type 0) (Effect : List Window → Type 0)
-      (e : GuestMemoryError) → (WantsMemory memory n e ⊎ RefusesAccess memory tables a n access e) → unchanged → Effect []
-      → let w = place_of n (access_of memory.regions (route memory tables) a n access) in
+      (e : GuestMemoryError) → (WantsMemory memory n e ⊎ RefusesAccess memory tables a n access e) → unchanged
+      → Effect [] → let w = place_of n (access_of memory.regions (route memory tables) a n access) in
       Outcome errors.Memory (NeedsTranslation memory n) (answered f w) unchanged (Effect (given w)) (Err e)
   typed-refused {T} f unchanged Effect e why kept done = elim why [
     | inl wanted ↦ inl (wanted.0, wanted.1, kept)

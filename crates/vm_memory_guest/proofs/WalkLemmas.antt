@@ -6,8 +6,8 @@ use Rattle.vm_memory_base.specs.Address.{step}
 use Rattle.vm_memory_guest.specs.Host.{Cell}
 use Rattle.vm_memory_guest.specs.Region.{Region, IsRegion, IsLayout, containing_region, containing_in, slice_from, window_at}
 use Rattle.vm_memory_guest.specs.Window.{Window}
-use Rattle.vm_memory_guest.specs.declared.region.GuestMemoryError.{GuestMemoryError}
-use Rattle.vm_memory_guest.specs.declared.region.GuestMemoryError.TheVariants.{InvalidGuestAddress}
+use Rattle.vm_memory_guest.specs.declared.region.error.GuestMemoryError.{GuestMemoryError}
+use Rattle.vm_memory_guest.specs.declared.region.error.GuestMemoryError.TheVariants.{InvalidGuestAddress}
 use Rattle.vm_memory_guest.proofs.RegionLaws.{containing_in-map}
 use Rattle.vm_memory_guest.proofs.PathWalk.{direct_items, walk-none, walk-hole, walk-bare, walk-in_region, containing_region-within, is_within-bounds, window_in, len_in}
 

@@ -146,6 +146,8 @@ lengths-written (c ∷ cs) [] blocks = refl
 lengths-written (c ∷ cs) (b ∷ bytes) blocks = lengths-written cs bytes (with_byte blocks c b)
     ∙ lengths-with_byte blocks c.block c.offset b
 
+pub ruleset written_lengths = lengths-written
+
 -- the length of a block is that of its number among the lengths
 pub length-block_at : (blocks : List (List ℕ)) (b : ℕ) → length (block_at blocks b) ≡ get_or (map length blocks) b 0
 length-block_at [] b = refl

@@ -4,8 +4,8 @@ use Rattle.vm_memory_base.specs.declared.io.VolatileMemoryError.TheVariants.{Out
 use Rattle.vm_memory_base.specs.declared.io.VolatileMemoryError.TheVariants as window
 use Rattle.vm_memory_base.specs.declared.iotlb.IommuError.TheVariants.{CannotResolve}
 use Rattle.vm_memory_guest.specs.Access.{AccessFault, NoRegion, NoHostBytes, Refused}
-use Rattle.vm_memory_guest.specs.declared.region.GuestMemoryError.{GuestMemoryError}
-use Rattle.vm_memory_guest.specs.declared.region.GuestMemoryError.TheVariants.{IOError, InvalidBackendAddress, InvalidGuestAddress, HostAddressNotAvailable, IommuError, PartialBuffer, Memory}
+use Rattle.vm_memory_guest.specs.declared.region.error.GuestMemoryError.{GuestMemoryError}
+use Rattle.vm_memory_guest.specs.declared.region.error.GuestMemoryError.TheVariants.{IOError, InvalidBackendAddress, InvalidGuestAddress, HostAddressNotAvailable, IommuError, PartialBuffer, Memory}
 
 -- the error that a fault is told as
 abbrev pub error_of : AccessFault → GuestMemoryError

@@ -1,8 +1,8 @@
 -- Whole blocks of a host, and such a block at a guest address, as a region.
 use Rattle.std.specs.Prelude.{ℕ, ◌+◌, ◌^◌, ◌<◌, Some}
 use Rattle.std.proofs.Common.{arith}
-use Rattle.vm_memory_guest.specs.Region.{Region, IsRegion, window_at}
-use Rattle.vm_memory_guest.specs.Window.{Window}
+use Rattle.vm_memory_guest.specs.Region.{Region, IsRegion}
+use Rattle.vm_memory_guest.specs.Window.{Window, block_window}
 
 -- the number of a block, and how many bytes it has: 1 to 2 ^ 63 - 1
 pub record WholeBlock : Type 0 where
@@ -13,7 +13,7 @@ pub record WholeBlock : Type 0 where
 
 -- the window of its bytes
 abbrev pub whole_window : WholeBlock → Window
-whole_window b = window_at (record { block = b.block; offset = 0 }) 0 b.size
+whole_window b = block_window b.block 0 b.size
 
 -- a block at a guest address, which ends at the greatest address but one, or below
 pub record PlacedBlock : Type 0 where

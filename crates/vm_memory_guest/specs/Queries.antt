@@ -7,8 +7,8 @@ use Rattle.vm_memory_base.specs.declared.bitmap.BitmapRef.{BitmapRef}
 use Rattle.vm_memory_guest.specs.Access.{Reached}
 use Rattle.vm_memory_guest.specs.Host.{Cell}
 use Rattle.vm_memory_guest.specs.Region.{Region, last, has_address, containing_in, slice_of}
-use Rattle.vm_memory_guest.specs.declared.region.GuestMemoryError.{GuestMemoryError}
-use Rattle.vm_memory_guest.specs.declared.region.GuestMemoryError.TheVariants.{InvalidGuestAddress, InvalidBackendAddress, HostAddressNotAvailable}
+use Rattle.vm_memory_guest.specs.declared.region.error.GuestMemoryError.{GuestMemoryError}
+use Rattle.vm_memory_guest.specs.declared.region.error.GuestMemoryError.TheVariants.{InvalidGuestAddress, InvalidBackendAddress, HostAddressNotAvailable}
 use Rattle.vm_memory_guest.specs.Window.{Window}
 use Rattle.vm_memory_guest.specs.declared.host.address.HostAddress.{HostAddress}
 

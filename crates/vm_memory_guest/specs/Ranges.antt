@@ -6,7 +6,7 @@ use Rattle.vm_memory_guest.specs.Host.{Host, with_block}
 use Rattle.vm_memory_guest.specs.Region.{Region, layout_error}
 use Rattle.vm_memory_guest.specs.declared.mmap.FromRangesError.{FromRangesError}
 use Rattle.vm_memory_guest.specs.declared.mmap.FromRangesError.TheVariants.{Collection, MmapRegion, InvalidGuestRegion}
-use Rattle.vm_memory_guest.specs.declared.region.GuestRegionCollectionError.TheVariants as layout
+use Rattle.vm_memory_guest.specs.declared.region.error.GuestRegionCollectionError.TheVariants as layout
 use Rattle.vm_memory_guest.specs.declared.host.MmapRegionError.TheVariants as block
 
 -- why a range makes no region, memory aside: the size of its block is tested before its end

@@ -2,13 +2,12 @@
 use Rattle.std.specs.Prelude.{ℕ, ◌+◌, ◌-◌, ◌^◌, ◌<◌, ◌≤◌, nat_lt, nat_le, Bool, ◌&&◌, ◌==◌, if◌then◌else◌}
 use Rattle.std.specs.Prelude.{List, [], ◌∷◌, find, Option, Some, None, Result, Ok, Err}
 use Rattle.vm_memory_base.specs.Address.{is_within}
-use Rattle.vm_memory_base.specs.declared.bitmap.BitmapId.TheVariants as bitmap
 use Rattle.vm_memory_guest.specs.Host as host
-use Rattle.vm_memory_guest.specs.Window.{Window}
-use Rattle.vm_memory_guest.specs.declared.region.GuestMemoryError.{GuestMemoryError}
-use Rattle.vm_memory_guest.specs.declared.region.GuestMemoryError.TheVariants as access
-use Rattle.vm_memory_guest.specs.declared.region.GuestRegionCollectionError.{GuestRegionCollectionError}
-use Rattle.vm_memory_guest.specs.declared.region.GuestRegionCollectionError.TheVariants as layout
+use Rattle.vm_memory_guest.specs.Window.{Window, block_window}
+use Rattle.vm_memory_guest.specs.declared.region.error.GuestMemoryError.{GuestMemoryError}
+use Rattle.vm_memory_guest.specs.declared.region.error.GuestMemoryError.TheVariants as access
+use Rattle.vm_memory_guest.specs.declared.region.error.GuestRegionCollectionError.{GuestRegionCollectionError}
+use Rattle.vm_memory_guest.specs.declared.region.error.GuestRegionCollectionError.TheVariants as layout
 use Rattle.vm_memory_guest.specs.Host.{Name, Cell}
 
 -- len addresses from start on, and the cell of the first where the region has host bytes: the others follow
@@ -79,12 +78,7 @@ region_names r = place_names r.place r.len
 
 -- the window of count bytes of a region from an offset on
 abbrev pub window_at : Cell → ℕ → ℕ → Window
-window_at first offset count = record {
-  block = record { 0 = first.block };
-  offset = first.offset + offset;
-  size = count;
-  bitmap = record { id = bitmap.Block first.block; base = first.offset + offset };
-}
+window_at first offset count = block_window first.block (first.offset + offset) count
 
 -- what a region gives of count bytes from an offset on
 abbrev pub slice_from : Option Cell → ℕ → ℕ → ℕ → Result Window GuestMemoryError

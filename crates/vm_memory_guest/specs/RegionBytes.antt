@@ -7,7 +7,7 @@ use Rattle.vm_memory_guest.specs.Error.{of_window}
 use Rattle.vm_memory_guest.specs.Region.{Region, slice_of}
 use Rattle.vm_memory_guest.specs.Typed.{aligned_of}
 use Rattle.vm_memory_guest.specs.Window.{Window}
-use Rattle.vm_memory_guest.specs.declared.region.GuestMemoryError.{GuestMemoryError}
+use Rattle.vm_memory_guest.specs.declared.region.error.GuestMemoryError.{GuestMemoryError}
 
 -- an answer of a window, as guest memory tells it
 abbrev pub as_guest : {T : Type 0} → Result T VolatileMemoryError → Result T GuestMemoryError

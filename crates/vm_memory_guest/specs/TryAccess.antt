@@ -6,8 +6,8 @@ use denote.Ref.{Bor}
 use Rattle.vm_memory_base.specs.Address.{step}
 use Rattle.vm_memory_base.specs.declared.address.MemoryRegionAddress.{MemoryRegionAddress}
 use Rattle.vm_memory_guest.specs.Region.{Region, containing_in}
-use Rattle.vm_memory_guest.specs.declared.region.GuestMemoryError.{GuestMemoryError}
-use Rattle.vm_memory_guest.specs.declared.region.GuestMemoryError.TheVariants.{InvalidGuestAddress, CallbackOutOfRange, GuestAddressOverflow}
+use Rattle.vm_memory_guest.specs.declared.region.error.GuestMemoryError.{GuestMemoryError}
+use Rattle.vm_memory_guest.specs.declared.region.error.GuestMemoryError.TheVariants.{InvalidGuestAddress, CallbackOutOfRange, GuestAddressOverflow}
 
 -- a call of f with the total so far, the length, the offset and the region may give this answer and leave g
 pub record CallsAt {F R : Type 0}

@@ -5,8 +5,8 @@ use Rattle.vm_memory_base.specs.declared.io.VolatileMemoryError.TheVariants.{Mis
 use Rattle.vm_memory_guest.specs.Access.{Access, Reached, is_cut, windows}
 use Rattle.vm_memory_guest.specs.Error.{error_of}
 use Rattle.vm_memory_guest.specs.Window.{Window, subslice_of}
-use Rattle.vm_memory_guest.specs.declared.region.GuestMemoryError.{GuestMemoryError}
-use Rattle.vm_memory_guest.specs.declared.region.GuestMemoryError.TheVariants.{InvalidBackendAddress}
+use Rattle.vm_memory_guest.specs.declared.region.error.GuestMemoryError.{GuestMemoryError}
+use Rattle.vm_memory_guest.specs.declared.region.error.GuestMemoryError.TheVariants.{InvalidBackendAddress}
 
 -- how many bytes the values of a type are told to take: their width, cut to 64 bits
 abbrev pub size_of : ℕ → ℕ

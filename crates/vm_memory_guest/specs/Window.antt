@@ -36,6 +36,15 @@ with_bitmap host (Space space) bitmap = record host { spaces = slice_set host.sp
 abbrev pub window_names : Window → List Name
 window_names w = host.Place w.block.0 w.offset w.size ∷ bitmap_name w.bitmap.id ∷ []
 
+-- the bytes of a block from an offset on, whose writes mark the block's bitmap at their own offsets
+abbrev pub block_window : ℕ → ℕ → ℕ → Window
+block_window block offset size = record {
+  block = record { 0 = block };
+  offset = offset;
+  size = size;
+  bitmap = record { id = Block block; base = offset };
+}
+
 -- the len bytes of a window from an offset on
 abbrev pub part : Window → ℕ → ℕ → Window
 part w offset len = record {

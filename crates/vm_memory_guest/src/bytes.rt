@@ -209,7 +209,8 @@ pub trait Bytes<A>: Named {
     ) -> Result<(), Self::E>
         requires { Holds (shape_of host.old) (Self.names self.now) }
         ensures answer { let r = moved_whole self.now host.old.tables addr count Write in
-            Transfers no_memory (may_want self.now count) failure r (Fills F.source F.reads F.known_left B.marks filling)
+            Transfers no_memory (may_want self.now count) failure r
+            (Fills F.source F.reads F.known_left B.marks filling)
             (all_of partial count) (beside src.old host.old) result (beside src.new host.new) }
         ensures shape { shape_of host.new ≡ shape_of host.old };
 

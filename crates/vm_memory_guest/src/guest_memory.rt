@@ -21,7 +21,7 @@ use self::backend::{GuestMemoryBackend, GuestMemoryBackendSliceIterator};
 use self::pieces::{PiecesBehind, next_of_pieces};
 use self::stop_on_error::{GuestMemorySliceIterator, ends_well};
 use crate::host::{HostMemory, Named, SpaceId};
-use crate::region::{GuestMemoryError, GuestMemoryResult};
+use crate::region::error::{GuestMemoryError, GuestMemoryResult};
 use crate::volatile_memory::slice::VolatileSlice;
 use std::marker::Model;
 use vm_memory_base::{Bitmap, GuestAddress, MappedRange, Permissions};
@@ -58,9 +58,16 @@ impl<'a, M: GuestMemoryBackend> IommuMemorySliceIterator<'a, M> {
         ensures { let regions = map M.R.region (M.regions backend.now) in
             result ≡ marking space.0 iova.0 (walk_of_pieces regions pieces.items) }
     {
+        let mut behind = PiecesBehind::new(backend, pieces, iova, space);
+        if let Some(walk) = behind.next_walk() {
+            return IommuMemorySliceIterator {
+                walk,
+                behind: Some(behind),
+            };
+        }
         IommuMemorySliceIterator {
             walk: GuestMemoryBackend::get_slices(backend, iova, 0),
-            behind: Some(PiecesBehind::new(backend, pieces, iova, space)),
+            behind: None,
         }
     }
 }

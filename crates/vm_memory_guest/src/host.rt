@@ -1,11 +1,8 @@
 //! Host memory: every block, bitmap, space and table, which each access is lent.
-ghost use Rattle.std.specs.Prelude.{◌≡◌, ◌+◌, ◌*◌, ◌^◌, ◌<◌, ◌≤◌, ◌↔◌, ◌⊎◌, [], ◌∷◌, ◌++◌, List, length, take, drop, replicate, slice_get, nat_lt, All, IsTrue, Some, IfOk, OnOk, OnErr, IsErrOf};
+ghost use Rattle.std.specs.Prelude.{◌≡◌, ◌+◌, ◌*◌, ◌^◌, ◌<◌, ◌≤◌, ◌↔◌, ◌⊎◌, [], ◌∷◌, ◌++◌, List, length, slice_get, nat_lt, All, IsTrue, Some, IfOk, OnOk, OnErr, IsErrOf};
 ghost use Rattle.vm_memory_guest.specs.Host as names;
-ghost use Rattle.vm_memory_guest.specs.Host.{Host, Shape, with_block, with_space, with_table, with_given_table, with_table_at, shape_of, Name, IsHeld, Holds, block_at, bytes_at, cells_from, written};
-ghost use Rattle.std.specs.List.{flat_map};
-ghost use Rattle.vm_memory_base.specs.Bytes.{values_of};
+ghost use Rattle.vm_memory_guest.specs.Host.{Host, Shape, with_block, with_space, with_table, with_given_table, with_table_at, shape_of, Name, IsHeld, Holds, block_at};
 ghost use Rattle.vm_memory_guest.specs.Inside.{blocks_of};
-ghost use Rattle.vm_memory_guest.specs.Typed.{size_of};
 
 pub mod address;
 mod block;

@@ -1,26 +1,15 @@
 //! Host memory, windows of it, the regions of a guest, and guest memory.
 #![tactic(auto)]
 
-pub mod access_laws;
 mod address_space;
 mod atomic;
 mod bytes;
-mod collection;
-pub mod effect_laws;
 pub mod examples;
 mod guest_memory;
 mod host;
-pub mod host_laws;
+pub mod laws;
 mod mmap;
-pub mod path_laws;
-pub mod query_examples;
 mod region;
-mod region_bytes;
-pub mod region_laws;
-pub mod transfer_examples;
-pub mod transfer_laws;
-pub mod typed_examples;
-pub mod typed_laws;
 mod volatile_memory;
 
 pub use address_space::GuestAddressSpace;
@@ -33,11 +22,10 @@ pub use guest_memory::{GuestMemory, IommuMemorySliceIterator};
 pub use host::address::HostAddress;
 pub use host::{BlockId, HostMemory, HostShape, MmapRegionError, Named, SpaceId, TlbId};
 pub use mmap::{FromRangesError, GuestMemoryMmap, GuestRegionMmap, MmapRegion};
-pub use region::{
-    GuestMemoryError, GuestMemoryRegion, GuestMemoryResult, GuestRegionCollection,
-    GuestRegionCollectionError,
-};
-pub use region_bytes::GuestMemoryRegionBytes;
+pub use region::GuestMemoryRegion;
+pub use region::bytes::GuestMemoryRegionBytes;
+pub use region::collection::GuestRegionCollection;
+pub use region::error::{GuestMemoryError, GuestMemoryResult, GuestRegionCollectionError};
 pub use volatile_memory::array::VolatileArrayRef;
 pub use volatile_memory::reference::VolatileRef;
 pub use volatile_memory::slice::VolatileSlice;

@@ -13,11 +13,10 @@ ghost use Rattle.vm_memory_guest.specs.declared.mmap.FromRangesError.TheVariants
 ghost use Rattle.vm_memory_guest.specs.declared.mmap.GuestRegionMmap.{GuestRegionMmap};
 
 use crate::host::{BlockId, HostMemory, HostShape, MmapRegionError, Named};
-use crate::region::{
-    GuestMemoryError, GuestMemoryRegion, GuestMemoryResult, GuestRegionCollection,
-    GuestRegionCollectionError,
-};
-use crate::region_bytes::GuestMemoryRegionBytes;
+use crate::region::GuestMemoryRegion;
+use crate::region::bytes::GuestMemoryRegionBytes;
+use crate::region::collection::GuestRegionCollection;
+use crate::region::error::{GuestMemoryError, GuestMemoryResult, GuestRegionCollectionError};
 use crate::volatile_memory::VolatileMemory;
 use crate::volatile_memory::slice::VolatileSlice;
 use std::alloc::{AllocError, Global};
@@ -115,12 +114,7 @@ impl MmapRegion {
         if offset > self.size as u64 || count > self.size - offset as usize {
             return Err(GuestMemoryError::InvalidBackendAddress);
         }
-        let start = offset as usize;
-        let bitmap = BitmapRef {
-            id: BitmapId::Block(self.block.0),
-            base: start,
-        };
-        Ok(VolatileSlice::new(self.block, start, count, bitmap))
+        Ok(VolatileSlice::of_block(self.block, offset as usize, count))
     }
 }
 
@@ -141,7 +135,7 @@ impl VolatileMemory for MmapRegion {
 
     #[inline]
     fn get_slice(&self, offset: usize, count: usize) -> VolatileMemoryResult<VolatileSlice> {
-        VolatileSlice::new(self.block, 0, self.size, self.bitmap()).subslice(offset, count)
+        VolatileSlice::of_block(self.block, 0, self.size).subslice(offset, count)
     }
 
     ghost gives_all = { λ r. subslice-sized (whole_window r) };

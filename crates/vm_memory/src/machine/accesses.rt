@@ -16,7 +16,7 @@ use super::typed::{load_from, store_word};
 use crate::iommu::Iommu;
 use std::alloc::{AllocError, Global};
 use vm_memory_base::{ExactBitmap, GuestAddress, Permissions};
-use vm_memory_guest::access_laws::accesses_are_by_bytes;
+use vm_memory_guest::laws::accesses::accesses_are_by_bytes;
 use vm_memory_guest::{
     Bytes, GuestMemory, GuestMemoryError, GuestMemoryRegion, GuestMemoryResult, HostMemory,
 };

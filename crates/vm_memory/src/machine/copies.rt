@@ -8,8 +8,8 @@ ghost use Rattle.vm_memory.specs.Parts.{range_window};
 
 use super::command::{BlockRange, Reply};
 use vm_memory_base::{ExactBitmap, GuestAddress, MemoryRegionAddress};
-use vm_memory_guest::host_laws::parts_of_a_block_are_held;
-use vm_memory_guest::typed_laws::copies_are_by_bytes;
+use vm_memory_guest::laws::host::parts_of_a_block_are_held;
+use vm_memory_guest::laws::typed::copies_are_by_bytes;
 use vm_memory_guest::{
     BlockId, GuestMemoryRegion, GuestRegionMmap, HostMemory, MmapRegion, VolatileSlice,
 };

@@ -7,7 +7,7 @@ ghost use Rattle.vm_memory_guest.specs.Region.{IsLayout};
 
 use crate::iommu::{Iommu, IommuMemory};
 use vm_memory_base::{Bitmap, GuestAddress, Permissions};
-use vm_memory_guest::host_laws::names_are_held_one_by_one;
+use vm_memory_guest::laws::host::names_are_held_one_by_one;
 use vm_memory_guest::{
     GuestMemory, GuestMemoryRegion, GuestMemoryResult, GuestRegionCollection, HostMemory,
     HostShape, IommuMemorySliceIterator, Named,

@@ -11,7 +11,7 @@ use super::command::Reply;
 use super::machine_memory::MachineMemory;
 use crate::iommu::{Iommu, IommuMemory};
 use vm_memory_base::ExactBitmap;
-use vm_memory_guest::host_laws::names_are_held_one_by_one;
+use vm_memory_guest::laws::host::names_are_held_one_by_one;
 use vm_memory_guest::{GuestMemoryRegion, SpaceId};
 
 impl<R: GuestMemoryRegion, I: Iommu, B: ExactBitmap> Machine<R, I, B> {

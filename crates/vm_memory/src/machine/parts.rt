@@ -8,7 +8,7 @@ use super::Machine;
 use super::machine_memory::MachineMemory;
 use crate::iommu::Iommu;
 use std::sync::Arc;
-use vm_memory_guest::host_laws::regions_are_held_one_by_one;
+use vm_memory_guest::laws::host::regions_are_held_one_by_one;
 use vm_memory_guest::{GuestMemoryRegion, GuestRegionCollection, SpaceId};
 
 impl<R: GuestMemoryRegion, I: Iommu, B> Machine<R, I, B> {

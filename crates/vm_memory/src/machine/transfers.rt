@@ -11,8 +11,8 @@ use super::command::{Ending, Reply};
 use super::list::ByteList;
 use std::alloc::Global;
 use vm_memory_base::{ExactBitmap, GuestAddress, ScriptSink, ScriptSource, SinkStep, SourceStep};
-use vm_memory_guest::path_laws::windows_are_the_path;
-use vm_memory_guest::transfer_laws::{
+use vm_memory_guest::laws::paths::windows_are_the_path;
+use vm_memory_guest::laws::transfers::{
     sinks_take_what_is_computed, transfers_in_are_computed, transfers_out_are_computed,
 };
 use vm_memory_guest::{Bytes, GuestMemory, GuestMemoryResult, HostMemory};

@@ -7,14 +7,14 @@ ghost use Rattle.vm_memory_guest.specs.Dirt.{bytes_read, with_pages};
 ghost use Rattle.vm_memory_guest.specs.Host.{shape_of, Holds};
 ghost use Rattle.vm_memory_guest.specs.Memory.{NeedsTranslation};
 ghost use Rattle.vm_memory_guest.specs.Typed.{answered};
-ghost use Rattle.vm_memory_guest.specs.declared.region.GuestMemoryError.TheVariants as errors;
+ghost use Rattle.vm_memory_guest.specs.declared.region.error.GuestMemoryError.TheVariants as errors;
 ghost use Rattle.vm_memory.specs.Typed.{fits_width, integer_of, loads, stores, stores_bytes, taken_by};
 
 use super::accesses::{done, refused};
 use super::command::{Reply, Width};
 use std::sync::atomic::Ordering;
 use vm_memory_base::{AtomicAccess, ExactBitmap, GuestAddress};
-use vm_memory_guest::typed_laws::loads_and_stores_are_by_bytes;
+use vm_memory_guest::laws::typed::loads_and_stores_are_by_bytes;
 use vm_memory_guest::{Bytes, GuestMemory, GuestMemoryResult, HostMemory};
 
 // Stores a number as an integer of this width, if it is one.

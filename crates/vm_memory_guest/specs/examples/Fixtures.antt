@@ -6,7 +6,6 @@ use Rattle.vm_memory_base.specs.Table.{Table, Mapping}
 use Rattle.vm_memory_base.specs.declared.address.GuestAddress.{GuestAddress}
 use Rattle.vm_memory_base.specs.declared.bitmap.BitmapId.{BitmapId}
 use Rattle.vm_memory_base.specs.declared.iotlb.lookup.MappedRange.{MappedRange}
-use Rattle.vm_memory_base.specs.declared.bitmap.BitmapId.TheVariants.{Block}
 use Rattle.vm_memory_base.specs.declared.iotlb.IommuError.TheVariants.{CannotResolve}
 use Rattle.vm_memory_base.specs.declared.iotlb.Permissions.{Permissions}
 use Rattle.vm_memory_base.specs.declared.iotlb.Reason.{Reason}
@@ -17,8 +16,8 @@ use Rattle.vm_memory_guest.specs.Memory.{Memory}
 use Rattle.vm_memory_guest.specs.Region.{Region}
 use Rattle.vm_memory_guest.specs.Transfer.{all_of, ended}
 use Rattle.vm_memory_guest.specs.Window.{Window}
-use Rattle.vm_memory_guest.specs.declared.region.GuestMemoryError.{GuestMemoryError}
-use Rattle.vm_memory_guest.specs.declared.region.GuestMemoryError.TheVariants.{IommuError, PartialBuffer}
+use Rattle.vm_memory_guest.specs.declared.region.error.GuestMemoryError.{GuestMemoryError}
+use Rattle.vm_memory_guest.specs.declared.region.error.GuestMemoryError.TheVariants.{IommuError, PartialBuffer}
 
 -- a byte of a block
 abbrev pub cell_of : ℕ → ℕ → Cell
@@ -64,10 +63,6 @@ window_marking block offset size bitmap base = record {
   size = size;
   bitmap = record { id = bitmap; base = base };
 }
-
--- size bytes of a block from an offset on, whose writes mark the bitmap of the block at their own offsets
-abbrev pub block_window : ℕ → ℕ → ℕ → Window
-block_window block offset size = window_marking block offset size (Block block) offset
 
 -- len bytes that are 0
 abbrev pub zeros : ℕ → List ℕ

@@ -105,7 +105,8 @@ module _ {X E : Type 0} (failure : VolatileMemoryError → E) (fault : Option E)
           (if b then more (total + count) else record { answer = Ok (total + count); left = mid })
       go true whole =
           let k = others (total + count) in
-          (k.0, later (total + count) (more (total + count)).left (more (total + count)).answer refl (grind (arith, nat_tests)) k.1)
+          let now = total + count in
+          (k.0, later now (more now).left (more now).answer refl (grind (arith, nat_tests)) k.1)
       go false part = (kept, tt)
 
   pub order_keeps : (ws : List Window)

@@ -7,8 +7,8 @@ use Rattle.vm_memory_base.specs.declared.io.VolatileMemoryError.TheVariants.{Out
 use Rattle.vm_memory_guest.specs.RegionBytes.{as_guest, place_in}
 use Rattle.vm_memory_guest.specs.Typed.{aligned_of, if_aligned, first_aligned}
 use Rattle.vm_memory_guest.specs.Window.{Window, part, subslice_of}
-use Rattle.vm_memory_guest.specs.declared.region.GuestMemoryError.{GuestMemoryError}
-use Rattle.vm_memory_guest.specs.declared.region.GuestMemoryError.TheVariants.{InvalidBackendAddress}
+use Rattle.vm_memory_guest.specs.declared.region.error.GuestMemoryError.{GuestMemoryError}
+use Rattle.vm_memory_guest.specs.declared.region.error.GuestMemoryError.TheVariants.{InvalidBackendAddress}
 
 -- what holds of what either answer gives holds of what the chosen one gives
 chosen : {T E : Type 0} (P : T → Type 0) (b : Bool) (r s : Result T E) → (b ≡ true → IfOk r P)

@@ -11,14 +11,14 @@ ghost use Rattle.vm_memory_guest.specs.Typed.{first_aligned, place_of};
 ghost use Rattle.vm_memory_guest.specs.lemmas.TypedFacts.{first-sized};
 ghost use Rattle.vm_memory_guest.specs.Walk.{reached, GivesAccess, RefusesAccess, WantsMemory};
 ghost use Rattle.vm_memory_guest.specs.Window.{span, cells, window_names, Writes};
-ghost use Rattle.vm_memory_guest.specs.declared.region.GuestMemoryError.TheVariants as errors;
+ghost use Rattle.vm_memory_guest.specs.declared.region.error.GuestMemoryError.TheVariants as errors;
 
 use super::backend::GuestMemoryBackend;
 use super::transfer::{ended, receive_windows, send_windows};
 use super::{GuestMemory, IommuMemorySliceIterator};
 use crate::bytes::Bytes;
 use crate::host::HostMemory;
-use crate::region::{GuestMemoryError, GuestMemoryResult};
+use crate::region::error::{GuestMemoryError, GuestMemoryResult};
 use crate::volatile_memory::slice::{self, VolatileSlice};
 use std::sync::atomic::Ordering;
 use vm_memory_base::{

@@ -8,7 +8,7 @@ ghost use Rattle.vm_memory_guest.specs.Walk.{items_of};
 
 use super::backend::{GuestMemoryBackend, GuestMemoryBackendSliceIterator};
 use crate::host::SpaceId;
-use crate::region::GuestMemoryResult;
+use crate::region::error::GuestMemoryResult;
 use crate::volatile_memory::slice::VolatileSlice;
 use std::marker::Model;
 use vm_memory_base::{Address, BitmapId, BitmapRef, GuestAddress, MappedRange};
@@ -63,7 +63,8 @@ impl<'a, M: GuestMemoryBackend> PiecesBehind<'a, M> {
     }
 
     // The walk through the next piece.
-    fn next_walk(&mut self) -> Option<GuestMemoryBackendSliceIterator<'a, M>>
+    #[inline]
+    pub(super) fn next_walk(&mut self) -> Option<GuestMemoryBackendSliceIterator<'a, M>>
         ensures walk { let before = walk_of_pieces self.old.regions self.old.pieces in
             let after = walk_of_pieces self.new.regions self.new.pieces in
             MatchOption result (before ≡ record { windows = []; fault = None })

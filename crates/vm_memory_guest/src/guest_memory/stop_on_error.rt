@@ -5,9 +5,9 @@ ghost use Rattle.vm_memory_guest.specs.Access.{AccessFault};
 ghost use Rattle.vm_memory_guest.specs.Answer.{Reach};
 ghost use Rattle.vm_memory_guest.specs.Walk.{items_of, windows_before, windows_from};
 ghost use Rattle.vm_memory_guest.specs.Window.{Window};
-ghost use Rattle.vm_memory_guest.specs.declared.region.GuestMemoryError.{GuestMemoryError};
+ghost use Rattle.vm_memory_guest.specs.declared.region.error.GuestMemoryError.{GuestMemoryError};
 
-use crate::region::GuestMemoryResult;
+use crate::region::error::GuestMemoryResult;
 use crate::volatile_memory::slice::VolatileSlice;
 use std::marker::Model;
 

@@ -9,7 +9,7 @@ ghost use Rattle.vm_memory_guest.specs.Window.{span, window_names};
 use super::IommuMemorySliceIterator;
 use super::backend::GuestMemoryBackend;
 use crate::host::HostMemory;
-use crate::region::{GuestMemoryError, GuestMemoryResult};
+use crate::region::error::{GuestMemoryError, GuestMemoryResult};
 use vm_memory_base::{Bitmap, ReadVolatile, WriteVolatile};
 
 // Lends a source the windows that a walk gives, one after the other, up to the first that it does not fill.

@@ -1,4 +1,4 @@
-//! Where a byte of a host is.
+//! Where a byte of a host is, and bytes that lie side by side.
 
 use super::BlockId;
 
@@ -7,4 +7,12 @@ use super::BlockId;
 pub struct HostAddress {
     pub block: BlockId,
     pub offset: usize,
+}
+
+// Some bytes of a block: so many from an offset on.
+#[derive(Clone, Copy)]
+pub(crate) struct Place {
+    pub(crate) block: usize,
+    pub(crate) offset: usize,
+    pub(crate) len: usize,
 }

@@ -5,17 +5,18 @@ ghost use Rattle.vm_memory_guest.specs.Host.{block_at, bytes_at, cells_from, wri
 ghost use Rattle.vm_memory_guest.specs.Inside.{blocks_of};
 ghost use Rattle.vm_memory_guest.specs.Typed.{size_of};
 
+use super::address::{HostAddress, Place};
 use vm_memory_base::ByteValued;
 
-// The bytes of a block from an offset on.
+// The bytes of a place.
 #[tactic(auto, using(crate::proofs::HostLemmas::block_lemmas))]
 #[inline]
-pub(super) fn part_of(blocks: &Vec<Vec<u8>>, block: usize, offset: usize, len: usize) -> &[u8]
-    requires there { block < length blocks.now.items }
-    requires within { offset + len ≤ length (block_at (blocks_of blocks.now) block) }
-    ensures { result.now ≡ bytes_at (blocks_of blocks.now) (cells_from block offset len) }
+pub(super) fn part_of(blocks: &Vec<Vec<u8>>, at: Place) -> &[u8]
+    requires there { at.block < length blocks.now.items }
+    requires within { at.offset + at.len ≤ length (block_at (blocks_of blocks.now) at.block) }
+    ensures { result.now ≡ bytes_at (blocks_of blocks.now) (cells_from at.block at.offset at.len) }
 {
-    &blocks[block].as_slice()[offset..offset + len]
+    &blocks[at.block].as_slice()[at.offset..at.offset + at.len]
 }
 
 // Moves bytes into a block at once.
@@ -30,25 +31,23 @@ pub(super) fn put_in(blocks: &mut Vec<Vec<u8>>, block: usize, offset: usize, byt
     move_into(all.as_mut_slice(), offset, bytes);
 }
 
-// Moves the bytes of a value, from byte `from` on, into `len` bytes of a block.
+// Moves bytes of a value, from byte `from` on, to a place: as many as it has.
 #[inline]
 pub(super) fn put_value_in<T: ByteValued>(
     blocks: &mut Vec<Vec<u8>>,
-    block: usize,
-    offset: usize,
-    len: usize,
+    at: Place,
     value: &T,
     from: usize,
 )
-    requires there { block < length blocks.old.items }
-    requires within { offset + len ≤ length (block_at (blocks_of blocks.old) block) }
-    requires inside { from + len ≤ T.width }
-    requires fits { from + len < 2 ^ 64 }
-    ensures { let bytes = take len (drop from (T.bytes value.now)) in
-        blocks_of blocks.new ≡ written (cells_from block offset len) bytes (blocks_of blocks.old) }
+    requires there { at.block < length blocks.old.items }
+    requires within { at.offset + at.len ≤ length (block_at (blocks_of blocks.old) at.block) }
+    requires inside { from + at.len ≤ T.width }
+    requires fits { from + at.len < 2 ^ 64 }
+    ensures { let bytes = take at.len (drop from (T.bytes value.now)) in
+        blocks_of blocks.new ≡ written (cells_from at.block at.offset at.len) bytes (blocks_of blocks.old) }
 {
-    let all = &mut blocks[block];
-    let place = &mut all.as_mut_slice()[offset..offset + len];
+    let all = &mut blocks[at.block];
+    let place = &mut all.as_mut_slice()[at.offset..at.offset + at.len];
     value.copy_bytes(from, place);
 }
 
@@ -78,36 +77,31 @@ fn copy_inside(block: &mut [u8], from: usize, to: usize, len: usize)
     }
 }
 
-// Copies bytes of a block over others of the same or of another block.
-pub(super) fn copy_in(
-    blocks: &mut Vec<Vec<u8>>,
-    source: usize,
-    from: usize,
-    target: usize,
-    to: usize,
-    len: usize,
-)
-    requires source { source < length blocks.old.items }
-    requires target { target < length blocks.old.items }
-    requires readable { from + len ≤ length (block_at (blocks_of blocks.old) source) }
-    requires writable { to + len ≤ length (block_at (blocks_of blocks.old) target) }
-    ensures { let bytes = bytes_at (blocks_of blocks.old) (cells_from source from len) in
-        blocks_of blocks.new ≡ written (cells_from target to len) bytes (blocks_of blocks.old) }
+// Copies bytes of a block over a place of the same or of another block: as many as it has.
+pub(super) fn copy_in(blocks: &mut Vec<Vec<u8>>, from: HostAddress, to: Place)
+    requires source { from.block.0 < length blocks.old.items }
+    requires target { to.block < length blocks.old.items }
+    requires readable { from.offset + to.len ≤ length (block_at (blocks_of blocks.old) from.block.0) }
+    requires writable { to.offset + to.len ≤ length (block_at (blocks_of blocks.old) to.block) }
+    ensures { let bytes = bytes_at (blocks_of blocks.old) (cells_from from.block.0 from.offset to.len) in
+        blocks_of blocks.new ≡ written (cells_from to.block to.offset to.len) bytes (blocks_of blocks.old) }
 {
+    let source = from.block.0;
+    let target = to.block;
     if source < target {
         let (low, high) = blocks.as_mut_slice().split_at_mut(target);
-        let bytes = &low[source].as_slice()[from..from + len];
-        move_into(high[0].as_mut_slice(), to, bytes);
+        let bytes = &low[source].as_slice()[from.offset..from.offset + to.len];
+        move_into(high[0].as_mut_slice(), to.offset, bytes);
         return;
     }
     if target < source {
         let (low, high) = blocks.as_mut_slice().split_at_mut(source);
-        let bytes = &high[0].as_slice()[from..from + len];
-        move_into(low[target].as_mut_slice(), to, bytes);
+        let bytes = &high[0].as_slice()[from.offset..from.offset + to.len];
+        move_into(low[target].as_mut_slice(), to.offset, bytes);
         return;
     }
     let all = &mut blocks[target];
-    copy_inside(all.as_mut_slice(), from, to, len);
+    copy_inside(all.as_mut_slice(), from.offset, to.offset, to.len);
 }
 
 // Value `k` of those whose bytes stand one after the other in a slice.
@@ -147,22 +141,16 @@ fn fill_place<T: ByteValued>(place: &mut [u8], values: &[T])
     }
 }
 
-// Moves the bytes of values, one after the other, into a block.
-pub(super) fn put_values_in<T: ByteValued>(
-    blocks: &mut Vec<Vec<u8>>,
-    block: usize,
-    offset: usize,
-    len: usize,
-    values: &[T],
-)
-    requires there { block < length blocks.old.items }
-    requires within { offset + len ≤ length (block_at (blocks_of blocks.old) block) }
-    requires size { len ≡ length values.now * size_of T.width }
+// Moves the bytes of values, one after the other, to a place of as many.
+pub(super) fn put_values_in<T: ByteValued>(blocks: &mut Vec<Vec<u8>>, at: Place, values: &[T])
+    requires there { at.block < length blocks.old.items }
+    requires within { at.offset + at.len ≤ length (block_at (blocks_of blocks.old) at.block) }
+    requires size { at.len ≡ length values.now * size_of T.width }
     ensures put { T.width < 2 ^ 64 → blocks_of blocks.new
-        ≡ written (cells_from block offset len) (flat_map T.bytes values.now) (blocks_of blocks.old) }
+        ≡ written (cells_from at.block at.offset at.len) (flat_map T.bytes values.now) (blocks_of blocks.old) }
     ensures lengths { map length (blocks_of blocks.new) ≡ map length (blocks_of blocks.old) }
 {
-    let all = &mut blocks[block];
-    let place = &mut all.as_mut_slice()[offset..offset + len];
+    let all = &mut blocks[at.block];
+    let place = &mut all.as_mut_slice()[at.offset..at.offset + at.len];
     fill_place(place, values);
 }

@@ -7,53 +7,49 @@ ghost use Rattle.vm_memory_guest.specs.Transfer.{LendsWindow, LendsRest, LendsWh
 ghost use Rattle.vm_memory_guest.specs.Window.{window_names, cells_of};
 
 use super::HostMemory;
+use super::address::Place;
 use crate::volatile_memory::slice::VolatileSlice;
 use vm_memory_base::{
     Bitmap, RETRIES, ReadExactFault, ReadVolatile, VolatileMemoryResult, is_interrupted,
 };
 
-// Lends a source some bytes of a block, for one try.
+// Lends a source the bytes of a place, for one try.
 fn read_in<S: ReadVolatile>(
     blocks: &mut Vec<Vec<u8>>,
-    block: usize,
-    offset: usize,
-    len: usize,
+    at: Place,
     source: &mut S,
 ) -> VolatileMemoryResult<usize>
-    requires there { block < length blocks.old.items }
-    requires within { offset + len ≤ length (block_at (blocks_of blocks.old) block) }
-    ensures count { IfOk result (λ count. count ≤ len) }
-    ensures tried { (bytes : List ℕ) × (length bytes ≡ len)
-        × ReadsAs (S.source source.old) (bytes_at (blocks_of blocks.old) (cells_from block offset len)) result
-        bytes (S.source source.new)
-        × S.reads source.old (bytes_at (blocks_of blocks.old) (cells_from block offset len)) result bytes source.new
-        × (blocks_of blocks.new ≡ written (cells_from block offset len) bytes (blocks_of blocks.old)) }
+    requires there { at.block < length blocks.old.items }
+    requires within { at.offset + at.len ≤ length (block_at (blocks_of blocks.old) at.block) }
+    ensures count { IfOk result (λ count. count ≤ at.len) }
+    ensures tried { let cells = cells_from at.block at.offset at.len in (bytes : List ℕ) × (length bytes ≡ at.len)
+        × ReadsAs (S.source source.old) (bytes_at (blocks_of blocks.old) cells) result bytes (S.source source.new)
+        × S.reads source.old (bytes_at (blocks_of blocks.old) cells) result bytes source.new
+        × (blocks_of blocks.new ≡ written cells bytes (blocks_of blocks.old)) }
 {
-    let all = &mut blocks[block];
-    let place = &mut all.as_mut_slice()[offset..offset + len];
+    let all = &mut blocks[at.block];
+    let place = &mut all.as_mut_slice()[at.offset..at.offset + at.len];
     source.read_volatile(place)
 }
 
-// Lends a source some bytes of a block, which it fills by itself.
+// Lends a source the bytes of a place, which it fills by itself.
 fn fill_in<S: ReadVolatile>(
     blocks: &mut Vec<Vec<u8>>,
-    block: usize,
-    offset: usize,
-    len: usize,
+    at: Place,
     source: &mut S,
 ) -> Result<(), ReadExactFault>
-    requires there { block < length blocks.old.items }
-    requires within { offset + len ≤ length (block_at (blocks_of blocks.old) block) }
-    ensures touched { IfErr result (λ fault. fault.touched ≤ len) }
-    ensures tried { (bytes : List ℕ) × (length bytes ≡ len)
+    requires there { at.block < length blocks.old.items }
+    requires within { at.offset + at.len ≤ length (block_at (blocks_of blocks.old) at.block) }
+    ensures touched { IfErr result (λ fault. fault.touched ≤ at.len) }
+    ensures tried { let cells = cells_from at.block at.offset at.len in (bytes : List ℕ) × (length bytes ≡ at.len)
         × FillsAs (S.known_left source.old) (S.source source.old)
-        (bytes_at (blocks_of blocks.old) (cells_from block offset len)) result bytes (S.source source.new)
+        (bytes_at (blocks_of blocks.old) cells) result bytes (S.source source.new)
         × FillsBy S.source S.reads S.known_left source.old
-        (bytes_at (blocks_of blocks.old) (cells_from block offset len)) result bytes source.new
-        × (blocks_of blocks.new ≡ written (cells_from block offset len) bytes (blocks_of blocks.old)) }
+        (bytes_at (blocks_of blocks.old) cells) result bytes source.new
+        × (blocks_of blocks.new ≡ written cells bytes (blocks_of blocks.old)) }
 {
-    let all = &mut blocks[block];
-    let place = &mut all.as_mut_slice()[offset..offset + len];
+    let all = &mut blocks[at.block];
+    let place = &mut all.as_mut_slice()[at.offset..at.offset + at.len];
     source.read_exact_volatile(place)
 }
 
@@ -79,6 +75,7 @@ fn marked_of(size: usize, answer: &VolatileMemoryResult<usize>) -> usize
 
 impl<B> HostMemory<B> {
     // Lends a source the bytes of a window, for one try.
+    #[tactic(auto, using(crate::proofs::WrittenLaws::written_lengths))]
     fn read_place<S: ReadVolatile>(
         &mut self,
         window: &VolatileSlice,
@@ -93,8 +90,7 @@ impl<B> HostMemory<B> {
             × (self.new ≡ record self.old { blocks = written (cells_of window.now) bytes self.old.blocks }) }
         ensures shape { shape_of self.new ≡ shape_of self.old }
     {
-        let blocks = &mut self.blocks;
-        read_in(blocks, window.block.0, window.offset, window.size, source)
+        read_in(&mut self.blocks, window.place(), source)
     }
 
     // Lends a source a window for one try, and marks what the try filled, or all after a failure.
@@ -172,6 +168,7 @@ impl<B> HostMemory<B> {
     }
 
     // Lends a source the bytes of a window, which it fills by itself.
+    #[tactic(auto, using(crate::proofs::WrittenLaws::written_lengths))]
     fn fill_place<S: ReadVolatile>(
         &mut self,
         window: &VolatileSlice,
@@ -187,8 +184,7 @@ impl<B> HostMemory<B> {
             × (self.new ≡ record self.old { blocks = written (cells_of window.now) bytes self.old.blocks }) }
         ensures shape { shape_of self.new ≡ shape_of self.old }
     {
-        let blocks = &mut self.blocks;
-        fill_in(blocks, window.block.0, window.offset, window.size, source)
+        fill_in(&mut self.blocks, window.place(), source)
     }
 
     /// Lends a source a window, which it fills by itself. All of the window is marked, or what the source

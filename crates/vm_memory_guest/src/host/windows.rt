@@ -5,24 +5,39 @@ ghost use Rattle.vm_memory_base.specs.Bytes.{values_of};
 ghost use Rattle.vm_memory_guest.specs.Host as names;
 ghost use Rattle.vm_memory_guest.specs.Host.{shape_of, Holds, bytes_at, cells_from, written};
 ghost use Rattle.vm_memory_guest.specs.Typed.{size_of};
-ghost use Rattle.vm_memory_guest.specs.Window.{window_names, bitmap_name, cells_of, Marks, MarksWindow, Writes};
+ghost use Rattle.vm_memory_guest.specs.Window.{block_window, window_names, bitmap_name, cells_of, Marks, MarksWindow, Writes};
 
-use super::HostMemory;
 use super::block::{copy_in, part_of, put_in, put_value_in, put_values_in, value_in};
+use super::{BlockId, HostMemory};
+use crate::laws::host::blocks_are_short;
 use crate::volatile_memory::slice::VolatileSlice;
 use vm_memory_base::{Bitmap, BitmapId, BitmapRef, ByteValued};
 
 impl<B> HostMemory<B> {
+    /// The window of `len` bytes of a block from `offset` on, which the host has to hold. Its writes mark the block's
+    /// bitmap at their own offsets.
+    #[inline]
+    pub fn window(&self, block: BlockId, offset: usize, len: usize) -> VolatileSlice
+        requires { Holds (shape_of self.now) (names.Place block.0 offset len ∷ []) }
+        ensures value { result ≡ block_window block.0 offset len }
+        ensures held { Holds (shape_of self.now) (window_names result) }
+        ensures short { offset + len < 2 ^ 63 }
+    {
+        blocks_are_short(self);
+        VolatileSlice::of_block(block, offset, len)
+    }
+
     /// Lends the bytes of a window, which the host has to hold.
     #[inline]
     pub fn bytes(&self, window: &VolatileSlice) -> &[u8]
         requires { Holds (shape_of self.now) (window_names window.now) }
         ensures { result.now ≡ bytes_at self.now.blocks (cells_of window.now) }
     {
-        part_of(&self.blocks, window.block.0, window.offset, window.size)
+        part_of(&self.blocks, window.place())
     }
 
     // Moves bytes to a place of a block.
+    #[tactic(auto, using(crate::proofs::WrittenLaws::written_lengths))]
     #[inline]
     fn put(&mut self, block: usize, offset: usize, bytes: &[u8])
         requires { Holds (shape_of self.old) (names.Place block offset (length bytes.now) ∷ []) }
@@ -83,6 +98,7 @@ impl<B> HostMemory<B> {
     }
 
     // Moves the bytes of a value, from byte `from` on, to a place of a block.
+    #[tactic(auto, using(crate::proofs::WrittenLaws::written_lengths))]
     #[inline]
     fn put_value<T: ByteValued>(&mut self, window: &VolatileSlice, value: &T, from: usize)
         requires held { let w = window.now in
@@ -93,14 +109,7 @@ impl<B> HostMemory<B> {
             self.new ≡ record self.old { blocks = written (cells_of window.now) bytes self.old.blocks } }
         ensures shape { shape_of self.new ≡ shape_of self.old }
     {
-        put_value_in(
-            &mut self.blocks,
-            window.block.0,
-            window.offset,
-            window.size,
-            value,
-            from,
-        );
+        put_value_in(&mut self.blocks, window.place(), value, from);
     }
 
     /// Moves the bytes of a value, from byte `from` on, into a window, and marks them, unless there are none.
@@ -124,6 +133,7 @@ impl<B> HostMemory<B> {
     }
 
     // Moves the bytes of values, one after the other, to a place of a block.
+    #[tactic(auto, using(crate::proofs::WrittenLaws::written_lengths))]
     fn put_values<T: ByteValued>(&mut self, window: &VolatileSlice, values: &[T])
         requires held { let w = window.now in
             Holds (shape_of self.old) (names.Place w.block.0 w.offset w.size ∷ []) }
@@ -133,8 +143,7 @@ impl<B> HostMemory<B> {
         } }
         ensures shape { shape_of self.new ≡ shape_of self.old }
     {
-        let blocks = &mut self.blocks;
-        put_values_in(blocks, window.block.0, window.offset, window.size, values);
+        put_values_in(&mut self.blocks, window.place(), values);
     }
 
     /// Moves the bytes of values, one after the other, into a window of as many, and marks them, unless there
@@ -166,6 +175,7 @@ impl<B> HostMemory<B> {
     }
 
     // Moves the bytes of a window to another of as many, as they were.
+    #[tactic(auto, using(crate::proofs::WrittenLaws::written_lengths))]
     fn move_bytes(&mut self, from: &VolatileSlice, to: &VolatileSlice)
         requires from { let w = from.now in
             Holds (shape_of self.old) (names.Place w.block.0 w.offset w.size ∷ []) }
@@ -176,15 +186,7 @@ impl<B> HostMemory<B> {
         } }
         ensures shape { shape_of self.new ≡ shape_of self.old }
     {
-        let blocks = &mut self.blocks;
-        copy_in(
-            blocks,
-            from.block.0,
-            from.offset,
-            to.block.0,
-            to.offset,
-            to.size,
-        );
+        copy_in(&mut self.blocks, from.host_address(), to.place());
     }
 
     /// Moves the bytes of a window to another of as many, as they were, also where the two overlap, and marks

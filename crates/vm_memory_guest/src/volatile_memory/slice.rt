@@ -3,7 +3,7 @@ ghost use Rattle.std.specs.Prelude.{◌≡◌, ◌+◌, ◌-◌, ◌*◌, ◌/�
 ghost use Rattle.std.specs.List.{flat_map};
 ghost use Rattle.vm_memory_base.specs.Bytes.{values_of};
 ghost use Rattle.vm_memory_guest.specs.Host.{shape_of, bytes_at, Holds};
-ghost use Rattle.vm_memory_guest.specs.Window.{window_names, cells_of, part, window_from, subslice_of, Writes};
+ghost use Rattle.vm_memory_guest.specs.Window.{block_window, window_names, cells_of, part, window_from, subslice_of, Writes};
 ghost use Rattle.vm_memory_guest.specs.Answer.{window_reach};
 ghost use Rattle.vm_memory_guest.specs.Copy.{front, Copies};
 ghost use Rattle.vm_memory_guest.specs.Transfer.{Alone, Once, cut_of, exact_of, only};
@@ -12,12 +12,12 @@ ghost use Rattle.vm_memory_guest.specs.lemmas.TypedFacts.{aligned-sized};
 ghost use Rattle.vm_memory_base.specs.declared.io.VolatileMemoryError.TheVariants.{PartialBuffer, Memory};
 
 use crate::bytes::Bytes;
-use crate::host::address::HostAddress;
+use crate::host::address::{HostAddress, Place};
 use crate::host::{BlockId, HostMemory, HostShape, Named};
 use std::marker::Model;
 use std::sync::atomic::Ordering;
 use vm_memory_base::{
-    AtomicAccess, Bitmap, BitmapRef, ByteValued, ReadVolatile, VolatileMemoryError,
+    AtomicAccess, Bitmap, BitmapId, BitmapRef, ByteValued, ReadVolatile, VolatileMemoryError,
     VolatileMemoryResult, WriteVolatile, offer_again,
 };
 
@@ -46,17 +46,16 @@ impl Model for VolatileSlice {
 }
 
 impl VolatileSlice {
-    // `size` bytes of a block from an offset on.
+    // `size` bytes of a block from an offset on, of which writes mark the block's bitmap.
     #[inline]
-    pub(crate) fn new(
-        block: BlockId,
-        offset: usize,
-        size: usize,
-        bitmap: BitmapRef,
-    ) -> VolatileSlice
+    pub(crate) fn of_block(block: BlockId, offset: usize, size: usize) -> VolatileSlice
         requires { offset + size < 2 ^ 64 }
-        ensures { result ≡ record { block = block; offset = offset; size = size; bitmap = bitmap } }
+        ensures { result ≡ block_window block.0 offset size }
     {
+        let bitmap = BitmapRef {
+            id: BitmapId::Block(block.0),
+            base: offset,
+        };
         VolatileSlice {
             block,
             offset,
@@ -97,6 +96,18 @@ impl VolatileSlice {
         HostAddress {
             block: self.block,
             offset: self.offset,
+        }
+    }
+
+    // Where its bytes are.
+    #[inline]
+    pub(crate) fn place(&self) -> Place
+        ensures { result ≡ record { block = self.now.block.0; offset = self.now.offset; len = self.now.size } }
+    {
+        Place {
+            block: self.block.0,
+            offset: self.offset,
+            len: self.size,
         }
     }
 
@@ -174,17 +185,7 @@ impl VolatileSlice {
     {
         VolatileSlice { bitmap, ..*self }
     }
-}
 
-impl Named for VolatileSlice {
-    ghost names = { window_names };
-
-    fn held_by(&self, shape: &HostShape) -> bool {
-        shape.has_place(self.block, self.offset, self.size) && shape.has_bitmap(self.bitmap.id)
-    }
-}
-
-impl VolatileSlice {
     // The part of a window that an access of so many bytes at an offset reaches.
     #[inline]
     fn reached(&self, offset: usize, count: usize) -> VolatileMemoryResult<VolatileSlice>
@@ -199,9 +200,7 @@ impl VolatileSlice {
         }
         Ok(self.part(offset, count.min(self.size - offset)))
     }
-}
 
-impl VolatileSlice {
     // At most `count` of the bytes from an offset on.
     fn cut(&self, offset: usize, count: usize) -> VolatileMemoryResult<VolatileSlice>
         ensures cut { only result ≡ cut_of self.now offset count }
@@ -210,9 +209,7 @@ impl VolatileSlice {
         let window = self.offset(offset)?;
         Ok(window.front(count.min(window.len())))
     }
-}
 
-impl VolatileSlice {
     // Whether the place in the block is a multiple of `size`.
     #[inline]
     pub(crate) fn is_aligned(&self, size: usize) -> bool
@@ -236,6 +233,59 @@ impl VolatileSlice {
             });
         }
         Ok(window)
+    }
+
+    /// Copies its first bytes to the front of another window, up to the length of the shorter. The bytes are copied as
+    /// they were, also where the two overlap, and marked in the other. The host has to hold both.
+    #[inline]
+    pub fn copy_to_volatile_slice<B: Bitmap>(&self, host: &mut HostMemory<B>, slice: VolatileSlice)
+        requires from { Holds (shape_of host.old) (window_names self.now) }
+        requires to { Holds (shape_of host.old) (window_names slice) }
+        ensures bytes { Copies B.marks self.now slice host.old host.new }
+        ensures shape { shape_of host.new ≡ shape_of host.old }
+    {
+        let count = self.size.min(slice.size);
+        host.copy(&self.front(count), &slice.front(count));
+    }
+
+    /// Copies values out of its first bytes: those that it has whole and that the buffer has room for. It answers how
+    /// many. A value has to have a byte or more, and the host to hold the window.
+    #[inline]
+    pub fn copy_to<T: ByteValued, B: Bitmap>(&self, host: &HostMemory<B>, buf: &mut [T]) -> usize
+        requires held { Holds (shape_of host.now) (window_names self.now) }
+        requires some { 0 < T.width }
+        ensures count { result ≡ min (length buf.old) (self.now.size / size_of T.width) }
+        ensures values { T.width < 2 ^ 64 → buf.new
+            ≡ values_of T.value_of T.width result (bytes_at host.now.blocks (cells_of self.now))
+            ++ drop result buf.old }
+    {
+        let count = buf.len().min(self.size / T::size());
+        host.read_values(self, &mut buf[..count]);
+        count
+    }
+
+    /// Copies the bytes of values to its front, those that it has room for whole, and marks these bytes. A value has to
+    /// have a byte or more, and the host to hold the window.
+    #[inline]
+    pub fn copy_from<T: ByteValued, B: Bitmap>(&self, host: &mut HostMemory<B>, buf: &[T])
+        requires held { Holds (shape_of host.old) (window_names self.now) }
+        requires some { 0 < T.width }
+        ensures bytes { T.width < 2 ^ 64 → let count = min (length buf.now) (self.now.size / T.width) in
+            let bytes = flat_map T.bytes (take count buf.now) in
+            Writes B.marks (front self.now (count * T.width) ∷ []) bytes host.old host.new }
+        ensures shape { shape_of host.new ≡ shape_of host.old }
+    {
+        let size = T::size();
+        let count = buf.len().min(self.size / size);
+        host.write_values(&self.front(count * size), &buf[..count]);
+    }
+}
+
+impl Named for VolatileSlice {
+    ghost names = { window_names };
+
+    fn held_by(&self, shape: &HostShape) -> bool {
+        shape.has_place(self.block, self.offset, self.size) && shape.has_bitmap(self.bitmap.id)
     }
 }
 
@@ -435,51 +485,4 @@ pub(crate) fn whole(expected: usize, completed: usize) -> VolatileMemoryResult<(
         });
     }
     Ok(())
-}
-
-impl VolatileSlice {
-    /// Copies its first bytes to the front of another window, up to the length of the shorter. The bytes are copied as
-    /// they were, also where the two overlap, and marked in the other. The host has to hold both.
-    #[inline]
-    pub fn copy_to_volatile_slice<B: Bitmap>(&self, host: &mut HostMemory<B>, slice: VolatileSlice)
-        requires from { Holds (shape_of host.old) (window_names self.now) }
-        requires to { Holds (shape_of host.old) (window_names slice) }
-        ensures bytes { Copies B.marks self.now slice host.old host.new }
-        ensures shape { shape_of host.new ≡ shape_of host.old }
-    {
-        let count = self.size.min(slice.size);
-        host.copy(&self.front(count), &slice.front(count));
-    }
-
-    /// Copies values out of its first bytes: those that it has whole and that the buffer has room for. It answers how
-    /// many. A value has to have a byte or more, and the host to hold the window.
-    #[inline]
-    pub fn copy_to<T: ByteValued, B: Bitmap>(&self, host: &HostMemory<B>, buf: &mut [T]) -> usize
-        requires held { Holds (shape_of host.now) (window_names self.now) }
-        requires some { 0 < T.width }
-        ensures count { result ≡ min (length buf.old) (self.now.size / size_of T.width) }
-        ensures values { T.width < 2 ^ 64 → buf.new
-            ≡ values_of T.value_of T.width result (bytes_at host.now.blocks (cells_of self.now))
-            ++ drop result buf.old }
-    {
-        let count = buf.len().min(self.size / T::size());
-        host.read_values(self, &mut buf[..count]);
-        count
-    }
-
-    /// Copies the bytes of values to its front, those that it has room for whole, and marks these bytes. A value has to
-    /// have a byte or more, and the host to hold the window.
-    #[inline]
-    pub fn copy_from<T: ByteValued, B: Bitmap>(&self, host: &mut HostMemory<B>, buf: &[T])
-        requires held { Holds (shape_of host.old) (window_names self.now) }
-        requires some { 0 < T.width }
-        ensures bytes { T.width < 2 ^ 64 → let count = min (length buf.now) (self.now.size / T.width) in
-            let bytes = flat_map T.bytes (take count buf.now) in
-            Writes B.marks (front self.now (count * T.width) ∷ []) bytes host.old host.new }
-        ensures shape { shape_of host.new ≡ shape_of host.old }
-    {
-        let size = T::size();
-        let count = buf.len().min(self.size / size);
-        host.write_values(&self.front(count * size), &buf[..count]);
-    }
 }

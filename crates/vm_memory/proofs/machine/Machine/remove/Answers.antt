@@ -1,7 +1,7 @@
 use Rattle.std.proofs.Common.{Err, map, ap, subst, sym, ◌∙◌}
 use Rattle.vm_memory_guest.specs.Host.{Holds, shape_of}
 use Rattle.vm_memory_guest.specs.Region.{Region, region_names}
-use Rattle.vm_memory_guest.specs.declared.region.GuestRegionCollectionError.{GuestRegionCollectionError}
+use Rattle.vm_memory_guest.specs.declared.region.error.GuestRegionCollectionError.{GuestRegionCollectionError}
 use Rattle.vm_memory.specs.Machine.{Step}
 use Rattle.vm_memory.specs.Parts.{state_of}
 use Rattle.vm_memory.specs.declared.machine.command.Command.TheVariants as command

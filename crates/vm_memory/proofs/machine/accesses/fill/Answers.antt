@@ -5,8 +5,8 @@ use Rattle.vm_memory_guest.specs.Dirt.{path_cells}
 use Rattle.vm_memory_guest.specs.Host.{bytes_at}
 use Rattle.vm_memory_guest.specs.Memory.{route}
 use Rattle.vm_memory_guest.specs.Error.{error_of}
-use Rattle.vm_memory_guest.specs.declared.region.GuestMemoryError.{GuestMemoryError}
-use Rattle.vm_memory_guest.specs.declared.region.GuestMemoryError.TheVariants as errors
+use Rattle.vm_memory_guest.specs.declared.region.error.GuestMemoryError.{GuestMemoryError}
+use Rattle.vm_memory_guest.specs.declared.region.error.GuestMemoryError.TheVariants as errors
 use Rattle.vm_memory_guest.specs.Transfer.{all_of, ended}
 use Rattle.vm_memory.specs.Reply.{access_result, reached_by, reply_of_error, whole_of}
 use Rattle.vm_memory.proofs.AccessLemmas.{whole_is}

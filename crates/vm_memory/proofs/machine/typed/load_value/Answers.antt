@@ -7,7 +7,7 @@ use Rattle.vm_memory_guest.specs.Host.{bytes_at}
 use Rattle.vm_memory_guest.specs.Memory.{NeedsTranslation, route}
 use Rattle.vm_memory_guest.specs.Typed.{answered, place_of, typed_path}
 use Rattle.vm_memory_guest.specs.Window.{cells_of}
-use Rattle.vm_memory_guest.specs.declared.region.GuestMemoryError.TheVariants as errors
+use Rattle.vm_memory_guest.specs.declared.region.error.GuestMemoryError.TheVariants as errors
 use Rattle.vm_memory.proofs.TypedLemmas.{answered_then}
 use Rattle.vm_memory.proofs.machine.typed.load_value.Goals as goal
 

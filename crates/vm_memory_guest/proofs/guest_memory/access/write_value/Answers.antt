@@ -1,66 +1,44 @@
 use Rattle.std.proofs.Common.{◌≡◌, length, arith, ◌∙◌}
-use Rattle.vm_memory_guest.specs.Walk.{items_of}
-use Rattle.vm_memory_guest.proofs.AccessLemmas.{Gave, gave, ends_in, ends_whole, came-fits, answer-whole, answer-ends, wrote_first, wrote-held, wrote-ends}
+use Rattle.vm_memory_guest.proofs.AccessLemmas.{gave, ends_in, ends_whole, next_fits, answer-whole, answer-ends, wrote_first, wrote-held, wrote-ends}
 use Rattle.vm_memory_guest.proofs.TypedWalk.{wrote_next}
-use Rattle.vm_memory_guest.proofs.guest_memory.access.write_value.Given.{Over}
 use Rattle.vm_memory_guest.proofs.guest_memory.access.write_value.Goals as goal
-use Rattle.vm_memory_guest.proofs.guest_memory.access.write_value.Goals.{In-Ok}
-
-gives : (g : Over) (c : In-Ok g) → Gave c.loop-item.item-iterator c.next.new.self c.in-Ok.window
-gives g c =
-    gave c.loop-item.item-iterator c.next.new.self c.in-Some.item c.in-Ok.window c.in-Some.ensures.steps c.in-Ok.is
 
 pub loop-item-init : goal.loop-item-init
 loop-item-init g c = rw c.into_iter-item-iterator.ensures.into_iter_gives
     (wrote_first g.B.Bitmap.marks c.args.walk (g.V.ByteValued.bytes c.args.value.now) c.args.host.now)
 
-pub write_value-requires-clause-held : goal.write_value-requires-clause-held
-write_value-requires-clause-held g c =
-    let next = gives g (goal.at.write_value-requires-clause-held g c).In-Ok in
-    wrote-held g.B.Bitmap.marks c.loop-item.invariant next c.requires.held
-
-pub write_value-requires-clause-inside : goal.write_value-requires-clause-inside
-write_value-requires-clause-inside g c =
-    let next = gives g (goal.at.write_value-requires-clause-inside g c).In-Ok in
-    let fits = came-fits c.loop-item.invariant.came next _ c.requires.fits in
-    omega arith
-
-pub write_value-requires-clause-fits : goal.write_value-requires-clause-fits
-write_value-requires-clause-fits g c =
-    let next = gives g (goal.at.write_value-requires-clause-fits g c).In-Ok in
-    let fits = came-fits c.loop-item.invariant.came next _ c.requires.fits in
-    omega arith
+pub write_value-requires : goal.write_value-requires
+write_value-requires g c =
+    let fits = next_fits c.loop-item.invariant.came c.in-Some.ensures.steps c.in-Ok.is _ c.requires.fits in record {
+      held = wrote-held g.B.Bitmap.marks c.loop-item.invariant c.in-Some.ensures.steps c.in-Ok.is c.requires.held;
+      inside = omega arith;
+      fits = omega arith;
+    }
 
 pub overflow_add-total : goal.overflow_add-total
 overflow_add-total g c =
-    let next = gives g (goal.at.overflow_add-total g c).In-Ok in
-    let fits = came-fits c.loop-item.invariant.came next _ c.requires.fits in
+    let fits = next_fits c.loop-item.invariant.came c.in-Some.ensures.steps c.in-Ok.is _ c.requires.fits in
     omega (arith, c.len-total.ensures)
 
 pub loop-item-preserved : goal.loop-item-preserved
 loop-item-preserved g c =
-    let next = gives g (goal.at.loop-item-preserved g c).In-Ok in
     let long : length (g.V.ByteValued.bytes c.args.value.now) ≡ g.V.ByteSized.width =
     g.met.V.ByteValued.laws.length_bytes c.args.value.now c.known.ensures in
-    wrote_next g.B.Bitmap.marks c.loop-item.invariant next c.write_value.new.self c.len-total.result c.len-total.ensures
-    (omega (arith, c.requires.fits)) c.write_value.ensures.bytes
+    wrote_next g.B.Bitmap.marks c.loop-item.invariant
+    (gave c.loop-item.item-iterator c.next.new.self _ _ c.in-Some.ensures.steps c.in-Ok.is)
+    c.write_value.new.self c.len-total.result c.len-total.ensures (omega (arith, c.requires.fits))
+    c.write_value.ensures.bytes
 
-pub returns-in-Err-clause-answer : goal.returns-in-Err-clause-answer
-returns-in-Err-clause-answer g c =
-    let end = ends_in c.loop-item.item-iterator c.in-Some.item c.in-Err.error
-    (items_of c.next.new.self) c.in-Some.ensures.steps c.in-Err.is in
-    c.ended.ensures ∙ answer-ends c.loop-item.invariant.came end
+pub returns-in-Err : goal.returns-in-Err
+returns-in-Err g c =
+    let end = ends_in c.loop-item.item-iterator _ _ _ c.in-Some.ensures.steps c.in-Err.is in record {
+      answer = c.ended.ensures ∙ answer-ends c.loop-item.invariant.came end;
+      bytes = wrote-ends g.B.Bitmap.marks c.loop-item.invariant end;
+    }
 
-pub returns-in-Err-clause-bytes : goal.returns-in-Err-clause-bytes
-returns-in-Err-clause-bytes g c =
-    let end = ends_in c.loop-item.item-iterator c.in-Some.item c.in-Err.error
-    (items_of c.next.new.self) c.in-Some.ensures.steps c.in-Err.is in
-    wrote-ends g.B.Bitmap.marks c.loop-item.invariant end
-
-pub returns-clause-answer : goal.returns-clause-answer
-returns-clause-answer g c =
-    answer-whole c.loop-item.invariant.came (ends_whole c.loop-item.item-iterator c.in-None.ensures.steps.0)
-
-pub returns-clause-bytes : goal.returns-clause-bytes
-returns-clause-bytes g c =
-    wrote-ends g.B.Bitmap.marks c.loop-item.invariant (ends_whole c.loop-item.item-iterator c.in-None.ensures.steps.0)
+pub returns : goal.returns
+returns g c =
+    let end = ends_whole c.loop-item.item-iterator c.in-None.ensures.steps.0 in record {
+      answer = answer-whole c.loop-item.invariant.came end;
+      bytes = wrote-ends g.B.Bitmap.marks c.loop-item.invariant end;
+    }

@@ -3,9 +3,8 @@ use Rattle.std.proofs.lemmas.Result.{err_from_is_err_and}
 use Rattle.vm_memory_guest.specs.Host.{Holds, shape_of}
 use Rattle.vm_memory_guest.specs.Transfer.{Takes, UntilWhole}
 use Rattle.vm_memory_guest.specs.Typed.{answered}
-use Rattle.vm_memory_guest.specs.Walk.{items_of}
 use Rattle.vm_memory_guest.specs.Window.{span, window_names}
-use Rattle.vm_memory_guest.proofs.AccessLemmas.{Gave, gave, ends_in, ends_whole, came-all, came-fits}
+use Rattle.vm_memory_guest.proofs.AccessLemmas.{Gave, gave, ends_in, ends_whole, next_all, next_fits}
 use Rattle.vm_memory_guest.proofs.OrderLemmas.{moved_first, moved_next, moved_fails, moved_ends, moved_whole}
 use Rattle.vm_memory_guest.proofs.TransferLemmas.{sends_of}
 use Rattle.vm_memory_guest.proofs.guest_memory.transfer.send_windows.Given.{Over}
@@ -13,8 +12,7 @@ use Rattle.vm_memory_guest.proofs.guest_memory.transfer.send_windows.Goals as go
 use Rattle.vm_memory_guest.proofs.guest_memory.transfer.send_windows.Goals.{In-Ok, After-write_all_volatile}
 
 gives : (g : Over) (c : In-Ok g) → Gave c.loop-item.item-iterator c.next.new.self c.in-Ok.window
-gives g c =
-    gave c.loop-item.item-iterator c.next.new.self c.in-Some.item c.in-Ok.window c.in-Some.ensures.steps c.in-Ok.is
+gives g c = gave c.loop-item.item-iterator c.next.new.self _ _ c.in-Some.ensures.steps c.in-Ok.is
 
 -- what the sink was sent of the window
 sent : (g : Over) (c : After-write_all_volatile g) → let w = c.in-Ok.window in let call = c.write_all_volatile in
@@ -34,8 +32,8 @@ loop-item-init g c = rw c.into_iter-item-iterator.ensures.into_iter_gives
 
 pub bytes-requires : goal.bytes-requires
 bytes-requires g c =
-    let next = gives g (goal.at.bytes-requires g c).In-Ok in
-    came-all c.loop-item.invariant.came next (λ v. Holds (shape_of c.args.host.now) (window_names v)) c.requires.held
+    next_all c.loop-item.invariant.came c.in-Some.ensures.steps c.in-Ok.is
+    (λ v. Holds (shape_of c.args.host.now) (window_names v)) c.requires.held
 
 pub returns-in_err-write_all_volatile-in-Ok-clause-answer :
     goal.returns-in_err-write_all_volatile-in-Ok-clause-answer
@@ -51,8 +49,8 @@ returns-in_err-write_all_volatile-in-Ok-clause-answer g c =
 
 pub overflow_add-total : goal.overflow_add-total
 overflow_add-total g c =
-    let next = gives g (goal.at.overflow_add-total g c).In-Ok in
-    let fits = came-fits c.loop-item.invariant.came next (span c.args.walk.windows) (omega arith) in
+    let fits = next_fits c.loop-item.invariant.came c.in-Some.ensures.steps c.in-Ok.is (span c.args.walk.windows)
+    (omega arith) in
     let size : c.len-total.result ≡ c.in-Ok.window.size = c.len-total.ensures in
     omega (arith, c.requires.fits)
 
@@ -70,8 +68,7 @@ loop-item-preserved g c =
 pub returns-in-Err-clause-answer : goal.returns-in-Err-clause-answer
 returns-in-Err-clause-answer g c =
     rw c.ended.ensures (moved_ends _ c.loop-item.invariant
-    (ends_in c.loop-item.item-iterator c.in-Some.item c.in-Err.error
-    (items_of c.next.new.self) c.in-Some.ensures.steps c.in-Err.is))
+    (ends_in c.loop-item.item-iterator _ _ _ c.in-Some.ensures.steps c.in-Err.is))
 
 pub returns-clause-answer : goal.returns-clause-answer
 returns-clause-answer g c =

@@ -19,10 +19,11 @@ is_rest g c =
 
 turn : (g : Over) (c : After-read_from g) (answer : Answer) → c.read_from.result ≡ answer
     → let w = c.args.window.now in let l = c.loop-filled in
-    Again (LendsWindow g.S.ReadVolatile.source g.S.ReadVolatile.reads g.B.Bitmap.marks (part w l.filled (w.size - l.filled)))
-    (l.source, l.self) answer
+    Again (LendsWindow g.S.ReadVolatile.source g.S.ReadVolatile.reads g.B.Bitmap.marks
+    (part w l.filled (w.size - l.filled))) (l.source, l.self) answer
     (c.read_from.new.source, c.read_from.new.self)
-turn g c answer is = rw is at (subst (λ (v : Window). Again (LendsWindow g.S.ReadVolatile.source g.S.ReadVolatile.reads g.B.Bitmap.marks v)
+turn g c answer is = rw is at (subst
+    (λ (v : Window). Again (LendsWindow g.S.ReadVolatile.source g.S.ReadVolatile.reads g.B.Bitmap.marks v)
     (c.loop-filled.source, c.loop-filled.self) c.read_from.result (c.read_from.new.source, c.read_from.new.self))
     (is_rest g c) c.read_from.ensures.lends)
 

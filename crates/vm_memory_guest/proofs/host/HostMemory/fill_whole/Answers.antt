@@ -1,6 +1,5 @@
 use Rattle.std.proofs.Common.{◌≡◌, ◌∙◌, ap, subst, sym}
 use Rattle.vm_memory_guest.specs.Copy.{front}
-use Rattle.vm_memory_guest.specs.Host.{Host}
 use Rattle.vm_memory_guest.specs.Transfer.{filled_of, touched_of}
 use Rattle.vm_memory_guest.specs.Window.{Window, MarksWindow}
 use Rattle.vm_memory_guest.proofs.host.HostMemory.fill_whole.Goals as goal

@@ -8,18 +8,20 @@ use Rattle.vm_memory_guest.proofs.host.block.put_values_in.Goals as goal
 
 pub returns-clause-put : goal.returns-clause-put
 returns-clause-put g c short =
-    let p = place c.args.blocks.now c.args.block c.args.offset c.args.len c.index_mut-all.result.now
+    let at = c.args.at in
+    let p = place c.args.blocks.now at.block at.offset at.len c.index_mut-all.result.now
     c.as_mut_slice.result.now (grind (arith, common_steps)) (grind (arith, common_steps)) c.as_mut_slice.ensures.value
     c.requires.within in
     p.put c.fill_place.new.place c.fill_place.auto.place
-    ∙ ap (λ bytes. written (cells_from c.args.block c.args.offset c.args.len) bytes (blocks_of c.args.blocks.now))
+    ∙ ap (λ bytes. written (cells_from at.block at.offset at.len) bytes (blocks_of c.args.blocks.now))
     (c.fill_place.ensures short)
 
 pub returns-clause-lengths : goal.returns-clause-lengths
 returns-clause-lengths g c =
-    let p = place c.args.blocks.now c.args.block c.args.offset c.args.len c.index_mut-all.result.now
+    let at = c.args.at in
+    let p = place c.args.blocks.now at.block at.offset at.len c.index_mut-all.result.now
     c.as_mut_slice.result.now (grind (arith, common_steps)) (grind (arith, common_steps)) c.as_mut_slice.ensures.value
     c.requires.within in
     ap (map length) (p.put c.fill_place.new.place c.fill_place.auto.place)
-    ∙ lengths-written (cells_from c.args.block c.args.offset c.args.len) c.fill_place.new.place
+    ∙ lengths-written (cells_from at.block at.offset at.len) c.fill_place.new.place
     (blocks_of c.args.blocks.now)

@@ -6,7 +6,7 @@ use Rattle.vm_memory_guest.proofs.host.transfer.read_in.Goals as goal
 
 pub returns-clause-tried : goal.returns-clause-tried
 returns-clause-tried g c =
-    let p = place c.args.blocks.now c.args.block c.args.offset c.args.len c.index_mut-all.result.now
+    let p = place c.args.blocks.now c.args.at.block c.args.at.offset c.args.at.len c.index_mut-all.result.now
     c.as_mut_slice.result.now (grind (arith, common_steps)) (grind (arith, common_steps)) c.as_mut_slice.ensures.value
     c.requires.within in
     let source = g.S.ReadVolatile.source in

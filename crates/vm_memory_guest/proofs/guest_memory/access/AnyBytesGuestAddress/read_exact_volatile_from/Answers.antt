@@ -1,7 +1,7 @@
 use Rattle.std.proofs.Common.{◌∙◌, ap, refl, sym}
 use Rattle.std.proofs.lemmas.Result.{err_from_is_err_and}
 use Rattle.vm_memory_guest.specs.Transfer.{all_of}
-use Rattle.vm_memory_guest.specs.declared.region.GuestMemoryError.TheVariants as errors
+use Rattle.vm_memory_guest.specs.declared.region.error.GuestMemoryError.TheVariants as errors
 use Rattle.vm_memory_guest.proofs.OrderLemmas.{transfers-refused, transfers-walked}
 use Rattle.vm_memory_guest.proofs.guest_memory.access.AnyBytesGuestAddress.read_exact_volatile_from.Goals as goal
 

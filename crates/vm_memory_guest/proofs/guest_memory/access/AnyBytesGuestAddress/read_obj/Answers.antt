@@ -7,7 +7,7 @@ use Rattle.vm_memory_guest.specs.Transfer.{all_of, ended}
 use Rattle.vm_memory_guest.specs.Typed.{answered}
 use Rattle.vm_memory_guest.specs.Walk.{GivesAccess, RefusesAccess, WantsMemory}
 use Rattle.vm_memory_guest.specs.Window.{cells, span}
-use Rattle.vm_memory_guest.specs.declared.region.GuestMemoryError.TheVariants.{PartialBuffer}
+use Rattle.vm_memory_guest.specs.declared.region.error.GuestMemoryError.TheVariants.{PartialBuffer}
 use Rattle.vm_memory_guest.proofs.TypedWalk.{completed-whole, value-read, value-refused}
 use Rattle.vm_memory_guest.proofs.guest_memory.access.AnyBytesGuestAddress.read_obj.Goals as goal
 

@@ -4,7 +4,7 @@ use Rattle.vm_memory_base.specs.declared.iotlb.Permissions.TheVariants.{Write}
 use Rattle.vm_memory_guest.specs.Transfer.{all_of, ended}
 use Rattle.vm_memory_guest.specs.Walk.{RefusesAccess, WantsMemory}
 use Rattle.vm_memory_guest.specs.Window.{Writes, span}
-use Rattle.vm_memory_guest.specs.declared.region.GuestMemoryError.TheVariants.{PartialBuffer}
+use Rattle.vm_memory_guest.specs.declared.region.error.GuestMemoryError.TheVariants.{PartialBuffer}
 use Rattle.vm_memory_guest.proofs.MarkLaws.{shape_of-Writes}
 use Rattle.vm_memory_guest.proofs.TypedWalk.{value-refused}
 use Rattle.vm_memory_guest.proofs.guest_memory.access.AnyBytesGuestAddress.write_obj.Goals as goal

@@ -6,7 +6,8 @@ use Rattle.vm_memory_guest.proofs.guest_memory.access.AnyBytesGuestAddress.write
 pub returns-in_err-walk-clause-answer : goal.returns-in_err-walk-clause-answer
 returns-in_err-walk-clause-answer g c =
     let p = err_from_is_err_and c.from_residual.result c.from_residual.ensures.1 in
-    rw (p.1, p.2) (transfers-refused _ _ _ _ _ _ _ c.args.dst.now c.in_err-walk.field-0.0 refl c.in_err-walk.ensures.answer)
+    rw (p.1, p.2) (transfers-refused _ _ _ _ _ _ _ c.args.dst.now c.in_err-walk.field-0.0 refl
+    c.in_err-walk.ensures.answer)
 
 pub returns-clause-at_most : goal.returns-clause-at_most
 returns-clause-at_most g c =
@@ -15,5 +16,5 @@ returns-clause-at_most g c =
 pub returns-clause-answer : goal.returns-clause-answer
 returns-clause-answer g c =
     let send = c.send_windows in
-    transfers-walked _ _ _ _ _ _ _ c.in_ok-walk.walk c.in_ok-walk.ensures.answer c.args.dst.now send.new.sink send.result
-    send.result send.ensures.answer refl
+    transfers-walked _ _ _ _ _ _ _ c.in_ok-walk.walk c.in_ok-walk.ensures.answer c.args.dst.now send.new.sink
+    send.result send.result send.ensures.answer refl

@@ -3,7 +3,7 @@ use Rattle.std.proofs.lemmas.Bool.Decides.{nat_tests}
 use denote.Param.Always.{mut_next}
 use Rattle.std.proofs.lemmas.Result.{err_from_is_err_and}
 use Rattle.vm_memory_guest.specs.TryAccess.{after_call}
-use Rattle.vm_memory_guest.specs.declared.region.GuestMemoryError.TheVariants.{InvalidGuestAddress}
+use Rattle.vm_memory_guest.specs.declared.region.error.GuestMemoryError.TheVariants.{InvalidGuestAddress}
 use Rattle.vm_memory_guest.proofs.TryLemmas.{ends-here, goes-on, ends-nowhere}
 use Rattle.vm_memory_guest.proofs.QueryLemmas.{found-from, found-below}
 use Rattle.vm_memory_guest.proofs.guest_memory.backend.GuestMemoryBackend.try_access.Goals as goal

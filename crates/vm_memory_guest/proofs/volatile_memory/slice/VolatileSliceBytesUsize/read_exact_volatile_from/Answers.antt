@@ -25,7 +25,8 @@ pub returns-clause-answer : goal.returns-clause-answer
 returns-clause-answer g c =
     let w = c.in_ok-window.window in
     let fill = c.fill_whole in
-    let size = size-given c.args.self.now w c.args.addr c.args.count c.subslice.result c.subslice.ensures c.in_ok-window.was in
+    let size = size-given c.args.self.now w c.args.addr c.args.count c.subslice.result c.subslice.ensures
+    c.in_ok-window.was in
     part_moved _ _ _ w (c.args.src.now, c.args.host.now) (fill.new.source, fill.new.self) fill.result _
     (ap only (sym c.subslice.ensures ∙ c.in_ok-window.was)) fill.ensures.lends
     (sym (ap (answered (λ all. tt)) c.in_ok-fill_whole.was)

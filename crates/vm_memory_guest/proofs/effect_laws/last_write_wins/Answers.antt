@@ -1,5 +1,0 @@
-use Rattle.vm_memory_guest.proofs.WrittenLaws.{byte_at-written_last}
-use Rattle.vm_memory_guest.proofs.effect_laws.last_write_wins.Goals as goal
-
-pub returns : goal.returns
-returns c = byte_at-written_last

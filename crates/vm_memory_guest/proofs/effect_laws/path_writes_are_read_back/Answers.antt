@@ -1,5 +1,0 @@
-use Rattle.vm_memory_guest.proofs.EffectLaws.{bytes_read-after_write}
-use Rattle.vm_memory_guest.proofs.effect_laws.path_writes_are_read_back.Goals as goal
-
-pub returns : goal.returns
-returns c = bytes_read-after_write

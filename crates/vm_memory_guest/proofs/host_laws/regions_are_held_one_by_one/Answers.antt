@@ -1,5 +1,0 @@
-use Rattle.vm_memory_guest.proofs.HoldsLemmas.{Holds-each, Holds-among}
-use Rattle.vm_memory_guest.proofs.host_laws.regions_are_held_one_by_one.Goals as goal
-
-pub returns : goal.returns
-returns c = record { each = Holds-each; among = Holds-among }

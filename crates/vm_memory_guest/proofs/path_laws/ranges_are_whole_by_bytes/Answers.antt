@@ -1,5 +1,0 @@
-use Rattle.vm_memory_guest.proofs.WholeRanges.{whole-by-bytes}
-use Rattle.vm_memory_guest.proofs.path_laws.ranges_are_whole_by_bytes.Goals as goal
-
-pub returns : goal.returns
-returns c = whole-by-bytes

@@ -1,5 +1,0 @@
-use Rattle.vm_memory_guest.proofs.LayoutLaws.{has_place}
-use Rattle.vm_memory_guest.proofs.region_laws.inserted_regions_stand_in_order.Goals as goal
-
-pub returns : goal.returns
-returns c = has_place

@@ -1,5 +1,0 @@
-use Rattle.vm_memory_guest.proofs.RegionLaws.{layout-one}
-use Rattle.vm_memory_guest.proofs.region_laws.one_region_holds_an_address.Goals as goal
-
-pub returns : goal.returns
-returns c = layout-one
