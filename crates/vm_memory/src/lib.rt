@@ -3,11 +3,10 @@
 #![tactic(auto)]
 
 mod chain;
-pub mod chain_laws;
+pub mod examples;
 mod iommu;
+pub mod laws;
 pub mod machine;
-pub mod machine_examples;
-pub mod machine_laws;
 pub mod script;
 
 pub use iommu::{Iommu, IommuMemory, TableIommu};

@@ -24,7 +24,7 @@ mod transfers;
 mod typed;
 
 use crate::iommu::Iommu;
-use crate::machine_laws::{
+use crate::laws::machine::{
     accesses_go_through_what_was_set_last, runs_keep_images, runs_keep_layouts,
 };
 use command::{Command, Reply};

@@ -1,5 +1,5 @@
 use Rattle.vm_memory.proofs.JournalLemmas.{ample_runs_agree}
-use Rattle.vm_memory.proofs.machine_laws.ample_runs_agree.Goals as goal
+use Rattle.vm_memory.proofs.laws.machine.ample_runs_agree.Goals as goal
 
 pub returns : goal.returns
 returns c = ample_runs_agree

@@ -2,7 +2,7 @@ use Rattle.vm_memory.proofs.EffectLemmas.{ImageLaws}
 use Rattle.vm_memory.proofs.RoundsLemmas.{WriteLaws, copy_mirrors, kept_from_mirrors, mirrors_from_clean}
 use Rattle.vm_memory.proofs.RunLemmas.{run_keeps, unharvested_run_keeps}
 use Rattle.vm_memory.specs.Rounds.{bytes_of_block, pages_of_block}
-use Rattle.vm_memory.proofs.machine_laws.runs_keep_images.Goals as goal
+use Rattle.vm_memory.proofs.laws.machine.runs_keep_images.Goals as goal
 
 pub returns : goal.returns
 returns c =

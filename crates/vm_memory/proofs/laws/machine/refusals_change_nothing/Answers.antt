@@ -1,7 +1,7 @@
 use Rattle.vm_memory.specs.declared.machine.command.Reply.TheVariants as reply
 use Rattle.vm_memory.proofs.RunLemmas.{still-step}
 use Rattle.vm_memory.proofs.StepLemmas.{still-fault}
-use Rattle.vm_memory.proofs.machine_laws.refusals_change_nothing.Goals as goal
+use Rattle.vm_memory.proofs.laws.machine.refusals_change_nothing.Goals as goal
 
 pub returns : goal.returns
 returns c =

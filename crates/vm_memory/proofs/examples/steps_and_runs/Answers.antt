@@ -3,7 +3,7 @@ use Rattle.vm_memory_guest.specs.Access.{path, first_fault}
 use Rattle.vm_memory.specs.examples.Fixtures.{at, machine}
 use Rattle.vm_memory.specs.Machine.{outcome}
 use Rattle.vm_memory.specs.declared.machine.command.Command.TheVariants.{FromRegions, Plain, Read, Write}
-use Rattle.vm_memory.proofs.machine_examples.steps_and_runs.Goals as goal
+use Rattle.vm_memory.proofs.examples.steps_and_runs.Goals as goal
 
 pub returns-clause-run : goal.returns-clause-run
 unfolding path first_fault

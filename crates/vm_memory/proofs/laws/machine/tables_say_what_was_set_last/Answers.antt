@@ -1,7 +1,7 @@
 use Rattle.vm_memory.proofs.CallLemmas.{history_laws}
 use Rattle.vm_memory.proofs.HistoryLemmas.{CallLaws, run_says, run_says_as_before, run_says_last}
 use Rattle.vm_memory.proofs.RunLemmas.{run_leaves}
-use Rattle.vm_memory.proofs.machine_laws.tables_say_what_was_set_last.Goals as goal
+use Rattle.vm_memory.proofs.laws.machine.tables_say_what_was_set_last.Goals as goal
 
 pub returns : goal.returns
 returns c =

@@ -3,7 +3,7 @@ use Rattle.vm_memory_guest.specs.Memory.{Memory}
 use Rattle.vm_memory.specs.Lawful.{IsLaidOut, IsLawful}
 use Rattle.vm_memory.proofs.RunLemmas.{run_keeps_layouts}
 use Rattle.vm_memory.proofs.ListLemmas.{All-slice_get}
-use Rattle.vm_memory.proofs.machine_laws.runs_keep_layouts.Goals as goal
+use Rattle.vm_memory.proofs.laws.machine.runs_keep_layouts.Goals as goal
 
 pub returns : goal.returns
 returns c = record {

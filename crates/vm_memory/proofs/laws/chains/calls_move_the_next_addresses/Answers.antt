@@ -1,6 +1,6 @@
 use Rattle.vm_memory.proofs.AddressesOfText.{addresses-text, next_address}
 use Rattle.vm_memory.proofs.CutsOfText.{text_windows-segment}
-use Rattle.vm_memory.proofs.chain_laws.calls_move_the_next_addresses.Goals as goal
+use Rattle.vm_memory.proofs.laws.chains.calls_move_the_next_addresses.Goals as goal
 
 pub returns : goal.returns
 returns g c = record {

@@ -6,7 +6,7 @@ use Rattle.vm_memory.specs.History.{table_events, GoesThrough}
 use Rattle.vm_memory.proofs.HistoryLemmas.{CallLaws, run_goes_through, run_goes_through_last}
 use Rattle.vm_memory.proofs.CallLemmas.{history_laws}
 use Rattle.vm_memory.proofs.HistoryLemmas.{through_a_set_range}
-use Rattle.vm_memory.proofs.machine_laws.accesses_go_through_what_was_set_last.Goals as goal
+use Rattle.vm_memory.proofs.laws.machine.accesses_go_through_what_was_set_last.Goals as goal
 
 pub returns : goal.returns
 returns c =
