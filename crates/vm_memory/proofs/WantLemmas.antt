@@ -30,7 +30,7 @@ use Rattle.vm_memory_guest.specs.declared.region.error.GuestMemoryError.{GuestMe
 use Rattle.vm_memory_guest.specs.declared.region.error.GuestMemoryError.TheVariants as errors
 use Rattle.vm_memory_guest.specs.declared.region.error.GuestRegionCollectionError.{GuestRegionCollectionError}
 use Rattle.vm_memory_guest.specs.declared.region.error.GuestRegionCollectionError.TheVariants as layouts
-use Rattle.vm_memory.specs.Reply.{access_result, whole_of, moved_as, reached_by, reads, reads_whole, reply_of, reply_of_error, reply_of_layout_error, writes}
+use Rattle.vm_memory.specs.Reply.{access_result, all_moved, moved_as, reached_by, reads, reads_whole, reply_of, reply_of_error, reply_of_layout_error, writes}
 use Rattle.vm_memory.specs.Tables.{looks_up}
 use Rattle.vm_memory.specs.Transfers.{beside_taken, dealt_to, given_by, receives, sends}
 use Rattle.vm_memory.specs.Typed.{loads, stores_bytes}
@@ -245,7 +245,7 @@ module _ (host : Host PageSet) (m : Memory) (a : ℕ) where
   pub read_whole : (n : ℕ) → IsAnswer (reads_whole m host a n)
   read_whole n =
       let reached = reached_by m host.tables a n permissions.Read in
-      told_of (λ (done : Unit {0}). reply.Bytes (bytes_read reached.path host)) (whole_of n (access_result reached))
+      told_of (λ (done : Unit {0}). reply.Bytes (bytes_read reached.path host)) (all_moved n (access_result reached))
       (λ done. tt) (all_fault n (access_result reached) (reached_fault n permissions.Read))
 
   pub loaded : (w : int.Width) → IsAnswer (loads m host a w)

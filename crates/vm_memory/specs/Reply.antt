@@ -61,13 +61,13 @@ abbrev pub access_result : Access → Result ℕ GuestMemoryError
 access_result reached = ended (length reached.path) (option_map error_of reached.fault)
 
 -- where all of n bytes are wanted, fewer are an error
-abbrev pub whole_of : ℕ → Result ℕ GuestMemoryError → Result (Unit {0}) GuestMemoryError
-whole_of n answer = all_of (λ expected completed. errors.PartialBuffer expected completed) n answer
+abbrev pub all_moved : ℕ → Result ℕ GuestMemoryError → Result (Unit {0}) GuestMemoryError
+all_moved n answer = all_of (λ expected completed. errors.PartialBuffer expected completed) n answer
 
 -- a call that moves n bytes replies how many were moved, or that all were
 abbrev pub moved_as : Bool → ℕ → Result ℕ GuestMemoryError → Reply
 moved_as false n answer = reply_of Count answer
-moved_as true n answer = reply_of (λ done. Done) (whole_of n answer)
+moved_as true n answer = reply_of (λ done. Done) (all_moved n answer)
 
 -- a read replies the bytes of its path
 abbrev pub reads : Memory → Host PageSet → ℕ → ℕ → Reply
@@ -79,7 +79,7 @@ reads m host a n =
 abbrev pub reads_whole : Memory → Host PageSet → ℕ → ℕ → Reply
 reads_whole m host a n =
     let reached = reached_by m host.tables a n permissions.Read in
-    reply_of (λ done. Bytes (bytes_read reached.path host)) (whole_of n (access_result reached))
+    reply_of (λ done. Bytes (bytes_read reached.path host)) (all_moved n (access_result reached))
 
 -- a check replies whether an access would reach all of its n bytes
 abbrev pub checks : Memory → Host PageSet → ℕ → ℕ → Permissions → Reply

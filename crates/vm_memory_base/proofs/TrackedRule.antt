@@ -16,7 +16,7 @@ use Rattle.atomic_table.specs.Table.{step, keeps, Allows}
 use Rattle.atomic_table.proofs.Lists.{at_set, set_else, set_again}
 use Rattle.vm_memory_base.specs.Notes.{Note, note, IsNoted, rounds_of, greatest_of}
 use Rattle.vm_memory_base.specs.declared.bitmap.tracked.view.View.{View}
-use Rattle.vm_memory_base.specs.Tracked.{pages_of, round_of, rounds_before, seen_of, words_for, IsWordBelow, AreWordsBelow, IsPage, IsMarked, IsTrue, HasHarvests, IsKept, Holds, after_mark, after_look, after_harvest, Marks, Looks, Harvests, Counts}
+use Rattle.vm_memory_base.specs.Tracked.{set_pages, round_of, rounds_before, seen_of, words_for, IsWordBelow, AreWordsBelow, IsPage, IsMarked, IsTrue, HasHarvests, IsRuled, KeepsRule, after_mark, after_look, after_harvest, Marks, Looks, Harvests, Counts}
 
 -- ---- lists
 
@@ -102,7 +102,7 @@ length-before (suc n) = ap suc (length-before n)
 
 -- ---- a view in the place of another
 
-module _ (count : ℕ) (words : List ℕ) (views : List View) (kept : IsKept count words views)
+module _ (count : ℕ) (words : List ℕ) (views : List View) (kept : IsRuled count words views)
     (id : ℕ) (v : View) (at : get_elem? views id ≡ some v) where
   pub still_marked : (u : View) (w r p : ℕ) → (IsNoted w r p v.marks → IsNoted w r p u.marks)
       → IsMarked views w r p → IsMarked (set views id u) w r p
@@ -133,7 +133,7 @@ module _ (count : ℕ) (words : List ℕ) (views : List View) (kept : IsKept cou
         (λ j x _ e. kept.alone j x e)
 
     pub replaced_keeps : IsTrue words kept.harvests u
-        → ((w r p : ℕ) → IsMarked views w r p → IsMarked (set views id u) w r p) → IsKept count words (set views id u)
+        → ((w r p : ℕ) → IsMarked views w r p → IsMarked (set views id u) w r p) → IsRuled count words (set views id u)
     replaced_keeps says more = record {
       words_are = kept.words_are;
       harvests = kept.harvests;
@@ -148,8 +148,8 @@ module _ (count : ℕ) (words : List ℕ) (views : List View) (kept : IsKept cou
   -- ---- steps that leave the harvests as they are: the word i becomes n
 
   module _ (i n : ℕ) (fits : i < words_for count) (round_is : round_of n ≡ round_of (slice_index words i))
-      (grows : (p : ℕ) → bit_at (pages_of (slice_index words i)) p ≡ 1 → bit_at (pages_of n) p ≡ 1)
-      (below : IsWordBelow count i (pages_of n)) where
+      (grows : (p : ℕ) → bit_at (set_pages (slice_index words i)) p ≡ 1 → bit_at (set_pages n) p ≡ 1)
+      (below : IsWordBelow count i (set_pages n)) where
     abbrev pub found : ℕ
     found = slice_index words i
 
@@ -168,7 +168,7 @@ module _ (count : ℕ) (words : List ℕ) (views : List View) (kept : IsKept cou
     more_pages w r p (inl (e, b)) =
         inl (
           e ∙ sym (same_rounds w),
-          of_words words i n (λ k x. bit_at (pages_of (slice_index words k)) p ≡ 1 → bit_at (pages_of x) p ≡ 1) inside
+          of_words words i n (λ k x. bit_at (set_pages (slice_index words k)) p ≡ 1 → bit_at (set_pages x) p ≡ 1) inside
               (grows p) (λ k _ h. h) w b,
         )
 
@@ -180,12 +180,12 @@ module _ (count : ℕ) (words : List ℕ) (views : List View) (kept : IsKept cou
     }
 
     -- a note of pages that are then set tells the truth, and so does one of the round
-    noted_true : (q : ℕ) → ((p : ℕ) → bit_at q p ≡ 1 → bit_at (pages_of n) p ≡ 1) → (w r p : ℕ)
+    noted_true : (q : ℕ) → ((p : ℕ) → bit_at q p ≡ 1 → bit_at (set_pages n) p ≡ 1) → (w r p : ℕ)
         → (i ≡ w) × (round_of found ≡ r) × (bit_at q p ≡ 1) → IsPage stepped kept.harvests w r p
     noted_true q among w r p (e, f, b) =
         let is = get_or-set_same words i n 0 inside in
         subst (λ (y : ℕ × ℕ). IsPage stepped kept.harvests y.0 y.1 p) (λ j. (e j, f j))
-        (inl (sym round_is ∙ ap round_of (sym is), ap (λ x. bit_at (pages_of x) p) is ∙ among p b))
+        (inl (sym round_is ∙ ap round_of (sym is), ap (λ x. bit_at (set_pages x) p) is ∙ among p b))
 
     seen_true : (w : ℕ) → greatest_of w (note i (round_of found) 0 ∷ v.rounds) ≤ round_of (slice_index stepped w)
     seen_true w =
@@ -199,13 +199,13 @@ module _ (count : ℕ) (words : List ℕ) (views : List View) (kept : IsKept cou
     module _ (u : View) (same : u.harvests ≡ v.harvests) (same_count : id ≡ 0 → u.count ≡ v.count)
         (says : IsTrue stepped kept.harvests u)
         (more : (w r p : ℕ) → IsNoted w r p v.marks → IsNoted w r p u.marks)
-        (new : (p : ℕ) → bit_at (pages_of n) p ≡ 1
-        → (bit_at (pages_of found) p ≡ 1) ⊎ IsNoted i (round_of found) p u.marks) where
+        (new : (p : ℕ) → bit_at (set_pages n) p ≡ 1
+        → (bit_at (set_pages found) p ≡ 1) ⊎ IsNoted i (round_of found) p u.marks) where
       all_marked : (w r p : ℕ) → IsPage stepped kept.harvests w r p → IsMarked (set views id u) w r p
       all_marked w r p (inr noted) = still_marked u w r p (more w r p) (kept.marked w r p (inr noted))
       all_marked w r p (inl (e, b)) =
           of_words words i n
-          (λ k x. bit_at (pages_of x) p ≡ 1 → r ≡ round_of (slice_index words k) → IsMarked (set views id u) k r p)
+          (λ k x. bit_at (set_pages x) p ≡ 1 → r ≡ round_of (slice_index words k) → IsMarked (set views id u) k r p)
           inside
           (λ h f.
           ⊎_elim (λ o. still_marked u i r p (more i r p) (kept.marked i r p (inl (f, o))))
@@ -213,7 +213,7 @@ module _ (count : ℕ) (words : List ℕ) (views : List View) (kept : IsKept cou
           (λ k _ h f. still_marked u k r p (more k r p) (kept.marked k r p (inl (f, h))))
           w b (e ∙ same_rounds w)
 
-      stepped_keeps : IsKept count stepped (set views id u)
+      stepped_keeps : IsRuled count stepped (set views id u)
       stepped_keeps = record {
         words_are = length-set words i n ∙ kept.words_are;
         harvests = kept.harvests;
@@ -223,7 +223,7 @@ module _ (count : ℕ) (words : List ℕ) (views : List View) (kept : IsKept cou
         true_of = of_views views id u (λ j x. IsTrue stepped kept.harvests x) says
             (λ j x _ e. still_true x (kept.true_of j x e));
         marked = all_marked;
-        below = of_words words i n (λ w x. IsWordBelow count w (pages_of x)) inside below (λ w _. kept.below w);
+        below = of_words words i n (λ w x. IsWordBelow count w (set_pages x)) inside below (λ w _. kept.below w);
       }
 
   -- ---- a mark, and a look
@@ -233,26 +233,26 @@ module _ (count : ℕ) (words : List ℕ) (views : List View) (kept : IsKept cou
     here = slice_index words i
 
     pub marked_keeps : (m : ℕ) → m < 2 ^ 32 → IsWordBelow count i m
-        → IsKept count (set words i (bit_or here m)) (set views id (after_mark i (round_of here) m v))
+        → IsRuled count (set words i (bit_or here m)) (set views id (after_mark i (round_of here) m v))
     marked_keeps m small m_below =
         let n : ℕ = bit_or here m in
         let round_is : round_of n ≡ round_of here =
         let none_of : m / 2 ^ 32 ≡ 0 = omega arith in
         or_shr here m 32 ∙ ap (bit_or (here / 2 ^ 32)) none_of ∙ or_zero_r (here / 2 ^ 32) in
-        let pages : pages_of n ≡ bit_or (pages_of here) m =
+        let pages : set_pages n ≡ bit_or (set_pages here) m =
         let same : m % 2 ^ 32 ≡ m = omega arith in or_mod here m 32 ∙ ap (bit_or (here % 2 ^ 32)) same in
-        let bits : (p : ℕ) → bit_at (pages_of n) p ≡ max (bit_at (pages_of here) p) (bit_at m p) =
-        λ p. ap (λ x. bit_at x p) pages ∙ bit_at_or (pages_of here) m p in
-        let grows : (p : ℕ) → bit_at (pages_of here) p ≡ 1 → bit_at (pages_of n) p ≡ 1 =
+        let bits : (p : ℕ) → bit_at (set_pages n) p ≡ max (bit_at (set_pages here) p) (bit_at m p) =
+        λ p. ap (λ x. bit_at x p) pages ∙ bit_at_or (set_pages here) m p in
+        let grows : (p : ℕ) → bit_at (set_pages here) p ≡ 1 → bit_at (set_pages n) p ≡ 1 =
         λ p h. omega (arith, h, bits p, bit_at-lt m p) in
-        let adds : (p : ℕ) → bit_at m p ≡ 1 → bit_at (pages_of n) p ≡ 1 =
-        λ p h. omega (arith, h, bits p, bit_at-lt (pages_of here) p) in
-        let either : (p : ℕ) → bit_at (pages_of n) p ≡ 1
-        → (bit_at (pages_of here) p ≡ 1) ⊎ (bit_at m p ≡ 1) =
+        let adds : (p : ℕ) → bit_at m p ≡ 1 → bit_at (set_pages n) p ≡ 1 =
+        λ p h. omega (arith, h, bits p, bit_at-lt (set_pages here) p) in
+        let either : (p : ℕ) → bit_at (set_pages n) p ≡ 1
+        → (bit_at (set_pages here) p ≡ 1) ⊎ (bit_at m p ≡ 1) =
         λ p h.
-        dite (ℕ_discrete (bit_at (pages_of here) p) 1) (λ k. inl k)
-        (λ ne. inr (omega (arith, h, ne, bits p, bit_at-lt m p, bit_at-lt (pages_of here) p))) in
-        let below : IsWordBelow count i (pages_of n) =
+        dite (ℕ_discrete (bit_at (set_pages here) p) 1) (λ k. inl k)
+        (λ ne. inr (omega (arith, h, ne, bits p, bit_at-lt m p, bit_at-lt (set_pages here) p))) in
+        let below : IsWordBelow count i (set_pages n) =
         λ p h. ⊎_elim (λ k. kept.below i p k) (λ k. m_below p k) (either p h) in
         let was = still_true i n fits round_is grows below v (kept.true_of id v at) in
         stepped_keeps i n fits round_is grows below (after_mark i (round_of here) m v) refl (λ _. refl)
@@ -264,27 +264,27 @@ module _ (count : ℕ) (words : List ℕ) (views : List View) (kept : IsKept cou
         })
         (λ w r p k. inr k) (λ p h. ⊎_elim (λ k. inl k) (λ k. inr (inl (refl, refl, k))) (either p h))
 
-    pub looked_keeps : IsKept count (set words i here) (set views id (after_look i here v))
+    pub looked_keeps : IsRuled count (set words i here) (set views id (after_look i here v))
     looked_keeps =
         let was = still_true i here fits refl (λ p h. h) (kept.below i) v (kept.true_of id v at) in
         stepped_keeps i here fits refl (λ p h. h) (kept.below i) (after_look i here v) refl (λ _. refl)
         (record {
           marks = was.marks;
           sightings = λ w r p h.
-              ⊎_elim (λ k. noted_true i here fits refl (λ p h. h) (kept.below i) (pages_of here) (λ p h. h) w r p k)
+              ⊎_elim (λ k. noted_true i here fits refl (λ p h. h) (kept.below i) (set_pages here) (λ p h. h) w r p k)
               (λ k. was.sightings w r p k) h;
           rounds = seen_true i here fits refl (λ p h. h) (kept.below i);
         })
         (λ w r p k. k) (λ p h. inl h)
 
     -- no harvest of the open round is there yet
-    pub set_now : (p : ℕ) → IsPage words kept.harvests i (round_of here) p → bit_at (pages_of here) p ≡ 1
+    pub set_now : (p : ℕ) → IsPage words kept.harvests i (round_of here) p → bit_at (set_pages here) p ≡ 1
     set_now p (inl h) = h.1
     set_now p (inr h) = absurd (not_yet i (round_of here) p kept.harvests (kept.rounds i) h)
 
 module _ (count slots id i : ℕ) (fits : i < words_for count) (v : View) (c : List (ℕ × Unit {0})) where
   pub marks_allowed : (m : ℕ) → m < 2 ^ 32 → IsWordBelow count i m
-      → Allows (Holds count) slots id (v, c) i (λ n. bit_or n m) (Marks (step slots i m 0 none) (v, c))
+      → Allows (KeepsRule count) slots id (v, c) i (λ n. bit_or n m) (Marks (step slots i m 0 none) (v, c))
   marks_allowed m small m_below s kept homes at word_fits = (
     after_mark i (round_of (slice_index s.words i)) m v,
     keeps,
@@ -293,7 +293,7 @@ module _ (count slots id i : ℕ) (fits : i < words_for count) (v : View) (c : L
     ((kept.true_of id v at).rounds i, refl),
   )
 
-  pub looks_allowed : Allows (Holds count) slots id (v, c) i (λ n. n) (Looks (step slots i 0 0 none) (v, c))
+  pub looks_allowed : Allows (KeepsRule count) slots id (v, c) i (λ n. n) (Looks (step slots i 0 0 none) (v, c))
   looks_allowed s kept homes at word_fits =
       let own = kept.true_of id v at in
       let round = round_of (slice_index s.words i) in (
@@ -312,7 +312,7 @@ module _ (count slots id i : ℕ) (fits : i < words_for count) (v : View) (c : L
 
 -- ---- the first seat
 
-module _ (count : ℕ) (words : List ℕ) (views : List View) (kept : IsKept count words views)
+module _ (count : ℕ) (words : List ℕ) (views : List View) (kept : IsRuled count words views)
     (v : View) (at : get_elem? views 0 ≡ some v) where
   is_first : v ≡ kept.first.0
   is_first = some-injective v kept.first.0 (sym at ∙ kept.first.1)
@@ -336,10 +336,10 @@ module _ (count : ℕ) (words : List ℕ) (views : List View) (kept : IsKept cou
     word = slice_index words i
 
     abbrev pub taken : List Note
-    taken = note i (round_of word) (pages_of word) ∷ kept.harvests
+    taken = note i (round_of word) (set_pages word) ∷ kept.harvests
 
     abbrev pub later : View
-    later = after_harvest i (round_of word) (pages_of word) v
+    later = after_harvest i (round_of word) (set_pages word) v
 
     there : i < length words
     there = subst (λ (k : ℕ). i < k) (sym kept.words_are) fits
@@ -347,17 +347,17 @@ module _ (count : ℕ) (words : List ℕ) (views : List View) (kept : IsKept cou
     next : round_of m ≡ round_of word + 1
     next = let told = rounds_told i in omega (arith, m_is, told)
 
-    not_set : (p : ℕ) → bit_at (pages_of m) p ≡ 1 → ⊥
+    not_set : (p : ℕ) → bit_at (set_pages m) p ≡ 1 → ⊥
     not_set p h =
-        let none_set : pages_of m ≡ 0 = omega (arith, m_is) in
+        let none_set : set_pages m ≡ 0 = omega (arith, m_is) in
         let e = ap (λ x. bit_at x p) none_set ∙ bit_at-zero p in omega arith
 
     into_taken : (w r p : ℕ) → IsPage words kept.harvests w r p → IsPage (set words i m) taken w r p
     into_taken w r p (inr noted) = inr (inr noted)
     into_taken w r p (inl h) =
         of_words words i m
-        (λ k x. (r ≡ round_of (slice_index words k)) × (bit_at (pages_of (slice_index words k)) p ≡ 1)
-        → ((r ≡ round_of x) × (bit_at (pages_of x) p ≡ 1)) ⊎ IsNoted k r p taken)
+        (λ k x. (r ≡ round_of (slice_index words k)) × (bit_at (set_pages (slice_index words k)) p ≡ 1)
+        → ((r ≡ round_of x) × (bit_at (set_pages x) p ≡ 1)) ⊎ IsNoted k r p taken)
         there (λ g. inr (inl (refl, sym g.0, g.1))) (λ k _ g. inl g) w h
 
     from_taken : (w r p : ℕ) → IsPage (set words i m) taken w r p → IsPage words kept.harvests w r p
@@ -366,7 +366,7 @@ module _ (count : ℕ) (words : List ℕ) (views : List View) (kept : IsKept cou
     from_taken w r p (inr (inr noted)) = inr noted
     from_taken w r p (inl h) =
         of_words words i m
-        (λ k x. (r ≡ round_of x) × (bit_at (pages_of x) p ≡ 1) → IsPage words kept.harvests k r p)
+        (λ k x. (r ≡ round_of x) × (bit_at (set_pages x) p ≡ 1) → IsPage words kept.harvests k r p)
         there (λ g. absurd (not_set p g.1)) (λ k _ g. inl g) w h
 
     rounds_now : (w : ℕ) → rounds_of w taken ≡ rounds_before (round_of (slice_index (set words i m) w))
@@ -400,14 +400,14 @@ module _ (count : ℕ) (words : List ℕ) (views : List View) (kept : IsKept cou
               omega (arith, next));
         }
 
-    pub harvested_keeps : IsKept count (set words i m) (set views 0 later)
+    pub harvested_keeps : IsRuled count (set words i m) (set views 0 later)
     harvested_keeps = record {
       words_are = length-set words i m ∙ kept.words_are;
       harvests = taken;
       first = (
         later,
         set_at views 0 v later at,
-        ap (λ (l : List Note). note i (round_of word) (pages_of word) ∷ l) own_harvests,
+        ap (λ (l : List Note). note i (round_of word) (set_pages word) ∷ l) own_harvests,
         own_count,
       );
       alone = of_views views 0 later (λ j x. j ≢ 0 → x.harvests ≡ []) (λ ne. absurd (ne refl))
@@ -417,44 +417,44 @@ module _ (count : ℕ) (words : List ℕ) (views : List View) (kept : IsKept cou
           (λ j x _ e. true_after x (kept.true_of j x e));
       marked = λ w r p h.
           still_marked count words views kept 0 v at later w r p (λ k. k) (kept.marked w r p (from_taken w r p h));
-      below = of_words words i m (λ w x. IsWordBelow count w (pages_of x)) there (λ p h. absurd (not_set p h))
+      below = of_words words i m (λ w x. IsWordBelow count w (set_pages x)) there (λ p h. absurd (not_set p h))
           (λ w _. kept.below w);
     }
 
 harvests_first : (count slots i : ℕ) → i < words_for count → (v : View) (c : List (ℕ × Unit {0})) (m : ℕ)
     → m ≡ (length (rounds_of i v.harvests) + 1) * 2 ^ 32
-    → Allows (Holds count) slots 0 (v, c) i (λ _. m) (Harvests (step slots i m 0 none) (v, c))
+    → Allows (KeepsRule count) slots 0 (v, c) i (λ _. m) (Harvests (step slots i m 0 none) (v, c))
 harvests_first count slots i fits v c m m_is s kept homes at word_fits =
     let n : ℕ = slice_index s.words i in (
-      after_harvest i (round_of n) (pages_of n) v,
+      after_harvest i (round_of n) (set_pages n) v,
       keeps,
       tt,
       harvested_keeps count s.words s.views kept v at i fits m m_is,
       (
         rounds_told count s.words s.views kept v at i,
-        subst (λ k. IsWordBelow k i (pages_of n)) (sym (own_count count s.words s.views kept v at)) (kept.below i),
+        subst (λ k. IsWordBelow k i (set_pages n)) (sym (own_count count s.words s.views kept v at)) (kept.below i),
         refl,
       ),
     )
 
 pub harvests_allowed : (count slots id i : ℕ) → id ≡ 0 → i < words_for count → (v : View) (c : List (ℕ × Unit {0}))
     (m : ℕ) → m ≡ (length (rounds_of i v.harvests) + 1) * 2 ^ 32
-    → Allows (Holds count) slots id (v, c) i (λ _. m) (Harvests (step slots i m 0 none) (v, c))
+    → Allows (KeepsRule count) slots id (v, c) i (λ _. m) (Harvests (step slots i m 0 none) (v, c))
 harvests_allowed count slots id i first fits v c m m_is =
-    subst (λ k. Allows (Holds count) slots k (v, c) i (λ _. m) (Harvests (step slots i m 0 none) (v, c))) (sym first)
+    subst (λ k. Allows (KeepsRule count) slots k (v, c) i (λ _. m) (Harvests (step slots i m 0 none) (v, c))) (sym first)
     (harvests_first count slots i fits v c m m_is)
 
 -- ---- a load that counts
 
 counts_first : (count slots i : ℕ) (v : View) (c : List (ℕ × Unit {0}))
-    → Allows (Holds count) slots 0 (v, c) i (λ n. n) (Counts (step slots i 0 0 none) (v, c))
+    → Allows (KeepsRule count) slots 0 (v, c) i (λ n. n) (Counts (step slots i 0 0 none) (v, c))
 counts_first count slots i v c s kept homes at word_fits =
     let words = set-get_or s.words i 0 in
     let views = set_again s.views 0 v at in (
       v,
       keeps,
       tt,
-      subst (λ (y : List ℕ × List View). IsKept count y.0 y.1) (λ j. (sym words j, sym views j)) kept,
+      subst (λ (y : List ℕ × List View). IsRuled count y.0 y.1) (λ j. (sym words j, sym views j)) kept,
       (
         (λ w.
             subst (λ k. seen_of w v ≤ k) (sym (rounds_told count s.words s.views kept v at w))
@@ -464,7 +464,7 @@ counts_first count slots i v c s kept homes at word_fits =
     )
 
 pub counts_allowed : (count slots id i : ℕ) → id ≡ 0 → (v : View) (c : List (ℕ × Unit {0}))
-    → Allows (Holds count) slots id (v, c) i (λ n. n) (Counts (step slots i 0 0 none) (v, c))
+    → Allows (KeepsRule count) slots id (v, c) i (λ n. n) (Counts (step slots i 0 0 none) (v, c))
 counts_allowed count slots id i first v c =
-    subst (λ k. Allows (Holds count) slots k (v, c) i (λ n. n) (Counts (step slots i 0 0 none) (v, c))) (sym first)
+    subst (λ k. Allows (KeepsRule count) slots k (v, c) i (λ n. n) (Counts (step slots i 0 0 none) (v, c))) (sym first)
     (counts_first count slots i v c)

@@ -15,7 +15,7 @@ use Rattle.vm_memory_base.proofs.NotesLemmas.{noted_left, noted_right, noted_eit
 use Rattle.vm_memory_base.proofs.PagesLaws.{get_or-alike}
 use Rattle.vm_memory_base.proofs.TrackedRule.{set_at, all_below, still_marked, replaced_keeps, own_harvests, rounds_told}
 use Rattle.vm_memory_base.specs.declared.bitmap.tracked.view.View.{View}
-use Rattle.vm_memory_base.specs.Tracked.{pages_of, round_of, rounds_before, seen_of, newcomer, note_of, both, words_for, IsWordBelow, AreWordsBelow, IsPage, IsTrue, IsKept, Holds, IsLeft, AreLastPages, AreHarvested, AreSeen}
+use Rattle.vm_memory_base.specs.Tracked.{set_pages, round_of, rounds_before, seen_of, newcomer, note_of, both, words_for, IsWordBelow, AreWordsBelow, IsPage, IsTrue, IsRuled, KeepsRule, IsLeft, AreLastPages, AreHarvested, AreSeen}
 
 -- who noted nothing tells no lie
 nothing_noted : (words : List ℕ) (harvests : List Note) (count : ℕ) → IsTrue words harvests (newcomer count)
@@ -27,9 +27,9 @@ nothing_noted words harvests count =
 starts_clean : (n w r p : ℕ) → IsPage (replicate n 0) [] w r p → ⊥
 starts_clean n w r p (inr noted) = absurd noted
 starts_clean n w r p (inl (e, b)) =
-    let none_set = ap (λ x. bit_at (pages_of x) p) (get_or-alike n w 0) ∙ bit_at-zero p in omega arith
+    let none_set = ap (λ x. bit_at (set_pages x) p) (get_or-alike n w 0) ∙ bit_at-zero p in omega arith
 
-pub begins : (count : ℕ) → IsKept count (replicate (words_for count) 0) (newcomer count ∷ [])
+pub begins : (count : ℕ) → IsRuled count (replicate (words_for count) 0) (newcomer count ∷ [])
 begins count = record {
   words_are = length-replicate (words_for count) 0;
   harvests = [];
@@ -53,10 +53,10 @@ begins count = record {
 
 module _ (count id : ℕ) (v x : View) (none_there : x.harvests ≡ [])
     (says : (words : List ℕ) (harvests : List Note) → IsTrue words harvests v → IsTrue words harvests x) where
-  added_allowed : Splits {S = Unit {0}} (Holds count) id v v x
+  added_allowed : Splits {S = Unit {0}} (KeepsRule count) id v v x
   added_allowed s kept at =
       let is = says s.words kept.harvests (kept.true_of id v at) in
-      subst (λ (l : List View). IsKept count s.words (l ++ x ∷ [])) (sym (set_again s.views id v at))
+      subst (λ (l : List View). IsRuled count s.words (l ++ x ∷ [])) (sym (set_again s.views id v at))
       (record {
         words_are = kept.words_are;
         harvests = kept.harvests;
@@ -73,11 +73,11 @@ module _ (count id : ℕ) (v x : View) (none_there : x.harvests ≡ [])
         below = kept.below;
       })
 
-pub deals_allowed : (count id : ℕ) (v : View) → Splits {S = Unit {0}} (Holds count) id v v (newcomer v.count)
+pub deals_allowed : (count id : ℕ) (v : View) → Splits {S = Unit {0}} (KeepsRule count) id v v (newcomer v.count)
 deals_allowed count id v =
     added_allowed count id v (newcomer v.count) refl (λ words harvests _. nothing_noted words harvests v.count)
 
-pub notes_allowed : (count id : ℕ) (v : View) → Splits {S = Unit {0}} (Holds count) id v v (note_of v)
+pub notes_allowed : (count id : ℕ) (v : View) → Splits {S = Unit {0}} (KeepsRule count) id v v (note_of v)
 notes_allowed count id v =
     added_allowed count id v (note_of v) refl
     (λ words harvests is.
@@ -98,11 +98,11 @@ both_true words harvests v w one two = record {
 
 -- the first seat's view is never spent: it takes in another, or the other knows no number of pages
 pub joins_allowed : (count id other : ℕ) (v w : View) → w.harvests ≡ [] → (id ≡ 0) ⊎ (w.count ≡ 0)
-    → Joins {S = Unit {0}} (Holds count) id v other w (both v w) (newcomer 0)
+    → Joins {S = Unit {0}} (KeepsRule count) id v other w (both v w) (newcomer 0)
 joins_allowed count id other v w plain later s kept at apart there =
     let b : View = both v w in
     let was : get_elem? s.views other ≡ some w = sym (set_else s.views id other b apart) ∙ there in
-    let one : IsKept count s.words (set s.views id b) =
+    let one : IsRuled count s.words (set s.views id b) =
     replaced_keeps count s.words s.views kept id v at b refl (λ _. refl)
     (both_true s.words kept.harvests v w (kept.true_of id v at) (kept.true_of other w was))
     (λ k r p. still_marked count s.words s.views kept id v at b k r p (noted_right k r p w.marks v.marks)) in
@@ -142,10 +142,10 @@ elem_index (x ∷ xs) (suc i) n e = elem_index xs i n e
 
 -- of the words that are left these pages were read
 module _ (count id : ℕ) (first : id ≡ 0) (v : View) (words : List ℕ) (slots : List (Unit {0}))
-    (end : Final (Seen (Holds count) id v) words slots) (pages : List ℕ)
-    (reads : (k : ℕ) → k < length pages → slice_index pages k ≡ pages_of (slice_index words k)) where
-  read : (k : ℕ) → k < length pages → slice_index pages k ≡ pages_of (slice_index end.0.words k)
-  read k h = reads k h ∙ ap (λ l. pages_of (slice_index l k)) (sym end.2)
+    (end : Final (Seen (KeepsRule count) id v) words slots) (pages : List ℕ)
+    (reads : (k : ℕ) → k < length pages → slice_index pages k ≡ set_pages (slice_index words k)) where
+  read : (k : ℕ) → k < length pages → slice_index pages k ≡ set_pages (slice_index end.0.words k)
+  read k h = reads k h ∙ ap (λ l. set_pages (slice_index l k)) (sym end.2)
 
   at_first : get_elem? end.0.views 0 ≡ some v
   at_first = ap (get_elem? end.0.views) (sym first) ∙ end.1.1
@@ -155,7 +155,7 @@ module _ (count id : ℕ) (first : id ≡ 0) (v : View) (words : List ℕ) (slot
       let kept = end.1.0 in
       let own = kept.true_of 0 v at_first in
       ⊎_elim
-      (λ (h : (r ≡ round_of (slice_index end.0.words w)) × (bit_at (pages_of (slice_index end.0.words w)) p ≡ 1)).
+      (λ (h : (r ≡ round_of (slice_index end.0.words w)) × (bit_at (set_pages (slice_index end.0.words w)) p ≡ 1)).
       inr (
         h.0 ∙ sym (rounds_told count end.0.words end.0.views kept v at_first w),
         ap (λ n. bit_at n p) (read w inside) ∙ h.1,

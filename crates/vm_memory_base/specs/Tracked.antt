@@ -10,8 +10,8 @@ use Rattle.vm_memory_base.specs.Notes.{Note, note, IsNoted, rounds_of, greatest_
 use Rattle.vm_memory_base.specs.declared.bitmap.paging.Paging.{Paging}
 use Rattle.vm_memory_base.specs.declared.bitmap.tracked.view.View.{View}
 
-abbrev pub pages_of : ℕ → ℕ
-pages_of word = word % 2 ^ 32
+abbrev pub set_pages : ℕ → ℕ
+set_pages word = word % 2 ^ 32
 
 abbrev pub round_of : ℕ → ℕ
 round_of word = word / 2 ^ 32
@@ -44,7 +44,7 @@ AreWordsBelow count words = (word : ℕ) → IsWordBelow count word (slice_index
 -- the page was taken in this round of the word, or the round is open and the page is set
 abbrev pub IsPage : List ℕ → List Note → ℕ → ℕ → ℕ → Type 0
 IsPage words harvests word round page =
-    ((round ≡ round_of (slice_index words word)) × (bit_at (pages_of (slice_index words word)) page ≡ 1))
+    ((round ≡ round_of (slice_index words word)) × (bit_at (set_pages (slice_index words word)) page ≡ 1))
     ⊎ IsNoted word round page harvests
 
 -- someone marked the page of the word in this round
@@ -66,7 +66,7 @@ HasHarvests count views harvests =
 -- The rule of so many pages. The first seat is the harvester's, and it alone harvests. A word's round is the number
 -- of its harvests, one in each round before it. What was marked or seen is in the harvest of its round or still set,
 -- each page that was harvested or is set was marked in its round, and no page is set past the last
-pub record IsKept (count : ℕ) (words : List ℕ) (views : List View) : Type 0 where
+pub record IsRuled (count : ℕ) (words : List ℕ) (views : List View) : Type 0 where
   pub words_are : length words ≡ words_for count
   pub harvests : List Note
   pub first : HasHarvests count views harvests
@@ -74,10 +74,10 @@ pub record IsKept (count : ℕ) (words : List ℕ) (views : List View) : Type 0 
   pub rounds : (word : ℕ) → rounds_of word harvests ≡ rounds_before (round_of (slice_index words word))
   pub true_of : (id : ℕ) (v : View) → get_elem? views id ≡ some v → IsTrue words harvests v
   pub marked : (word round page : ℕ) → IsPage words harvests word round page → IsMarked views word round page
-  pub below : (word : ℕ) → IsWordBelow count word (pages_of (slice_index words word))
+  pub below : (word : ℕ) → IsWordBelow count word (set_pages (slice_index words word))
 
-abbrev pub Holds : ℕ → State (Unit {0}) View → Type 0
-Holds count s = IsKept count s.words s.views
+abbrev pub KeepsRule : ℕ → State (Unit {0}) View → Type 0
+KeepsRule count s = IsRuled count s.words s.views
 
 -- the view after these pages of a word were marked in this round
 abbrev pub after_mark : ℕ → ℕ → ℕ → View → View
@@ -88,7 +88,7 @@ after_mark word round pages v =
 abbrev pub after_look : ℕ → ℕ → View → View
 after_look word found v =
     record v {
-      sightings = note word (round_of found) (pages_of found) ∷ v.sightings;
+      sightings = note word (round_of found) (set_pages found) ∷ v.sightings;
       rounds = note word (round_of found) 0 ∷ v.rounds;
     }
 
@@ -106,7 +106,7 @@ Marks s me found after =
 abbrev pub IsStillSet : ℕ → ℕ → View → Type 0
 IsStillSet word found v =
     (page : ℕ) → IsNoted word (round_of found) page v.marks ⊎ IsNoted word (round_of found) page v.sightings
-    → (bit_at (pages_of found) page ≡ 1)
+    → (bit_at (set_pages found) page ≡ 1)
 
 -- a look at a word
 abbrev pub Looks : Step (Unit {0}) → Me (Unit {0}) View → ℕ → Me (Unit {0}) View → Type 0
@@ -117,8 +117,8 @@ Looks s me found after =
 -- a harvest of a word, by whom all its harvests were
 abbrev pub Harvests : Step (Unit {0}) → Me (Unit {0}) View → ℕ → Me (Unit {0}) View → Type 0
 Harvests s me found after =
-    (length (rounds_of s.word me.0.harvests) ≡ round_of found) × IsWordBelow me.0.count s.word (pages_of found)
-    × (after ≡ (after_harvest s.word (round_of found) (pages_of found) me.0, me.1))
+    (length (rounds_of s.word me.0.harvests) ≡ round_of found) × IsWordBelow me.0.count s.word (set_pages found)
+    × (after ≡ (after_harvest s.word (round_of found) (set_pages found) me.0, me.1))
 
 -- what a note of the rounds that were seen tells, and no more
 abbrev pub note_of : View → View
@@ -177,7 +177,7 @@ HasSameRecords v w = (w.marks ≡ v.marks) × (w.sightings ≡ v.sightings) × (
 abbrev pub Sees : ℕ → View → View → Bool → Type 0
 Sees page v w told =
     (found : ℕ) × (seen_of (page / 32) v ≤ round_of found) × (w ≡ after_look (page / 32) found v)
-    × (told ≡ (bit_at (pages_of found) (page % 32) == 1))
+    × (told ≡ (bit_at (set_pages found) (page % 32) == 1))
     × (told ≡ false
     → IsNoted (page / 32) (round_of found) (page % 32) v.marks
     ⊎ IsNoted (page / 32) (round_of found) (page % 32) v.sightings → ⊥)
@@ -193,5 +193,5 @@ IsLeft v words =
 -- first on
 abbrev pub AreLastPages : ℕ → View → List ℕ → Type 0
 AreLastPages count v words =
-    (s : State (Unit {0}) View) × Holds count s × (get_elem? s.views 0 ≡ some v)
-    × ((word : ℕ) → word < length words → slice_index words word ≡ pages_of (slice_index s.words word))
+    (s : State (Unit {0}) View) × KeepsRule count s × (get_elem? s.views 0 ≡ some v)
+    × ((word : ℕ) → word < length words → slice_index words word ≡ set_pages (slice_index s.words word))

@@ -155,7 +155,7 @@ impl TrackedBitmap {
         ensures sees { tracked.Sees page (known_to marker.old) (known_to marker.new) result }
     {
         let found = self.table.shared.load::<Looks>(&mut marker.seat, page / 32);
-        (pages_of(found) >> (page % 32)) & 1 == 1
+        (set_pages(found) >> (page % 32)) & 1 == 1
     }
 
     /// Whether the page of the byte at `addr` was set at some moment. It takes no marker, and promises only that past
@@ -167,7 +167,7 @@ impl TrackedBitmap {
         if page >= self.len() {
             return false;
         }
-        (pages_of(self.table.shared.peek(page / 32)) >> (page % 32)) & 1 == 1
+        (set_pages(self.table.shared.peek(page / 32)) >> (page % 32)) & 1 == 1
     }
 
     // Takes the pages of one word, and opens its next round.
@@ -184,7 +184,7 @@ impl TrackedBitmap {
             .table
             .shared
             .swap::<Harvests>(seat, word, (round + 1) << 32);
-        pages_of(found)
+        set_pages(found)
     }
 
     /// Takes the pages of every word, in order: page `n` is bit `n % 32` of number `n / 32`. One step takes a word
@@ -294,7 +294,7 @@ impl TrackedBitmap {
         let Harvester { seat, round: _ } = harvester;
         let closed = table.close_with(seat);
         for word in 0..words {
-            pages[word] = pages_of(closed.word(word));
+            pages[word] = set_pages(closed.word(word));
         }
         closed.free();
         Ok(pages)
@@ -329,8 +329,8 @@ impl Marker {
 }
 
 // The low half of a word.
-fn pages_of(word: u64) -> u32
-    ensures { result ≡ tracked.pages_of word }
+fn set_pages(word: u64) -> u32
+    ensures { result ≡ tracked.set_pages word }
 {
     (word % (1 << 32)) as u32
 }

@@ -8,7 +8,7 @@ pub struct Rounds;
 
 // The key is the number of pages.
 impl TableRule<(), View, usize> for Rounds {
-    ghost holds = { tracked.Holds };
+    ghost holds = { tracked.KeepsRule };
 
     ghost first = { tracked.newcomer };
 }

@@ -8,7 +8,7 @@ use Rattle.vm_memory_guest.specs.Error.{error_of}
 use Rattle.vm_memory_guest.specs.declared.region.error.GuestMemoryError.{GuestMemoryError}
 use Rattle.vm_memory_guest.specs.declared.region.error.GuestMemoryError.TheVariants as errors
 use Rattle.vm_memory_guest.specs.Transfer.{all_of, ended}
-use Rattle.vm_memory.specs.Reply.{access_result, reached_by, reply_of_error, whole_of}
+use Rattle.vm_memory.specs.Reply.{access_result, reached_by, reply_of_error, all_moved}
 use Rattle.vm_memory.proofs.AccessLemmas.{whole_is}
 use Rattle.vm_memory.proofs.machine.accesses.fill.Goals as goal
 
@@ -48,7 +48,7 @@ returns-in-Err g c =
     elim given [
       | inl wanted ↦ inr (c.refused.ensures ∙ ap reply_of_error wanted.0, wanted.1)
       | inr answer ↦ (
-          let told : Err c.in-Err.error ≡ whole_of n (access_result (reached_by m host.tables a n permissions.Read)) =
+          let told : Err c.in-Err.error ≡ all_moved n (access_result (reached_by m host.tables a n permissions.Read)) =
           rw count at answer.0 in
           inl (rw (← told) c.refused.ensures))
     ]

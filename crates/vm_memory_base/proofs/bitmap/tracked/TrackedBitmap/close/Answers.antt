@@ -3,7 +3,7 @@ use Rattle.std.proofs.lemmas.List.{length-set}
 use Rattle.std.specs.Int.{div_ceil}
 use Rattle.std.specs.Prelude.{slice_index}
 use Rattle.vm_memory_base.specs.Paging.{count_of}
-use Rattle.vm_memory_base.specs.Tracked.{pages_of, AreLastPages, AreWordsBelow}
+use Rattle.vm_memory_base.specs.Tracked.{set_pages, AreLastPages, AreWordsBelow}
 use Rattle.vm_memory_base.proofs.TrackedRule.{put_more}
 use Rattle.vm_memory_base.proofs.TrackedSeats.{elem_index, closes, closes_last, closes_below}
 use Rattle.vm_memory_base.proofs.bitmap.tracked.TrackedBitmap.close.Goals as goal
@@ -13,10 +13,10 @@ loop-word-preserved c =
     let inv = c.loop-word.invariant in
     let inside = c.loop-word-test.true in
     let words = c.close_with-closed.result.words.items in (
-      length-set c.loop-word.pages.items c.loop-word.word c.pages_of.result ∙ inv.0,
-      put_more (λ (k n : ℕ). n ≡ pages_of (slice_index words k)) c.loop-word.pages.items c.loop-word.word
-          c.pages_of.result (omega (arith, inv.0, inside))
-          (c.pages_of.ensures ∙ ap pages_of (sym (elem_index words c.loop-word.word c.word.result c.word.ensures)))
+      length-set c.loop-word.pages.items c.loop-word.word c.set_pages.result ∙ inv.0,
+      put_more (λ (k n : ℕ). n ≡ set_pages (slice_index words k)) c.loop-word.pages.items c.loop-word.word
+          c.set_pages.result (omega (arith, inv.0, inside))
+          (c.set_pages.ensures ∙ ap set_pages (sym (elem_index words c.loop-word.word c.word.result c.word.ensures)))
           inv.1,
     )
 

@@ -21,12 +21,12 @@ swap-found-requires c =
 pub returns-clause-within : goal.returns-clause-within
 returns-clause-within c =
     subst (λ (y : ℕ × ℕ). IsWordBelow y.0 c.args.word y.1)
-    (λ i. (ap (λ t. t.1) c.requires.own i, sym c.pages_of.ensures i)) c.swap-found.ensures.2.1
+    (λ i. (ap (λ t. t.1) c.requires.own i, sym c.set_pages.ensures i)) c.swap-found.ensures.2.1
 
 pub returns-clause-takes : goal.returns-clause-takes
 returns-clause-takes c =
     let told = c.swap-found.ensures.2 in
     let round = sym told.0 ∙ sym c.requires.round.0 in
-    let pages = sym c.pages_of.ensures in
+    let pages = sym c.set_pages.ensures in
     ap (λ m. m.0) told.2
     ∙ ap (λ (y : ℕ × ℕ). after_harvest c.args.word y.0 y.1 c.args.seat.now.me.0) (λ i. (round i, pages i))

@@ -3,7 +3,7 @@ use Rattle.std.specs.Int.{bit_at}
 use Rattle.std.proofs.lemmas.Nat.Bits.{shr_and_one}
 use Rattle.std.proofs.lemmas.Bool.{true≢false}
 use Rattle.std.specs.Prelude.{nat_eq, ◌==◌, bit_and}
-use Rattle.vm_memory_base.specs.Tracked.{pages_of}
+use Rattle.vm_memory_base.specs.Tracked.{set_pages}
 use Rattle.vm_memory_base.proofs.TrackedRule.{looks_allowed}
 use Rattle.vm_memory_base.proofs.bitmap.tracked.TrackedBitmap.look.Goals as goal
 
@@ -22,8 +22,8 @@ pub returns-clause-sees : goal.returns-clause-sees
 returns-clause-sees c =
     let told = c.load-found.ensures.2 in
     let k : ℕ = c.args.page % 32 in
-    let same : nat_eq (bit_and (c.pages_of.result / 2 ^ k) 1) 1 ≡ (bit_at (pages_of c.load-found.result) k == 1) =
-    ap (λ (n : ℕ). nat_eq n 1) (shr_and_one c.pages_of.result k ∙ ap (λ (n : ℕ). bit_at n k) c.pages_of.ensures) in (
+    let same : nat_eq (bit_and (c.set_pages.result / 2 ^ k) 1) 1 ≡ (bit_at (set_pages c.load-found.result) k == 1) =
+    ap (λ (n : ℕ). nat_eq n 1) (shr_and_one c.set_pages.result k ∙ ap (λ (n : ℕ). bit_at n k) c.set_pages.ensures) in (
       c.load-found.result,
       told.0,
       ap (λ m. m.0) told.2,
