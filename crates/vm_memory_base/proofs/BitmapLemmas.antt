@@ -4,7 +4,8 @@ use Rattle.std.specs.Int.{div_ceil}
 use Rattle.std.specs.List.{All, Contains}
 use Rattle.std.proofs.Math.Nat.{pow-suc, pow-succ', div-div-eq-div-mul, zero-div, mul-zero}
 use Rattle.std.proofs.Math.Pow.{pow_mono}
-use Rattle.std.proofs.lemmas.Bool.{lt-ltb, le-leb, le-ltb, lt-leb, cases_lt, true≢false}
+use Rattle.std.proofs.lemmas.Bool.{lt-ltb, le-leb, lt-leb, cases_lt, true≢false}
+use Rattle.std.proofs.lemmas.Bool.Decides.{nat_tests}
 use Rattle.std.proofs.lemmas.Grind.{div_ceil_times}
 use Rattle.std.proofs.lemmas.Nat.{div_below}
 use Rattle.std.proofs.lemmas.List.Elements.{All-head}
@@ -21,8 +22,8 @@ within a b i h k = rw (le-leb a i h, lt-ltb i b k) refl
 pub before : (a b i : ℕ) → i < a → (leb a i && ltb i b) ≡ false
 before a b i h = rw (lt-leb a i h) refl
 
-pub behind : (a b i : ℕ) → a ≤ i → b ≤ i → (leb a i && ltb i b) ≡ false
-behind a b i h k = rw (le-leb a i h, le-ltb i b k) refl
+pub behind : (a b i : ℕ) → b ≤ i → (leb a i && ltb i b) ≡ false
+behind a b i h = grind (arith, nat_tests)
 
 -- ---- words, those from one up to another alike
 
@@ -52,7 +53,7 @@ get_or-made_alike a b d words i h k =
                 let f : b + (i - a - (b - a)) ≡ i = omega arith in
                 e ∙ get_or-append_right (replicate (b - a) d) (drop b words) (b - a) (i - a) 0 mid (omega arith)
                 ∙ get_or-drop b words (i - a - (b - a)) 0
-                ∙ rw (f, behind a b i l m) refl
+                ∙ rw (f, behind a b i m) refl
           ]
     ]
 

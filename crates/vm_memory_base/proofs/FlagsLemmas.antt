@@ -40,24 +40,11 @@ flags_of-zeros n count =
 pub Gets-both : (old mid new : List ℕ) (a b c : ℕ) (d : Bool) → a ≤ b → b ≤ c → Gets old mid a b d → Gets mid new b c d
     → Gets old new a c d
 Gets-both old mid new a b c d h k f g page =
-    elim (cases_lt page a) [
-      | inl l ↦
-          rw (before a c page l)
-          (rw (before b c page (omega arith)) at (g page) ∙ rw (before a b page l) at (f page))
-      | inr l ↦
-          elim (cases_lt page b) [
-            | inl m ↦
-                rw (within a c page l (omega arith))
-                (rw (before b c page m) at (g page) ∙ rw (within a b page l m) at (f page))
-            | inr m ↦
-                elim (cases_lt page c) [
-                  | inl n ↦ rw (within a c page l n) (rw (within b c page m n) at (g page))
-                  | inr n ↦
-                      rw (behind a c page l n)
-                      (rw (behind b c page m n) at (g page) ∙ rw (behind a b page l m) at (f page))
-                ]
-          ]
-    ]
+    one (flag old page) (flag mid page) (flag new page) (f page) (g page)
+  where
+    one : (o m n : Bool) → m ≡ cond (leb a page && ltb page b) d o → n ≡ cond (leb b page && ltb page c) d m
+        → n ≡ cond (leb a page && ltb page c) d o
+    one o m n e f = grind (arith, nat_tests)
 
 pub Gets-at : (old new : List ℕ) (a b x y : ℕ) (d : Bool) → x ≡ a → y ≡ b → Gets old new x y d → Gets old new a b d
 Gets-at old new a b x y d e f g = rw (← e, ← f) g
@@ -71,53 +58,36 @@ abbrev pub GetsBits : ℕ → ℕ → ℕ → ℕ → Bool → Type 0
 GetsBits old new first end d =
     (bit : ℕ) → bit < 64 → bit_at new bit ≡ cond (leb first bit && ltb bit end) (cond d 1 0) (bit_at old bit)
 
+-- a flag that is told by a bit, where both are chosen by one test
+told_by : (t d : Bool) (o : ℕ) → eqb (cond t (cond d 1 0) o) 1 ≡ cond t d (eqb o 1)
+told_by true d o = bit_is d
+told_by false d o = refl
+
 pub Gets-word : (words : List ℕ) (k first end new : ℕ) (d : Bool) → k < length words → end ≤ 64
     → GetsBits (get_or words k 0) new first end d → Gets words (set words k new) (64 * k + first) (64 * k + end) d
 Gets-word words k first end new d here small bits page =
     elim (cases_eq (page / 64) k) [
       | inl same ↦
-          let now : get_or (set words k new) (page / 64) 0 ≡ new =
-          rw same (get_or-set_same words k new 0 here) in
-          let old : get_or words (page / 64) 0 ≡ get_or words k 0 = ap (λ (j : ℕ). get_or words j 0) same in
-          let b = bits (page % 64) (omega arith) in
-          elim (cases_lt (page % 64) first) [
-            | inl l ↦
-                rw (now, old, before (64 * k + first) (64 * k + end) page (omega arith))
-                (ap (λ (n : ℕ). eqb n 1) (rw (before first end (page % 64) l) at b))
-            | inr l ↦
-                elim (cases_lt (page % 64) end) [
-                  | inl m ↦
-                      rw (now, within (64 * k + first) (64 * k + end) page (omega arith) (omega arith))
-                      (ap (λ (n : ℕ). eqb n 1) (rw (within first end (page % 64) l m) at b) ∙ bit_is d)
-                  | inr m ↦
-                      rw (now, old, behind (64 * k + first) (64 * k + end) page (omega arith) (omega arith))
-                      (ap (λ (n : ℕ). eqb n 1) (rw (behind first end (page % 64) l m) at b))
-                ]
-          ]
+          let test : (leb (64 * k + first) page && ltb page (64 * k + end))
+          ≡ (leb first (page % 64) && ltb (page % 64) end) = grind (arith, nat_tests) in
+          rw (test, same, get_or-set_same words k new 0 here, bits (page % 64) (omega arith))
+          (told_by (leb first (page % 64) && ltb (page % 64) end) d (bit_at (get_or words k 0) (page % 64)))
       | inr other ↦
-          let same : get_or (set words k new) (page / 64) 0 ≡ get_or words (page / 64) 0 =
-          get_or-set_other words k (page / 64) new 0 other in
-          elim (cases_lt page (64 * k + first)) [
-            | inl l ↦ rw (same, before (64 * k + first) (64 * k + end) page l) refl
-            | inr l ↦ rw (same, behind (64 * k + first) (64 * k + end) page l (omega arith)) refl
-          ]
+          let test : (leb (64 * k + first) page && ltb page (64 * k + end)) ≡ false = grind (arith, nat_tests) in
+          rw (test, get_or-set_other words k (page / 64) new 0 other) refl
     ]
 
 pub Gets-words : (words : List ℕ) (a b all : ℕ) (d : Bool) → a ≤ b → b ≤ length words
     → ((bit : ℕ) → bit < 64 → bit_at all bit ≡ cond d 1 0) → Gets words (made_alike a b all words) (64 * a) (64 * b) d
 Gets-words words a b all d h k bits page =
-    let at = get_or-made_alike a b all words (page / 64) h k in
-    elim (cases_lt page (64 * a)) [
-      | inl l ↦ rw (at, before a b (page / 64) (omega arith), before (64 * a) (64 * b) page l) refl
-      | inr l ↦
-          elim (cases_lt page (64 * b)) [
-            | inl m ↦
-                rw (at, within a b (page / 64) (omega arith) (omega arith), within (64 * a) (64 * b) page l m)
-                (ap (λ (n : ℕ). eqb n 1) (bits (page % 64) (omega arith)) ∙ bit_is d)
-            | inr m ↦
-                rw (at, behind a b (page / 64) (omega arith) (omega arith), behind (64 * a) (64 * b) page l m) refl
-          ]
-    ]
+    let test : (leb (64 * a) page && ltb page (64 * b)) ≡ (leb a (page / 64) && ltb (page / 64) b) =
+    grind (arith, nat_tests) in
+    rw (test, get_or-made_alike a b all words (page / 64) h k)
+    (one (leb a (page / 64) && ltb (page / 64) b))
+  where
+    one : (t : Bool) → eqb (bit_at (cond t all (get_or words (page / 64) 0)) (page % 64)) 1 ≡ cond t d (flag words page)
+    one true = ap (λ (n : ℕ). eqb n 1) (bits (page % 64) (omega arith)) ∙ bit_is d
+    one false = refl
 
 pub mask_bits : (first end bit : ℕ) → first < end → end ≤ 64 → bit < 64
     → bit_at (bit_and ((2 ^ 64 - 1) * 2 ^ first % 2 ^ 64) ((2 ^ 64 - 1) / 2 ^ (64 - end))) bit
@@ -135,7 +105,7 @@ mask_bits first end bit ordered inside small =
             | inl m ↦
                 rw (within first end bit l m)
                 (omega (arith, both, bit_at_mask_inside first 64 bit l small, bit_at_ones end bit m))
-            | inr m ↦ rw (behind first end bit l m) (omega (arith, both, bit_at_ones_above end bit m))
+            | inr m ↦ rw (behind first end bit m) (omega (arith, both, bit_at_ones_above end bit m))
           ]
     ])
 
@@ -192,10 +162,7 @@ pub clear_after : (old new : List ℕ) (count first end : ℕ) (d : Bool) → en
     → ((page : ℕ) → count ≤ page → flag old page ≡ false) → Gets old new first end d
     → (page : ℕ) → count ≤ page → flag new page ≡ false
 clear_after old new count first end d inside clear gets page past =
-    elim (cases_lt page first) [
-      | inl l ↦ rw (before first end page l) at (gets page) ∙ clear page past
-      | inr l ↦ rw (behind first end page l (omega arith)) at (gets page) ∙ clear page past
-    ]
+    rw (behind first end page (omega arith)) at (gets page) ∙ clear page past
 
 pub flags_of-clean : (old : List ℕ) (n count : ℕ)
     → flags_of (replicate n 0) count ≡ replicate (length (flags_of old count)) false
@@ -205,16 +172,7 @@ flags_of-clean old n count =
 -- ---- the words as those of the dirty pages
 
 bit_of-flag : (b : ℕ) → b < 2 → cond (eqb b 1) 1 0 ≡ b
-bit_of-flag b small =
-    elim (cases_eq b 1) [
-      | inl one ↦ rw one refl
-      | inr other ↦ let zero : b ≡ 0 = omega (arith, ne_one b small other) in rw zero refl
-    ]
-  where
-    ne_one : (b : ℕ) → b < 2 → (b ≡ 1 → ⊥) → b < 1
-    ne_one zero small other = omega arith
-    ne_one (suc zero) small other = absurd (other refl)
-    ne_one (suc (suc b)) small other = absurd (omega arith)
+bit_of-flag b small = grind (arith, nat_tests)
 
 module _ (words : List ℕ) (count : ℕ) (clear : (page : ℕ) → count ≤ page → flag words page ≡ false) where
   -- past the last page no flag is told
@@ -303,15 +261,12 @@ take_first f g page (suc n) t h k low at gone same =
           let rest = same_dirty f g (page + 1) n (λ p l m. same p (omega arith) (omega arith) (λ e. omega arith)) in
           rw (f_at, g_at, rest) (ap (λ (p : ℕ). p ∷ dirty_by g (page + 1) n) here)
       | inr other ↦
-          let f_at : f page ≡ false = low page (omega arith) (omega (arith, least page t h other)) in
+          let f_at : f page ≡ false = low page (omega arith) (omega arith) in
           let g_at : g page ≡ false = sym (same page (omega arith) (omega arith) other) ∙ f_at in
           rw (f_at, g_at)
-          (take_first f g (page + 1) n t (least page t h other) (omega arith) (λ p l m. low p (omega arith) m) at gone
+          (take_first f g (page + 1) n t (omega arith) (omega arith) (λ p l m. low p (omega arith) m) at gone
           (λ p l m. same p (omega arith) (omega arith)))
     ]
-  where
-    least : (a b : ℕ) → a ≤ b → (a ≡ b → ⊥) → a + 1 ≤ b
-    least a b h other = elim (cases_lt a b) [ inl l ↦ omega arith | inr l ↦ absurd (other (omega arith)) ]
 
 -- the lowest bit of a word, and the word without it
 pub lowest_bit : (word first t : ℕ) → t < 64 → bit_at word t ≡ 1 → ((i : ℕ) → i < t → bit_at word i ≡ 0)
@@ -408,8 +363,5 @@ without_bit word t small set =
     let gone : bit_at left t ≡ 0 = bit_at_clear_same w64 word t small in
     elim (cases_eq left word) [
       | inl same ↦ let both : bit_at left t ≡ bit_at word t = ap (λ (n : ℕ). bit_at n t) same in absurd (omega arith)
-      | inr other ↦ below left word (and_le_l word (bit_not w64 (1 * 2 ^ t % 2 ^ 64))) other
+      | inr other ↦ omega (arith, and_le_l word (bit_not w64 (1 * 2 ^ t % 2 ^ 64)))
     ]
-  where
-    below : (a b : ℕ) → a ≤ b → (a ≡ b → ⊥) → a < b
-    below a b h other = elim (cases_lt a b) [ inl l ↦ l | inr l ↦ absurd (other (omega arith)) ]

@@ -5,6 +5,7 @@ use Rattle.std.proofs.lemmas.Nat.{le-div, div_below}
 use Rattle.std.proofs.lemmas.Bool.{or_left, or_right, ltb-true, leb-true, le-leb, lt-leb, and_parts, and_from, and_right, cases_lt, lt-ltb, le-ltb, and_left}
 use Rattle.std.proofs.lemmas.Bool.Decides.{nat_tests}
 use Rattle.std.proofs.lemmas.List.{length-replicate, get_or_past}
+use Rattle.std.proofs.lemmas.List.Kept.{AllPairs-cons}
 use Rattle.std.proofs.lemmas.List.Elements.{All-nil, All-cons, All-weaker}
 use Rattle.std.specs.List.{All, AllPairs, Contains}
 use Rattle.vm_memory_base.specs.Address.{numbers, is_within}
@@ -476,16 +477,10 @@ from_page page (false ∷ flags) =
     All-weaker (λ other. page + 1 ≤ other) (λ other. page ≤ other) (λ other h. omega arith)
     (dirty_from (page + 1) flags) (from_page (page + 1) flags)
 
-pairs_cons : (x : ℕ) (xs : List ℕ) → All (λ y. x < y) xs → AllPairs (λ y z. y < z) xs → AllPairs (λ y z. y < z) (x ∷ xs)
-pairs_cons x xs h g zero zero d l m = absurd (omega arith)
-pairs_cons x xs h g zero (suc j) d l m = h j d (omega arith)
-pairs_cons x xs h g (suc i) zero d l m = absurd (omega arith)
-pairs_cons x xs h g (suc i) (suc j) d l m = g i j d (omega arith) (omega arith)
-
 ascending_from : (page : ℕ) (flags : List Bool) → AllPairs (λ y z. y < z) (dirty_from page flags)
 ascending_from page [] = λ i j d l m. absurd (omega arith)
 ascending_from page (true ∷ flags) =
-    pairs_cons page (dirty_from (page + 1) flags)
+    AllPairs-cons (λ y z. y < z) page (dirty_from (page + 1) flags)
     (All-weaker (λ other. page + 1 ≤ other) (λ other. page < other) (λ other h. omega arith)
     (dirty_from (page + 1) flags) (from_page (page + 1) flags)) (ascending_from (page + 1) flags)
 ascending_from page (false ∷ flags) = ascending_from (page + 1) flags

@@ -263,12 +263,24 @@ impl TrackedBitmap {
         ensures seen { (word : ℕ) → word < div_ceil (count_of (paging_of self.now)) 32
             → tracked.seen_of word (known_to marker.new) ≡ length (rounds_of word (known_by harvester.new).harvests) }
     {
-        let shared = &self.table.shared;
-        let told = shared.split_seat::<Note>(&mut marker.seat);
-        shared.join_seat::<Both>(&mut harvester.seat, told);
-        shared.load::<Counts>(&mut harvester.seat, 0);
-        let told = shared.split_seat::<Note>(&mut harvester.seat);
-        shared.join_seat::<Both>(&mut marker.seat, told);
+        self.tell(&mut marker.seat, &mut harvester.seat);
+        self.table.shared.load::<Counts>(&mut harvester.seat, 0);
+        self.tell(&mut harvester.seat, &mut marker.seat);
+    }
+
+    // Notes for one seat the rounds that another saw.
+    #[inline]
+    fn tell(&self, teller: &mut Seat<(), View>, hearer: &mut Seat<(), View>)
+        requires own { (teller.old.table_id ≡ (table_of self.now).0)
+            × (hearer.old.table_id ≡ (table_of self.now).0) }
+        ensures tells { (teller.new.table_id ≡ teller.old.table_id) × (teller.new.id ≡ teller.old.id)
+            × (teller.new.me ≡ teller.old.me) }
+        ensures hears { (hearer.new.table_id ≡ hearer.old.table_id) × (hearer.new.id ≡ hearer.old.id)
+            × (hearer.new.me
+            ≡ (tracked.both hearer.old.me.0 (tracked.note_of teller.old.me.0), hearer.old.me.1)) }
+    {
+        let told = self.table.shared.split_seat::<Note>(teller);
+        self.table.shared.join_seat::<Both>(hearer, told);
     }
 
     /// Ends the bitmap, and answers the pages that are set, as `get_and_reset` does. Where the allocation of the
