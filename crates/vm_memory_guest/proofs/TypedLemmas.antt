@@ -7,7 +7,7 @@ use Rattle.vm_memory_base.specs.Table.{Table}
 use Rattle.vm_memory_guest.specs.Answer.{window_reach}
 use Rattle.vm_memory_guest.specs.Transfer.{all_of, ended}
 use Rattle.vm_memory_guest.specs.Typed.{answered}
-use Rattle.vm_memory_guest.specs.Host.{Cell, Host, Shape, shape_of, block_at, bytes_at, cells_from, written}
+use Rattle.vm_memory_guest.specs.Host.{Cell, Host, Shape, block_at, bytes_at, cells_from, written}
 use Rattle.vm_memory_guest.specs.Inside.{IsSound, blocks_of}
 use Rattle.vm_memory_guest.specs.Window.{Window, MarksWindow, Writes, cells, cells_of, span}
 use Rattle.vm_memory_guest.proofs.MarkLaws.{Writes-one}
@@ -62,17 +62,18 @@ module _ (blocks : Vec (Vec ℕ Global) Global) (block offset len : ℕ) (all : 
         put = λ bytes kept. block-put blocks block offset len all old bytes there is same (kept ∙ long) within;
       }
 
--- a host whose blocks are as long as before is as sound
-pub sound-put : {B : Type 0} (shape : Shape) (old new : List (List ℕ)) (bitmaps spaces : List B) (tables : List Table)
-    → map length new ≡ map length old
+-- a host stays sound where bytes are put at cells
+pub sound-written : {B : Type 0} (cells : List Cell) (bytes : List ℕ) (old new : List (List ℕ))
+    → new ≡ written cells bytes old → (bitmaps spaces : List B) (tables : List Table) (shape : Shape)
     → IsSound shape old bitmaps spaces tables → IsSound shape new bitmaps spaces tables
-sound-put shape old new bitmaps spaces tables same sound = record {
-  lengths = rw same sound.lengths;
-  spaces_counted = sound.spaces_counted;
-  tables_counted = sound.tables_counted;
-  tracked = rw same sound.tracked;
-  sized = rw same sound.sized;
-}
+sound-written cells bytes old new is bitmaps spaces tables shape sound =
+    let same : map length new ≡ map length old = ap (map length) is ∙ lengths-written cells bytes old in record {
+      lengths = rw same sound.lengths;
+      spaces_counted = sound.spaces_counted;
+      tables_counted = sound.tables_counted;
+      tracked = rw same sound.tracked;
+      sized = rw same sound.sized;
+    }
 
 -- the window is marked behind the write of its bytes
 pub Writes-put : {B : Type 0} (marks : B → ℕ → ℕ → B → Type 0) (w : Window) (bytes : List ℕ) (old put new : Host B)
@@ -87,31 +88,6 @@ Writes-put {B} marks w bytes old put new k all is marked =
     Writes-one marks w bytes old new
     (subst (λ (h : Host B). MarksWindow marks w h new)
     (is ∙ ap (λ (bs : List (List ℕ)). record old { blocks = bs }) same) marked)
-
--- each block keeps its length
-lengths-put : (cells : List Cell) (bytes : List ℕ) (old new : List (List ℕ)) → new ≡ written cells bytes old
-    → map length new ≡ map length old
-lengths-put cells bytes old new is = ap (map length) is ∙ lengths-written cells bytes old
-
--- a host whose blocks are as long as before has the shape that it had
-pub shape-put : {B : Type 0} (old new : List (List ℕ)) (bitmaps spaces : List B) (tables : List Table)
-    → map length new ≡ map length old
-    → shape_of (record { blocks = new; bitmaps = bitmaps; spaces = spaces; tables = tables })
-    ≡ shape_of (record { blocks = old; bitmaps = bitmaps; spaces = spaces; tables = tables })
-shape-put old new bitmaps spaces tables same =
-    ap (λ (ls : List ℕ). record { blocks = ls; spaces = length spaces; tables = length tables }) same
-
--- both, where bytes are put at cells
-module _ {B : Type 0} (cells : List Cell) (bytes : List ℕ) (old new : List (List ℕ))
-    (is : new ≡ written cells bytes old)
-    (bitmaps spaces : List B) (tables : List Table) where
-  pub sound-written : (shape : Shape) → IsSound shape old bitmaps spaces tables
-      → IsSound shape new bitmaps spaces tables
-  sound-written shape = sound-put shape old new bitmaps spaces tables (lengths-put cells bytes old new is)
-
-  pub shape-written : shape_of (record { blocks = new; bitmaps = bitmaps; spaces = spaces; tables = tables })
-      ≡ shape_of (record { blocks = old; bitmaps = bitmaps; spaces = spaces; tables = tables })
-  shape-written = shape-put old new bitmaps spaces tables (lengths-put cells bytes old new is)
 
 -- a value of no bytes is read anywhere
 pub empty-value : {V : Type 0} (value_of : List ℕ → V) (w : Window) (offset width : ℕ) (blocks : List (List ℕ))

@@ -11,4 +11,4 @@ pub returns : goal.returns
 returns g c =
     left-no_piece (map g.M.R.GuestMemoryRegion.region (g.M.GuestMemoryBackend.regions c.args.backend.now))
     c.args.iova.0 c.get_slices.result _ c.new-behind.result c.get_slices.ensures c.new-behind.ensures
-    c.in-None.ensures.walk
+    c.in_default.ensures.walk
