@@ -441,7 +441,8 @@ pub harvests_allowed : (count slots id i : ℕ) → id ≡ 0 → i < words_for c
     (m : ℕ) → m ≡ (length (rounds_of i v.harvests) + 1) * 2 ^ 32
     → Allows (KeepsRule count) slots id (v, c) i (λ _. m) (Harvests (step slots i m 0 none) (v, c))
 harvests_allowed count slots id i first fits v c m m_is =
-    subst (λ k. Allows (KeepsRule count) slots k (v, c) i (λ _. m) (Harvests (step slots i m 0 none) (v, c))) (sym first)
+    subst (λ k. Allows (KeepsRule count) slots k (v, c) i (λ _. m) (Harvests (step slots i m 0 none) (v, c)))
+    (sym first)
     (harvests_first count slots i fits v c m m_is)
 
 -- ---- a load that counts

@@ -4,7 +4,8 @@ use Rattle.std.proofs.Math.Seq.{take-suc}
 use Rattle.std.proofs.lemmas.List.{get_or-map, length-map}
 use Rattle.std.proofs.lemmas.Option.{slice_get_cases, unwrap_or-slice_get}
 
-module _ {A : Type 0} (f : A → List ℕ) (xs ys : List A) (n : ℕ) (d : A) (in_xs : n < length xs) (in_ys : n < length ys) where
+module _ {A : Type 0} (f : A → List ℕ) (xs ys : List A) (n : ℕ) (d : A) (in_xs : n < length xs)
+    (in_ys : n < length ys) where
   -- one line more that is the same
   pub same_so_far : take n (map f xs) ≡ take n (map f ys) → f (get_or xs n d) ≡ f (get_or ys n d)
       → take (n + 1) (map f xs) ≡ take (n + 1) (map f ys)
@@ -28,8 +29,10 @@ pub parts_at_end : (xs ys : List (List ℕ)) (n : ℕ) → n ≡ min (length xs)
     → slice_get xs n ≡ slice_get ys n → ⊥
 parts_at_end xs ys n end differ e = go (slice_get_cases xs n).1 (slice_get_cases ys n).1
   where
-    go : ((x : List ℕ) × (n < length xs) × (slice_get xs n ≡ Some x) × (get_or xs n x ≡ x)) ⊎ ((length xs ≤ n) × (slice_get xs n ≡ None))
-        → ((y : List ℕ) × (n < length ys) × (slice_get ys n ≡ Some y) × (get_or ys n y ≡ y)) ⊎ ((length ys ≤ n) × (slice_get ys n ≡ None)) → ⊥
+    go : ((x : List ℕ) × (n < length xs) × (slice_get xs n ≡ Some x) × (get_or xs n x ≡ x))
+        ⊎ ((length xs ≤ n) × (slice_get xs n ≡ None))
+        → ((y : List ℕ) × (n < length ys) × (slice_get ys n ≡ Some y) × (get_or ys n y ≡ y))
+        ⊎ ((length ys ≤ n) × (slice_get ys n ≡ None)) → ⊥
     go (inl (x, a, at, _)) (inl (y, b, bt, _)) = omega (arith, a, b, end)
     go (inl (x, a, at, _)) (inr (b, bt)) = let h : Some x ≡ None = sym at ∙ e ∙ bt in cc
     go (inr (a, at)) (inl (y, b, bt, _)) = let h : Some y ≡ None = sym bt ∙ sym e ∙ at in cc

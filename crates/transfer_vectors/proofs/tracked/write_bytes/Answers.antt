@@ -29,15 +29,18 @@ module _ {B : Type 0} (marks : B → ℕ → ℕ → B → Type 0) (P : B → Ty
       → All P old.bitmaps → All P new.bitmaps
   kept-Marks (Block block) offset len old new h all =
       let one = h.1 in
-      let after = keeps one.before offset len one.after (All-slice_get P old.bitmaps block one.before one.was all) one.marked in
+      let after = keeps one.before offset len one.after (All-slice_get P old.bitmaps block one.before one.was all)
+      one.marked in
       let set : All P h.0 = subst (All P) (sym one.is) (All-set P old.bitmaps block one.after after all) in
       subst (λ (x : Host B). All P x.bitmaps) (sym h.2) set
   kept-Marks (Space space) offset len old new h all = subst (λ (x : Host B). All P x.bitmaps) (sym h.2) all
 
-  kept-MarksAll : (ws : List Window) (old new : Host B) → MarksAll marks ws old new → All P old.bitmaps → All P new.bitmaps
+  kept-MarksAll : (ws : List Window) (old new : Host B) → MarksAll marks ws old new → All P old.bitmaps
+      → All P new.bitmaps
   kept-MarksAll [] old new h all = subst (λ (x : Host B). All P x.bitmaps) (sym h) all
   kept-MarksAll (w ∷ ws) old new h all =
-      kept-MarksAll ws h.0 new h.2 (match_bool-either (ltb 0 w.size) (Marks marks w.bitmap.id w.bitmap.base w.size old h.0) (h.0 ≡ old)
+      kept-MarksAll ws h.0 new h.2 (match_bool-either (ltb 0 w.size)
+      (Marks marks w.bitmap.id w.bitmap.base w.size old h.0) (h.0 ≡ old)
       (All P h.0.bitmaps)
       (λ m. kept-Marks w.bitmap.id w.bitmap.base w.size old h.0 m all)
       (λ e. subst (λ (x : Host B). All P x.bitmaps) (sym e) all) h.1)
@@ -48,9 +51,11 @@ held-marked : (bitmap : TrackedBitmap) (old : Option (TrackedBitmap × Marker)) 
 held-marked bitmap None offset len new is h = subst (IsHeldOf bitmap) (sym h) tt
 held-marked bitmap (Some held) offset len new is h = subst (IsHeldOf bitmap) (sym h.1) (is.0, h.2 ∙ is.1)
 
-kept-outcome : {T E : Type 0} (bitmap : TrackedBitmap) (memory : E) (may_want : Type 0) (expected : Result T E) (r : Result T E)
+kept-outcome : {T E : Type 0} (bitmap : TrackedBitmap) (memory : E) (may_want : Type 0) (expected : Result T E)
+    (r : Result T E)
     (ws : List Window) (bytes : List ℕ) (old new : Host MarkerBitmap)
-    → Outcome memory may_want expected (new ≡ old) (Writes (λ (b : MarkerBitmap) offset len c. MarksHeld (held_of b) offset len (held_of c)) ws bytes old new) r
+    → Outcome memory may_want expected (new ≡ old)
+    (Writes (λ (b : MarkerBitmap) offset len c. MarksHeld (held_of b) offset len (held_of c)) ws bytes old new) r
     → AreMarkersOf bitmap old.bitmaps → AreMarkersOf bitmap new.bitmaps
 kept-outcome {T} {E} bitmap memory may_want expected r ws bytes old new h all = by_case r h
   where
@@ -70,4 +75,5 @@ kept-outcome {T} {E} bitmap memory may_want expected r ws bytes old new h all = 
 
 pub returns : goal.returns
 returns c =
-    kept-outcome c.args.bitmap.now _ _ _ c.write.result _ _ c.args.host.now c.write.new.host c.write.ensures.answer c.requires
+    kept-outcome c.args.bitmap.now _ _ _ c.write.result _ _ c.args.host.now c.write.new.host c.write.ensures.answer
+    c.requires
