@@ -1,7 +1,7 @@
 -- Memory behind an IOMMU: what a host holds of it, and its accesses.
-use Rattle.std.proofs.Common.{◌≡◌, ◌<◌, ℕ, ◌↔◌, Bool, true, List, [], ◌∷◌, ◌++◌, map, slice_get, Option, Some, IsSome, refl, sym, ap, subst, inl, inr, ◌⊎◌, ◌∙◌}
-use Rattle.vm_memory_base.specs.Lookup.{mapped_ranges}
-use Rattle.vm_memory_base.specs.Table.{Table, Says, says, is_allowed, pieces}
+use Rattle.std.proofs.Common.{◌≡◌, ◌<◌, ℕ, Bool, true, List, [], ◌∷◌, ◌++◌, map, slice_get, Option, Some, IsSome, refl, sym, ap, subst, inl, inr, ◌⊎◌, ◌∙◌}
+use Rattle.vm_memory_base.proofs.TableLaws.{is_allowed-each, same_mapping_tests_equality}
+use Rattle.vm_memory_base.specs.Table.{Table, says}
 use Rattle.vm_memory_base.specs.declared.iotlb.IommuError.{IommuError}
 use Rattle.vm_memory_base.specs.declared.iotlb.Permissions.{Permissions}
 use Rattle.vm_memory_base.specs.declared.iotlb.lookup.MappedRange.{MappedRange}
@@ -15,29 +15,20 @@ use Rattle.vm_memory_guest.specs.Region.{Region}
 use Rattle.vm_memory_guest.specs.Walk.{reach_of, GivesAccess, RefusesAccess, WantsMemory}
 use Rattle.vm_memory_guest.specs.declared.region.error.GuestMemoryError.{GuestMemoryError}
 use Rattle.vm_memory_base.specs.declared.iotlb.IommuError.TheVariants as iommu
+use Rattle.vm_memory_guest.proofs.HoldsLemmas.{Holds-left, Holds-right}
+use Rattle.vm_memory_guest.proofs.PieceLemmas.{pieces-access}
 use Rattle.vm_memory.specs.Iommu.{Translates, RefusesTranslation, behind, of_translation}
 
--- what is taken from the laws of hosts
-abbrev Joined : Type 0
-Joined = (shape : Shape) (xs ys : List Name) → Holds shape (xs ++ ys) ↔ (Holds shape xs × Holds shape ys)
-
-module _ (joined : Joined) (shape : Shape) (backend iommu : List Name) (space : ℕ) where
+-- a host that holds what a memory behind an IOMMU names holds what its backend and its IOMMU name
+module _ (shape : Shape) (backend iommu : List Name) (space : ℕ) where
   abbrev AreHeld : Type 0
   AreHeld = Holds shape (backend ++ (iommu ++ Space space ∷ []))
 
   pub backend-held : AreHeld → Holds shape backend
-  backend-held h = ((joined shape backend (iommu ++ Space space ∷ [])).0 h).0
+  backend-held h = Holds-left shape backend (iommu ++ Space space ∷ []) h
 
   pub iommu-held : AreHeld → Holds shape iommu
-  iommu-held h = ((joined shape iommu (Space space ∷ [])).0
-      ((joined shape backend (iommu ++ Space space ∷ [])).0 h).1).0
-
--- what is taken from the laws of paths
-abbrev PiecesAreTheAccess : Type 0
-PiecesAreTheAccess = (regions : List Region) (f : Says) (space a n : ℕ) (access : Permissions)
-    → is_allowed f a n access ≡ true
-    → marking space a (walk_of_pieces regions (mapped_ranges (pieces f a n)))
-    ≡ reach_of (access_of regions (Through f space) a n access)
+  iommu-held h = Holds-left shape iommu (Space space ∷ []) (Holds-right shape backend (iommu ++ Space space ∷ []) h)
 
 module _ {R : Type 0} (region : R → Region) (rs : List R) (table space : ℕ) (on : Bool) (is_on : on ≡ true)
     (tables : List Table) (t : Table) (there : slice_get tables table ≡ Some t) (a n : ℕ) (access : Permissions) where
@@ -46,13 +37,13 @@ module _ {R : Type 0} (region : R → Region) (rs : List R) (table space : ℕ) 
       ap (λ (b : Bool). route_behind (behind_if b (record { table = table; space = space })) tables) is_on
       ∙ ap (λ (o : Option Table). Through (says_of o) space) there
 
-  pub gives-on : PiecesAreTheAccess → (found : List MappedRange) → Translates (says t) a n access found
+  pub gives-on : (found : List MappedRange) → Translates (says t) a n access found
       → (walk : Reach AccessFault) → walk ≡ marking space a (walk_of_pieces (map region rs) found)
       → GivesAccess (behind (map region rs) table space on) tables a n access walk
-  gives-on law found gives walk is = (
+  gives-on found gives walk is = (
     ap (λ (w : Route). allowed w a n access) route-on ∙ gives.0,
     is ∙ (ap (λ (ps : List MappedRange). marking space a (walk_of_pieces (map region rs) ps)) gives.1
-        ∙ (law (map region rs) (says t) space a n access gives.0
+        ∙ (pieces-access same_mapping_tests_equality is_allowed-each (map region rs) (says t) space a n access gives.0
         ∙ sym (ap (λ (w : Route). reach_of (access_of (map region rs) w a n access)) route-on))),
   )
 

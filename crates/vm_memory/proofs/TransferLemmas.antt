@@ -1,5 +1,5 @@
 -- Transfers of a machine: what they reply, and where they leave the host.
-use Rattle.std.proofs.Common.{◌≡◌, ◌⊎◌, ℕ, ◌+◌, Bool, true, false, cond, List, [], ◌∷◌, ◌++◌, map, take, Option, Some, Result, Err, inl, inr, All, refl, ap, subst, ◌∙◌, sym, zero-add}
+use Rattle.std.proofs.Common.{◌≡◌, ◌⊎◌, ℕ, ◌+◌, Bool, true, false, List, [], ◌∷◌, ◌++◌, map, take, Option, Some, Result, Err, inl, inr, All, refl, ap, subst, ◌∙◌, sym, zero-add}
 use Rattle.std.proofs.lemmas.Bool.{true≢false}
 use Rattle.std.proofs.lemmas.List.Elements.{All-nil, All-cons}
 use Rattle.vm_memory_base.specs.Pages.{PageSet}
@@ -11,19 +11,19 @@ use Rattle.vm_memory_base.specs.declared.io.VolatileMemoryError.TheVariants as w
 use Rattle.vm_memory_base.specs.declared.io.scripted.SinkStep.{SinkStep}
 use Rattle.vm_memory_base.specs.declared.io.scripted.SourceStep.{SourceStep}
 use Rattle.vm_memory_base.specs.declared.io.scripted.SourceStep.TheVariants.{Give, Interrupted, Fail}
-use Rattle.vm_memory_base.specs.declared.iotlb.Permissions.{Permissions}
 use Rattle.vm_memory_base.specs.declared.iotlb.Permissions.TheVariants as permissions
-use Rattle.vm_memory_guest.specs.Access.{Access, Reached, access_of, allowed, first_fault, meets, path, refusal, stretches, windows}
+use Rattle.vm_memory_guest.specs.Access.{Reached, windows}
 use Rattle.vm_memory_guest.specs.Dealt.{received}
-use Rattle.vm_memory_guest.specs.Dirt.{bytes_read, path_cells}
+use Rattle.vm_memory_guest.specs.Dirt.{bytes_read}
 use Rattle.vm_memory_guest.specs.Error.{of_window}
 use Rattle.vm_memory_guest.specs.Host.{Cell, Host, bytes_at}
 use Rattle.vm_memory_guest.specs.Lent.{fails_as}
-use Rattle.vm_memory_guest.specs.Memory.{Memory, Route, route}
-use Rattle.vm_memory_guest.specs.Region.{Region, IsRegion}
+use Rattle.vm_memory_guest.specs.Memory.{Memory, route}
+use Rattle.vm_memory_guest.specs.Region.{IsRegion}
 use Rattle.vm_memory_guest.specs.Window.{cells}
 use Rattle.vm_memory_guest.specs.declared.region.error.GuestMemoryError.{GuestMemoryError}
 use Rattle.vm_memory_guest.specs.declared.region.error.GuestMemoryError.TheVariants as errors
+use Rattle.vm_memory_guest.proofs.AccessLaws.{cells-access}
 use Rattle.vm_memory.specs.Reply.{reached_by}
 use Rattle.vm_memory.specs.Transfers.{given_by}
 
@@ -64,45 +64,22 @@ io_of_window (Misaligned addr alignment) e P t same p none = absurd (true≢fals
 io_of_window (PartialBuffer expected completed) e P t same p none = absurd (true≢false (sym t))
 io_of_window window_errors.Memory e P t same p none = absurd (true≢false (sym t))
 
--- what is taken from the laws of paths
-abbrev CellsLaw : Type 0
-CellsLaw = (regions : List Region) (way : Route) (a n : ℕ) → All IsRegion regions
-    → cells (windows (path (meets regions way a) 0 n)) ≡ path_cells (path (meets regions way a) 0 n)
-
-access_cells : CellsLaw → (regions : List Region) (way : Route) (a n : ℕ) (access : Permissions) → All IsRegion regions
-    → cells (windows (access_of regions way a n access).path) ≡ path_cells (access_of regions way a n access).path
-unfolding stretches
-access_cells law regions way a n access each = go (allowed way a n access)
-  where
-    found : Access
-    found = record {
-      path = path (meets regions way a) 0 n;
-      fault = first_fault (meets regions way a) 0 n;
-    }
-
-    none : Access
-    none = record { path = []; fault = Some (refusal way a n) }
-
-    go : (b : Bool) → cells (windows (cond b found none).path) ≡ path_cells (cond b found none).path
-    go true = law regions way a n each
-    go false = refl
-
 -- a sink that took the first bytes of the windows of an access took those of its path
-taken_is : CellsLaw → (m : Memory) (host : Host PageSet) (a n : ℕ) → All IsRegion m.regions
+taken_is : (m : Memory) (host : Host PageSet) (a n : ℕ) → All IsRegion m.regions
     → (given count : ℕ) (taken : List ℕ) → given ≡ 0 + count
     → let xs = (reached_by m host.tables a n permissions.Read).path in
     Some taken ≡ Some ([] ++ take count (bytes_at host.blocks (cells (windows xs))))
     → taken ≡ take given (bytes_read xs host)
-taken_is law m host a n each given count taken counts so =
+taken_is m host a n each given count taken counts so =
     let xs = (reached_by m host.tables a n permissions.Read).path in
     let is : taken ≡ take count (bytes_at host.blocks (cells (windows xs))) = cc in
     is
     ∙ ap (λ (cs : List Cell). take count (bytes_at host.blocks cs))
-    (access_cells law m.regions (route m host.tables) a n permissions.Read each)
+    (cells-access m.regions each a n (route m host.tables) permissions.Read)
     ∙ ap (λ (k : ℕ). take k (bytes_read xs host)) (sym (counts ∙ zero-add count))
 
 -- what a sink that follows a script was sent, and what it took
-pub sent_is : CellsLaw → (m : Memory) (host : Host PageSet) (a n : ℕ) → All IsRegion m.regions → (sink : List SinkStep)
+pub sent_is : (m : Memory) (host : Host PageSet) (a n : ℕ) → All IsRegion m.regions → (sink : List SinkStep)
     → let reached = reached_by m host.tables a n permissions.Read in let given = given_by reached n sink in
     (X : Type 0) (answer : Result ℕ GuestMemoryError) (taken : List ℕ)
     → ((answer ≡ Err errors.Memory) × ⊥) ⊎ ((answer ≡ given.answer) × X)
@@ -110,12 +87,12 @@ pub sent_is : CellsLaw → (m : Memory) (host : Host PageSet) (a n : ℕ) → Al
     ⊎ ((count : ℕ) × (given.taken ≡ 0 + count)
     × (Some taken ≡ Some ([] ++ take count (bytes_at host.blocks (cells (windows reached.path))))))
     → (answer ≡ given.answer) × (taken ≡ take given.taken (bytes_read reached.path host))
-sent_is law m host a n each sink X answer taken computed took =
+sent_is m host a n each sink X answer taken computed took =
     let given = given_by (reached_by m host.tables a n permissions.Read) n sink in
     elim computed [
       | inl wanted ↦ absurd wanted.1
       | inr is ↦ elim took [
         | inl wanted ↦ absurd wanted.1
-        | inr t ↦ (is.0, taken_is law m host a n each given.taken t.0 taken t.1 t.2)
+        | inr t ↦ (is.0, taken_is m host a n each given.taken t.0 taken t.1 t.2)
       ]
     ]

@@ -13,7 +13,6 @@ use vm_memory_base::{
     Permissions, Reason,
 };
 use vm_memory_guest::laws::host::names_are_held_one_by_one;
-use vm_memory_guest::laws::paths::pieces_are_the_access;
 use vm_memory_guest::{
     GuestMemory, GuestMemoryBackend, GuestMemoryError, GuestMemoryResult, HostMemory, HostShape,
     IommuMemorySliceIterator, Named, SpaceId, TlbId,
@@ -294,8 +293,6 @@ impl<M: GuestMemoryBackend, I: Iommu> GuestMemory for IommuMemory<M, I> {
         count: usize,
         access: Permissions,
     ) -> GuestMemoryResult<IommuMemorySliceIterator<'_, M>> {
-        names_are_held_one_by_one();
-        pieces_are_the_access();
         // That the regions are a layout is what this call tells.
         let _ = self.backend.num_regions();
         if !self.use_iommu {

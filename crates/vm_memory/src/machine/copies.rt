@@ -7,12 +7,10 @@ ghost use Rattle.vm_memory.specs.Copy.{copies, ends_inside};
 ghost use Rattle.vm_memory.specs.Parts.{range_window};
 
 use super::command::{BlockRange, Reply};
-use vm_memory_base::{ExactBitmap, GuestAddress, MemoryRegionAddress};
+use vm_memory_base::ExactBitmap;
 use vm_memory_guest::laws::host::parts_of_a_block_are_held;
 use vm_memory_guest::laws::typed::copies_are_by_bytes;
-use vm_memory_guest::{
-    BlockId, GuestMemoryRegion, GuestRegionMmap, HostMemory, MmapRegion, VolatileSlice,
-};
+use vm_memory_guest::{BlockId, HostMemory, MmapRegion, VolatileMemory, VolatileSlice};
 
 // Copies a window of a host to another.
 pub(super) fn copy_in<B: ExactBitmap>(
@@ -50,7 +48,5 @@ fn window<B>(host: &HostMemory<B>, range: BlockRange) -> Option<VolatileSlice>
 {
     parts_of_a_block_are_held::<B>();
     let mapping = MmapRegion::of_block(host, BlockId(range.block));
-    let region = GuestRegionMmap::new(mapping, GuestAddress(0))?;
-    let offset = MemoryRegionAddress(range.offset as u64);
-    region.get_slice(offset, range.len).ok()
+    mapping.get_slice(range.offset, range.len).ok()
 }

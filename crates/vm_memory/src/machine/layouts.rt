@@ -14,7 +14,6 @@ use crate::iommu::Iommu;
 use std::alloc::{AllocError, Global};
 use std::sync::Arc;
 use vm_memory_base::{ExactBitmap, GuestAddress, GuestUsize};
-use vm_memory_guest::laws::host::regions_are_held_one_by_one;
 use vm_memory_guest::{GuestMemoryRegion, GuestRegionCollection, GuestRegionCollectionError};
 
 impl<R: GuestMemoryRegion, I: Iommu, B: ExactBitmap> Machine<R, I, B> {
@@ -22,7 +21,6 @@ impl<R: GuestMemoryRegion, I: Iommu, B: ExactBitmap> Machine<R, I, B> {
         ensures { let before = state_of R.region I.number B.pages self.old in
             Step before (command.FromRegions numbers.now) result (state_of R.region I.number B.pages self.new) }
     {
-        regions_are_held_one_by_one();
         if !are_there(&self.regions, numbers) {
             return Reply::NoSuch;
         }
@@ -39,7 +37,6 @@ impl<R: GuestMemoryRegion, I: Iommu, B: ExactBitmap> Machine<R, I, B> {
         ensures { let before = state_of R.region I.number B.pages self.old in
             Step before (command.Insert layout region) result (state_of R.region I.number B.pages self.new) }
     {
-        regions_are_held_one_by_one();
         let (Some(layout), Some(region)) = (self.layout_at(layout), self.region_at(region)) else {
             return Reply::NoSuch;
         };
@@ -56,7 +53,6 @@ impl<R: GuestMemoryRegion, I: Iommu, B: ExactBitmap> Machine<R, I, B> {
         ensures { let before = state_of R.region I.number B.pages self.old in
             Step before (command.Remove layout base size) result (state_of R.region I.number B.pages self.new) }
     {
-        regions_are_held_one_by_one();
         let Some(old) = self.layout_at(layout) else {
             return Reply::NoSuch;
         };

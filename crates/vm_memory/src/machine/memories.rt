@@ -11,7 +11,6 @@ use super::command::Reply;
 use super::machine_memory::MachineMemory;
 use crate::iommu::{Iommu, IommuMemory};
 use vm_memory_base::ExactBitmap;
-use vm_memory_guest::laws::host::names_are_held_one_by_one;
 use vm_memory_guest::{GuestMemoryRegion, SpaceId};
 
 impl<R: GuestMemoryRegion, I: Iommu, B: ExactBitmap> Machine<R, I, B> {
@@ -39,7 +38,6 @@ impl<R: GuestMemoryRegion, I: Iommu, B: ExactBitmap> Machine<R, I, B> {
             Step before (command.NewMemory layout translator space on) result
             (state_of R.region I.number B.pages self.new) }
     {
-        names_are_held_one_by_one();
         let (Some(layout), Some(translator)) = (
             self.layout_at(layout),
             self.translator_at(translator),
@@ -64,7 +62,6 @@ impl<R: GuestMemoryRegion, I: Iommu, B: ExactBitmap> Machine<R, I, B> {
             Step before (command.ReplaceBackend memory layout) result
             (state_of R.region I.number B.pages self.new) }
     {
-        names_are_held_one_by_one();
         let (Some(memory), Some(layout)) = (self.memory_at(memory), self.layout_at(layout)) else {
             return Reply::NoSuch;
         };

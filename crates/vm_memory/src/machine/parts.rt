@@ -8,7 +8,6 @@ use super::Machine;
 use super::machine_memory::MachineMemory;
 use crate::iommu::Iommu;
 use std::sync::Arc;
-use vm_memory_guest::laws::host::regions_are_held_one_by_one;
 use vm_memory_guest::{GuestMemoryRegion, GuestRegionCollection, SpaceId};
 
 impl<R: GuestMemoryRegion, I: Iommu, B> Machine<R, I, B> {
@@ -17,7 +16,6 @@ impl<R: GuestMemoryRegion, I: Iommu, B> Machine<R, I, B> {
         ensures found { option_map (λ r. r.now.value) result ≡ slice_get self.now.regions number }
         ensures held { IfSome result (λ r. Holds (shape_of self.now.host) (region_names (R.region r.now.value))) }
     {
-        regions_are_held_one_by_one();
         self.regions.get(number)
     }
 

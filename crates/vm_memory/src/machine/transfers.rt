@@ -11,7 +11,6 @@ use super::command::{Ending, Reply};
 use super::list::ByteList;
 use std::alloc::Global;
 use vm_memory_base::{ExactBitmap, GuestAddress, ScriptSink, ScriptSource, SinkStep, SourceStep};
-use vm_memory_guest::laws::paths::windows_are_the_path;
 use vm_memory_guest::laws::transfers::{
     sinks_take_what_is_computed, transfers_in_are_computed, transfers_out_are_computed,
 };
@@ -61,7 +60,6 @@ pub(super) fn send<M: GuestMemory, B: ExactBitmap>(
     };
     transfers_out_are_computed::<ScriptSink>();
     sinks_take_what_is_computed::<ScriptSink>();
-    windows_are_the_path();
     if whole {
         let reply = done(memory.write_all_volatile_to(host, addr, &mut sink, count));
         return with_taken(reply, sink.into_taken());

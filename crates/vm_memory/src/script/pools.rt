@@ -11,7 +11,6 @@ use std::marker::Model;
 use std::num::NonZeroUsize;
 use std::sync::Arc;
 use vm_memory_base::{ExclusiveBitmap, GuestAddress, Iotlb};
-use vm_memory_guest::laws::host::{names_are_held_one_by_one, parts_of_a_block_are_held};
 use vm_memory_guest::{
     BlockId, GuestRegionMmap, HostMemory, HostShape, MmapRegion, MmapRegionError, TlbId,
 };
@@ -107,8 +106,6 @@ impl Pools {
     }
 
     fn make_region(&mut self, block: BlockId, addr: GuestAddress) -> SetupReply {
-        names_are_held_one_by_one();
-        parts_of_a_block_are_held::<ExclusiveBitmap>();
         if self.host.shape().block_len(block).is_none() {
             return SetupReply::NoSuch;
         }

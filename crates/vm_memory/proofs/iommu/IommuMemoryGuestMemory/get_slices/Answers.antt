@@ -17,14 +17,14 @@ get_slices-requires g c =
     let shape = shape_of c.args.host.now in
     let m = c.args.self.now in
     subst (λ m. Holds shape (g.M.Named.names m.backend)) (sym c.self.view_is)
-    (backend-held c.names_are_held_one_by_one.ensures.joined shape (g.M.Named.names m.backend)
+    (backend-held shape (g.M.Named.names m.backend)
     (g.I.Named.names m.iommu) m.space c.requires)
 
 pub table-table-requires : goal.table-table-requires
 table-table-requires g c =
     let shape = shape_of c.args.host.now in
     let m = c.args.self.now in
-    let held = iommu-held c.names_are_held_one_by_one.ensures.joined shape (g.M.Named.names m.backend)
+    let held = iommu-held shape (g.M.Named.names m.backend)
     (g.I.Named.names m.iommu) m.space c.requires in
     let table = subst (Holds shape) (g.met.I.Iommu.names_table m.iommu) held in
     let number = c.table.ensures
@@ -37,8 +37,8 @@ returns-in-Ok-clause-answer g c =
     let at = there g (goal.at.returns-in-Ok-clause-answer g c).After-table-table in
     rw (← c.self.view_is) (gives-on g.M.R.GuestMemoryRegion.region (g.M.GuestMemoryBackend.regions it.backend)
     (g.I.Iommu.number it.iommu.value) it.space.0 it.use_iommu c.if-not-self.false c.args.host.now.tables
-    c.table-table.result.now at c.args.addr.0 c.args.count c.args.access c.pieces_are_the_access.ensures
-    c.in-Ok.pieces.items c.in-Ok.ensures c.of_pieces.result c.of_pieces.ensures)
+    c.table-table.result.now at c.args.addr.0 c.args.count c.args.access c.in-Ok.pieces.items c.in-Ok.ensures
+    c.of_pieces.result c.of_pieces.ensures)
 
 pub returns-in-Err-clause-answer : goal.returns-in-Err-clause-answer
 returns-in-Err-clause-answer g c =

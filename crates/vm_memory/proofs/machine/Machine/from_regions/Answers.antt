@@ -1,6 +1,7 @@
 use Rattle.std.proofs.Common.{map, subst}
 use Rattle.vm_memory_guest.specs.Collection.{regions_of}
 use Rattle.vm_memory_guest.specs.Host.{shape_of}
+use Rattle.vm_memory_guest.proofs.HoldsLemmas.{Holds-among}
 use Rattle.vm_memory.specs.Parts.{Parts, HoldsRegions}
 use Rattle.vm_memory.proofs.NamedLemmas.{named-among}
 use Rattle.vm_memory.proofs.machine.Machine.from_regions.Goals as goal
@@ -16,6 +17,6 @@ add_layout-requires g c =
     let among = named-among pool c.args.numbers.now chosen c.in-Ok.ensures in
     let names : HoldsRegions region inside.host layout =
     rw c.in-Ok-from_arc_regions.ensures.1
-    (c.regions_are_held_one_by_one.ensures.among (shape_of inside.host) pool chosen held.pool among) in
+    (Holds-among (shape_of inside.host) pool chosen held.pool among) in
     subst (λ (m : Parts g.row.R.Denot g.row.I.Denot g.row.B.Denot). HoldsRegions region m.host layout) c.self.view_is
     names

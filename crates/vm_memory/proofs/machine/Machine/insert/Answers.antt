@@ -2,6 +2,7 @@ use Rattle.std.proofs.Common.{◌≡◌, List, map, subst, sym}
 use Rattle.vm_memory_guest.specs.Host.{Holds, shape_of}
 use Rattle.vm_memory_guest.specs.Layout.{inserted, IsFault}
 use Rattle.vm_memory_guest.specs.Region.{Region, region_names, layout_error}
+use Rattle.vm_memory_guest.proofs.HoldsLemmas.{Holds-each}
 use Rattle.vm_memory.specs.Machine.{Step}
 use Rattle.vm_memory.specs.Parts.{HoldsRegions, state_of}
 use Rattle.vm_memory.specs.declared.machine.command.Command.TheVariants as command
@@ -14,16 +15,15 @@ add_layout-requires g c =
     let m = c.args.self.now in
     let region = g.R.GuestMemoryRegion.region in
     let shape = shape_of m.host in
-    let each = c.regions_are_held_one_by_one.ensures.each shape in
     let P : Region → Type 0 = λ r. Holds shape (region_names r) in
     let rs = c.in-Some-Some.layout.now in
     let share = c.in-Some-Some.region.now in
-    let more = All-inserted_values region P rs share.value ((each (map region rs)).0 c.in-Some-Some.ensures.held)
-    c.in-Some-Some.ensures'.held in
+    let more = All-inserted_values region P rs share.value
+    ((Holds-each shape (map region rs)).0 c.in-Some-Some.ensures.held) c.in-Some-Some.ensures'.held in
     let is : c.in-Ok-insert_region.layout ≡ inserted region rs share.value =
     rw c.in-Ok.ensures.cases at c.in-Ok-insert_region.ensures.1 in
     subst (λ (ys : List g.row.R.Denot). HoldsRegions region m.host ys) (sym is)
-    ((each (map region (inserted region rs share.value))).1 more)
+    ((Holds-each shape (map region (inserted region rs share.value))).1 more)
 
 pub returns-in-Ok-insert_region : goal.returns-in-Ok-insert_region
 returns-in-Ok-insert_region g c =

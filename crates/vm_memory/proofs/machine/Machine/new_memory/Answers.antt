@@ -1,5 +1,6 @@
 use Rattle.std.proofs.Common.{◌≡◌, List, refl, inr, subst, sym}
 use Rattle.vm_memory_guest.specs.Host.{shape_of}
+use Rattle.vm_memory_guest.proofs.HoldsLemmas.{Holds-append}
 use Rattle.vm_memory.specs.Iommu.{Behind}
 use Rattle.vm_memory.specs.Commands.{MayWant}
 use Rattle.vm_memory.specs.Parts.{HoldsMemory, state_of}
@@ -37,8 +38,8 @@ pub add_memory-requires : goal.add_memory-requires
 add_memory-requires g c =
     let m = c.args.self.now in
     let below = c.has_space.ensures.0 c.if-not-has_space.false in
-    let names = (c.names_are_held_one_by_one.ensures.joined (shape_of m.host) _ _).1
-    (c.in-Some-Some.ensures.held, (c.in-Some-Some.ensures'.held, (below, tt))) in
+    let names = Holds-append (shape_of m.host) _ _ c.in-Some-Some.ensures.held
+    (c.in-Some-Some.ensures'.held, (below, tt)) in
     subst (λ (x : Behind (List g.row.R.Denot) g.row.I.Denot).
     HoldsMemory g.R.GuestMemoryRegion.region g.I.Iommu.number m.host (Translated x))
     (sym (is_made g (goal.at.add_memory-requires g c).After-new-memory)) names

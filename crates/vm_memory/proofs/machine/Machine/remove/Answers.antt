@@ -2,6 +2,7 @@ use Rattle.std.proofs.Common.{Err, map, ap, subst, sym, ◌∙◌}
 use Rattle.vm_memory_guest.specs.Host.{Holds, shape_of}
 use Rattle.vm_memory_guest.specs.Region.{Region, region_names}
 use Rattle.vm_memory_guest.specs.declared.region.error.GuestRegionCollectionError.{GuestRegionCollectionError}
+use Rattle.vm_memory_guest.proofs.HoldsLemmas.{Holds-each}
 use Rattle.vm_memory.specs.Machine.{Step}
 use Rattle.vm_memory.specs.Parts.{state_of}
 use Rattle.vm_memory.specs.declared.machine.command.Command.TheVariants as command
@@ -13,12 +14,12 @@ pub add_layout-requires : goal.add_layout-requires
 add_layout-requires g c =
     let m = c.args.self.now in
     let region = g.R.GuestMemoryRegion.region in
-    let each = c.regions_are_held_one_by_one.ensures.each (shape_of m.host) in
-    let P : Region → Type 0 = λ r. Holds (shape_of m.host) (region_names r) in
+    let shape = shape_of m.host in
+    let P : Region → Type 0 = λ r. Holds shape (region_names r) in
     let rs = c.in-Some.old.now in
     let rest = All-removed_values region P rs c.in-Ok.layout c.in-Ok.field-0-1.value c.args.base.0 c.args.size
-    c.in-Ok.ensures.ok ((each (map region rs)).0 c.in-Some.ensures.held) in
-    (each (map region c.in-Ok.layout)).1 rest
+    c.in-Ok.ensures.ok ((Holds-each shape (map region rs)).0 c.in-Some.ensures.held) in
+    (Holds-each shape (map region c.in-Ok.layout)).1 rest
 
 pub returns-in-Ok : goal.returns-in-Ok
 returns-in-Ok g c =

@@ -1,6 +1,7 @@
 use Rattle.std.proofs.Common.{◌≡◌, ◌∷◌, [], List, map, flat_map, Some, refl, inr, ap, ◌∙◌, subst, sym}
-use Rattle.vm_memory_guest.specs.Host.{Space, Tlb, Holds, shape_of}
+use Rattle.vm_memory_guest.specs.Host.{Space, Tlb, shape_of}
 use Rattle.vm_memory_guest.specs.Region.{region_names}
+use Rattle.vm_memory_guest.proofs.HoldsLemmas.{Holds-append, Holds-right}
 use Rattle.vm_memory.specs.Iommu.{Behind}
 use Rattle.vm_memory.specs.Parts.{HoldsMemory}
 use Rattle.vm_memory.specs.declared.machine.machine_memory.MachineMemory.{MachineMemory}
@@ -17,12 +18,11 @@ add_memory-requires g c =
     let x = c.in-Some.memory.now in
     let is : c.in-Ok-with_replaced_backend.memory ≡ (record x { backend = rs }) =
     rw c.in-Ok.ensures.cases at c.in-Ok-with_replaced_backend.ensures in
-    let joined = c.names_are_held_one_by_one.ensures.joined (shape_of m.host) in
+    let shape = shape_of m.host in
     let old = subst (HoldsMemory region number m.host) c.in-Some.ensures c.in-Some-Some.ensures.held in
     let others = Tlb (number x.iommu) ∷ Space x.space ∷ [] in
-    let kept : Holds (shape_of m.host) others =
-    ((joined (flat_map region_names (map region x.backend)) others).0 old).1 in
-    let names = (joined (flat_map region_names (map region rs)) others).1 (c.in-Some-Some.ensures'.held, kept) in
+    let kept = Holds-right shape (flat_map region_names (map region x.backend)) others old in
+    let names = Holds-append shape (flat_map region_names (map region rs)) others c.in-Some-Some.ensures'.held kept in
     subst (λ (y : Behind (List g.row.R.Denot) g.row.I.Denot). HoldsMemory region number m.host (Translated y))
     (sym is) names
 

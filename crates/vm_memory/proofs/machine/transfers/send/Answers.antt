@@ -42,7 +42,7 @@ returns-then-whole g c =
             wanted.1.1,
           )
       | inr so ↦
-          (let sent_so = sent_is c.windows_are_the_path.ensures.bytes m before a n each c.args.steps.now _ so.0
+          (let sent_so = sent_is m before a n each c.args.steps.now _ so.0
           sent.taken (c.transfers_out_are_computed.ensures fault ws 0 state sink sent host.blocks so.0 tells so.2)
           (c.sinks_take_what_is_computed.ensures fault ws 0 state [] sink sent host.blocks so.0 tells keeps so.2) in
           inl
@@ -76,7 +76,7 @@ returns g c =
             wanted.1.1,
           )
       | inr so ↦
-          (let sent_so = sent_is c.windows_are_the_path.ensures.bytes m before a n each c.args.steps.now _ so.0
+          (let sent_so = sent_is m before a n each c.args.steps.now _ so.0
           sent.taken (c.transfers_out_are_computed.ensures fault ws 0 state sink sent host.blocks so.0 tells so.2)
           (c.sinks_take_what_is_computed.ensures fault ws 0 state [] sink sent host.blocks so.0 tells keeps so.2) in
           inl
