@@ -5,8 +5,7 @@ use Rattle.vm_memory_guest.specs.Host.{Host, Tlb, shape_of, Holds, IsHeld}
 use Rattle.vm_memory_guest.specs.Memory.{memory_names}
 use Rattle.vm_memory_guest.specs.Region.{Region, IsLayout, region_names}
 use Rattle.vm_memory_guest.specs.Dirt.{with_pages}
-use Rattle.vm_memory_base.specs.declared.bitmap.BitmapId.TheVariants.{Block}
-use Rattle.vm_memory_guest.specs.Window.{Window}
+use Rattle.vm_memory_guest.specs.Window.{Window, block_window}
 use Rattle.vm_memory.specs.Memories.{memory_meant}
 use Rattle.vm_memory.specs.State.{State}
 use Rattle.vm_memory.specs.declared.machine.command.BlockRange.{BlockRange}
@@ -55,9 +54,4 @@ module _ {R I B : Type 0} (region : R → Region) (number : I → ℕ) where
 
 -- a window of a block, writes to which mark the block's bitmap
 abbrev pub range_window : BlockRange → Window
-range_window w = record {
-  block = record { 0 = w.block };
-  offset = w.offset;
-  size = w.len;
-  bitmap = record { id = Block w.block; base = w.offset };
-}
+range_window w = block_window w.block w.offset w.len

@@ -10,7 +10,7 @@ use super::command::{BlockRange, Reply};
 use vm_memory_base::ExactBitmap;
 use vm_memory_guest::laws::host::parts_of_a_block_are_held;
 use vm_memory_guest::laws::typed::copies_are_by_bytes;
-use vm_memory_guest::{BlockId, HostMemory, MmapRegion, VolatileMemory, VolatileSlice};
+use vm_memory_guest::{BlockId, HostMemory, VolatileSlice};
 
 // Copies a window of a host to another.
 pub(super) fn copy_in<B: ExactBitmap>(
@@ -47,6 +47,10 @@ fn window<B>(host: &HostMemory<B>, range: BlockRange) -> Option<VolatileSlice>
     ensures short { IfSome result (λ w. w.offset + w.size ≤ 2 ^ 64) }
 {
     parts_of_a_block_are_held::<B>();
-    let mapping = MmapRegion::of_block(host, BlockId(range.block));
-    mapping.get_slice(range.offset, range.len).ok()
+    let block = BlockId(range.block);
+    let all = host.block_len(block);
+    if range.offset > all || range.len > all - range.offset {
+        return None;
+    }
+    Some(host.window(block, range.offset, range.len))
 }

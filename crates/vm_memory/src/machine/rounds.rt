@@ -13,7 +13,8 @@ use super::Machine;
 use crate::iommu::Iommu;
 use std::alloc::{AllocError, Global};
 use vm_memory_base::{BitmapId, ExactBitmap};
-use vm_memory_guest::{BlockId, GuestMemoryRegion, HostMemory, MmapRegion, VolatileMemory};
+use vm_memory_guest::laws::host::parts_of_a_block_are_held;
+use vm_memory_guest::{BlockId, GuestMemoryRegion, HostMemory};
 
 impl<R: GuestMemoryRegion, I: Iommu, B: ExactBitmap> Machine<R, I, B> {
     /// Brings an image of a block up to date: takes the dirty pages of the block's bitmap, so that none is
@@ -71,7 +72,8 @@ fn whole_block<B>(host: &HostMemory<B>, block: BlockId) -> &[u8]
     requires { Holds (shape_of host.now) (names.Block block.0 ∷ []) }
     ensures { result.now ≡ block_at host.now.blocks block.0 }
 {
-    let window = MmapRegion::of_block(host, block).as_volatile_slice();
+    parts_of_a_block_are_held::<B>();
+    let window = host.window(block, 0, host.block_len(block));
     host.bytes(&window)
 }
 
