@@ -1,11 +1,11 @@
 //! A layout that is exchanged while another thread reads.
 
-use std::alloc::Global;
+use std::alloc::{AllocError, Global};
 use std::sync::{Arc, Wait};
 use std::thread::{self, Threads};
 use vm_memory::{
     GuestAddress, GuestAddressSpace, GuestMemoryAtomic, GuestMemoryBackend, GuestMemoryMmap,
-    GuestRegionMmap, HostMemory, Lends,
+    GuestMemoryReader, GuestRegionMmap, HostMemory, Lends,
 };
 
 type Space = GuestMemoryAtomic<GuestMemoryMmap>;
@@ -22,7 +22,23 @@ fn plug_in<R: Wait>(
     Ok(turn.replace(rt, alloc, layout)?)
 }
 
-/// A device thread keeps the snapshot that it took, while a region is added. The next snapshot has the region.
+// A device thread asks its reader for the memory at each request. This one has no requests: it asks until there is a
+// second region.
+fn run_device<R: Wait>(
+    rt: &R,
+    mut reader: GuestMemoryReader<GuestMemoryMmap>,
+) -> Result<usize, AllocError> {
+    for _ in rt.forever() {
+        let memory = reader.memory(rt)?;
+        if memory.num_regions() > 1 {
+            return Ok(memory.num_regions());
+        }
+        thread::yield_now();
+    }
+    unreachable!()
+}
+
+/// A region is added while a device thread runs, which has it from then on. A snapshot that was kept does not have it.
 pub fn add_while_reading(
     rt: &(impl Print + Threads + Wait + Sync),
     alloc: Global,
@@ -33,14 +49,15 @@ pub fn add_while_reading(
     let region = GuestRegionMmap::from_range(&mut host, GuestAddress(0x8000), 0x1000)?;
     let region = Arc::new(alloc, region)?;
     let space = GuestMemoryAtomic::new(alloc, memory)?;
-    let kept = space.memory(rt, alloc)?;
-    let (seen, plugged) = thread::join(
+    let mut reader = space.reader(rt)?;
+    let kept = reader.memory(rt)?.clone()?;
+    let (plugged, seen) = thread::join(
         rt,
-        || kept.num_regions(),
         || plug_in(rt, alloc, &space, region),
+        || run_device(rt, reader),
     );
     plugged?;
-    let after = space.memory(rt, alloc)?.num_regions();
-    println!(rt; "kept {seen} and {}, then {after}", kept.num_regions())?;
+    let seen = seen?;
+    println!(rt; "kept {}, then {seen}", kept.num_regions())?;
     Ok(())
 }

@@ -73,6 +73,28 @@ fn a_snapshot_stays_when_its_memory_is_replaced(rt: HostRuntime) -> Result<(), F
     Ok(())
 }
 
+#[test]
+fn a_reader_lends_the_last_memory(rt: HostRuntime) -> Result<(), Fail> {
+    let mut host = HostMemory::new(rt.alloc());
+    let space = GuestMemoryAtomic::new(rt.alloc(), two_pages(rt.alloc(), &mut host)?)?;
+    let other = space.clone()?;
+    let mut reader = space.reader(&rt)?;
+    let old = reader.memory(&rt)?.clone()?;
+    assert!(rt; reader.memory(&rt)?.num_regions() == 2);
+    for (start, count) in [(0x8000, 3), (0x4000, 4), (0xc000, 5)] {
+        let page = GuestRegionMmap::from_range(&mut host, GuestAddress(start), 0x1000)?;
+        plug_in(&rt, rt.alloc(), &other, Arc::new(rt.alloc(), page)?)?;
+        assert!(rt; reader.memory(&rt)?.num_regions() == count);
+        assert!(rt; reader.memory(&rt)?.num_regions() == count);
+    }
+    let mut late = other.reader(&rt)?;
+    drop(space);
+    drop(other);
+    assert!(rt; late.memory(&rt)?.num_regions() == 5 && old.num_regions() == 2);
+    assert!(rt; reader.memory(&rt)?.num_regions() == 5);
+    Ok(())
+}
+
 // How many regions a snapshot has.
 fn regions_of<L: Lends<Target = GuestMemoryMmap>>(snapshot: &L) -> usize {
     snapshot.lend().num_regions()

@@ -1,17 +1,20 @@
-//! Layouts that a thread replaces while others read them, and regions that two threads add in turn.
+//! Layouts that a thread replaces while others read them, by snapshots and by readers, and regions that two threads add
+//! in turn.
 
 use crate::marks::meet;
 use std::alloc::{AllocError, Global};
-use std::sync::atomic::{AtomicUsize, Ordering};
+use std::sync::atomic::{AtomicBool, AtomicU64, AtomicUsize, Ordering};
 use std::sync::{Arc, Wait};
 use std::test::Fail;
 use std::thread::{self, Threads};
 use vm_memory::{
     GuestAddress, GuestAddressSpace, GuestMemoryAtomic, GuestMemoryBackend, GuestMemoryMmap,
-    GuestRegionMmap, HostMemory, Lends,
+    GuestMemoryReader, GuestMemoryRegion, GuestRegionMmap, HostMemory, Lends,
 };
 
 type Space = GuestMemoryAtomic<GuestMemoryMmap>;
+
+type Reader = GuestMemoryReader<GuestMemoryMmap>;
 
 // The ranges of the layout at first.
 const TWO: [(GuestAddress, usize); 2] = [
@@ -121,6 +124,150 @@ pub fn expect_layouts<R: Sync + Threads + Wait>(rt: &R, alloc: Global) -> Result
     }
     if space.memory(rt, alloc)?.num_regions() != 2 {
         return Err(Fail::new("the layout is the last one"));
+    }
+    Ok(())
+}
+
+// Where the second regions of numbered layouts begin.
+const FAR: u64 = 1 << 40;
+
+// The layout of a number, which both of its regions tell by where they start.
+fn numbered(
+    alloc: Global,
+    host: &mut HostMemory<()>,
+    number: u64,
+) -> Result<GuestMemoryMmap, AllocError> {
+    let near = number.saturating_mul(0x10);
+    let far = near.saturating_add(FAR);
+    let ranges = [(GuestAddress(near), 0x10), (GuestAddress(far), 0x10)];
+    GuestMemoryMmap::from_ranges(alloc, host, &ranges).map_err(|_| AllocError)
+}
+
+// The number of a layout, where it has two regions that tell the same one.
+fn number_of(layout: &GuestMemoryMmap) -> Option<u64> {
+    let near = layout.region_at(0)?.start_addr().0;
+    let far = layout.region_at(1)?.start_addr().0;
+    if layout.num_regions() == 2 && far.checked_sub(FAR) == Some(near) {
+        Some(near / 0x10)
+    } else {
+        None
+    }
+}
+
+// What threads tell each other: who has come, how many replacements were made, and that there will be no more.
+#[derive(Drop)]
+struct Progress {
+    gate: AtomicUsize,
+    made: AtomicU64,
+    is_over: AtomicBool,
+}
+
+// Replaces the layout by those of the numbers from 1 on, so many times, and tells each replacement that was made.
+fn replace_each<R: Wait>(
+    rt: &R,
+    alloc: Global,
+    space: &Space,
+    mut host: HostMemory<()>,
+    count: u64,
+    progress: &Progress,
+) -> Result<(), AllocError> {
+    meet(&progress.gate, 4);
+    for past in 0..count {
+        let number = past.saturating_add(1);
+        let layout = numbered(alloc, &mut host, number)?;
+        space.lock(rt).replace(rt, alloc, layout)?;
+        progress.made.store(number, Ordering::SeqCst);
+    }
+    Ok(())
+}
+
+// Asks a reader until no more replacements are made, and once more. Whether each layout that it lends is whole, no
+// older than the one before, no older than the last whose replacement was told before the call, and at most one newer
+// than the last that was told after the call.
+fn asks_well<R: Wait>(rt: &R, mut reader: Reader, progress: &Progress) -> bool {
+    meet(&progress.gate, 4);
+    let mut last = 0;
+    for _ in 0..u64::MAX {
+        let is_over = progress.is_over.load(Ordering::SeqCst);
+        let before = progress.made.load(Ordering::SeqCst);
+        let Ok(layout) = reader.memory(rt) else {
+            return false;
+        };
+        let Some(number) = number_of(layout.lend()) else {
+            return false;
+        };
+        let next = progress.made.load(Ordering::SeqCst).saturating_add(1);
+        if number < last || number < before || number > next {
+            return false;
+        }
+        if is_over {
+            return true;
+        }
+        last = number;
+    }
+    false
+}
+
+// Whether three readers ask well while a thread replaces the layout so many times.
+fn ask_well_while_replaced<R: Sync + Threads + Wait>(
+    rt: &R,
+    alloc: Global,
+    space: &Space,
+    host: HostMemory<()>,
+    count: u64,
+) -> Result<[bool; 3], AllocError> {
+    let progress = Progress {
+        gate: AtomicUsize::new(0),
+        made: AtomicU64::new(0),
+        is_over: AtomicBool::new(false),
+    };
+    let first = space.reader(rt)?;
+    let second = space.reader(rt)?;
+    let third = space.reader(rt)?;
+    let (replaced, (one, (two, three))) = thread::join(
+        rt,
+        || {
+            let replaced = replace_each(rt, alloc, space, host, count, &progress);
+            progress.is_over.store(true, Ordering::SeqCst);
+            replaced
+        },
+        || {
+            thread::join(
+                rt,
+                || asks_well(rt, first, &progress),
+                || {
+                    thread::join(
+                        rt,
+                        || asks_well(rt, second, &progress),
+                        || asks_well(rt, third, &progress),
+                    )
+                },
+            )
+        },
+    );
+    replaced?;
+    Ok([one, two, three])
+}
+
+/// Fails where one of three readers lends a layout in part or an older one after a newer one, or misses one of so many
+/// replacements that was made before its call.
+pub fn expect_readers<R: Sync + Threads + Wait>(
+    rt: &R,
+    alloc: Global,
+    count: u64,
+) -> Result<(), Fail> {
+    let mut host: HostMemory<()> = HostMemory::new(alloc);
+    let space = GuestMemoryAtomic::new(alloc, numbered(alloc, &mut host, 0)?)?;
+    let mut late = space.reader(rt)?;
+    let [one, two, three] = ask_well_while_replaced(rt, alloc, &space, host, count)?;
+    if !(one && two && three) {
+        return Err(Fail::new(format_args!(
+            "that the readers ask well is {one}, {two} and {three}"
+        )));
+    }
+    let last = number_of(late.memory(rt)?.lend());
+    if last != Some(count) {
+        return Err(Fail::new(format_args!("after {count} replacements a reader lends {last:?}")));
     }
     Ok(())
 }

@@ -1,5 +1,5 @@
-//! What threads do at once: they mark and harvest a bitmap, read a layout that is replaced, add regions to one in turn,
-//! and call one machine. Each function fails where a page, a region or a reply is lost, invented or wrong.
+//! What threads do at once: they mark and harvest a bitmap, read a layout that is replaced by snapshots and by readers,
+//! add regions to one in turn, and call one machine. Each function fails where a page, a region or a reply is lost, invented or wrong.
 #![tactic(auto)]
 
 pub mod atomic;
@@ -10,6 +10,6 @@ pub mod tracked;
 
 pub use atomic::{expect_atomic, expect_cleared};
 pub use calls::{expect_calls, set_up};
-pub use layouts::{expect_added, expect_layouts};
+pub use layouts::{expect_added, expect_layouts, expect_readers};
 pub use marks::Marks;
 pub use tracked::expect_tracked;

@@ -39,9 +39,10 @@ pub use vm_memory_base::{
 pub use vm_memory_guest::{
     BlockId, Bytes, FromRangesError, GuestAddressSpace, GuestMemory, GuestMemoryAtomic,
     GuestMemoryBackend, GuestMemoryBackendSliceIterator, GuestMemoryError,
-    GuestMemoryExclusiveGuard, GuestMemoryLoadGuard, GuestMemoryMmap, GuestMemoryRegion,
-    GuestMemoryRegionBytes, GuestMemoryResult, GuestMemorySliceIterator, GuestRegionCollection,
-    GuestRegionCollectionError, GuestRegionMmap, HostAddress, HostMemory, HostShape,
-    IommuMemorySliceIterator, MmapRegion, MmapRegionError, Named, RegionIter, SpaceId, StopOnError,
-    TlbId, VolatileArrayRef, VolatileMemory, VolatileRef, VolatileSlice, compute_offset,
+    GuestMemoryExclusiveGuard, GuestMemoryLoadGuard, GuestMemoryMmap, GuestMemoryReader,
+    GuestMemoryRegion, GuestMemoryRegionBytes, GuestMemoryResult, GuestMemorySliceIterator,
+    GuestRegionCollection, GuestRegionCollectionError, GuestRegionMmap, HostAddress, HostMemory,
+    HostShape, IommuMemorySliceIterator, MmapRegion, MmapRegionError, Named, RegionIter, SpaceId,
+    StopOnError, TlbId, VolatileArrayRef, VolatileMemory, VolatileRef, VolatileSlice,
+    compute_offset,
 };

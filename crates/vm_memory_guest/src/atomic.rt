@@ -3,18 +3,33 @@ ghost use Rattle.std.specs.Prelude.{◌≡◌, ⊤};
 
 use crate::address_space::GuestAddressSpace;
 use crate::guest_memory::GuestMemory;
+use crossbeam_utils::CachePadded;
 use std::alloc::{AllocError, Global};
 use std::marker::Model;
 use std::mem;
 use std::ops::Deref;
+use std::sync::atomic::{AtomicU64, Ordering};
 use std::sync::{Arc, Mutex, MutexGuard, RwLock, Wait};
 use vm_memory_base::Lends;
 
-// The memory that snapshots are taken of, and the turn of those that replace it.
+// The memory that snapshots are taken of, the turn of those that replace it, and how often it was replaced. The number
+// changes only under the write lock, so it belongs to the memory that a reader of the lock finds. It has a cache line
+// of its own: whoever looks at it shares that line with no one who takes a lock.
 #[derive(Drop)]
 struct Current<M> {
     memory: RwLock<Arc<M>>,
     turn: Mutex<()>,
+    replaced: CachePadded<AtomicU64>,
+}
+
+impl<M: GuestMemory + Drop> Current<M> {
+    // A snapshot, and how often the memory had been replaced when it was taken.
+    fn snapshot(&self, rt: &impl Wait) -> Result<(u64, GuestMemoryLoadGuard<M>), AllocError> {
+        let last = self.memory.read(rt);
+        let replaced = self.replaced.load(Ordering::SeqCst);
+        let memory = Arc::try_clone(&*last)?;
+        Ok((replaced, GuestMemoryLoadGuard { memory }))
+    }
 }
 
 /// Guest memory that threads share, and that one of them may replace as a whole.
@@ -37,6 +52,7 @@ impl<M: GuestMemory + Drop> GuestMemoryAtomic<M> {
         let current = Current {
             memory: RwLock::new(memory),
             turn: Mutex::new(()),
+            replaced: CachePadded::new(AtomicU64::new(0)),
         };
         Ok(GuestMemoryAtomic {
             current: Arc::new(alloc, current)?,
@@ -46,9 +62,21 @@ impl<M: GuestMemory + Drop> GuestMemoryAtomic<M> {
     /// Takes the turn to replace the memory. It waits while another thread has it. Snapshots are taken as before.
     pub fn lock(&self, rt: &impl Wait) -> GuestMemoryExclusiveGuard<'_, M> {
         GuestMemoryExclusiveGuard {
-            memory: &self.current.memory,
+            current: &*self.current,
             _turn: self.current.turn.lock(rt),
         }
+    }
+
+    /// A reader for one thread, which keeps a snapshot and renews it when the memory was replaced. It may wait for a
+    /// replacement that is being made. `AllocError` where the memory or its locks have 2^63 - 1 owners.
+    pub fn reader(&self, rt: &impl Wait) -> Result<GuestMemoryReader<M>, AllocError> {
+        let current = Arc::try_clone(&self.current)?;
+        let (seen, snapshot) = current.snapshot(rt)?;
+        Ok(GuestMemoryReader {
+            current,
+            seen,
+            snapshot,
+        })
     }
 }
 
@@ -135,10 +163,60 @@ impl<M: GuestMemory + Drop> Deref for GuestMemoryLoadGuard<M> {
     }
 }
 
+/// A reader of a memory that may be replaced, for one thread: it keeps a snapshot, and looks at each call whether that
+/// is still of the last memory. `GuestMemoryAtomic::reader` makes it.
+///
+/// As long as the memory is not replaced, a call takes no lock and writes nothing that threads share. A device thread
+/// asks its reader for the memory at each request:
+///
+/// ```text
+/// let mut reader = space.reader(&rt)?;
+/// for request in requests {
+///     let memory = reader.memory(&rt)?;
+///     memory.lend().write(&mut host, request.bytes, request.address)?;
+/// }
+/// ```
+///
+/// The reader owns its snapshot, so a memory that was replaced stays until each of its readers was asked again or
+/// dropped.
+#[derive(Drop)]
+pub struct GuestMemoryReader<M: GuestMemory + Drop> {
+    current: Arc<Current<M>>,
+    seen: u64,
+    snapshot: GuestMemoryLoadGuard<M>,
+}
+
+impl<M: GuestMemory + Drop> GuestMemoryReader<M> {
+    /// Lends the snapshot that the reader keeps, once it is of the last memory: where the memory was replaced since the
+    /// last call, a new snapshot takes the place of the old one first. Only then may it wait, for a replacement that
+    /// is being made. So each replacement that was made before the call is seen, and never an older memory after a newer
+    /// one.
+    ///
+    /// What is lent stays as it is for as long as it is lent. Its clone stays longer, and may be kept while the reader
+    /// goes on. `AllocError` where the new memory has 2^63 - 1 owners. Then the reader keeps the old snapshot, and the
+    /// next call tries again.
+    #[inline(always)]
+    pub fn memory(&mut self, rt: &impl Wait) -> Result<&GuestMemoryLoadGuard<M>, AllocError> {
+        if self.current.replaced.load(Ordering::SeqCst) != self.seen {
+            self.renew(rt)?;
+        }
+        Ok(&self.snapshot)
+    }
+
+    // Takes a snapshot of the last memory in place of the one that is kept.
+    #[inline(never)]
+    fn renew(&mut self, rt: &impl Wait) -> Result<(), AllocError> {
+        let (seen, snapshot) = self.current.snapshot(rt)?;
+        self.seen = seen;
+        self.snapshot = snapshot;
+        Ok(())
+    }
+}
+
 /// The turn to replace a memory.
 #[derive(Drop)]
 pub struct GuestMemoryExclusiveGuard<'a, M: GuestMemory + Drop> {
-    memory: &'a RwLock<Arc<M>>,
+    current: &'a Current<M>,
     _turn: MutexGuard<'a, ()>,
 }
 
@@ -148,7 +226,10 @@ impl<'a, M: GuestMemory + Drop> GuestMemoryExclusiveGuard<'a, M> {
     /// old one stays.
     pub fn replace(self, rt: &impl Wait, alloc: Global, memory: M) -> Result<(), AllocError> {
         let memory = Arc::new(alloc, memory)?;
-        let old = mem::replace(&mut *self.memory.write(rt), memory);
+        let mut last = self.current.memory.write(rt);
+        let old = mem::replace(&mut *last, memory);
+        self.current.replaced.fetch_add(1, Ordering::SeqCst);
+        drop(last);
         drop(old);
         Ok(())
     }

@@ -13,7 +13,9 @@ mod region;
 mod volatile_memory;
 
 pub use address_space::GuestAddressSpace;
-pub use atomic::{GuestMemoryAtomic, GuestMemoryExclusiveGuard, GuestMemoryLoadGuard};
+pub use atomic::{
+    GuestMemoryAtomic, GuestMemoryExclusiveGuard, GuestMemoryLoadGuard, GuestMemoryReader,
+};
 pub use bytes::Bytes;
 pub use guest_memory::backend::{GuestMemoryBackend, GuestMemoryBackendSliceIterator};
 pub use guest_memory::iter::RegionIter;

@@ -16,7 +16,7 @@ use std::thread::Threads;
 use std::time::{Clock, Instant};
 use test_threads::{
     Marks, expect_added, expect_atomic, expect_calls, expect_cleared, expect_layouts,
-    expect_tracked,
+    expect_readers, expect_tracked,
 };
 
 // A number below another.
@@ -42,6 +42,7 @@ fn round<R: Sync + Threads + Wait>(rt: &R, alloc: Global, marks: &Marks) -> Resu
     let _taken = expect_atomic(rt, alloc, marks)?;
     expect_cleared(rt, alloc, marks)?;
     expect_layouts(rt, alloc)?;
+    expect_readers(rt, alloc, 2000)?;
     expect_added(rt, alloc)?;
     expect_calls(rt, alloc)
 }
