@@ -16,12 +16,12 @@ use vm_memory::{
     TlbId, Width, run,
 };
 
-type TestMachine = Machine<GuestRegionMmap, TableIommu, ExclusiveBitmap>;
+pub type TestMachine = Machine<GuestRegionMmap, TableIommu, ExclusiveBitmap>;
 
 // The number of bytes of the block, each of which is a page. It lies at 0 and at 0x10000.
-const SIZE: usize = 5000;
+pub const SIZE: usize = 5000;
 
-const ROUNDS: usize = 40;
+pub const ROUNDS: usize = 40;
 
 // Two regions of a block.
 fn regions_at(
@@ -42,7 +42,7 @@ fn regions_at(
 }
 
 // A machine of one block, a space and a table, and nothing made yet.
-fn bare_machine(alloc: Global) -> Result<TestMachine, Fail> {
+pub fn bare_machine(alloc: Global) -> Result<TestMachine, Fail> {
     let mut host = HostMemory::new(alloc);
     let _ = host.new_space(ExclusiveBitmap::new(alloc, 0x8000, NonZeroUsize::MIN)?)?;
     let _ = host.new_block_with(SIZE, ExclusiveBitmap::new(alloc, SIZE, NonZeroUsize::MIN)?)?;
@@ -223,7 +223,7 @@ fn others() -> [Command; 8] {
 }
 
 // All commands of a round. In the first a write reaches all pages.
-fn round_of(alloc: Global, round: usize) -> Result<Vec<Command>, AllocError> {
+pub fn round_of(alloc: Global, round: usize) -> Result<Vec<Command>, AllocError> {
     let mut commands = Vec::new(alloc);
     commands.push(layout_of(alloc, &[0])?)?;
     commands.append(&mut Vec::from_array(alloc, makers())?)?;

@@ -9,3 +9,5 @@ mod moved;
 mod runs;
 #[cfg(test)]
 mod snapshots;
+#[cfg(test)]
+mod typed;

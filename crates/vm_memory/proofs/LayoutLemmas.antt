@@ -1,5 +1,5 @@
 -- The commands that change layouts, and what they are in the model.
-use Rattle.std.proofs.Common.{◌≡◌, ◌⊎◌, ℕ, List, [], ◌∷◌, ◌++◌, length, map, nat_lt, true, false, cond, slice_get, Option, Some, None, All, refl, sym, ap, subst, ◌∙◌, inl, inr}
+use Rattle.std.proofs.Common.{◌≡◌, ◌⊎◌, ℕ, List, [], ◌∷◌, ◌++◌, length, map, nat_lt, true, false, cond, slice_get, Option, Some, None, Result, Ok, Err, All, refl, sym, ap, subst, ◌∙◌, inl, inr}
 use Rattle.std.proofs.lemmas.List.{length-map, map-append}
 use Rattle.std.proofs.lemmas.List.Elements.{All-nil, All-cons, All-head, All-tail}
 use Rattle.std.proofs.lemmas.Option.{slice_get-map}
@@ -13,12 +13,14 @@ use Rattle.vm_memory.specs.Commands.{MayWant}
 use Rattle.vm_memory.specs.Machine.{Step, outcome}
 use Rattle.vm_memory.specs.Effect.{AddsLayout, apply, laid_out, without}
 use Rattle.vm_memory.specs.Parts.{Parts, state_of}
-use Rattle.vm_memory.specs.Reply.{reply_of_layout_error}
+use Rattle.vm_memory.specs.Reply.{replied, reply_of_layout_error}
 use Rattle.vm_memory.specs.State.{State}
 use Rattle.vm_memory.specs.declared.machine.command.Command.{Command}
 use Rattle.vm_memory.specs.declared.machine.command.Command.TheVariants as command
 use Rattle.vm_memory.specs.declared.machine.command.Reply.{Reply}
 use Rattle.vm_memory.specs.declared.machine.command.Reply.TheVariants as reply
+use Rattle.vm_memory.specs.declared.machine.refusal.Refusal.{Refusal}
+use Rattle.vm_memory.specs.declared.machine.refusal.Refusal.TheVariants as refusal
 
 -- ---- regions by what they mean
 
@@ -121,18 +123,21 @@ module _ {R I B : Type 0} (region : R → Region) (number_of : I → ℕ) (pages
       (map-append (map region) m.layouts (c ∷ []) ∙ ap (λ (ys : List Region). before.layouts ++ ys ∷ []) same)
 
   -- a layout was added, or there was no memory for it
-  abbrev Added : List R → Reply → Parts R I B → Type 0
-  Added c r new = ((r ≡ reply.Layout (length m.layouts)) × (new ≡ with_layout c)) ⊎ ((r ≡ reply.Memory) × (new ≡ m))
+  abbrev Added : List R → Result ℕ Refusal → Parts R I B → Type 0
+  Added c r new = ((r ≡ Ok (length m.layouts)) × (new ≡ with_layout c)) ⊎ ((r ≡ Err refusal.Memory) × (new ≡ m))
 
-  pub step-added : (cmd : Command) (c : List R) (xs : List Region) (r : Reply) (new : Parts R I B)
+  abbrev made_as : Result ℕ Refusal → Reply
+  made_as r = replied (λ number. reply.Layout number) r
+
+  pub step-added : (cmd : Command) (c : List R) (xs : List Region) (r : Result ℕ Refusal) (new : Parts R I B)
       → outcome before cmd ≡ apply before (AddsLayout xs) → MayWant before cmd → map region c ≡ xs → Added c r new
-      → Step before cmd r (state_of region number_of pages new)
+      → Step before cmd (made_as r) (state_of region number_of pages new)
   step-added cmd c xs r new is want same added = elim added [
     | inl p ↦
-        inl (ap (λ (q : Reply). (q, state_of region number_of pages new)) p.0
+        inl (ap (λ (q : Result ℕ Refusal). (made_as q, state_of region number_of pages new)) p.0
         ∙ ap (λ (n : Parts R I B). (reply.Layout (length m.layouts), state_of region number_of pages n)) p.1
         ∙ after-is c xs same ∙ sym is)
-    | inr q ↦ inr (q.0, want, ap (state_of region number_of pages) q.1)
+    | inr q ↦ inr (ap (λ (x : Result ℕ Refusal). made_as x) q.0, want, ap (state_of region number_of pages) q.1)
   ]
 
   module _ (place number : ℕ) (rs : List R) (r : R) (there : slice_get m.layouts place ≡ Some rs)
@@ -152,9 +157,9 @@ module _ {R I B : Type 0} (region : R → Region) (number_of : I → ℕ) (pages
     pub insert-wants : MayWant before (command.Insert place number)
     insert-wants = rw (layout-there, region-there) (refl, refl)
 
-    pub insert-step : (c : List R) (answer : Reply) (new : Parts R I B) → c ≡ inserted region rs r
+    pub insert-step : (c : List R) (answer : Result ℕ Refusal) (new : Parts R I B) → c ≡ inserted region rs r
         → layout_error (map region (inserted region rs r)) ≡ None → Added c answer new
-        → Step before (command.Insert place number) answer (state_of region number_of pages new)
+        → Step before (command.Insert place number) (made_as answer) (state_of region number_of pages new)
     insert-step c answer new is none added =
         let same = inserted-map region rs r in
         let good : layout_error more ≡ None = subst (λ (xs : List Region). layout_error xs ≡ None) same none in
@@ -196,9 +201,9 @@ module _ {R I B : Type 0} (region : R → Region) (number_of : I → ℕ) (pages
         removed-map region rs base.0 size ∙ ap (means region) e in
         rw (here, is) refl
 
-    pub remove-step : (others : List R) (r : R) (answer : Reply) (new : Parts R I B)
+    pub remove-step : (others : List R) (r : R) (answer : Result ℕ Refusal) (new : Parts R I B)
         → removed region rs base.0 size ≡ Some (others, r) → Added others answer new
-        → Step before cmd answer (state_of region number_of pages new)
+        → Step before cmd (made_as answer) (state_of region number_of pages new)
     remove-step others r answer new e added =
         step-added cmd others (map region others) answer new (remove-outcome (Some (others, r)) e)
         (remove-wants (others, r) e) refl added

@@ -4,6 +4,7 @@ pub mod AddressesOfText
 pub mod BitmapLemmas
 pub mod BlockLemmas
 pub mod CallLemmas
+pub mod CallsLemmas
 pub mod CallsOfText
 pub mod CopyLemmas
 pub mod CutsOfText

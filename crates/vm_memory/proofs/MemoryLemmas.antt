@@ -1,5 +1,5 @@
 -- Commands that make memories, as steps.
-use Rattle.std.proofs.Common.{◌≡◌, ◌⊎◌, ◌++◌, ◌∷◌, [], ℕ, Bool, ◌<◌, List, length, map, Some, refl, sym, ap, ◌∙◌, inl, inr, arith, slice_get, slice_set}
+use Rattle.std.proofs.Common.{◌≡◌, ◌⊎◌, ◌++◌, ◌∷◌, [], ℕ, Bool, ◌<◌, List, length, map, Result, Ok, Err, Some, refl, sym, ap, ◌∙◌, inl, inr, arith, slice_get, slice_set}
 use Rattle.std.proofs.lemmas.List.{length-map, map-append, map-set}
 use Rattle.std.proofs.lemmas.Option.{slice_get-map, slice_get_cases}
 use Rattle.vm_memory_base.specs.Pages.{PageSet}
@@ -12,6 +12,7 @@ use Rattle.vm_memory.specs.Effect.{AddsMemory, apply}
 use Rattle.vm_memory.proofs.BitmapLemmas.{set-same}
 use Rattle.vm_memory.specs.Memories.{memory_meant, turned_memory}
 use Rattle.vm_memory.specs.Parts.{Parts, state_of}
+use Rattle.vm_memory.specs.Reply.{replied}
 use Rattle.vm_memory.specs.Iommu.{behind}
 use Rattle.vm_memory.specs.State.{State, plain}
 use Rattle.vm_memory.specs.declared.machine.command.Command.{Command}
@@ -20,6 +21,8 @@ use Rattle.vm_memory.specs.declared.machine.command.Reply.{Reply}
 use Rattle.vm_memory.specs.declared.machine.command.Reply.TheVariants as reply
 use Rattle.vm_memory.specs.declared.machine.machine_memory.MachineMemory.{MachineMemory}
 use Rattle.vm_memory.specs.declared.machine.machine_memory.MachineMemory.TheVariants.{Plain, Translated}
+use Rattle.vm_memory.specs.declared.machine.refusal.Refusal.{Refusal}
+use Rattle.vm_memory.specs.declared.machine.refusal.Refusal.TheVariants as refusal
 
 module _ {R I B : Type 0} (region : R → Region) (number_of : I → ℕ) (pages : B → PageSet) (m : Parts R I B) where
   abbrev before : State
@@ -38,19 +41,21 @@ module _ {R I B : Type 0} (region : R → Region) (number_of : I → ℕ) (pages
       (map-append (memory_meant region number_of) m.memories (x ∷ []))
 
   -- a memory was added, or there was no memory for it
-  abbrev pub Added : MachineMemory R I → Reply → Parts R I B → Type 0
-  Added x r new = ((r ≡ reply.MemoryMade (length m.memories)) × (new ≡ with_memory x))
-      ⊎ ((r ≡ reply.Memory) × (new ≡ m))
+  abbrev pub Added : MachineMemory R I → Result ℕ Refusal → Parts R I B → Type 0
+  Added x r new = ((r ≡ Ok (length m.memories)) × (new ≡ with_memory x)) ⊎ ((r ≡ Err refusal.Memory) × (new ≡ m))
 
-  step-added : (cmd : Command) (x : MachineMemory R I) (r : Reply) (new : Parts R I B)
+  abbrev made_as : Result ℕ Refusal → Reply
+  made_as r = replied (λ number. reply.MemoryMade number) r
+
+  step-added : (cmd : Command) (x : MachineMemory R I) (r : Result ℕ Refusal) (new : Parts R I B)
       → outcome before cmd ≡ apply before (AddsMemory (memory_meant region number_of x)) → MayWant before cmd
-      → Added x r new → Step before cmd r (state_of region number_of pages new)
+      → Added x r new → Step before cmd (made_as r) (state_of region number_of pages new)
   step-added cmd x r new is want added = elim added [
     | inl p ↦
-        inl (ap (λ (q : Reply). (q, state_of region number_of pages new)) p.0
+        inl (ap (λ (q : Result ℕ Refusal). (made_as q, state_of region number_of pages new)) p.0
         ∙ ap (λ (n : Parts R I B). (reply.MemoryMade (length m.memories), state_of region number_of pages n)) p.1
         ∙ after-is x ∙ sym is)
-    | inr q ↦ inr (q.0, want, ap (state_of region number_of pages) q.1)
+    | inr q ↦ inr (ap (λ (x : Result ℕ Refusal). made_as x) q.0, want, ap (state_of region number_of pages) q.1)
   ]
 
   module _ (place : ℕ) (rs : List R) (there : slice_get m.layouts place ≡ Some rs) where
@@ -60,8 +65,8 @@ module _ {R I B : Type 0} (region : R → Region) (number_of : I → ℕ) (pages
     pub plain-wants : MayWant before (command.Plain place)
     plain-wants = rw layout-there refl
 
-    pub plain-step : (r : Reply) (new : Parts R I B) → Added (Plain rs) r new
-        → Step before (command.Plain place) r (state_of region number_of pages new)
+    pub plain-step : (r : Result ℕ Refusal) (new : Parts R I B) → Added (Plain rs) r new
+        → Step before (command.Plain place) (made_as r) (state_of region number_of pages new)
     plain-step r new added = step-added (command.Plain place) (Plain rs) r new (rw layout-there refl) plain-wants added
 
     module _ (translator space : ℕ) (on : Bool) (i : I)
@@ -81,9 +86,9 @@ module _ {R I B : Type 0} (region : R → Region) (number_of : I → ℕ) (pages
       pub made-wants : MayWant before made
       made-wants = rw (layout-there, table-there, pages-there.1) (refl, refl, refl)
 
-      pub made-step : (r : Reply) (new : Parts R I B)
+      pub made-step : (r : Result ℕ Refusal) (new : Parts R I B)
           → Added (Translated (record { backend = rs; iommu = i; on = on; space = space })) r new
-          → Step before made r (state_of region number_of pages new)
+          → Step before made (made_as r) (state_of region number_of pages new)
       made-step r new added =
           step-added made (Translated (record { backend = rs; iommu = i; on = on; space = space })) r new
           (rw (layout-there, table-there, pages-there.1) refl) made-wants added
@@ -99,8 +104,9 @@ module _ {R I B : Type 0} (region : R → Region) (number_of : I → ℕ) (pages
       pub replaced-wants : MayWant before replaced
       replaced-wants = rw (it-there, layout-there) (refl, refl)
 
-      pub replaced-step : (r : Reply) (new : Parts R I B) → Added (Translated (record x { backend = rs })) r new
-          → Step before replaced r (state_of region number_of pages new)
+      pub replaced-step : (r : Result ℕ Refusal) (new : Parts R I B)
+          → Added (Translated (record x { backend = rs })) r new
+          → Step before replaced (made_as r) (state_of region number_of pages new)
       replaced-step r new added =
           step-added replaced (Translated (record x { backend = rs })) r new (rw (it-there, layout-there) refl)
           replaced-wants added

@@ -1,5 +1,5 @@
 -- Transfers of a machine: what they reply, and where they leave the host.
-use Rattle.std.proofs.Common.{◌≡◌, ◌⊎◌, ℕ, ◌+◌, Bool, true, false, List, [], ◌∷◌, ◌++◌, map, take, Option, Some, Result, Err, inl, inr, All, refl, ap, subst, ◌∙◌, sym, zero-add}
+use Rattle.std.proofs.Common.{◌≡◌, ◌⊎◌, ℕ, ◌+◌, Bool, true, false, List, [], ◌∷◌, ◌++◌, map, take, Option, Some, Result, Ok, Err, inl, inr, All, refl, ap, ap₂, subst, ◌∙◌, sym, zero-add}
 use Rattle.std.proofs.lemmas.Bool.{true≢false}
 use Rattle.std.proofs.lemmas.List.Elements.{All-nil, All-cons}
 use Rattle.vm_memory_base.specs.Pages.{PageSet}
@@ -18,14 +18,18 @@ use Rattle.vm_memory_guest.specs.Dirt.{bytes_read}
 use Rattle.vm_memory_guest.specs.Error.{of_window}
 use Rattle.vm_memory_guest.specs.Host.{Cell, Host, bytes_at}
 use Rattle.vm_memory_guest.specs.Lent.{fails_as}
-use Rattle.vm_memory_guest.specs.Memory.{Memory, route}
+use Rattle.vm_memory_guest.specs.Memory.{Memory, NeedsTranslation, route}
 use Rattle.vm_memory_guest.specs.Region.{IsRegion}
 use Rattle.vm_memory_guest.specs.Window.{cells}
 use Rattle.vm_memory_guest.specs.declared.region.error.GuestMemoryError.{GuestMemoryError}
 use Rattle.vm_memory_guest.specs.declared.region.error.GuestMemoryError.TheVariants as errors
 use Rattle.vm_memory_guest.proofs.AccessLaws.{cells-access}
-use Rattle.vm_memory.specs.Reply.{reached_by}
-use Rattle.vm_memory.specs.Transfers.{given_by}
+use Rattle.vm_memory.specs.Calls.{SentBy}
+use Rattle.vm_memory.specs.Reply.{all_moved, as_done, moved_as, reached_by, refused_as, replied, reply_of}
+use Rattle.vm_memory.specs.Transfers.{beside_taken, dealt_to, given_by, receives, sends}
+use Rattle.vm_memory.specs.declared.machine.command.Reply.{Reply}
+use Rattle.vm_memory.specs.declared.machine.command.Reply.TheVariants.{Count, Done}
+use Rattle.vm_memory.specs.declared.machine.refusal.Refusal.TheVariants as refusal
 
 -- whether a source or a sink failed
 abbrev pub is_io : VolatileMemoryError → Bool
@@ -78,21 +82,60 @@ taken_is m host a n each given count taken counts so =
     (cells-access m.regions each a n (route m host.tables) permissions.Read)
     ∙ ap (λ (k : ℕ). take k (bytes_read xs host)) (sym (counts ∙ zero-add count))
 
--- what a sink that follows a script was sent, and what it took
-pub sent_is : (m : Memory) (host : Host PageSet) (a n : ℕ) → All IsRegion m.regions → (sink : List SinkStep)
-    → let reached = reached_by m host.tables a n permissions.Read in let given = given_by reached n sink in
-    (X : Type 0) (answer : Result ℕ GuestMemoryError) (taken : List ℕ)
-    → ((answer ≡ Err errors.Memory) × ⊥) ⊎ ((answer ≡ given.answer) × X)
-    → ((answer ≡ Err errors.Memory) × ⊥)
-    ⊎ ((count : ℕ) × (given.taken ≡ 0 + count)
-    × (Some taken ≡ Some ([] ++ take count (bytes_at host.blocks (cells (windows reached.path))))))
-    → (answer ≡ given.answer) × (taken ≡ take given.taken (bytes_read reached.path host))
-sent_is m host a n each sink X answer taken computed took =
-    let given = given_by (reached_by m host.tables a n permissions.Read) n sink in
-    elim computed [
-      | inl wanted ↦ absurd wanted.1
-      | inr is ↦ elim took [
-        | inl wanted ↦ absurd wanted.1
-        | inr t ↦ (is.0, taken_is m host a n each given.taken t.0 taken t.1 t.2)
-      ]
-    ]
+-- what is told of a count that was moved, and of one that is all
+pub counted_so : (n : ℕ) (r : Result ℕ GuestMemoryError) → replied (λ k. Count k) (refused_as r) ≡ moved_as false n r
+counted_so n (Ok k) = refl
+counted_so n (Err e) = refl
+
+done_so : (r : Result (Unit {0}) GuestMemoryError)
+    → replied as_done (refused_as r) ≡ reply_of (λ (done : Unit {0}). Done) r
+done_so (Ok u) = refl
+done_so (Err e) = refl
+
+pub whole_so : (n : ℕ) (r : Result ℕ GuestMemoryError) → replied as_done (refused_as (all_moved n r)) ≡ moved_as true n r
+whole_so n r = done_so (all_moved n r)
+
+-- a transfer whose answer is told so of its count
+module _ (whole : Bool) (m : Memory) (host : Host PageSet) (a n : ℕ) {T : Type 0}
+    (told : Result ℕ GuestMemoryError → Result T GuestMemoryError) (reply : T → Reply)
+    (so : (r : Result ℕ GuestMemoryError) → replied reply (refused_as (told r)) ≡ moved_as whole n r)
+    (r : Result T GuestMemoryError) where
+  wanted_so : r ≡ Err errors.Memory → refused_as r ≡ Err refusal.Memory
+  wanted_so is = ap (λ (x : Result T GuestMemoryError). refused_as x) is
+
+  replied_so : (total : Result ℕ GuestMemoryError) → r ≡ told total
+      → replied reply (refused_as r) ≡ moved_as whole n total
+  replied_so total is = ap (λ (x : Result T GuestMemoryError). replied reply (refused_as x)) is ∙ so total
+
+  -- from a source that does what a script says
+  pub received_is : (steps : List SourceStep) (after : Host PageSet)
+      → let dealt = dealt_to whole m host a n steps in
+      ((r ≡ Err errors.Memory) × NeedsTranslation m n × (after ≡ host))
+      ⊎ ((total : Result ℕ GuestMemoryError) × (r ≡ told total) × (total ≡ dealt.answer) × (after ≡ dealt.host))
+      → ((replied reply (refused_as r), after) ≡ receives whole m host a n steps)
+      ⊎ ((refused_as r ≡ Err refusal.Memory) × NeedsTranslation m n × (after ≡ host))
+  received_is steps after (inl (is, wants, same)) = inr (wanted_so is, wants, same)
+  received_is steps after (inr (total, is, dealt, left)) =
+      inl (ap₂ (λ (x : Reply) (h : Host PageSet). (x, h))
+      (replied_so total is ∙ ap (λ (t : Result ℕ GuestMemoryError). moved_as whole n t) dealt) left)
+
+  -- to a sink that does what a script says, and keeps what it takes
+  pub sent_is : All IsRegion m.regions → (steps : List SinkStep) (taken : Option (List ℕ))
+      → let reached = reached_by m host.tables a n permissions.Read in let given = given_by reached n steps in
+      ((r ≡ Err errors.Memory) × NeedsTranslation m n × (taken ≡ Some []))
+      ⊎ ((total : Result ℕ GuestMemoryError) × (r ≡ told total) × (total ≡ given.answer)
+      × ((count : ℕ) × (given.taken ≡ 0 + count)
+      × (taken ≡ Some ([] ++ take count (bytes_at host.blocks (cells (windows reached.path)))))))
+      → SentBy (sends whole m host a n steps) (NeedsTranslation m n) taken (replied reply (refused_as r))
+  sent_is each steps taken (inl (is, wants, none)) =
+      ([], none, inr (ap (λ (x : Result T GuestMemoryError). replied reply (refused_as x)) is, wants))
+  sent_is each steps taken (inr (total, is, answer, (count, counts, took))) =
+      let reached = reached_by m host.tables a n permissions.Read in
+      let given = given_by reached n steps in
+      let bytes = [] ++ take count (bytes_at host.blocks (cells (windows reached.path))) in (
+        bytes,
+        took,
+        inl (ap₂ (λ (xs : List ℕ) (x : Reply). beside_taken xs x)
+            (taken_is m host a n each given.taken count bytes counts refl)
+            (replied_so total is ∙ ap (λ (t : Result ℕ GuestMemoryError). moved_as whole n t) answer)),
+      )

@@ -1,3 +1,4 @@
+pub mod Calls
 pub mod Chain
 pub mod ChainText
 pub mod Commands

@@ -20,18 +20,44 @@ use Rattle.vm_memory.specs.declared.machine.command.Reply.TheVariants as reply
 use Rattle.vm_memory.specs.declared.machine.command.Fault as faults
 use Rattle.vm_memory.specs.declared.machine.command.Reply.TheVariants.{Count, Bytes, Truth, Done, Fault}
 use Rattle.vm_memory.specs.declared.machine.command.Fault.TheVariants as fault
+use Rattle.vm_memory.specs.declared.machine.refusal.Refusal.{Refusal}
+use Rattle.vm_memory.specs.declared.machine.refusal.Refusal.TheVariants as refusal
 
 -- an error of an access: want of memory is told as such, and every other error as the fault of its name
+abbrev pub refusal_of : GuestMemoryError → Refusal
+refusal_of (errors.InvalidGuestAddress addr) = refusal.Fault (fault.InvalidGuestAddress addr)
+refusal_of (errors.IOError kind) = refusal.Fault (fault.IOError kind)
+refusal_of (errors.PartialBuffer expected completed) = refusal.Fault (fault.PartialBuffer expected completed)
+refusal_of errors.InvalidBackendAddress = refusal.Fault fault.InvalidBackendAddress
+refusal_of errors.HostAddressNotAvailable = refusal.Fault fault.HostAddressNotAvailable
+refusal_of errors.CallbackOutOfRange = refusal.Fault fault.CallbackOutOfRange
+refusal_of errors.GuestAddressOverflow = refusal.Fault fault.GuestAddressOverflow
+refusal_of (errors.IommuError e) = refusal.Fault (fault.IommuError e)
+refusal_of errors.Memory = refusal.Memory
+
+-- the reply to a command whose call was refused
+abbrev pub reply_of_refusal : Refusal → Reply
+reply_of_refusal refusal.NoSuch = reply.NoSuch
+reply_of_refusal refusal.BadRange = reply.BadRange
+reply_of_refusal refusal.Memory = reply.Memory
+reply_of_refusal (refusal.Fault f) = Fault f
+
 abbrev pub reply_of_error : GuestMemoryError → Reply
-reply_of_error (errors.InvalidGuestAddress addr) = Fault (fault.InvalidGuestAddress addr)
-reply_of_error (errors.IOError kind) = Fault (fault.IOError kind)
-reply_of_error (errors.PartialBuffer expected completed) = Fault (fault.PartialBuffer expected completed)
-reply_of_error errors.InvalidBackendAddress = Fault fault.InvalidBackendAddress
-reply_of_error errors.HostAddressNotAvailable = Fault fault.HostAddressNotAvailable
-reply_of_error errors.CallbackOutOfRange = Fault fault.CallbackOutOfRange
-reply_of_error errors.GuestAddressOverflow = Fault fault.GuestAddressOverflow
-reply_of_error (errors.IommuError e) = Fault (fault.IommuError e)
-reply_of_error errors.Memory = reply.Memory
+reply_of_error e = reply_of_refusal (refusal_of e)
+
+-- the reply to a command whose call answers so: what is told of what it gave, or its refusal
+abbrev pub replied : {T : Type 0} → (T → Reply) → Result T Refusal → Reply
+replied told (Ok given) = told given
+replied told (Err r) = reply_of_refusal r
+
+-- what is told of a call that gives nothing
+abbrev pub as_done : Unit {0} → Reply
+as_done u = Done
+
+-- the answer of an access, with its error as a refusal
+abbrev pub refused_as : {T : Type 0} → Result T GuestMemoryError → Result T Refusal
+refused_as (Ok given) = Ok given
+refused_as (Err e) = Err (refusal_of e)
 
 -- whether a fault tells of an access that may have moved bytes: fewer than it was to move, or those up to where
 -- a source failed
@@ -41,11 +67,14 @@ is_partial (fault.IOError kind) = true
 is_partial f = false
 
 -- an error of regions that make no layout, likewise
+abbrev pub refusal_of_layout : GuestRegionCollectionError → Refusal
+refusal_of_layout layouts.NoMemoryRegion = refusal.Fault fault.NoMemoryRegion
+refusal_of_layout layouts.MemoryRegionOverlap = refusal.Fault fault.MemoryRegionOverlap
+refusal_of_layout layouts.UnsortedMemoryRegions = refusal.Fault fault.UnsortedMemoryRegions
+refusal_of_layout layouts.Memory = refusal.Memory
+
 abbrev pub reply_of_layout_error : GuestRegionCollectionError → Reply
-reply_of_layout_error layouts.NoMemoryRegion = Fault fault.NoMemoryRegion
-reply_of_layout_error layouts.MemoryRegionOverlap = Fault fault.MemoryRegionOverlap
-reply_of_layout_error layouts.UnsortedMemoryRegions = Fault fault.UnsortedMemoryRegions
-reply_of_layout_error layouts.Memory = reply.Memory
+reply_of_layout_error e = reply_of_refusal (refusal_of_layout e)
 
 -- the answer of an access: what is told of what it gave, or its error
 abbrev pub reply_of : {T : Type 0} → (T → Reply) → Result T GuestMemoryError → Reply

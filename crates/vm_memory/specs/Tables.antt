@@ -1,7 +1,9 @@
 -- Commands on I/O tables.
-use Rattle.std.specs.Prelude.{ℕ, Bool, if◌then◌else◌, Option, Some, None, slice_get}
+use Rattle.std.specs.Prelude.{ℕ, Bool, if◌then◌else◌, List, Option, Some, None, Result, Ok, Err, slice_get}
 use Rattle.vm_memory_base.specs.Lookup.{mapped_ranges}
 use Rattle.vm_memory_base.specs.Table.{Table, TableEvent, Says, changed, overruns, is_allowed, pieces, misses, failures}
+use Rattle.vm_memory_base.specs.declared.iotlb.lookup.IotlbFails.{IotlbFails}
+use Rattle.vm_memory_base.specs.declared.iotlb.lookup.MappedRange.{MappedRange}
 use Rattle.vm_memory_base.specs.declared.iotlb.Permissions.{Permissions}
 use Rattle.vm_memory_guest.specs.Host.{Host, with_table_at}
 use Rattle.vm_memory.specs.declared.machine.command.Reply.{Reply}
@@ -17,6 +19,11 @@ changed_table host number (Some t) over call =
 abbrev pub changes : {B : Type 0} → Host B → ℕ → ℕ → ℕ → TableEvent → Reply × Host B
 changes host number iova len call =
     changed_table host number (slice_get host.tables number) (overruns iova len) call
+
+-- what is told of the answer of a table: the pieces, or what is missed and what fails
+abbrev pub looked_up : Result (List MappedRange) IotlbFails → Reply
+looked_up (Ok pieces) = Pieces pieces
+looked_up (Err fails) = Fails fails
 
 -- a look-up replies the pieces where it is allowed, and else what it misses and what fails
 abbrev pub looks_up : Says → ℕ → ℕ → Permissions → Reply

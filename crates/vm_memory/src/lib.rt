@@ -14,6 +14,7 @@ pub use machine::command::{BlockRange, Command, Ending, Fault, Reply, Width};
 pub use machine::journal::{CallError, Journal};
 pub use machine::list::{NumberList, PieceList, SinkList, SourceList};
 pub use machine::machine_memory::MachineMemory;
+pub use machine::refusal::Refusal;
 pub use machine::shared::SharedMachine;
 pub use machine::{Machine, run};
 pub use script::{DriveFault, drive};

@@ -1,7 +1,8 @@
 //! A machine: a host, pools of regions and of translators, the layouts and memories that commands make, and the run
 //! of a list of commands.
-ghost use Rattle.std.specs.Prelude.{◌≡◌, ℕ, List, ◌++◌, [], OnOk, OnErr};
+ghost use Rattle.std.specs.Prelude.{◌≡◌, ℕ, List, ◌++◌, [], IsSome, OnOk, OnErr};
 ghost use Rattle.vm_memory_guest.specs.Collection.{regions_of};
+ghost use Rattle.vm_memory.specs.Commands.{accessed_memory};
 ghost use Rattle.vm_memory.specs.History.{AtEachState, ReachesAsTold};
 ghost use Rattle.vm_memory.specs.Machine.{Step, Run};
 ghost use Rattle.vm_memory.specs.Parts.{HoldsRegions, HoldsTables, AreHeld, state_of};
@@ -17,6 +18,8 @@ pub mod machine_memory;
 mod memories;
 mod pages;
 mod parts;
+pub mod refusal;
+mod replies;
 mod rounds;
 pub mod shared;
 mod tables;
@@ -28,8 +31,8 @@ use crate::laws::machine::{
     accesses_go_through_what_was_set_last, runs_keep_images, runs_keep_layouts,
 };
 use command::{Command, Reply};
-use copies::copy_in;
 use machine_memory::MachineMemory;
+use refusal::{checked, counted, done, layout_made, memory_made, told};
 use std::alloc::{AllocError, Global};
 use std::marker::Model;
 use std::sync::Arc;
@@ -109,42 +112,123 @@ impl<R: GuestMemoryRegion, I: Iommu, B> Machine<R, I, B> {
 }
 
 impl<R: GuestMemoryRegion, I: Iommu, B: ExactBitmap> Machine<R, I, B> {
-    // One command. Numbers are tested first, then memory is reserved, and then the call is made.
+    // One command, by its call.
     fn step(&mut self, command: &Command) -> Reply
         ensures { let before = state_of R.region I.number B.pages self.old in
             Step before command.now result (state_of R.region I.number B.pages self.new) }
     {
         match command {
-            Command::FromRegions(numbers) => self.from_regions(numbers.as_slice()),
-            Command::Insert { layout, region } => self.insert(*layout, *region),
-            Command::Remove { layout, base, size } => self.remove(*layout, *base, *size),
-            Command::Plain(layout) => self.plain(*layout),
+            Command::FromRegions(numbers) => layout_made(self.from_regions(numbers.as_slice())),
+            Command::Insert { layout, region } => layout_made(self.insert(*layout, *region)),
+            Command::Remove { layout, base, size } => {
+                layout_made(self.remove(*layout, *base, *size))
+            }
+            Command::Plain(layout) => memory_made(self.plain(*layout)),
             Command::NewMemory {
                 layout,
                 translator,
                 space,
                 on,
-            } => self.new_memory(*layout, *translator, *space, *on),
-            Command::ReplaceBackend { memory, layout } => self.replace_backend(*memory, *layout),
-            Command::Enable { memory, on } => self.enable(*memory, *on),
-            Command::Read { memory, .. }
-            | Command::Write { memory, .. }
-            | Command::ReadSlice { memory, .. }
-            | Command::WriteSlice { memory, .. }
-            | Command::Store { memory, .. }
-            | Command::Load { memory, .. }
-            | Command::ReadFrom { memory, .. }
-            | Command::ReadExactFrom { memory, .. }
-            | Command::WriteTo { memory, .. }
-            | Command::WriteAllTo { memory, .. }
-            | Command::CheckRange { memory, .. } => self.access(*memory, command),
-            Command::Dirty(bitmap) => self.dirty(*bitmap),
-            Command::Harvest(bitmap) => self.harvest(*bitmap),
-            Command::Copy { from, to } => copy_in(&mut self.host, *from, *to),
-            Command::Set { table, .. }
-            | Command::Invalidate { table, .. }
-            | Command::InvalidateAll(table)
-            | Command::Lookup { table, .. } => self.on_table(*table, command),
+            } => memory_made(self.new_memory(*layout, *translator, *space, *on)),
+            Command::ReplaceBackend { memory, layout } => {
+                memory_made(self.replace_backend(*memory, *layout))
+            }
+            Command::Enable { memory, on } => done(self.enable(*memory, *on)),
+            Command::Dirty(bitmap) => self.pages_listed(*bitmap),
+            Command::Harvest(bitmap) => self.pages_taken(*bitmap),
+            Command::Copy { from, to } => done(self.copy(*from, *to)),
+            Command::Set {
+                table,
+                iova,
+                map_to,
+                length,
+                perm,
+            } => done(self.set_mapping(*table, *iova, *map_to, *length, *perm)),
+            Command::Invalidate {
+                table,
+                iova,
+                length,
+            } => done(self.invalidate_mapping(*table, *iova, *length)),
+            Command::InvalidateAll(table) => done(self.invalidate_all(*table)),
+            Command::Lookup {
+                table,
+                iova,
+                length,
+                access,
+            } => told(self.lookup(*table, *iova, *length, *access)),
+            _ => self.access(command),
+        }
+    }
+
+    // One command that accesses a memory, by its call.
+    fn access(&mut self, command: &Command) -> Reply
+        requires { IsSome (accessed_memory command.now) }
+        ensures { let before = state_of R.region I.number B.pages self.old in
+            Step before command.now result (state_of R.region I.number B.pages self.new) }
+    {
+        match command {
+            Command::Read {
+                memory,
+                addr,
+                count,
+            } => self.bytes_read(*memory, *addr, *count),
+            Command::Write {
+                memory,
+                addr,
+                bytes,
+            } => counted(self.write(*memory, *addr, bytes.as_slice())),
+            Command::ReadSlice {
+                memory,
+                addr,
+                count,
+            } => self.bytes_filled(*memory, *addr, *count),
+            Command::WriteSlice {
+                memory,
+                addr,
+                bytes,
+            } => done(self.write_slice(*memory, *addr, bytes.as_slice())),
+            Command::Store {
+                memory,
+                width,
+                addr,
+                value,
+            } => self.word_stored(*memory, *width, *addr, *value),
+            Command::Load {
+                memory,
+                width,
+                addr,
+            } => self.word_loaded(*memory, *width, *addr),
+            Command::ReadFrom {
+                memory,
+                addr,
+                count,
+                source,
+            } => self.received(*memory, *addr, *count, source.as_slice()),
+            Command::ReadExactFrom {
+                memory,
+                addr,
+                count,
+                source,
+            } => self.received_whole(*memory, *addr, *count, source.as_slice()),
+            Command::WriteTo {
+                memory,
+                addr,
+                count,
+                sink,
+            } => self.sent(*memory, *addr, *count, sink.as_slice()),
+            Command::WriteAllTo {
+                memory,
+                addr,
+                count,
+                sink,
+            } => self.sent_whole(*memory, *addr, *count, sink.as_slice()),
+            Command::CheckRange {
+                memory,
+                addr,
+                count,
+                access,
+            } => checked(self.check_range(*memory, *addr, *count, *access)),
+            _ => unreachable!(),
         }
     }
 }

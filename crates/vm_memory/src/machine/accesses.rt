@@ -1,204 +1,195 @@
-//! The commands that access memories.
-ghost use Rattle.std.specs.Prelude.{◌≡◌, ◌⊎◌, true, false, length, IsOk, IfOk, Some};
+//! The calls that read, write and check memories.
+ghost use Rattle.std.specs.Prelude.{◌≡◌, ◌⊎◌, ◌≤◌, true, false, length, take, IfOk, Err, Some};
 ghost use Rattle.vm_memory_guest.specs.Dirt.{with_pages};
 ghost use Rattle.vm_memory_guest.specs.Host.{shape_of, Holds};
 ghost use Rattle.vm_memory_guest.specs.Memory.{NeedsTranslation};
-ghost use Rattle.vm_memory.specs.Commands.{accessed_memory};
+ghost use Rattle.vm_memory.specs.Calls.{ReadsInto, filled_from};
 ghost use Rattle.vm_memory.specs.Machine.{Step};
 ghost use Rattle.vm_memory.specs.Parts.{state_of};
-ghost use Rattle.vm_memory.specs.Reply.{reads, reads_whole, writes, checks, reply_of, reply_of_error};
+ghost use Rattle.vm_memory.specs.Reply.{as_done, checks, reads, reads_whole, replied, writes};
+ghost use Rattle.vm_memory.specs.declared.machine.command.Command.TheVariants as command;
+ghost use Rattle.vm_memory.specs.declared.machine.command.Reply.TheVariants as reply;
+ghost use Rattle.vm_memory.specs.declared.machine.refusal.Refusal.TheVariants as refusal;
 
 use super::Machine;
-use super::command::{Command, Fault, Reply};
-use super::list::ByteList;
-use super::transfers::{receive, send};
-use super::typed::{load_from, store_word};
+use super::refusal::Refusal;
 use crate::iommu::Iommu;
-use std::alloc::{AllocError, Global};
 use vm_memory_base::{ExactBitmap, GuestAddress, Permissions};
 use vm_memory_guest::laws::accesses::accesses_are_by_bytes;
-use vm_memory_guest::{
-    Bytes, GuestMemory, GuestMemoryError, GuestMemoryRegion, GuestMemoryResult, HostMemory,
-};
+use vm_memory_guest::{Bytes, GuestMemory, GuestMemoryRegion, HostMemory};
 
 impl<R: GuestMemoryRegion, I: Iommu, B: ExactBitmap> Machine<R, I, B> {
-    // A command that accesses a memory.
-    pub(super) fn access(&mut self, memory: usize, command: &Command) -> Reply
-        requires { accessed_memory command.now ≡ Some memory }
-        ensures { let before = state_of R.region I.number B.pages self.old in
-            Step before command.now result (state_of R.region I.number B.pages self.new) }
+    /// Reads a memory into the beginning of the buffer, and answers how many bytes that is: docs/DEFINITIONS.md, "Calls
+    /// of a machine". `NoSuch` where there is no such memory. The errors of `Bytes::read` are told as faults.
+    #[inline]
+    pub fn read(&self, memory: usize, addr: GuestAddress, buf: &mut [u8]) -> Result<usize, Refusal>
+        ensures answer { let now = state_of R.region I.number B.pages self.now in
+            ReadsInto now memory addr.0 (command.Read memory addr (length buf.old))
+            (λ count. reply.Bytes (take count buf.new)) buf.old result buf.new }
+        ensures at_most { IfOk result (λ count. count ≤ length buf.old) }
     {
         let Some(memory) = self.memories.get(memory) else {
-            return Reply::NoSuch;
+            return Err(Refusal::NoSuch);
         };
-        match command {
-            Command::Read { addr, count, .. } => match zeroed(self.alloc, *count) {
-                Ok(buffer) => read_into(memory, &self.host, buffer, *addr),
-                Err(_) => Reply::Memory,
-            },
-            Command::ReadSlice { addr, count, .. } => match zeroed(self.alloc, *count) {
-                Ok(buffer) => fill(memory, &self.host, buffer, *addr),
-                Err(_) => Reply::Memory,
-            },
-            Command::Write { addr, bytes, .. } => write_from(
-                memory,
-                &mut self.host,
-                bytes.as_slice(),
-                *addr,
-            ),
-            Command::WriteSlice { addr, bytes, .. } => {
-                write_whole(memory, &mut self.host, bytes.as_slice(), *addr)
-            }
-            Command::Store {
-                width,
-                addr,
-                value,
-                ..
-            } => store_word(memory, &mut self.host, *width, *addr, *value),
-            Command::Load { width, addr, .. } => load_from(memory, &self.host, *width, *addr),
-            Command::ReadFrom {
-                addr,
-                count,
-                source,
-                ..
-            } => receive(
-                memory,
-                &mut self.host,
-                *addr,
-                *count,
-                source.as_slice(),
-                false,
-            ),
-            Command::ReadExactFrom {
-                addr,
-                count,
-                source,
-                ..
-            } => receive(
-                memory,
-                &mut self.host,
-                *addr,
-                *count,
-                source.as_slice(),
-                true,
-            ),
-            Command::WriteTo {
-                addr,
-                count,
-                sink,
-                ..
-            } => send(
-                self.alloc,
-                memory,
-                &self.host,
-                *addr,
-                *count,
-                sink.as_slice(),
-                false,
-            ),
-            Command::WriteAllTo {
-                addr,
-                count,
-                sink,
-                ..
-            } => send(
-                self.alloc,
-                memory,
-                &self.host,
-                *addr,
-                *count,
-                sink.as_slice(),
-                true,
-            ),
-            Command::CheckRange {
-                addr,
-                count,
-                access,
-                ..
-            } => check_in(memory, &self.host, *addr, *count, *access),
-            _ => unreachable!(),
-        }
+        read_of(memory, &self.host, addr, buf)
+    }
+
+    /// Fills the whole buffer from a memory. Where only its beginning can be filled, it fills that, and the fault
+    /// says how long it is. Other refusals come as in `read`.
+    #[inline]
+    pub fn read_slice(
+        &self,
+        memory: usize,
+        addr: GuestAddress,
+        buf: &mut [u8],
+    ) -> Result<(), Refusal>
+        ensures { let now = state_of R.region I.number B.pages self.now in
+            ReadsInto now memory addr.0 (command.ReadSlice memory addr (length buf.old))
+            (λ filled. reply.Bytes buf.new) buf.old result buf.new }
+    {
+        let Some(memory) = self.memories.get(memory) else {
+            return Err(Refusal::NoSuch);
+        };
+        fill_of(memory, &self.host, addr, buf)
+    }
+
+    /// Writes the beginning of the buffer that fits to a memory, and answers how many bytes that is. `NoSuch` where
+    /// there is no such memory. The errors of `Bytes::write` are told as faults.
+    #[inline]
+    pub fn write(&mut self, memory: usize, addr: GuestAddress, buf: &[u8]) -> Result<usize, Refusal>
+        ensures { let before = state_of R.region I.number B.pages self.old in
+            Step before (command.Write memory addr buf.now) (replied reply.Count result)
+            (state_of R.region I.number B.pages self.new) }
+    {
+        let Some(memory) = self.memories.get(memory) else {
+            return Err(Refusal::NoSuch);
+        };
+        write_to(memory, &mut self.host, addr, buf)
+    }
+
+    /// Writes the whole buffer to a memory. Where only its beginning fits, it writes that, and the fault says how long
+    /// it is. Other refusals come as in `write`.
+    #[inline]
+    pub fn write_slice(
+        &mut self,
+        memory: usize,
+        addr: GuestAddress,
+        buf: &[u8],
+    ) -> Result<(), Refusal>
+        ensures { let before = state_of R.region I.number B.pages self.old in
+            Step before (command.WriteSlice memory addr buf.now) (replied as_done result)
+            (state_of R.region I.number B.pages self.new) }
+    {
+        let Some(memory) = self.memories.get(memory) else {
+            return Err(Refusal::NoSuch);
+        };
+        write_whole_to(memory, &mut self.host, addr, buf)
+    }
+
+    /// Whether each of `count` bytes of a memory may be accessed so, and has a byte of the host. `NoSuch` where there
+    /// is no such memory.
+    pub fn check_range(
+        &self,
+        memory: usize,
+        addr: GuestAddress,
+        count: usize,
+        access: Permissions,
+    ) -> Result<bool, Refusal>
+        ensures { let now = state_of R.region I.number B.pages self.now in
+            Step now (command.CheckRange memory addr count access) (replied reply.Truth result) now }
+    {
+        let Some(memory) = self.memories.get(memory) else {
+            return Err(Refusal::NoSuch);
+        };
+        check_in(memory, &self.host, addr, count, access)
     }
 }
 
-// Reads a memory into a buffer, and answers its filled beginning.
-fn read_into<M: GuestMemory, B: ExactBitmap>(
+// Reads a memory into the beginning of a buffer.
+#[inline(always)]
+fn read_of<M: GuestMemory, B: ExactBitmap>(
     memory: &M,
     host: &HostMemory<B>,
-    mut buffer: Vec<u8>,
     addr: GuestAddress,
-) -> Reply
+    buf: &mut [u8],
+) -> Result<usize, Refusal>
     requires { Holds (shape_of host.now) (M.names memory.now) }
-    ensures { let m = M.memory memory.now in let before = with_pages B.pages host.now in
-        (result ≡ reads m before addr.0 (length buffer.items))
-        ⊎ ((result ≡ Reply.Memory) × NeedsTranslation m (length buffer.items)) }
+    ensures answer { let m = M.memory memory.now in let before = with_pages B.pages host.now in
+        ((replied (λ count. reply.Bytes (take count buf.new)) result ≡ reads m before addr.0 (length buf.old))
+        × (buf.new ≡ filled_from (Some m) before addr.0 buf.old))
+        ⊎ ((result ≡ Err refusal.Memory) × NeedsTranslation m (length buf.old) × (buf.new ≡ buf.old)) }
+    ensures at_most { IfOk result (λ count. count ≤ length buf.old) }
 {
     accesses_are_by_bytes::<B>();
-    match memory.read(host, buffer.as_mut_slice(), addr) {
-        Ok(read) => {
-            buffer.truncate(read);
-            Reply::Bytes(ByteList::from_vec(buffer))
-        }
-        Err(error) => refused(error),
+    match memory.read(host, buf, addr) {
+        Ok(count) => Ok(count),
+        Err(error) => Err(Refusal::from(error)),
     }
 }
 
-// Writes bytes to a memory.
-fn write_from<M: GuestMemory, B: ExactBitmap>(
+// Fills a buffer from a memory.
+#[inline(always)]
+fn fill_of<M: GuestMemory, B: ExactBitmap>(
+    memory: &M,
+    host: &HostMemory<B>,
+    addr: GuestAddress,
+    buf: &mut [u8],
+) -> Result<(), Refusal>
+    requires { Holds (shape_of host.now) (M.names memory.now) }
+    ensures { let m = M.memory memory.now in let before = with_pages B.pages host.now in
+        ((replied (λ filled. reply.Bytes buf.new) result ≡ reads_whole m before addr.0 (length buf.old))
+        × (buf.new ≡ filled_from (Some m) before addr.0 buf.old))
+        ⊎ ((result ≡ Err refusal.Memory) × NeedsTranslation m (length buf.old) × (buf.new ≡ buf.old)) }
+{
+    accesses_are_by_bytes::<B>();
+    match memory.read_slice(host, buf, addr) {
+        Ok(()) => Ok(()),
+        Err(error) => Err(Refusal::from(error)),
+    }
+}
+
+// Writes the beginning of a buffer that fits to a memory.
+#[inline(always)]
+fn write_to<M: GuestMemory, B: ExactBitmap>(
     memory: &M,
     host: &mut HostMemory<B>,
-    bytes: &[u8],
     addr: GuestAddress,
-) -> Reply
+    buf: &[u8],
+) -> Result<usize, Refusal>
     requires { Holds (shape_of host.old) (M.names memory.now) }
     ensures written { let m = M.memory memory.now in let before = with_pages B.pages host.old in
         let after = with_pages B.pages host.new in
-        ((result, after) ≡ writes false m before addr.0 bytes.now)
-        ⊎ ((result ≡ Reply.Memory) × NeedsTranslation m (length bytes.now) × (after ≡ before)) }
+        ((replied reply.Count result, after) ≡ writes false m before addr.0 buf.now)
+        ⊎ ((result ≡ Err refusal.Memory) × NeedsTranslation m (length buf.now) × (after ≡ before)) }
     ensures shape { shape_of host.new ≡ shape_of host.old }
 {
     accesses_are_by_bytes::<B>();
-    match memory.write(host, bytes, addr) {
-        Ok(count) => Reply::Count(count),
-        Err(error) => refused(error),
+    match memory.write(host, buf, addr) {
+        Ok(count) => Ok(count),
+        Err(error) => Err(Refusal::from(error)),
     }
 }
 
-// Fills a buffer from a memory, and answers it.
-fn fill<M: GuestMemory, B: ExactBitmap>(
-    memory: &M,
-    host: &HostMemory<B>,
-    mut buffer: Vec<u8>,
-    addr: GuestAddress,
-) -> Reply
-    requires { Holds (shape_of host.now) (M.names memory.now) }
-    ensures { let m = M.memory memory.now in let before = with_pages B.pages host.now in
-        (result ≡ reads_whole m before addr.0 (length buffer.items))
-        ⊎ ((result ≡ Reply.Memory) × NeedsTranslation m (length buffer.items)) }
-{
-    accesses_are_by_bytes::<B>();
-    match memory.read_slice(host, buffer.as_mut_slice(), addr) {
-        Ok(()) => Reply::Bytes(ByteList::from_vec(buffer)),
-        Err(error) => refused(error),
-    }
-}
-
-// Writes all bytes to a memory.
-fn write_whole<M: GuestMemory, B: ExactBitmap>(
+// Writes a whole buffer to a memory.
+#[inline(always)]
+fn write_whole_to<M: GuestMemory, B: ExactBitmap>(
     memory: &M,
     host: &mut HostMemory<B>,
-    bytes: &[u8],
     addr: GuestAddress,
-) -> Reply
+    buf: &[u8],
+) -> Result<(), Refusal>
     requires { Holds (shape_of host.old) (M.names memory.now) }
     ensures written { let m = M.memory memory.now in let before = with_pages B.pages host.old in
         let after = with_pages B.pages host.new in
-        ((result, after) ≡ writes true m before addr.0 bytes.now)
-        ⊎ ((result ≡ Reply.Memory) × NeedsTranslation m (length bytes.now) × (after ≡ before)) }
+        ((replied as_done result, after) ≡ writes true m before addr.0 buf.now)
+        ⊎ ((result ≡ Err refusal.Memory) × NeedsTranslation m (length buf.now) × (after ≡ before)) }
     ensures shape { shape_of host.new ≡ shape_of host.old }
 {
     accesses_are_by_bytes::<B>();
-    done(memory.write_slice(host, bytes, addr))
+    match memory.write_slice(host, buf, addr) {
+        Ok(()) => Ok(()),
+        Err(error) => Err(Refusal::from(error)),
+    }
 }
 
 // Whether an access of a memory would reach all of its bytes.
@@ -208,57 +199,14 @@ fn check_in<M: GuestMemory, B: ExactBitmap>(
     addr: GuestAddress,
     count: usize,
     access: Permissions,
-) -> Reply
+) -> Result<bool, Refusal>
     requires { Holds (shape_of host.now) (M.names memory.now) }
     ensures { let m = M.memory memory.now in let before = with_pages B.pages host.now in
-        (result ≡ checks m before addr.0 count access)
-        ⊎ ((result ≡ Reply.Memory) × NeedsTranslation m count) }
+        (replied reply.Truth result ≡ checks m before addr.0 count access)
+        ⊎ ((result ≡ Err refusal.Memory) × NeedsTranslation m count) }
 {
     match memory.check_range(host, addr, count, access) {
-        Ok(all) => Reply::Truth(all),
-        Err(error) => refused(error),
+        Ok(all) => Ok(all),
+        Err(error) => Err(Refusal::from(error)),
     }
-}
-
-fn zeroed(alloc: Global, count: usize) -> Result<Vec<u8>, AllocError>
-    ensures bytes { IfOk result (λ bytes. length bytes.items ≡ count) }
-    ensures empty { count ≡ 0 → IsOk result }
-{
-    if count == 0 {
-        return Ok(Vec::new(alloc));
-    }
-    vec![in alloc; 0u8; count]
-}
-
-// The reply to an access that gives nothing back.
-pub(super) fn done(answer: GuestMemoryResult<()>) -> Reply
-    ensures { result ≡ reply_of (λ _. Reply.Done) answer }
-{
-    match answer {
-        Ok(()) => Reply::Done,
-        Err(error) => refused(error),
-    }
-}
-
-// The reply to an access that was refused.
-pub(super) fn refused(error: GuestMemoryError) -> Reply
-    ensures { result ≡ reply_of_error error }
-{
-    Reply::Fault(match error {
-        GuestMemoryError::InvalidGuestAddress(addr) => Fault::InvalidGuestAddress(addr),
-        GuestMemoryError::IOError(error) => Fault::IOError(error.kind()),
-        GuestMemoryError::PartialBuffer {
-            expected,
-            completed,
-        } => Fault::PartialBuffer {
-            expected,
-            completed,
-        },
-        GuestMemoryError::InvalidBackendAddress => Fault::InvalidBackendAddress,
-        GuestMemoryError::HostAddressNotAvailable => Fault::HostAddressNotAvailable,
-        GuestMemoryError::CallbackOutOfRange => Fault::CallbackOutOfRange,
-        GuestMemoryError::GuestAddressOverflow => Fault::GuestAddressOverflow,
-        GuestMemoryError::IommuError(error) => Fault::IommuError(error),
-        GuestMemoryError::Memory => return Reply::Memory,
-    })
 }

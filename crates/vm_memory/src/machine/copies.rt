@@ -4,32 +4,51 @@ ghost use Rattle.vm_memory_guest.specs.Dirt.{with_pages};
 ghost use Rattle.vm_memory_guest.specs.Host.{shape_of, Holds};
 ghost use Rattle.vm_memory_guest.specs.Window.{window_names};
 ghost use Rattle.vm_memory.specs.Copy.{copies, ends_inside};
-ghost use Rattle.vm_memory.specs.Parts.{range_window};
+ghost use Rattle.vm_memory.specs.Machine.{Step};
+ghost use Rattle.vm_memory.specs.Parts.{range_window, state_of};
+ghost use Rattle.vm_memory.specs.Reply.{as_done, replied};
+ghost use Rattle.vm_memory.specs.declared.machine.command.Command.TheVariants as command;
 
-use super::command::{BlockRange, Reply};
+use super::Machine;
+use super::command::BlockRange;
+use super::refusal::Refusal;
+use crate::iommu::Iommu;
 use vm_memory_base::ExactBitmap;
 use vm_memory_guest::laws::host::parts_of_a_block_are_held;
 use vm_memory_guest::laws::typed::copies_are_by_bytes;
-use vm_memory_guest::{BlockId, HostMemory, VolatileSlice};
+use vm_memory_guest::{BlockId, GuestMemoryRegion, HostMemory, VolatileSlice};
+
+impl<R: GuestMemoryRegion, I: Iommu, B: ExactBitmap> Machine<R, I, B> {
+    /// Copies the first bytes of a range of a block to the front of another, up to the length of the shorter. `NoSuch`
+    /// where there is no such block, `BadRange` where a range passes its block.
+    pub fn copy(&mut self, from: BlockRange, to: BlockRange) -> Result<(), Refusal>
+        ensures { let before = state_of R.region I.number B.pages self.old in
+            Step before (command.Copy from to) (replied as_done result)
+            (state_of R.region I.number B.pages self.new) }
+    {
+        copy_in(&mut self.host, from, to)
+    }
+}
 
 // Copies a window of a host to another.
-pub(super) fn copy_in<B: ExactBitmap>(
+fn copy_in<B: ExactBitmap>(
     host: &mut HostMemory<B>,
     from: BlockRange,
     to: BlockRange,
-) -> Reply
-    ensures copied { (result, with_pages B.pages host.new) ≡ copies (with_pages B.pages host.old) from to }
+) -> Result<(), Refusal>
+    ensures copied { (replied as_done result, with_pages B.pages host.new)
+        ≡ copies (with_pages B.pages host.old) from to }
     ensures shape { shape_of host.new ≡ shape_of host.old }
 {
     if !has_block(host, from.block) || !has_block(host, to.block) {
-        return Reply::NoSuch;
+        return Err(Refusal::NoSuch);
     }
     let (Some(from), Some(to)) = (window(host, from), window(host, to)) else {
-        return Reply::BadRange;
+        return Err(Refusal::BadRange);
     };
     copies_are_by_bytes::<B>();
     from.copy_to_volatile_slice(host, to);
-    Reply::Done
+    Ok(())
 }
 
 // Whether there is a block of this number.

@@ -1,81 +1,97 @@
 //! The commands that make layouts and memories.
-ghost use Rattle.std.specs.Prelude.{◌≡◌, ◌↔◌, ◌<◌, ◌⊎◌, ◌++◌, ◌∷◌, [], length, All, IsTrue, IsSome, IfOk, Some, map};
+ghost use Rattle.std.specs.Prelude.{◌≡◌, ◌↔◌, ◌<◌, ◌⊎◌, ◌++◌, ◌∷◌, [], length, All, IsTrue, IsSome, IfOk, Ok, Err, Some, map};
 ghost use Rattle.vm_memory_guest.specs.Collection.{regions_of};
 ghost use Rattle.vm_memory.specs.Machine.{Step};
 ghost use Rattle.vm_memory.specs.Parts.{HoldsRegions, state_of};
-ghost use Rattle.vm_memory.specs.Reply.{reply_of_layout_error};
+ghost use Rattle.vm_memory.specs.Reply.{replied};
 ghost use Rattle.vm_memory.specs.State.{named};
 ghost use Rattle.vm_memory.specs.declared.machine.command.Command.TheVariants as command;
 ghost use Rattle.vm_memory.specs.declared.machine.command.Reply.TheVariants as reply;
+ghost use Rattle.vm_memory.specs.declared.machine.refusal.Refusal.TheVariants as refusal;
 
 use super::Machine;
-use super::command::{Fault, Reply};
+use super::refusal::Refusal;
 use crate::iommu::Iommu;
 use std::alloc::{AllocError, Global};
 use std::sync::Arc;
 use vm_memory_base::{ExactBitmap, GuestAddress, GuestUsize};
-use vm_memory_guest::{GuestMemoryRegion, GuestRegionCollection, GuestRegionCollectionError};
+use vm_memory_guest::{GuestMemoryRegion, GuestRegionCollection};
 
 impl<R: GuestMemoryRegion, I: Iommu, B: ExactBitmap> Machine<R, I, B> {
-    pub(super) fn from_regions(&mut self, numbers: &[usize]) -> Reply
+    /// Makes the layout of these regions of the pool, and answers its number. `NoSuch` where a number names no region.
+    /// The errors of `GuestRegionCollection::from_arc_regions` are told as faults.
+    pub fn from_regions(&mut self, numbers: &[usize]) -> Result<usize, Refusal>
         ensures { let before = state_of R.region I.number B.pages self.old in
-            Step before (command.FromRegions numbers.now) result (state_of R.region I.number B.pages self.new) }
+            Step before (command.FromRegions numbers.now) (replied reply.Layout result)
+            (state_of R.region I.number B.pages self.new) }
     {
         if !are_there(&self.regions, numbers) {
-            return Reply::NoSuch;
+            return Err(Refusal::NoSuch);
         }
         let Ok(regions) = shared(self.alloc, &self.regions, numbers) else {
-            return Reply::Memory;
+            return Err(Refusal::Memory);
         };
         match GuestRegionCollection::from_arc_regions(regions) {
             Ok(layout) => self.add_layout(layout),
-            Err(error) => layout_refused(error),
+            Err(error) => Err(Refusal::from(error)),
         }
     }
 
-    pub(super) fn insert(&mut self, layout: usize, region: usize) -> Reply
+    /// Makes a layout of one with a region of the pool more, and answers its number. `NoSuch` where there is no such
+    /// layout or region. The errors of `GuestRegionCollection::insert_region` are told as faults.
+    pub fn insert(&mut self, layout: usize, region: usize) -> Result<usize, Refusal>
         ensures { let before = state_of R.region I.number B.pages self.old in
-            Step before (command.Insert layout region) result (state_of R.region I.number B.pages self.new) }
+            Step before (command.Insert layout region) (replied reply.Layout result)
+            (state_of R.region I.number B.pages self.new) }
     {
         let (Some(layout), Some(region)) = (self.layout_at(layout), self.region_at(region)) else {
-            return Reply::NoSuch;
+            return Err(Refusal::NoSuch);
         };
         let Ok(region) = region.clone() else {
-            return Reply::Memory;
+            return Err(Refusal::Memory);
         };
         match layout.insert_region(region) {
             Ok(layout) => self.add_layout(layout),
-            Err(error) => layout_refused(error),
+            Err(error) => Err(Refusal::from(error)),
         }
     }
 
-    pub(super) fn remove(&mut self, layout: usize, base: GuestAddress, size: GuestUsize) -> Reply
+    /// Makes a layout of one without its region of exactly these addresses, `size` of them from `base` on, and answers
+    /// its number. `NoSuch` where there is no such layout. The errors of `GuestRegionCollection::remove_region` are
+    /// told as faults.
+    pub fn remove(
+        &mut self,
+        layout: usize,
+        base: GuestAddress,
+        size: GuestUsize,
+    ) -> Result<usize, Refusal>
         ensures { let before = state_of R.region I.number B.pages self.old in
-            Step before (command.Remove layout base size) result (state_of R.region I.number B.pages self.new) }
+            Step before (command.Remove layout base size) (replied reply.Layout result)
+            (state_of R.region I.number B.pages self.new) }
     {
         let Some(old) = self.layout_at(layout) else {
-            return Reply::NoSuch;
+            return Err(Refusal::NoSuch);
         };
         match old.remove_region(base, size) {
             Ok((layout, _)) => self.add_layout(layout),
-            Err(error) => layout_refused(error),
+            Err(error) => Err(Refusal::from(error)),
         }
     }
 
     // Makes a layout the next, where its regions are held.
-    fn add_layout(&mut self, layout: GuestRegionCollection<R>) -> Reply
+    fn add_layout(&mut self, layout: GuestRegionCollection<R>) -> Result<usize, Refusal>
         requires { HoldsRegions R.region self.old.host layout }
-        ensures { ((result ≡ reply.Layout (length self.old.layouts))
+        ensures { ((result ≡ Ok (length self.old.layouts))
             × (self.new ≡ record self.old { layouts = self.old.layouts ++ layout ∷ [] }))
-            ⊎ ((result ≡ reply.Memory) × (self.new ≡ self.old)) }
+            ⊎ ((result ≡ Err refusal.Memory) × (self.new ≡ self.old)) }
     {
         // That the regions are a layout is what this call tells.
         let _ = layout.num_regions();
         let number = self.layouts.len();
         if self.layouts.push(layout).is_err() {
-            return Reply::Memory;
+            return Err(Refusal::Memory);
         }
-        Reply::Layout(number)
+        Ok(number)
     }
 }
 
@@ -107,18 +123,4 @@ fn shared<R: GuestMemoryRegion>(
         regions.push(pool[*number].clone()?)?;
     }
     Ok(regions)
-}
-
-// The reply to regions that make no layout.
-fn layout_refused(error: GuestRegionCollectionError) -> Reply
-    ensures { result ≡ reply_of_layout_error error }
-{
-    match error {
-        GuestRegionCollectionError::NoMemoryRegion => Reply::Fault(Fault::NoMemoryRegion),
-        GuestRegionCollectionError::MemoryRegionOverlap => Reply::Fault(Fault::MemoryRegionOverlap),
-        GuestRegionCollectionError::UnsortedMemoryRegions => {
-            Reply::Fault(Fault::UnsortedMemoryRegions)
-        }
-        GuestRegionCollectionError::Memory => Reply::Memory,
-    }
 }

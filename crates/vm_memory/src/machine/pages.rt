@@ -1,44 +1,59 @@
 //! The commands that ask for dirty pages.
-ghost use Rattle.std.specs.Prelude.{◌≡◌, [], ◌∷◌, None};
+ghost use Rattle.std.specs.Prelude.{◌≡◌, [], ◌∷◌, None, OnErr};
 ghost use Rattle.std.specs.Bool.{OnTrue, OnFalse};
 ghost use Rattle.vm_memory_guest.specs.Host.{Holds, shape_of};
 ghost use Rattle.vm_memory_guest.specs.Window.{bitmap_name, bitmap_of};
 ghost use Rattle.vm_memory.specs.Machine.{Step};
 ghost use Rattle.vm_memory.specs.Parts.{state_of};
+ghost use Rattle.vm_memory.specs.Reply.{replied};
 ghost use Rattle.vm_memory.specs.declared.machine.command.Command.TheVariants as command;
+ghost use Rattle.vm_memory.specs.declared.machine.command.Reply.TheVariants as reply;
 
 use super::Machine;
-use super::command::Reply;
-use super::list::NumberList;
+use super::refusal::Refusal;
 use crate::iommu::Iommu;
 use vm_memory_base::{BitmapId, ExactBitmap};
 use vm_memory_guest::{GuestMemoryRegion, HostMemory};
 
 impl<R: GuestMemoryRegion, I: Iommu, B: ExactBitmap> Machine<R, I, B> {
-    pub(super) fn dirty(&mut self, bitmap: BitmapId) -> Reply
-        ensures { let before = state_of R.region I.number B.pages self.old in
-            Step before (command.Dirty bitmap) result (state_of R.region I.number B.pages self.new) }
+    /// Puts the numbers of the dirty pages of a block's bitmap or of a space into `pages`, ascending, in place of what
+    /// it had. `NoSuch` where there is no such bitmap. Where it is refused, `pages` stays.
+    pub fn dirty(&self, bitmap: BitmapId, pages: &mut Vec<usize>) -> Result<(), Refusal>
+        ensures answer { let now = state_of R.region I.number B.pages self.now in
+            Step now (command.Dirty bitmap) (replied (λ (done : Unit {0}). reply.Pages pages.new.items) result) now }
+        ensures refused { OnErr result (pages.new ≡ pages.old) }
     {
         if !has_bitmap(&self.host, bitmap) {
-            return Reply::NoSuch;
+            return Err(Refusal::NoSuch);
         }
         match self.host.bitmap(bitmap).dirty_pages(self.alloc) {
-            Ok(pages) => Reply::Pages(NumberList::from_vec(pages)),
-            Err(_) => Reply::Memory,
+            Ok(dirty) => {
+                *pages = dirty;
+                Ok(())
+            }
+            Err(_) => Err(Refusal::Memory),
         }
     }
 
-    pub(super) fn harvest(&mut self, bitmap: BitmapId) -> Reply
-        ensures { let before = state_of R.region I.number B.pages self.old in
-            Step before (command.Harvest bitmap) result (state_of R.region I.number B.pages self.new) }
+    /// Takes the dirty pages of a block's bitmap or of a space, so that none of them is dirty then, and puts their
+    /// numbers into `pages`, ascending, in place of what it had. `NoSuch` where there is no such bitmap. Where it is
+    /// refused, `pages` and the bitmap stay.
+    pub fn harvest(&mut self, bitmap: BitmapId, pages: &mut Vec<usize>) -> Result<(), Refusal>
+        ensures answer { let before = state_of R.region I.number B.pages self.old in
+            Step before (command.Harvest bitmap) (replied (λ (done : Unit {0}). reply.Pages pages.new.items) result)
+            (state_of R.region I.number B.pages self.new) }
+        ensures refused { OnErr result (pages.new ≡ pages.old) }
     {
         if !has_bitmap(&self.host, bitmap) {
-            return Reply::NoSuch;
+            return Err(Refusal::NoSuch);
         }
         let taken = self.host.bitmap_mut(bitmap).harvest(self.alloc);
         match taken {
-            Ok(pages) => Reply::Pages(NumberList::from_vec(pages)),
-            Err(_) => Reply::Memory,
+            Ok(dirty) => {
+                *pages = dirty;
+                Ok(())
+            }
+            Err(_) => Err(Refusal::Memory),
         }
     }
 }

@@ -2,6 +2,7 @@ use Rattle.std.proofs.Common.{◌≡◌, length, Some, refl, sym, slice_get}
 use Rattle.std.proofs.lemmas.Bool.{ltb-true}
 use Rattle.std.proofs.lemmas.Option.{slice_get_read}
 use Rattle.vm_memory.specs.Inside.{parts_of}
+use Rattle.vm_memory.specs.Reply.{as_done, replied}
 use Rattle.vm_memory.proofs.MemoryLemmas.{enable-step}
 use Rattle.vm_memory.proofs.machine.Machine.enable.Goals as goal
 
@@ -14,4 +15,4 @@ returns g c =
     slice_get_read m.memories (length m.memories) c.args.memory it refl within c.in-Some.ensures.value in
     rw (← c.self.view_is)
     (enable-step g.R.GuestMemoryRegion.region g.I.Iommu.number g.B.ExactBitmap.pages m c.args.memory c.args.on it there
-    c.turn.result c.turn.new.memory c.turn.ensures)
+    (replied as_done c.turn.result) c.turn.new.memory c.turn.ensures)

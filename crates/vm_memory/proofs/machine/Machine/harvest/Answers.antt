@@ -3,8 +3,8 @@ use Rattle.vm_memory.specs.Inside.{parts_of}
 use Rattle.vm_memory.proofs.machine.Machine.harvest.Goals as goal
 use Rattle.vm_memory.proofs.machine.Machine.harvest.Goals.{in-Ok, in-Err}
 
-pub returns : goal.returns
-returns g c =
+pub returns-clause-answer : goal.returns-clause-answer
+returns-clause-answer g c =
     let region = g.R.GuestMemoryRegion.region in
     let pages = g.B.ExactBitmap.pages in
     let parts = parts_of c.self.inside in
@@ -12,8 +12,8 @@ returns g c =
     let there = c.bitmap_mut.ensures.value in
     elim c.match-taken.branch [
       | in-Ok w ↦
-          rw (w.result-is, w.from_vec.ensures, ← c.self.view_is)
-          (harvest_is_step region g.I.Iommu.number pages parts c.args.bitmap bitmap there w.in-Ok.pages.items
+          rw (w.result-is, w.pages-is, ← c.self.view_is)
+          (harvest_is_step region g.I.Iommu.number pages parts c.args.bitmap bitmap there w.in-Ok.dirty.items
           c.harvest-taken.new.self w.in-Ok.ensures.dirty w.in-Ok.ensures.clean)
       | in-Err w ↦
           rw (w.result-is, w.in-Err.ensures.refused.0, ← c.self.view_is)

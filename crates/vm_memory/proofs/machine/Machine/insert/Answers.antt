@@ -6,7 +6,8 @@ use Rattle.vm_memory_guest.proofs.HoldsLemmas.{Holds-each}
 use Rattle.vm_memory.specs.Machine.{Step}
 use Rattle.vm_memory.specs.Parts.{HoldsRegions, state_of}
 use Rattle.vm_memory.specs.declared.machine.command.Command.TheVariants as command
-use Rattle.vm_memory.specs.declared.machine.command.Reply.{Reply}
+use Rattle.vm_memory.specs.Reply.{reply_of_refusal}
+use Rattle.vm_memory.specs.declared.machine.refusal.Refusal.{Refusal}
 use Rattle.vm_memory.proofs.LayoutLemmas.{All-inserted_values, insert-step, insert-refused}
 use Rattle.vm_memory.proofs.machine.Machine.insert.Goals as goal
 
@@ -44,8 +45,8 @@ returns-in-Err g c =
     let before = state_of region g.I.Iommu.number g.B.ExactBitmap.pages m in
     let fault = subst (λ (r : g.row.R.Denot). IsFault (layout_error (map region (inserted region rs r))) c.in-Err.error)
     c.in-Ok.ensures.cases c.in-Err.ensures in
-    subst (λ (r : Reply). Step before (command.Insert c.args.layout c.args.region) r before)
-    (sym c.layout_refused.ensures)
+    subst (λ (r : Refusal). Step before (command.Insert c.args.layout c.args.region) (reply_of_refusal r) before)
+    (sym c.from.ensures)
     (insert-refused region g.I.Iommu.number g.B.ExactBitmap.pages m c.args.layout c.args.region rs
     c.in-Some-Some.region.now.value (sym c.in-Some-Some.ensures.found) (sym c.in-Some-Some.ensures'.found)
     c.in-Err.error fault)

@@ -6,7 +6,8 @@ use Rattle.vm_memory_guest.proofs.HoldsLemmas.{Holds-each}
 use Rattle.vm_memory.specs.Machine.{Step}
 use Rattle.vm_memory.specs.Parts.{state_of}
 use Rattle.vm_memory.specs.declared.machine.command.Command.TheVariants as command
-use Rattle.vm_memory.specs.declared.machine.command.Reply.{Reply}
+use Rattle.vm_memory.specs.Reply.{reply_of_refusal}
+use Rattle.vm_memory.specs.declared.machine.refusal.Refusal.{Refusal}
 use Rattle.vm_memory.proofs.LayoutLemmas.{All-removed_values, remove-step, remove-refused}
 use Rattle.vm_memory.proofs.machine.Machine.remove.Goals as goal
 
@@ -38,5 +39,6 @@ returns g c =
     (λ is. c.remove_region.ensures.none.0 (c.in-Err.is ∙ ap (λ (x : GuestRegionCollectionError). Err x) is))
     (λ none. let is = c.in-Err.ensures.none.1 none in cc)
     c.in-Err.ensures.errors in
-    subst (λ (r : Reply). Step before (command.Remove c.args.layout c.args.base c.args.size) r before)
-    (sym c.layout_refused.ensures) refused
+    subst
+    (λ (r : Refusal). Step before (command.Remove c.args.layout c.args.base c.args.size) (reply_of_refusal r) before)
+    (sym c.from.ensures) refused

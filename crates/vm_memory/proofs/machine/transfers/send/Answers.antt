@@ -1,86 +1,77 @@
-use Rattle.std.proofs.Common.{ℕ, Result, [], map, option_map, ap, ap₂, ◌∙◌, inl, inr, Some}
-use Rattle.vm_memory_base.specs.Script.{TakenSoFar, taking_of}
+use Rattle.std.proofs.Common.{[], Ok, Err, false, map, option_map, ap, ◌∙◌, inl, inr, refl, Some}
+use Rattle.vm_memory_base.specs.Script.{taking_of}
 use Rattle.vm_memory_base.specs.Transfer.{Sink}
 use Rattle.vm_memory_base.specs.declared.iotlb.Permissions.TheVariants as permissions
 use Rattle.vm_memory_guest.specs.Access.{windows}
 use Rattle.vm_memory_guest.specs.Dirt.{with_pages}
 use Rattle.vm_memory_guest.specs.Error.{error_of}
-use Rattle.vm_memory_guest.specs.Transfer.{all_of}
-use Rattle.vm_memory_guest.specs.declared.region.error.GuestMemoryError.{GuestMemoryError}
-use Rattle.vm_memory_guest.specs.declared.region.error.GuestMemoryError.TheVariants as errors
-use Rattle.vm_memory.specs.Reply.{reached_by, reply_of}
-use Rattle.vm_memory.specs.Transfers.{beside_taken}
-use Rattle.vm_memory.specs.declared.machine.command.Reply.{Reply}
-use Rattle.vm_memory.specs.declared.machine.command.Reply.TheVariants as reply
-use Rattle.vm_memory.proofs.TransferLemmas.{sent_is}
+use Rattle.vm_memory.specs.Reply.{reached_by}
+use Rattle.vm_memory.specs.declared.machine.command.Reply.TheVariants.{Count}
+use Rattle.vm_memory.specs.declared.machine.refusal.Refusal.{Refusal}
+use Rattle.vm_memory.proofs.TransferLemmas.{sent_is, counted_so}
 use Rattle.vm_memory.proofs.machine.transfers.send.Goals as goal
 
-pub returns-then-whole : goal.returns-then-whole
-returns-then-whole g c =
-    let m = g.M.GuestMemory.memory c.args.memory.now in
-    let host = c.args.host.now in
-    let before = with_pages g.B.ExactBitmap.pages host in
-    let a = c.args.addr.0 in
-    let n = c.args.count in
-    let reached = reached_by m host.tables a n permissions.Read in
-    let fault = option_map error_of reached.fault in
-    let ws = windows reached.path in
-    let each = g.met.M.GuestMemory.each_fits c.args.memory.now in
-    let state : Sink = record { next = map taking_of c.args.steps.now; room = Some n } in
-    let sink = c.in-Ok.sink in
-    let sent = c.write_all_volatile_to.new.dst in
-    let told : Result (Unit {0}) GuestMemoryError → Reply = reply_of (λ (done : Unit {0}). reply.Done) in
-    let whole : Result ℕ GuestMemoryError → Reply =
-    λ answer. told (all_of (λ (expected completed : ℕ). errors.PartialBuffer expected completed) n answer) in
-    let tells = ap (λ (s : TakenSoFar). Some (record { next = s.next; room = Some s.room })) c.in-Ok.ensures.made in
-    let keeps = ap (λ (s : TakenSoFar). Some s.taken) c.in-Ok.ensures.made in
-    rw c.if-whole.true (elim c.write_all_volatile_to.ensures.answer [
-      | inl wanted ↦
-          inr (
-            c.with_taken.ensures
-                ∙ ap (beside_taken c.into_taken.result.items) (c.done-reply.ensures ∙ ap told wanted.0),
-            wanted.1.1,
-          )
-      | inr so ↦
-          (let sent_so = sent_is m before a n each c.args.steps.now _ so.0
-          sent.taken (c.transfers_out_are_computed.ensures fault ws 0 state sink sent host.blocks so.0 tells so.2)
-          (c.sinks_take_what_is_computed.ensures fault ws 0 state [] sink sent host.blocks so.0 tells keeps so.2) in
-          inl
-          (c.with_taken.ensures
-          ∙ ap₂ beside_taken (c.into_taken.ensures ∙ sent_so.1)
-          (c.done-reply.ensures ∙ ap told so.1 ∙ ap whole sent_so.0)))
-    ])
+pub returns-in-Ok-clause-moved : goal.returns-in-Ok-clause-moved
+returns-in-Ok-clause-moved g c = (Ok c.in-Ok.count, refl, c.in-Ok.ensures.answer)
 
-pub returns : goal.returns
-returns g c =
+pub returns-in-Err-clause-moved : goal.returns-in-Err-clause-moved
+returns-in-Err-clause-moved g c =
+    (Err c.in-Err.error, ap (λ (r : Refusal). Err r) c.from.ensures, c.in-Err.ensures.answer)
+
+pub returns-in-Ok-clause-step : goal.returns-in-Ok-clause-step
+returns-in-Ok-clause-step g c = λ steps sink.
     let m = g.M.GuestMemory.memory c.args.memory.now in
     let host = c.args.host.now in
-    let before = with_pages g.B.ExactBitmap.pages host in
     let a = c.args.addr.0 in
     let n = c.args.count in
     let reached = reached_by m host.tables a n permissions.Read in
     let fault = option_map error_of reached.fault in
     let ws = windows reached.path in
     let each = g.met.M.GuestMemory.each_fits c.args.memory.now in
-    let state : Sink = record { next = map taking_of c.args.steps.now; room = Some n } in
-    let sink = c.in-Ok.sink in
-    let sent = c.write_volatile_to.new.dst in
-    let tells = ap (λ (s : TakenSoFar). Some (record { next = s.next; room = Some s.room })) c.in-Ok.ensures.made in
-    let keeps = ap (λ (s : TakenSoFar). Some s.taken) c.in-Ok.ensures.made in
-    rw c.if-whole.false (elim c.write_volatile_to.ensures.answer [
-      | inl wanted ↦
-          inr (
-            c.with_taken-2.ensures
-                ∙ ap (beside_taken c.into_taken-2.result.items)
-                (c.counted-reply.ensures ∙ ap (reply_of reply.Count) wanted.0),
-            wanted.1.1,
-          )
+    let state : Sink = record { next = map taking_of steps; room = Some n } in
+    let old = c.args.dst.now in
+    let new = c.write_volatile_to.new.dst in
+    (sent_is false m (with_pages g.B.ExactBitmap.pages host) a n (λ r. r) (λ k. Count k) (counted_so n) (Ok c.in-Ok.count) each steps
+    (g.F.WriteVolatile.taken new)
+    (elim c.in-Ok.ensures.answer [
+      | inl wanted ↦ inl (wanted.0, wanted.1, ap (λ s. g.F.WriteVolatile.taken s) wanted.2 ∙ sink.empty)
       | inr so ↦
-          (let sent_so = sent_is m before a n each c.args.steps.now _ so.0
-          sent.taken (c.transfers_out_are_computed.ensures fault ws 0 state sink sent host.blocks so.0 tells so.2)
-          (c.sinks_take_what_is_computed.ensures fault ws 0 state [] sink sent host.blocks so.0 tells keeps so.2) in
-          inl
-          (c.with_taken-2.ensures
-          ∙ ap₂ beside_taken (c.into_taken-2.ensures ∙ sent_so.1)
-          (c.counted-reply.ensures ∙ ap (reply_of reply.Count) (so.1 ∙ sent_so.0))))
-    ])
+          elim (c.transfers_out_are_computed.ensures fault ws 0 state old new host.blocks so.0 sink.does so.2) [
+            | inl wanted ↦ absurd (sink.needs_none wanted.1)
+            | inr is ↦
+                elim (c.sinks_take_what_is_computed.ensures fault ws 0 state [] old new host.blocks so.0 sink.does
+                sink.empty so.2) [
+                  | inl wanted ↦ absurd (sink.needs_none wanted.1)
+                  | inr took ↦ inr (so.0, so.1, is.0, took)
+                ]
+          ]
+    ]))
+
+pub returns-in-Err-clause-step : goal.returns-in-Err-clause-step
+returns-in-Err-clause-step g c = λ steps sink.
+    let m = g.M.GuestMemory.memory c.args.memory.now in
+    let host = c.args.host.now in
+    let a = c.args.addr.0 in
+    let n = c.args.count in
+    let reached = reached_by m host.tables a n permissions.Read in
+    let fault = option_map error_of reached.fault in
+    let ws = windows reached.path in
+    let each = g.met.M.GuestMemory.each_fits c.args.memory.now in
+    let state : Sink = record { next = map taking_of steps; room = Some n } in
+    let old = c.args.dst.now in
+    let new = c.write_volatile_to.new.dst in
+    rw c.from.ensures (sent_is false m (with_pages g.B.ExactBitmap.pages host) a n (λ r. r) (λ k. Count k) (counted_so n) (Err c.in-Err.error) each steps
+    (g.F.WriteVolatile.taken new)
+    (elim c.in-Err.ensures.answer [
+      | inl wanted ↦ inl (wanted.0, wanted.1, ap (λ s. g.F.WriteVolatile.taken s) wanted.2 ∙ sink.empty)
+      | inr so ↦
+          elim (c.transfers_out_are_computed.ensures fault ws 0 state old new host.blocks so.0 sink.does so.2) [
+            | inl wanted ↦ absurd (sink.needs_none wanted.1)
+            | inr is ↦
+                elim (c.sinks_take_what_is_computed.ensures fault ws 0 state [] old new host.blocks so.0 sink.does
+                sink.empty so.2) [
+                  | inl wanted ↦ absurd (sink.needs_none wanted.1)
+                  | inr took ↦ inr (so.0, so.1, is.0, took)
+                ]
+          ]
+    ]))

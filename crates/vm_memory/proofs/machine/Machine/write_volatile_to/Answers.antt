@@ -1,0 +1,21 @@
+use Rattle.std.proofs.Common.{◌≡◌, false, Some, slice_get, refl, sym}
+use Rattle.vm_memory.specs.Memories.{memory_meant}
+use Rattle.vm_memory.specs.Parts.{state_of}
+use Rattle.vm_memory.specs.Reply.{replied}
+use Rattle.vm_memory.specs.Transfers.{sends}
+use Rattle.vm_memory.specs.declared.machine.command.Command.TheVariants as command
+use Rattle.vm_memory.specs.declared.machine.command.Reply.TheVariants as reply
+use Rattle.vm_memory.proofs.CallsLemmas.{sends_are_step, there_meant}
+use Rattle.vm_memory.proofs.machine.Machine.write_volatile_to.Goals as goal
+
+pub returns-clause-step : goal.returns-clause-step
+returns-clause-step g c = λ steps sink.
+    let m = c.args.self.now in
+    let meant = memory_meant g.R.GuestMemoryRegion.region g.I.Iommu.number in
+    let now = state_of g.R.GuestMemoryRegion.region g.I.Iommu.number g.B.ExactBitmap.pages m in
+    let there : slice_get m.memories c.args.memory ≡ Some c.in-Some.memory.now = sym c.in-Some.ensures.found in
+    let here = there_meant meant m.memories c.args.memory c.in-Some.memory.now there in
+    let it = meant c.in-Some.memory.now in
+    sends_are_step now it c.args.count (command.WriteTo c.args.memory c.args.addr c.args.count steps)
+    (sends false it now.host c.args.addr.0 c.args.count steps) (rw here refl) (λ wants. rw here (refl, wants.1))
+    (g.F.WriteVolatile.taken c.send.new.dst) (replied (λ k. reply.Count k) c.send.result) (rw (← c.self.view_is) (c.send.ensures.step steps sink))
