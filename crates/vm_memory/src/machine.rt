@@ -32,7 +32,7 @@ use crate::laws::machine::{
 };
 use command::{Command, Reply};
 use machine_memory::MachineMemory;
-use refusal::{checked, counted, done, layout_made, memory_made, told};
+use refusal::{checked, done, layout_made, memory_made, told};
 use std::alloc::{AllocError, Global};
 use std::marker::Model;
 use std::sync::Arc;
@@ -176,7 +176,7 @@ impl<R: GuestMemoryRegion, I: Iommu, B: ExactBitmap> Machine<R, I, B> {
                 memory,
                 addr,
                 bytes,
-            } => counted(self.write(*memory, *addr, bytes.as_slice())),
+            } => self.bytes_written(*memory, *addr, bytes.as_slice()),
             Command::ReadSlice {
                 memory,
                 addr,
@@ -186,7 +186,7 @@ impl<R: GuestMemoryRegion, I: Iommu, B: ExactBitmap> Machine<R, I, B> {
                 memory,
                 addr,
                 bytes,
-            } => done(self.write_slice(*memory, *addr, bytes.as_slice())),
+            } => self.all_written(*memory, *addr, bytes.as_slice()),
             Command::Store {
                 memory,
                 width,

@@ -2,9 +2,10 @@
 ghost use Rattle.std.specs.Prelude.{◌≡◌, ◌⊎◌, ◌≤◌, true, false, length, take, IfOk, Err, Some};
 ghost use Rattle.vm_memory_guest.specs.Dirt.{with_pages};
 ghost use Rattle.vm_memory_guest.specs.Host.{shape_of, Holds};
-ghost use Rattle.vm_memory_guest.specs.Memory.{NeedsTranslation};
+ghost use Rattle.vm_memory_guest.specs.Memory.{NeedsTranslation, memory_names};
 ghost use Rattle.vm_memory.specs.Calls.{ReadsInto, filled_from};
 ghost use Rattle.vm_memory.specs.Machine.{Step};
+ghost use Rattle.vm_memory.specs.Memories.{memory_meant};
 ghost use Rattle.vm_memory.specs.Parts.{state_of};
 ghost use Rattle.vm_memory.specs.Reply.{as_done, checks, reads, reads_whole, replied, writes};
 ghost use Rattle.vm_memory.specs.declared.machine.command.Command.TheVariants as command;
@@ -12,6 +13,7 @@ ghost use Rattle.vm_memory.specs.declared.machine.command.Reply.TheVariants as r
 ghost use Rattle.vm_memory.specs.declared.machine.refusal.Refusal.TheVariants as refusal;
 
 use super::Machine;
+use super::machine_memory::MachineMemory;
 use super::refusal::Refusal;
 use crate::iommu::Iommu;
 use vm_memory_base::{ExactBitmap, GuestAddress, Permissions};
@@ -21,7 +23,7 @@ use vm_memory_guest::{Bytes, GuestMemory, GuestMemoryRegion, HostMemory};
 impl<R: GuestMemoryRegion, I: Iommu, B: ExactBitmap> Machine<R, I, B> {
     /// Reads a memory into the beginning of the buffer, and answers how many bytes that is: docs/DEFINITIONS.md, "Calls
     /// of a machine". `NoSuch` where there is no such memory. The errors of `Bytes::read` are told as faults.
-    #[inline]
+    #[inline(always)]
     pub fn read(&self, memory: usize, addr: GuestAddress, buf: &mut [u8]) -> Result<usize, Refusal>
         ensures answer { let now = state_of R.region I.number B.pages self.now in
             ReadsInto now memory addr.0 (command.Read memory addr (length buf.old))
@@ -36,7 +38,7 @@ impl<R: GuestMemoryRegion, I: Iommu, B: ExactBitmap> Machine<R, I, B> {
 
     /// Fills the whole buffer from a memory. Where only its beginning can be filled, it fills that, and the fault
     /// says how long it is. Other refusals come as in `read`.
-    #[inline]
+    #[inline(always)]
     pub fn read_slice(
         &self,
         memory: usize,
@@ -55,7 +57,7 @@ impl<R: GuestMemoryRegion, I: Iommu, B: ExactBitmap> Machine<R, I, B> {
 
     /// Writes the beginning of the buffer that fits to a memory, and answers how many bytes that is. `NoSuch` where
     /// there is no such memory. The errors of `Bytes::write` are told as faults.
-    #[inline]
+    #[inline(always)]
     pub fn write(&mut self, memory: usize, addr: GuestAddress, buf: &[u8]) -> Result<usize, Refusal>
         ensures { let before = state_of R.region I.number B.pages self.old in
             Step before (command.Write memory addr buf.now) (replied reply.Count result)
@@ -69,7 +71,7 @@ impl<R: GuestMemoryRegion, I: Iommu, B: ExactBitmap> Machine<R, I, B> {
 
     /// Writes the whole buffer to a memory. Where only its beginning fits, it writes that, and the fault says how long
     /// it is. Other refusals come as in `write`.
-    #[inline]
+    #[inline(always)]
     pub fn write_slice(
         &mut self,
         memory: usize,
@@ -105,9 +107,92 @@ impl<R: GuestMemoryRegion, I: Iommu, B: ExactBitmap> Machine<R, I, B> {
     }
 }
 
-// Reads a memory into the beginning of a buffer.
+// Reads a memory into the beginning of a buffer. Its kind is asked first, so that a walk of either kind is known.
 #[inline(always)]
-fn read_of<M: GuestMemory, B: ExactBitmap>(
+fn read_of<R: GuestMemoryRegion, I: Iommu, B: ExactBitmap>(
+    memory: &MachineMemory<R, I>,
+    host: &HostMemory<B>,
+    addr: GuestAddress,
+    buf: &mut [u8],
+) -> Result<usize, Refusal>
+    requires { Holds (shape_of host.now) (memory_names (memory_meant R.region I.number memory.now)) }
+    ensures answer { let m = memory_meant R.region I.number memory.now in let before = with_pages B.pages host.now in
+        ((replied (λ count. reply.Bytes (take count buf.new)) result ≡ reads m before addr.0 (length buf.old))
+        × (buf.new ≡ filled_from (Some m) before addr.0 buf.old))
+        ⊎ ((result ≡ Err refusal.Memory) × NeedsTranslation m (length buf.old) × (buf.new ≡ buf.old)) }
+    ensures at_most { IfOk result (λ count. count ≤ length buf.old) }
+{
+    match memory {
+        MachineMemory::Plain(layout) => read_any(layout, host, addr, buf),
+        MachineMemory::Translated(memory) => read_any(memory, host, addr, buf),
+    }
+}
+
+// Fills a buffer from a memory.
+#[inline(always)]
+fn fill_of<R: GuestMemoryRegion, I: Iommu, B: ExactBitmap>(
+    memory: &MachineMemory<R, I>,
+    host: &HostMemory<B>,
+    addr: GuestAddress,
+    buf: &mut [u8],
+) -> Result<(), Refusal>
+    requires { Holds (shape_of host.now) (memory_names (memory_meant R.region I.number memory.now)) }
+    ensures { let m = memory_meant R.region I.number memory.now in let before = with_pages B.pages host.now in
+        ((replied (λ filled. reply.Bytes buf.new) result ≡ reads_whole m before addr.0 (length buf.old))
+        × (buf.new ≡ filled_from (Some m) before addr.0 buf.old))
+        ⊎ ((result ≡ Err refusal.Memory) × NeedsTranslation m (length buf.old) × (buf.new ≡ buf.old)) }
+{
+    match memory {
+        MachineMemory::Plain(layout) => fill_any(layout, host, addr, buf),
+        MachineMemory::Translated(memory) => fill_any(memory, host, addr, buf),
+    }
+}
+
+// Writes the beginning of a buffer that fits to a memory.
+#[inline(always)]
+fn write_to<R: GuestMemoryRegion, I: Iommu, B: ExactBitmap>(
+    memory: &MachineMemory<R, I>,
+    host: &mut HostMemory<B>,
+    addr: GuestAddress,
+    buf: &[u8],
+) -> Result<usize, Refusal>
+    requires { Holds (shape_of host.old) (memory_names (memory_meant R.region I.number memory.now)) }
+    ensures written { let m = memory_meant R.region I.number memory.now in let before = with_pages B.pages host.old in
+        let after = with_pages B.pages host.new in
+        ((replied reply.Count result, after) ≡ writes false m before addr.0 buf.now)
+        ⊎ ((result ≡ Err refusal.Memory) × NeedsTranslation m (length buf.now) × (after ≡ before)) }
+    ensures shape { shape_of host.new ≡ shape_of host.old }
+{
+    match memory {
+        MachineMemory::Plain(layout) => write_any(layout, host, addr, buf),
+        MachineMemory::Translated(memory) => write_any(memory, host, addr, buf),
+    }
+}
+
+// Writes a whole buffer to a memory.
+#[inline(always)]
+fn write_whole_to<R: GuestMemoryRegion, I: Iommu, B: ExactBitmap>(
+    memory: &MachineMemory<R, I>,
+    host: &mut HostMemory<B>,
+    addr: GuestAddress,
+    buf: &[u8],
+) -> Result<(), Refusal>
+    requires { Holds (shape_of host.old) (memory_names (memory_meant R.region I.number memory.now)) }
+    ensures written { let m = memory_meant R.region I.number memory.now in let before = with_pages B.pages host.old in
+        let after = with_pages B.pages host.new in
+        ((replied as_done result, after) ≡ writes true m before addr.0 buf.now)
+        ⊎ ((result ≡ Err refusal.Memory) × NeedsTranslation m (length buf.now) × (after ≡ before)) }
+    ensures shape { shape_of host.new ≡ shape_of host.old }
+{
+    match memory {
+        MachineMemory::Plain(layout) => write_whole_any(layout, host, addr, buf),
+        MachineMemory::Translated(memory) => write_whole_any(memory, host, addr, buf),
+    }
+}
+
+// Reads any guest memory into the beginning of a buffer.
+#[inline(always)]
+fn read_any<M: GuestMemory, B: ExactBitmap>(
     memory: &M,
     host: &HostMemory<B>,
     addr: GuestAddress,
@@ -127,9 +212,9 @@ fn read_of<M: GuestMemory, B: ExactBitmap>(
     }
 }
 
-// Fills a buffer from a memory.
+// Fills a buffer from any guest memory.
 #[inline(always)]
-fn fill_of<M: GuestMemory, B: ExactBitmap>(
+fn fill_any<M: GuestMemory, B: ExactBitmap>(
     memory: &M,
     host: &HostMemory<B>,
     addr: GuestAddress,
@@ -148,9 +233,9 @@ fn fill_of<M: GuestMemory, B: ExactBitmap>(
     }
 }
 
-// Writes the beginning of a buffer that fits to a memory.
+// Writes the beginning of a buffer that fits to any guest memory.
 #[inline(always)]
-fn write_to<M: GuestMemory, B: ExactBitmap>(
+fn write_any<M: GuestMemory, B: ExactBitmap>(
     memory: &M,
     host: &mut HostMemory<B>,
     addr: GuestAddress,
@@ -170,9 +255,9 @@ fn write_to<M: GuestMemory, B: ExactBitmap>(
     }
 }
 
-// Writes a whole buffer to a memory.
+// Writes a whole buffer to any guest memory.
 #[inline(always)]
-fn write_whole_to<M: GuestMemory, B: ExactBitmap>(
+fn write_whole_any<M: GuestMemory, B: ExactBitmap>(
     memory: &M,
     host: &mut HostMemory<B>,
     addr: GuestAddress,

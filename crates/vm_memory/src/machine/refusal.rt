@@ -33,7 +33,7 @@ impl From<GuestMemoryError> for Refusal {
 
     ghost from_gives = { λ e r. r ≡ refusal_of e };
 
-    #[inline(never)]
+    #[inline(always)]
     fn from(error: GuestMemoryError) -> Refusal {
         Refusal::Fault(match error {
             GuestMemoryError::InvalidGuestAddress(addr) => Fault::InvalidGuestAddress(addr),

@@ -56,6 +56,25 @@ impl<R: GuestMemoryRegion, I: Iommu, B: ExactBitmap> Machine<R, I, B> {
         }
     }
 
+    // Writes bytes to a memory.
+    #[inline(never)]
+    pub(super) fn bytes_written(&mut self, memory: usize, addr: GuestAddress, bytes: &[u8]) -> Reply
+        ensures { let before = state_of R.region I.number B.pages self.old in
+            Step before (command.Write memory addr bytes.now) result (state_of R.region I.number B.pages self.new) }
+    {
+        counted(self.write(memory, addr, bytes))
+    }
+
+    // Writes all bytes to a memory.
+    #[inline(never)]
+    pub(super) fn all_written(&mut self, memory: usize, addr: GuestAddress, bytes: &[u8]) -> Reply
+        ensures { let before = state_of R.region I.number B.pages self.old in
+            Step before (command.WriteSlice memory addr bytes.now) result
+            (state_of R.region I.number B.pages self.new) }
+    {
+        done(self.write_slice(memory, addr, bytes))
+    }
+
     // Stores a number as an integer of this width, if it is one.
     pub(super) fn word_stored(
         &mut self,

@@ -2,10 +2,11 @@
 ghost use Rattle.std.specs.Prelude.{◌≡◌, ◌⊎◌, ℕ, Err, Some, slice_get};
 ghost use Rattle.vm_memory_guest.specs.Dirt.{with_pages};
 ghost use Rattle.vm_memory_guest.specs.Host.{shape_of, Holds};
-ghost use Rattle.vm_memory_guest.specs.Memory.{NeedsTranslation};
+ghost use Rattle.vm_memory_guest.specs.Memory.{NeedsTranslation, memory_names};
 ghost use Rattle.vm_memory.specs.Calls.{AreIntegers, CallsOf, IsInteger, loaded};
 ghost use Rattle.vm_memory.specs.Commands.{MayTranslate};
 ghost use Rattle.vm_memory.specs.Machine.{Step};
+ghost use Rattle.vm_memory.specs.Memories.{memory_meant};
 ghost use Rattle.vm_memory.specs.Parts.{state_of};
 ghost use Rattle.vm_memory.specs.Reply.{as_done, replied};
 ghost use Rattle.vm_memory.specs.Typed.{stores_bytes};
@@ -15,6 +16,7 @@ ghost use Rattle.vm_memory.specs.declared.machine.command.Width as widths;
 ghost use Rattle.vm_memory.specs.declared.machine.refusal.Refusal.TheVariants as refusal;
 
 use super::Machine;
+use super::machine_memory::MachineMemory;
 use super::refusal::Refusal;
 use crate::iommu::Iommu;
 use std::sync::atomic::Ordering;
@@ -25,7 +27,7 @@ use vm_memory_guest::{Bytes, GuestMemory, GuestMemoryRegion, HostMemory};
 impl<R: GuestMemoryRegion, I: Iommu, B: ExactBitmap> Machine<R, I, B> {
     /// Stores a value in a memory, as one integer. `NoSuch` where there is no such memory. The errors of `Bytes::store`
     /// are told as faults.
-    #[inline]
+    #[inline(always)]
     pub fn store<T: AtomicAccess>(
         &mut self,
         memory: usize,
@@ -48,7 +50,7 @@ impl<R: GuestMemoryRegion, I: Iommu, B: ExactBitmap> Machine<R, I, B> {
 
     /// Loads a value of a memory, as one integer. `NoSuch` where there is no such memory. The errors of `Bytes::load`
     /// are told as faults.
-    #[inline]
+    #[inline(always)]
     pub fn load<T: AtomicAccess>(&self, memory: usize, addr: GuestAddress) -> Result<T, Refusal>
         ensures value { let now = state_of R.region I.number B.pages self.now in
             (result ≡ loaded T.value_of (slice_get now.memories memory) now.host addr.0 T.width)
@@ -64,9 +66,48 @@ impl<R: GuestMemoryRegion, I: Iommu, B: ExactBitmap> Machine<R, I, B> {
     }
 }
 
-// Stores a value in a memory.
+// Stores a value in a memory. Its kind is asked first, so that a walk of either kind is known.
 #[inline(always)]
-fn store_to<T: AtomicAccess, M: GuestMemory, B: ExactBitmap>(
+fn store_to<T: AtomicAccess, R: GuestMemoryRegion, I: Iommu, B: ExactBitmap>(
+    memory: &MachineMemory<R, I>,
+    host: &mut HostMemory<B>,
+    addr: GuestAddress,
+    value: T,
+) -> Result<(), Refusal>
+    requires { Holds (shape_of host.old) (memory_names (memory_meant R.region I.number memory.now)) }
+    ensures stored { let m = memory_meant R.region I.number memory.now in let before = with_pages B.pages host.old in
+        let after = with_pages B.pages host.new in
+        ((replied as_done result, after) ≡ stores_bytes m before addr.0 (T.bytes value))
+        ⊎ ((result ≡ Err refusal.Memory) × NeedsTranslation m T.width × (after ≡ before)) }
+    ensures shape { shape_of host.new ≡ shape_of host.old }
+{
+    match memory {
+        MachineMemory::Plain(layout) => store_any(layout, host, addr, value),
+        MachineMemory::Translated(memory) => store_any(memory, host, addr, value),
+    }
+}
+
+// Loads a value of a memory.
+#[inline(always)]
+fn load_of<T: AtomicAccess, R: GuestMemoryRegion, I: Iommu, B: ExactBitmap>(
+    memory: &MachineMemory<R, I>,
+    host: &HostMemory<B>,
+    addr: GuestAddress,
+) -> Result<T, Refusal>
+    requires { Holds (shape_of host.now) (memory_names (memory_meant R.region I.number memory.now)) }
+    ensures { let m = memory_meant R.region I.number memory.now in let before = with_pages B.pages host.now in
+        (result ≡ loaded T.value_of (Some m) before addr.0 T.width)
+        ⊎ ((result ≡ Err refusal.Memory) × NeedsTranslation m T.width) }
+{
+    match memory {
+        MachineMemory::Plain(layout) => load_any(layout, host, addr),
+        MachineMemory::Translated(memory) => load_any(memory, host, addr),
+    }
+}
+
+// Stores a value in any guest memory.
+#[inline(always)]
+fn store_any<T: AtomicAccess, M: GuestMemory, B: ExactBitmap>(
     memory: &M,
     host: &mut HostMemory<B>,
     addr: GuestAddress,
@@ -87,9 +128,9 @@ fn store_to<T: AtomicAccess, M: GuestMemory, B: ExactBitmap>(
     }
 }
 
-// Loads a value of a memory.
+// Loads a value of any guest memory.
 #[inline(always)]
-fn load_of<T: AtomicAccess, M: GuestMemory, B: ExactBitmap>(
+fn load_any<T: AtomicAccess, M: GuestMemory, B: ExactBitmap>(
     memory: &M,
     host: &HostMemory<B>,
     addr: GuestAddress,

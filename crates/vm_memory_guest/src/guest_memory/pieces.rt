@@ -101,7 +101,9 @@ impl<'a, M: GuestMemoryBackend> PiecesBehind<'a, M> {
     }
 }
 
-// What comes next, of the piece that a walk goes through or of those behind it.
+// What comes next, of the piece that a walk goes through or of those behind it. It is inlined, so that a walk that
+// has no pieces stays in registers.
+#[inline(always)]
 pub(super) fn next_of_pieces<'a, M: GuestMemoryBackend>(
     walk: &mut GuestMemoryBackendSliceIterator<'a, M>,
     behind: &mut PiecesBehind<'a, M>,

@@ -7,7 +7,7 @@ use Rattle.vm_memory_guest.specs.Memory.{NeedsTranslation, route}
 use Rattle.vm_memory_guest.specs.Typed.{answered, place_of, typed_path}
 use Rattle.vm_memory_guest.specs.Window.{cells_of}
 use Rattle.vm_memory.proofs.TypedLemmas.{answered_then, load_is}
-use Rattle.vm_memory.proofs.machine.typed.load_of.Goals as goal
+use Rattle.vm_memory.proofs.machine.typed.load_any.Goals as goal
 
 pub returns-in-Ok : goal.returns-in-Ok
 returns-in-Ok g c =

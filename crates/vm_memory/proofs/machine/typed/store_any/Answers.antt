@@ -3,7 +3,7 @@ use Rattle.vm_memory_base.specs.declared.iotlb.Permissions.TheVariants as permis
 use Rattle.vm_memory_guest.specs.Dirt.{with_pages}
 use Rattle.vm_memory_guest.specs.Memory.{route}
 use Rattle.vm_memory.proofs.TypedLemmas.{store_is}
-use Rattle.vm_memory.proofs.machine.typed.store_to.Goals as goal
+use Rattle.vm_memory.proofs.machine.typed.store_any.Goals as goal
 
 pub returns-in-Ok-clause-stored : goal.returns-in-Ok-clause-stored
 returns-in-Ok-clause-stored g c =
