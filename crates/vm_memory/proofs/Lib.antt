@@ -22,8 +22,14 @@ pub mod ReachOfText
 pub mod ReadsOfText
 pub mod RoundsLemmas
 pub mod RunLemmas
+pub mod SpellingLemmas
 pub mod StepLemmas
 pub mod TypedLemmas
 pub mod TransferLemmas
 pub mod WantLemmas
+pub mod WordLemmas
 pub mod WritesOfText
+pub mod CommandLemmas
+pub mod CommandWords
+pub mod FieldLemmas
+pub mod LineLemmas

@@ -14,8 +14,12 @@ pub mod Lawful
 pub mod Machine
 pub mod Memories
 pub mod Parts
+pub mod Reading
 pub mod Reply
 pub mod Rounds
 pub mod Script
 pub mod State
 pub mod Typed
+pub mod Words
+pub mod LineReading
+pub mod Lines
