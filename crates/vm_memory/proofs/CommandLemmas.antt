@@ -34,10 +34,13 @@ to-other first ws c h0 =
                                     | inl here ↦ to-lookup first ws c (same_word first (codes "lookup") here.0) here.1
                                     | inr h6 ↦
                                         elim (chosen (bytes_eq first (codes "dirty")) _ _ (c, []) h6.1) [
-                                          | inl here ↦ to-dirty first ws c (same_word first (codes "dirty") here.0) here.1
+                                          | inl here ↦
+                                              to-dirty first ws c (same_word first (codes "dirty") here.0) here.1
                                           | inr h7 ↦
                                               elim (chosen (bytes_eq first (codes "harvest")) _ None (c, []) h7.1) [
-                                                | inl here ↦ to-harvest first ws c (same_word first (codes "harvest") here.0) here.1
+                                                | inl here ↦
+                                                    to-harvest first ws c
+                                                    (same_word first (codes "harvest") here.0) here.1
                                                 | inr none ↦ absurd (none-some (c, []) none.1)
                                               ]
                                         ]
@@ -121,7 +124,8 @@ to-command first ws c h0 =
                                     | inl here ↦ to-replace first ws c (same_word first (codes "replace") here.0) here.1
                                     | inr h6 ↦
                                         elim (chosen (bytes_eq first (codes "enable")) _ _ (c, []) h6.1) [
-                                          | inl here ↦ to-enable first ws c (same_word first (codes "enable") here.0) here.1
+                                          | inl here ↦
+                                              to-enable first ws c (same_word first (codes "enable") here.0) here.1
                                           | inr others ↦ to-access first ws c others.1
                                         ]
                                   ]

@@ -23,8 +23,8 @@ pub from-layout : (ws : List (List ℕ)) (numbers : List ℕ) → Each IsField w
     → layout_at ws ≡ Some (command.FromRegions numbers, [])
 from-layout ws numbers h = rw (takes-numbers ws numbers h) refl
 
-pub to-layout : (first : List ℕ) (ws : List (List ℕ)) (c : Command) → first ≡ codes "layout" → layout_at ws ≡ Some (c, [])
-    → Each IsField (first ∷ ws) (command_fields c)
+pub to-layout : (first : List ℕ) (ws : List (List ℕ)) (c : Command) → first ≡ codes "layout"
+    → layout_at ws ≡ Some (c, []) → Each IsField (first ∷ ws) (command_fields c)
 to-layout first ws c is h =
     let a = both_read (numbers_at ws) _ (c, []) h in
     let e = same_read a.2 in
@@ -379,7 +379,8 @@ to-check first ws c is h =
     )
 
 pub from-copy : (ws : List (List ℕ)) (from : BlockRange) (to : BlockRange)
-    → Each IsField ws (number from.block ∷ number from.offset ∷ number from.len ∷ number to.block ∷ number to.offset ∷ number to.len ∷ [])
+    → Each IsField ws (number from.block ∷ number from.offset ∷ number from.len
+    ∷ number to.block ∷ number to.offset ∷ number to.len ∷ [])
     → copy_at ws ≡ Some (command.Copy from to, [])
 from-copy ws from to h =
     let p = takes-range ws from _ h in
@@ -395,7 +396,7 @@ to-copy first ws c is h =
     subst (λ d. Each IsField (first ∷ ws) (command_fields d)) e.0
     (is, gives-range ws p.0 _ p.1 (gives-range p.0.1 q.0 _ q.1 (last_read e.1)))
 
-pub from-set : (ws : List (List ℕ)) (table : ℕ) (iova : GuestAddress) (to : GuestAddress) (length : ℕ) (access : Permissions)
+pub from-set : (ws : List (List ℕ)) (table : ℕ) (iova to : GuestAddress) (length : ℕ) (access : Permissions)
     → Each IsField ws (number table ∷ number iova.0 ∷ number to.0 ∷ number length ∷ word (word_of_access access) ∷ [])
     → set_at ws ≡ Some (command.Set table iova to length access, [])
 from-set ws table iova to length access h =
@@ -418,7 +419,8 @@ to-set first ws c is h =
     subst (λ d. Each IsField (first ∷ ws) (command_fields d)) e.0 (
       is,
       gives-number ws p.0 _ p.1 (gives-address p.0.1 q.0 _ q.1
-          (gives-address q.0.1 r.0 _ r.1 (gives-number r.0.1 s.0 _ s.1 (gives-access s.0.1 t.0 _ t.1 (last_read e.1))))),
+          (gives-address q.0.1 r.0 _ r.1
+          (gives-number r.0.1 s.0 _ s.1 (gives-access s.0.1 t.0 _ t.1 (last_read e.1))))),
     )
 
 pub from-invalidate : (ws : List (List ℕ)) (table : ℕ) (iova : GuestAddress) (length : ℕ)

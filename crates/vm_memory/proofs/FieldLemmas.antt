@@ -55,8 +55,8 @@ unfolding bytes_at
 takes-bytes [] bs fs h = absurd h
 takes-bytes (w ∷ ws) bs fs h = (ws, rw (reads-bytes.from w bs h.0) refl, h.1)
 
-pub takes-source : (ws : List (List ℕ)) (steps : List SourceStep) (fs : List Field) → Each IsField ws (source steps ∷ fs)
-    → Taken (source_at ws) steps fs
+pub takes-source : (ws : List (List ℕ)) (steps : List SourceStep) (fs : List Field)
+    → Each IsField ws (source steps ∷ fs) → Taken (source_at ws) steps fs
 unfolding source_at
 takes-source [] steps fs h = absurd h
 takes-source (w ∷ ws) steps fs h =

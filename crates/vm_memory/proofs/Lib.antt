@@ -33,3 +33,5 @@ pub mod CommandLemmas
 pub mod CommandWords
 pub mod FieldLemmas
 pub mod LineLemmas
+pub mod ReplyLemmas
+pub mod SetupLemmas

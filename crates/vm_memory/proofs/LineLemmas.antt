@@ -89,7 +89,8 @@ setup-from first ws (Space size page) h =
     ap (λ f. setup_at f ws) h.0 ∙ from-sized (codes "space") ws size (non_zero_usize_get page) page.ok h.1
 setup-from first ws (Table None) h =
     ap (λ f. setup_at f ws) h.0
-    ∙ ap (λ l. limit_at l >>= (λ limit. Some (Some (word (codes "table") ∷ limit_field limit.0), limit.1))) (none_left ws h.1)
+    ∙ ap (λ l. limit_at l >>= (λ limit. Some (Some (word (codes "table") ∷ limit_field limit.0), limit.1)))
+    (none_left ws h.1)
 setup-from first ws (Table (Some limit)) h =
     ap (λ f. setup_at f ws) h.0 ∙ from-table ws (non_zero_usize_get limit) limit.ok h.1
 setup-from first ws (Region block addr) h =
@@ -274,7 +275,8 @@ bad_line : (line first : List ℕ) (ws : List (List ℕ)) → HasWords line firs
     → ((c : commands.Command) → setup_at first ws ≡ Some (None, ws) → command_at first ws ≡ Some (c, []) → ⊥)
     → (l : Line) → ¬ (Means line l)
 bad_line line first ws h no_setup no_command Nothing m = both_ways _ h.blank m
-bad_line line first ws h no_setup no_command (Setup s) m = no_setup _ (setup-from first ws s (split line first ws _ h m.1))
+bad_line line first ws h no_setup no_command (Setup s) m =
+    no_setup _ (setup-from first ws s (split line first ws _ h m.1))
 bad_line line first ws h no_setup no_command (Command c) m =
     let words = split line first ws _ h m.1 in
     no_command c (command-no_setup first ws c words) (command-from first ws c words)
@@ -323,7 +325,8 @@ behind-to line first ws None left (Command c) h text read e =
     let p = both_read (command_at first left) _ _ e in
     let end = both_read (end_at p.0.1) _ _ p.2 in
     let same : p.0.0 ≡ c = cc (same_Some _ _ end.2) in
-    command_line line first ws left p.0.1 c h text read (p.1 ∙ ap (λ d. Some (d, p.0.1)) same) (no_left p.0.1 end.0 end.1)
+    command_line line first ws left p.0.1 c h text read (p.1 ∙ ap (λ d. Some (d, p.0.1)) same)
+    (no_left p.0.1 end.0 end.1)
 
 -- what was read of a line is what it means
 pub line-to : (line : List ℕ) (words : List (List ℕ)) (l : Line) → is_blank line ≡ false → parts_of 32 line ≡ words
@@ -339,8 +342,10 @@ pub line-none : (line : List ℕ) (words : List (List ℕ)) → is_blank line �
     → line_at words ≡ None → (l : Line) → ¬ (Means line l)
 unfolding line_at
 line-none line [] blank is e Nothing m = both_ways _ blank m
-line-none line [] blank is e (Setup s) m = no_words (setup_fields s) (subst (λ l. Each IsField l (setup_fields s)) is m.1) (setup-some s)
-line-none line [] blank is e (Command c) m = no_words (command_fields c) (subst (λ l. Each IsField l (command_fields c)) is m.1) (command-some c)
+line-none line [] blank is e (Setup s) m =
+    no_words (setup_fields s) (subst (λ l. Each IsField l (setup_fields s)) is m.1) (setup-some s)
+line-none line [] blank is e (Command c) m =
+    no_words (command_fields c) (subst (λ l. Each IsField l (command_fields c)) is m.1) (command-some c)
 line-none line (first ∷ ws) blank is e l m =
     bad_line line first ws (record { blank = blank; words = is })
     (λ fs read. none-some (setup fs) (sym e ∙ rw read refl))

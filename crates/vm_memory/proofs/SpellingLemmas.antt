@@ -98,7 +98,8 @@ reads-number = record { to = to; from = from }
         elim (h.1) [
           | inl decimal ↦
               let plain : starts_with nat_eq word (codes "0x") ≡ false =
-              not_true _ (λ e. no_prefix (drop 2 word) n (subst (λ w. Writes 10 w n) (begins word (codes "0x") e) decimal)) in
+              not_true _
+              (λ e. no_prefix (drop 2 word) n (subst (λ w. Writes 10 w n) (begins word (codes "0x") e) decimal)) in
               second _ _ _ plain ∙ number_in-from 10 word n h.0 decimal
           | inr hexadecimal ↦
               let rest : drop 2 word ≡ hexadecimal.0 = ap (drop 2) hexadecimal.1 in

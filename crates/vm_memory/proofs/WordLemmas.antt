@@ -53,12 +53,14 @@ behind-more front x None = refl
 behind-more front x (Some xs) = ap Some (sym (append_assoc front (x ∷ []) xs))
 
 -- one more text is read
-pub each_more : {A : Type 0} (f : List ℕ → Option A) (text : List ℕ) (texts whole : List (List ℕ)) (front : List A) (x : A)
+pub each_more : {A : Type 0} (f : List ℕ → Option A) (text : List ℕ) (texts whole : List (List ℕ))
+    (front : List A) (x : A)
     → each f whole ≡ behind front (each f (text ∷ texts)) → f text ≡ Some x
     → each f whole ≡ behind (front ++ x ∷ []) (each f texts)
 unfolding each
 each_more f text texts whole front x h e =
-    h ∙ ap (λ o. behind front (o >>= (λ y. each f texts >>= (λ xs. Some (y ∷ xs))))) e ∙ behind-more front x (each f texts)
+    h ∙ ap (λ o. behind front (o >>= (λ y. each f texts >>= (λ xs. Some (y ∷ xs))))) e
+    ∙ behind-more front x (each f texts)
 
 -- a text that spells nothing
 pub each_none : {A : Type 0} (f : List ℕ → Option A) (text : List ℕ) (texts whole : List (List ℕ)) (front : List A)

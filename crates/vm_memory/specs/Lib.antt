@@ -23,3 +23,6 @@ pub mod Typed
 pub mod Words
 pub mod LineReading
 pub mod Lines
+pub mod Texts
+pub mod Setup
+pub mod Pools

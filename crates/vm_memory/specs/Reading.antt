@@ -101,7 +101,8 @@ bytes_of word =
 abbrev pub source_step_of : List ℕ → Option SourceStep
 source_step_of word =
     if starts_with (λ a b. a == b) word (codes "g:") then (bytes_of (drop 2 word) >>= (λ b. Some (source.Give b)))
-    else (if starts_with (λ a b. a == b) word (codes "i:") then (bytes_of (drop 2 word) >>= (λ b. Some (source.Interrupted b)))
+    else (if starts_with (λ a b. a == b) word (codes "i:") then
+    (bytes_of (drop 2 word) >>= (λ b. Some (source.Interrupted b)))
     else (if starts_with (λ a b. a == b) word (codes "f:") then (bytes_of (drop 2 word) >>= (λ b. Some (source.Fail b)))
     else None))
 
