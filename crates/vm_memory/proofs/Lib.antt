@@ -35,3 +35,6 @@ pub mod FieldLemmas
 pub mod LineLemmas
 pub mod ReplyLemmas
 pub mod SetupLemmas
+pub mod ToldLemmas
+pub mod SessionLemmas
+pub mod ScriptLemmas

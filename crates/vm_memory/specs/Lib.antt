@@ -26,3 +26,4 @@ pub mod Lines
 pub mod Texts
 pub mod Setup
 pub mod Pools
+pub mod Told
