@@ -38,3 +38,4 @@ pub mod SetupLemmas
 pub mod ToldLemmas
 pub mod SessionLemmas
 pub mod ScriptLemmas
+pub mod ScriptLaws

@@ -221,11 +221,11 @@ command-no_setup first ws (make.Harvest id) h = ap (λ f. setup_at f ws) h.0
 
 -- ---- lines
 
-no_words : (fs : List Field) → Each IsField [] fs → fs ≢ [] → ⊥
+pub no_words : (fs : List Field) → Each IsField [] fs → fs ≢ [] → ⊥
 no_words [] h some = some refl
 no_words (f ∷ fs) h some = h
 
-setup-some : (s : setups.Setup) → setup_fields s ≢ []
+pub setup-some : (s : setups.Setup) → setup_fields s ≢ []
 setup-some (Block size page) e = cc e
 setup-some (Space size page) e = cc e
 setup-some (Table None) e = cc e
@@ -233,7 +233,7 @@ setup-some (Table (Some limit)) e = cc e
 setup-some (Region block addr) e = cc e
 setup-some (Translator table) e = cc e
 
-command-some : (c : commands.Command) → command_fields c ≢ []
+pub command-some : (c : commands.Command) → command_fields c ≢ []
 command-some (make.FromRegions numbers) e = cc e
 command-some (make.Insert layout region) e = cc e
 command-some (make.Remove layout base size) e = cc e

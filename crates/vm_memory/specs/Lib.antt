@@ -27,3 +27,4 @@ pub mod Texts
 pub mod Setup
 pub mod Pools
 pub mod Told
+pub mod ScriptRun

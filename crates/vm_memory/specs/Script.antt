@@ -1,5 +1,6 @@
 -- What a script answers, line by line, and how it ends.
-use Rattle.std.specs.Prelude.{◌≡◌, ◌⊎◌, ◌+◌, ◌++◌, ℕ, List, [], ◌∷◌, length, Result, Ok, Err}
+use Rattle.std.specs.Prelude.{◌≡◌, ◌⊎◌, ◌+◌, ◌++◌, ℕ, List, [], ◌∷◌, length, Result, Ok, Err, codes}
+use Rattle.std.specs.Fmt.{decimal}
 use Rattle.vm_memory.specs.Lines.{Means}
 use Rattle.vm_memory.specs.Machine.{Step}
 use Rattle.vm_memory.specs.Pools.{no_parts, state_made}
@@ -21,6 +22,13 @@ status_of (fault.BadLine number) = 1
 status_of fault.Read = 2
 status_of fault.Write = 2
 status_of fault.Memory = 3
+
+-- and the text that tells why
+abbrev pub text_of_drive_fault : DriveFault → List ℕ
+text_of_drive_fault (fault.BadLine number) = codes "line " ++ decimal number ++ codes ": bad line"
+text_of_drive_fault fault.Read = codes "read failed"
+text_of_drive_fault fault.Write = codes "write failed"
+text_of_drive_fault fault.Memory = codes "out of memory"
 
 -- where a script stands: before its first command, or behind it
 pub data Stage : Type 0 where

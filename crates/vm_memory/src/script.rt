@@ -1,9 +1,9 @@
 //! Scripts: lines that set up a host and command a machine, and a reply line for each. docs/SCRIPT.md has their
 //! language, the replies and the codes of refusals.
 
-ghost use Rattle.std.specs.Prelude.{◌≡◌, ℕ, List, [], Option, Err, IfSome, MatchBool, MatchResult};
+ghost use Rattle.std.specs.Prelude.{◌≡◌, ℕ, List, [], Option, Some, Err, IfSome, MatchBool, MatchResult};
 ghost use Rattle.std.specs.Io.KnownBytes.{Appends};
-ghost use Rattle.vm_memory.specs.Script.{Drives, Ends, status_of};
+ghost use Rattle.vm_memory.specs.Script.{Drives, Ends, status_of, text_of_drive_fault};
 ghost use Rattle.vm_memory.specs.Told.{IsOutside, TellsAll, kept};
 ghost use Rattle.vm_memory.specs.Words.{parts_of};
 ghost use Rattle.vm_memory.specs.declared.script.DriveFault.TheVariants as fault;
@@ -22,25 +22,37 @@ use lines::Lines;
 use output::{ROOM, write_all};
 use session::Session;
 use std::alloc::Global;
+use std::error::Error;
+use std::fmt;
 use std::io::{ErrorKind, Read, Write};
-use thiserror::Error;
 
 /// Why a script did not run to its end.
-#[derive(Debug, Drop, Error)]
+#[derive(Debug, Drop)]
 pub enum DriveFault {
     /// The line of this number, from 1, has none of the forms, or sets up after a command.
-    #[error("line {0}: bad line")]
     BadLine(usize),
     /// The input failed.
-    #[error("read failed")]
     Read,
     /// The output failed.
-    #[error("write failed")]
     Write,
     /// The allocation of the script or of its machine's answers failed.
-    #[error("out of memory")]
     Memory,
 }
+
+impl fmt::Display for DriveFault {
+    ghost output = { λ fault. Some (text_of_drive_fault fault) };
+
+    fn fmt<W: fmt::Write>(&self, f: &mut fmt::Formatter<W>) -> fmt::Result {
+        match self {
+            DriveFault::BadLine(number) => write!(f, "line {number}: bad line"),
+            DriveFault::Read => write!(f, "read failed"),
+            DriveFault::Write => write!(f, "write failed"),
+            DriveFault::Memory => write!(f, "out of memory"),
+        }
+    }
+}
+
+impl Error for DriveFault {}
 
 impl DriveFault {
     /// The status that a program ends with: 1 for a bad line, 2 for input and output, 3 for memory.
