@@ -1,9 +1,8 @@
 -- What runs say of journals: their entries, and runs of the same commands.
-use Rattle.std.proofs.Common.{◌≡◌, ◌≢◌, ℕ, zero, suc, List, [], ◌∷◌, ◌++◌, length, All, Option, Some, refl, sym, ap, subst, ◌∙◌, inl, inr}
+use Rattle.std.proofs.Common.{◌≡◌, ◌≢◌, ℕ, zero, suc, List, [], ◌∷◌, ◌++◌, length, All, Some, refl, sym, ap, subst, ◌∙◌, inl, inr}
 use Rattle.std.specs.Prelude.{slice_get}
 use Rattle.std.proofs.lemmas.List.Elements.{All-head, All-tail}
 use Rattle.std.proofs.lemmas.Option.{none-some, get_or_from_slice_get}
-use Rattle.vm_memory.specs.Commands.{MayWant}
 use Rattle.vm_memory.specs.Journal.{Served, Serves, IsEntry}
 use Rattle.vm_memory.specs.Machine.{Step, Run, outcome}
 use Rattle.vm_memory.specs.Parts.{Parts}

@@ -1,5 +1,5 @@
 -- What lines mean, and what scripts run.
-use Rattle.std.proofs.Common.{arith, ◌*◌, ◌+◌, ◌≡◌, ◌≢◌, ◌∙◌, ℕ, ◌<◌, true, false, nat_eq, cond, List, [], ◌∷◌, ◌++◌, append_assoc, append-nil, flat_map, Option, Some, None, refl, sym, ap, subst, inl, inr, Bool}
+use Rattle.std.proofs.Common.{arith, ◌*◌, ◌+◌, ◌≡◌, ◌∙◌, ℕ, ◌<◌, true, false, nat_eq, cond, List, [], ◌∷◌, ◌++◌, append_assoc, flat_map, Option, Some, None, refl, sym, ap, subst, Bool}
 use denote.Struct.Props.{props}
 use Rattle.std.specs.Int.NonZero.{non_zero_usize_get}
 use Rattle.std.specs.List.{onto_first}
@@ -7,10 +7,9 @@ use Rattle.std.specs.declared.num.NonZeroUsize.{NonZeroUsize}
 use Rattle.std.proofs.lemmas.Bool.{both_ways}
 use Rattle.std.proofs.lemmas.Option.{same_Some}
 use Rattle.vm_memory.specs.Words.{Each, parts_of}
-use Rattle.vm_memory.specs.Lines.{IsField, Field, word, number, Means, Spells, is_blank, command_fields, setup_fields}
-use Rattle.vm_memory.specs.LineReading.{Shown, shown, setup, command, line_at, line_behind, setup_at, command_at}
-use Rattle.vm_memory.specs.Reading.{◌>>=◌}
-use Rattle.vm_memory.specs.Machine.{Run, Step}
+use Rattle.vm_memory.specs.Lines.{IsField, Field, word, Means, Spells, is_blank, command_fields, setup_fields}
+use Rattle.vm_memory.specs.LineReading.{Shown, setup, command, line_at}
+use Rattle.vm_memory.specs.Machine.{Run}
 use Rattle.vm_memory.specs.Script.{Stage, setting, commanding, state_at, Answer, Answers}
 use Rattle.vm_memory.specs.ScriptRun.{SetUpRun, commands_of, reply_line, setup_line, setups_of}
 use Rattle.vm_memory.specs.State.{State}
