@@ -15,8 +15,17 @@ pub mod Lawful
 pub mod Machine
 pub mod Memories
 pub mod Parts
+pub mod Reading
 pub mod Reply
 pub mod Rounds
 pub mod Script
 pub mod State
 pub mod Typed
+pub mod Words
+pub mod LineReading
+pub mod Lines
+pub mod Texts
+pub mod Setup
+pub mod Pools
+pub mod Told
+pub mod ScriptRun

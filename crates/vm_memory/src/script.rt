@@ -1,43 +1,58 @@
 //! Scripts: lines that set up a host and command a machine, and a reply line for each. docs/SCRIPT.md has their
 //! language, the replies and the codes of refusals.
 
-ghost use Rattle.std.specs.Prelude.{◌≡◌};
-ghost use Rattle.vm_memory.specs.Script.{status_of};
+ghost use Rattle.std.specs.Prelude.{◌≡◌, ℕ, List, [], Option, Some, Err, IfSome, MatchBool, MatchResult};
+ghost use Rattle.std.specs.Io.KnownBytes.{Appends};
+ghost use Rattle.vm_memory.specs.Script.{Drives, Ends, status_of, text_of_drive_fault};
+ghost use Rattle.vm_memory.specs.Told.{IsOutside, TellsAll, kept};
+ghost use Rattle.vm_memory.specs.Words.{parts_of};
+ghost use Rattle.vm_memory.specs.declared.script.DriveFault.TheVariants as fault;
 
 mod commands;
 mod line;
+mod lines;
+mod output;
 mod pools;
 mod reply;
+mod session;
 mod setup;
 mod words;
 
-use crate::machine::command::{Command, Reply};
-use crate::machine::run;
-use line::Line;
-use pools::{Pools, ScriptMachine};
-use setup::Setup;
+use lines::Lines;
+use output::{ROOM, write_all};
+use session::Session;
 use std::alloc::Global;
-use std::io::{BufWriter, ErrorKind, Read, Write};
-use std::mem;
-use thiserror::Error;
-use words::LineError;
+use std::error::Error;
+use std::fmt;
+use std::io::{ErrorKind, Read, Write};
 
 /// Why a script did not run to its end.
-#[derive(Debug, Drop, Error)]
+#[derive(Debug, Drop)]
 pub enum DriveFault {
     /// The line of this number, from 1, has none of the forms, or sets up after a command.
-    #[error("line {0}: bad line")]
     BadLine(usize),
     /// The input failed.
-    #[error("read failed")]
     Read,
     /// The output failed.
-    #[error("write failed")]
     Write,
     /// The allocation of the script or of its machine's answers failed.
-    #[error("out of memory")]
     Memory,
 }
+
+impl fmt::Display for DriveFault {
+    ghost output = { λ fault. Some (text_of_drive_fault fault) };
+
+    fn fmt<W: fmt::Write>(&self, f: &mut fmt::Formatter<W>) -> fmt::Result {
+        match self {
+            DriveFault::BadLine(number) => write!(f, "line {number}: bad line"),
+            DriveFault::Read => write!(f, "read failed"),
+            DriveFault::Write => write!(f, "write failed"),
+            DriveFault::Memory => write!(f, "out of memory"),
+        }
+    }
+}
+
+impl Error for DriveFault {}
 
 impl DriveFault {
     /// The status that a program ends with: 1 for a bad line, 2 for input and output, 3 for memory.
@@ -57,27 +72,23 @@ impl DriveFault {
 /// It stops at the first bad line, after the replies to the lines before it, with `BadLine`. Where the input fails it
 /// stops with `Read`, where the output does with `Write`, and where an allocation of its own does with `Memory`. A
 /// setup line or a command whose allocation fails replies so, and the script goes on.
-pub fn drive(
+pub fn drive<R: Read, W: Write>(
     alloc: Global,
-    input: &mut impl Read,
-    output: &mut impl Write,
-) -> Result<(), DriveFault> {
+    input: &mut R,
+    output: &mut W,
+) -> Result<(), DriveFault>
+    ensures { IfSome (R.remaining input.old) (λ text. (written : List ℕ)
+        × Appends (W.contents output.old) (W.contents output.new) written × Drives text result written) }
+{
     let text = read_all(alloc, input)?;
-    let mut replies = BufWriter::new(alloc, output).map_err(|_| DriveFault::Memory)?;
-    let outcome = answer_lines(alloc, text.as_slice(), &mut replies);
-    let written = match outcome {
-        Err(DriveFault::Write) => Ok(()),
-        _ => replies.flush(),
-    };
-    // What a failed write left is not tried again.
-    let (_, _) = replies.into_parts();
-    if written.is_err() {
-        return Err(DriveFault::Write);
-    }
-    outcome
+    let mut waiting = Vec::with_capacity(alloc, ROOM).map_err(|_| DriveFault::Memory)?;
+    let outcome = answer_lines(alloc, text.as_slice(), output, &mut waiting);
+    finish(outcome, output, waiting.as_slice())
 }
 
-fn read_all(alloc: Global, input: &mut impl Read) -> Result<Vec<u8>, DriveFault> {
+fn read_all<R: Read>(alloc: Global, input: &mut R) -> Result<Vec<u8>, DriveFault>
+    ensures { MatchResult result (λ text. IfSome (R.remaining input.old) (λ all. text.items ≡ all)) IsOutside }
+{
     let mut text = Vec::new(alloc);
     match input.read_to_end(&mut text) {
         Ok(_) => Ok(text),
@@ -86,101 +97,57 @@ fn read_all(alloc: Global, input: &mut impl Read) -> Result<Vec<u8>, DriveFault>
     }
 }
 
-fn answer_lines(alloc: Global, text: &[u8], output: &mut impl Write) -> Result<(), DriveFault> {
+fn answer_lines<W: Write>(
+    alloc: Global,
+    text: &[u8],
+    output: &mut W,
+    waiting: &mut Vec<u8>,
+) -> Result<(), DriveFault>
+    requires { waiting.old.items ≡ [] }
+    ensures { TellsAll (parts_of 10 text.now) result (W.contents output.old) (W.contents output.new) waiting.new.items }
+{
     let mut session = Session::new(alloc)?;
+    let mut lines = Lines::new(text);
     let mut number = 0usize;
-    for line in text.split(is_line_end) {
+    while let Some(line) = lines.next() {
         number = number.saturating_add(1);
-        session.answer(alloc, line, number, output)?;
+        session.answer(alloc, line, number, output, waiting)?;
     }
     Ok(())
 }
 
-fn is_line_end(byte: &u8) -> bool {
-    *byte == b'\n'
+// Writes what waits, but where a write failed before.
+fn finish<W: Write>(
+    outcome: Result<(), DriveFault>,
+    output: &mut W,
+    waiting: &[u8],
+) -> Result<(), DriveFault>
+    ensures { (lines : List (List ℕ)) (before : Option (List ℕ)) →
+        TellsAll lines outcome before (W.contents output.old) waiting.now →
+        (written : List ℕ) × Appends before (W.contents output.new) written × Ends lines result written }
+{
+    if is_unwritten(&outcome) {
+        return Err(DriveFault::Write);
+    }
+    if !write_all(output, waiting) {
+        return Err(DriveFault::Write);
+    }
+    if output.flush().is_err() {
+        return Err(DriveFault::Write);
+    }
+    outcome
 }
 
-fn parsed(alloc: Global, line: &[u8], number: usize) -> Result<Line, DriveFault> {
-    match line::parse(alloc, line) {
-        Ok(line) => Ok(line),
-        Err(LineError::Bad) => Err(DriveFault::BadLine(number)),
-        Err(LineError::Memory) => Err(DriveFault::Memory),
+// Whether a write failed.
+fn is_unwritten(outcome: &Result<(), DriveFault>) -> bool
+    ensures { MatchBool result (outcome.now ≡ Err fault.Write)
+        ((waiting : List ℕ) → kept outcome.now waiting ≡ waiting) }
+{
+    match outcome {
+        Ok(()) => false,
+        Err(fault) => match fault {
+            DriveFault::Write => true,
+            DriveFault::BadLine(_) | DriveFault::Read | DriveFault::Memory => false,
+        },
     }
-}
-
-// What setup lines filled, the machine that the first command makes of it, and room for one reply.
-#[derive(Drop)]
-struct Session {
-    pools: Pools,
-    machine: Option<ScriptMachine>,
-    replies: Vec<Reply>,
-}
-
-impl Session {
-    fn new(alloc: Global) -> Result<Session, DriveFault> {
-        let replies = Vec::with_capacity(alloc, 1).map_err(|_| DriveFault::Memory)?;
-        Ok(Session {
-            pools: Pools::new(alloc),
-            machine: None,
-            replies,
-        })
-    }
-
-    // Runs a line of this number and writes its reply.
-    fn answer(
-        &mut self,
-        alloc: Global,
-        line: &[u8],
-        number: usize,
-        output: &mut impl Write,
-    ) -> Result<(), DriveFault> {
-        match parsed(alloc, line, number)? {
-            Line::Nothing => Ok(()),
-            Line::Setup(setup) => self.set_up(setup, number, output),
-            Line::Command(command) => self.serve(alloc, command, output),
-        }
-    }
-
-    fn set_up(
-        &mut self,
-        setup: Setup,
-        number: usize,
-        output: &mut impl Write,
-    ) -> Result<(), DriveFault> {
-        if self.machine.is_some() {
-            return Err(DriveFault::BadLine(number));
-        }
-        let reply = self.pools.make(setup);
-        writeln!(output, "{reply}").map_err(|_| DriveFault::Write)
-    }
-
-    fn serve(
-        &mut self,
-        alloc: Global,
-        command: Command,
-        output: &mut impl Write,
-    ) -> Result<(), DriveFault> {
-        let mut machine = match self.machine.take() {
-            Some(machine) => machine,
-            None => mem::replace(&mut self.pools, Pools::new(alloc)).into_machine(),
-        };
-        let answered = run_one(&mut machine, command, &mut self.replies, output);
-        self.machine = Some(machine);
-        answered
-    }
-}
-
-// Runs one command and writes its reply.
-fn run_one(
-    machine: &mut ScriptMachine,
-    command: Command,
-    replies: &mut Vec<Reply>,
-    output: &mut impl Write,
-) -> Result<(), DriveFault> {
-    replies.clear();
-    run(machine, &[command], replies).map_err(|_| DriveFault::Memory)?;
-    for reply in &*replies {
-        writeln!(output, "{reply}").map_err(|_| DriveFault::Write)?;
-    }
-    Ok(())
 }

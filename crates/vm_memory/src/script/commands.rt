@@ -1,15 +1,16 @@
 //! Lines that command the machine.
+ghost use Rattle.vm_memory.specs.Reading.{Gives};
+ghost use Rattle.vm_memory.specs.LineReading.{command_at, access_at, transfer_at, other_at};
 
 use super::words::{LineError, Words};
 use crate::machine::command::Command;
 use std::alloc::Global;
 
 /// The command that begins with a word.
-pub(super) fn parse(
-    alloc: Global,
-    word: &str,
-    words: &mut Words<'_>,
-) -> Result<Command, LineError> {
+#[tactic(auto, unfolding(crate::specs::LineReading::command_at))]
+pub(super) fn parse(alloc: Global, word: &str, words: &mut Words<'_>) -> Result<Command, LineError>
+    ensures { Gives (λ c. c) result words.new (command_at word.now words.old) }
+{
     Ok(match word {
         // A layout has none or more regions.
         "layout" => Command::FromRegions(words.indices(alloc)?),
@@ -42,7 +43,10 @@ pub(super) fn parse(
 }
 
 // A command that moves bytes of a memory.
-fn access(alloc: Global, word: &str, words: &mut Words<'_>) -> Result<Command, LineError> {
+#[tactic(auto, unfolding(crate::specs::LineReading::access_at))]
+fn access(alloc: Global, word: &str, words: &mut Words<'_>) -> Result<Command, LineError>
+    ensures { Gives (λ c. c) result words.new (access_at word.now words.old) }
+{
     Ok(match word {
         "read" => Command::Read {
             memory: words.index()?,
@@ -80,7 +84,10 @@ fn access(alloc: Global, word: &str, words: &mut Words<'_>) -> Result<Command, L
 }
 
 // A command that moves bytes between a memory and a source or a sink.
-fn transfer(alloc: Global, word: &str, words: &mut Words<'_>) -> Result<Command, LineError> {
+#[tactic(auto, unfolding(crate::specs::LineReading::transfer_at))]
+fn transfer(alloc: Global, word: &str, words: &mut Words<'_>) -> Result<Command, LineError>
+    ensures { Gives (λ c. c) result words.new (transfer_at word.now words.old) }
+{
     Ok(match word {
         "from" => Command::ReadFrom {
             memory: words.index()?,
@@ -111,7 +118,10 @@ fn transfer(alloc: Global, word: &str, words: &mut Words<'_>) -> Result<Command,
 }
 
 // A command on a range, a copy between blocks, or one on a table or a bitmap.
-fn other(word: &str, words: &mut Words<'_>) -> Result<Command, LineError> {
+#[tactic(auto, unfolding(crate::specs::LineReading::other_at))]
+fn other(word: &str, words: &mut Words<'_>) -> Result<Command, LineError>
+    ensures { Gives (λ c. c) result words.new (other_at word.now words.old) }
+{
     Ok(match word {
         "check" => Command::CheckRange {
             memory: words.index()?,

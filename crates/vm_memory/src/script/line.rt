@@ -1,4 +1,8 @@
 //! Lines of a script.
+ghost use Rattle.std.specs.Prelude.{◌≡◌};
+ghost use Rattle.vm_memory.specs.Words.{parts_of};
+ghost use Rattle.vm_memory.specs.Lines.{Parses, is_blank};
+ghost use Rattle.vm_memory.specs.LineReading.{IsShown, line_at};
 
 use super::commands;
 use super::setup::{self, Setup};
@@ -18,19 +22,44 @@ pub(super) enum Line {
 }
 
 /// The line that these bytes are, which have no line feed.
-pub(super) fn parse(alloc: Global, line: &[u8]) -> Result<Line, LineError> {
-    if line.is_empty() || line.starts_with(b"#") {
+pub(super) fn parse(alloc: Global, line: &[u8]) -> Result<Line, LineError>
+    ensures { Parses line.now result }
+{
+    if is_blank(line) {
         return Ok(Line::Nothing);
     }
-    let Ok(text) = str::from_utf8(line) else {
-        return Err(LineError::Bad);
-    };
+    match str::from_utf8(line) {
+        Ok(text) => of_words(alloc, text),
+        Err(_) => Err(LineError::Bad),
+    }
+}
+
+// The line that words make.
+#[tactic(auto, unfolding(crate::specs::LineReading::line_at))]
+fn of_words(alloc: Global, text: &str) -> Result<Line, LineError>
+    ensures { IsShown result (line_at (parts_of 32 text.now)) }
+{
     let mut words = Words::new(text);
     let word = words.word()?;
-    let line = match setup::parse(word, &mut words)? {
-        Some(setup) => Line::Setup(setup),
-        None => Line::Command(commands::parse(alloc, word, &mut words)?),
-    };
-    words.end()?;
-    Ok(line)
+    match setup::parse(word, &mut words)? {
+        Some(setup) => {
+            words.end()?;
+            Ok(Line::Setup(setup))
+        }
+        None => {
+            let command = commands::parse(alloc, word, &mut words)?;
+            words.end()?;
+            Ok(Line::Command(command))
+        }
+    }
+}
+
+// Whether a line is empty, or a comment.
+fn is_blank(line: &[u8]) -> bool
+    ensures { result ≡ is_blank line.now }
+{
+    match line.first() {
+        None => true,
+        Some(first) => *first == b'#',
+    }
 }

@@ -1,6 +1,8 @@
 //! What setup lines make: the blocks, spaces and tables of a host, and the regions of a machine.
 ghost use Rattle.std.specs.Prelude.{◌≡◌, ◌++◌, ◌∷◌, [], OnOk, OnErr};
 ghost use Rattle.vm_memory_guest.specs.Collection.{regions_of};
+ghost use Rattle.vm_memory.specs.Setup.{SetsUp};
+ghost use Rattle.vm_memory.specs.Pools.{no_parts, state_made};
 
 use super::reply::SetupReply;
 use super::setup::Setup;
@@ -28,15 +30,23 @@ pub(super) struct Pools {
 }
 
 impl Model for Pools {
-    ghost use Rattle.std.specs.Prelude.{List};
+    ghost use Rattle.std.specs.Prelude.{[]};
+    ghost use Rattle.vm_memory_base.specs.declared.bitmap.exclusive.ExclusiveBitmap.{ExclusiveBitmap};
     ghost use Rattle.vm_memory_guest.specs.Mmap.{mmap_region};
     ghost use Rattle.vm_memory_guest.specs.Collection.{regions_of};
     ghost use Rattle.vm_memory_guest.specs.declared.mmap.GuestRegionMmap.{GuestRegionMmap};
-    ghost use Rattle.vm_memory.specs.Parts.{HoldsRegions, HoldsTables};
+    ghost use Rattle.vm_memory.specs.declared.iommu.TableIommu.{TableIommu};
+    ghost use Rattle.vm_memory.specs.Parts.{Parts, HoldsRegions, HoldsTables};
 
-    ghost Value = { List GuestRegionMmap };
+    ghost Value = { Parts GuestRegionMmap TableIommu ExclusiveBitmap };
 
-    ghost view = { λ p. regions_of p.regions };
+    ghost view = { λ p. record {
+      host = p.host;
+      regions = regions_of p.regions;
+      translators = regions_of p.translators;
+      layouts = [];
+      memories = [];
+    } };
 
     ghost invariant = { λ p. HoldsRegions mmap_region p.host (regions_of p.regions)
         × HoldsTables (λ number. number) p.host (regions_of p.translators) };
@@ -44,7 +54,9 @@ impl Model for Pools {
 
 impl Pools {
     /// Pools of nothing.
-    pub(super) fn new(alloc: Global) -> Pools {
+    pub(super) fn new(alloc: Global) -> Pools
+        ensures { result ≡ no_parts }
+    {
         Pools {
             alloc,
             host: HostMemory::new(alloc),
@@ -54,7 +66,9 @@ impl Pools {
     }
 
     /// Makes what a setup line asks for, or changes nothing and says why.
-    pub(super) fn make(&mut self, setup: Setup) -> SetupReply {
+    pub(super) fn make(&mut self, setup: Setup) -> SetupReply
+        ensures { SetsUp (state_made self.old) setup result (state_made self.new) }
+    {
         match setup {
             Setup::Block { size, page_size } => self.make_block(size, page_size),
             Setup::Space { size, page_size } => self.make_space(size, page_size),
@@ -65,12 +79,16 @@ impl Pools {
     }
 
     /// A machine of the host, the regions and the translators.
-    pub(super) fn into_machine(self) -> ScriptMachine {
+    pub(super) fn into_machine(self) -> ScriptMachine
+        ensures { result ≡ self }
+    {
         Machine::new(self.alloc, self.host, self.regions, self.translators)
     }
 
     // The size comes before the bitmap, which may find no memory.
-    fn make_block(&mut self, size: usize, page_size: NonZeroUsize) -> SetupReply {
+    fn make_block(&mut self, size: usize, page_size: NonZeroUsize) -> SetupReply
+        ensures { SetsUp (state_made self.old) (Setup.Block size page_size) result (state_made self.new) }
+    {
         if !HostShape::is_block_size(size) {
             return SetupReply::InvalidSize;
         }
@@ -84,7 +102,9 @@ impl Pools {
         }
     }
 
-    fn make_space(&mut self, size: usize, page_size: NonZeroUsize) -> SetupReply {
+    fn make_space(&mut self, size: usize, page_size: NonZeroUsize) -> SetupReply
+        ensures { SetsUp (state_made self.old) (Setup.Space size page_size) result (state_made self.new) }
+    {
         let Ok(bitmap) = ExclusiveBitmap::new(self.alloc, size, page_size) else {
             return SetupReply::Memory;
         };
@@ -94,7 +114,9 @@ impl Pools {
         }
     }
 
-    fn make_table(&mut self, limit: Option<NonZeroUsize>) -> SetupReply {
+    fn make_table(&mut self, limit: Option<NonZeroUsize>) -> SetupReply
+        ensures { SetsUp (state_made self.old) (Setup.Table limit) result (state_made self.new) }
+    {
         let table = match limit {
             Some(limit) => Iotlb::with_limit(self.alloc, limit.get()),
             None => Iotlb::new(self.alloc),
@@ -105,7 +127,9 @@ impl Pools {
         }
     }
 
-    fn make_region(&mut self, block: BlockId, addr: GuestAddress) -> SetupReply {
+    fn make_region(&mut self, block: BlockId, addr: GuestAddress) -> SetupReply
+        ensures { SetsUp (state_made self.old) (Setup.Region block addr) result (state_made self.new) }
+    {
         if self.host.shape().block_len(block).is_none() {
             return SetupReply::NoSuch;
         }
@@ -120,7 +144,9 @@ impl Pools {
         }
     }
 
-    fn make_translator(&mut self, table: TlbId) -> SetupReply {
+    fn make_translator(&mut self, table: TlbId) -> SetupReply
+        ensures { SetsUp (state_made self.old) (Setup.Translator table) result (state_made self.new) }
+    {
         if !self.host.shape().has_table(table) {
             return SetupReply::NoSuch;
         }

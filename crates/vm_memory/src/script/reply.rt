@@ -1,8 +1,12 @@
 //! Reply lines.
+ghost use Rattle.std.specs.Prelude.{◌≡◌, ℕ, Some, List, map};
+ghost use Rattle.std.specs.Fmt.{WritesOnOk, decimal};
+ghost use Rattle.vm_memory.specs.Texts.{text_of, text_of_setup, text_of_ending, text_of_fault, text_of_refusal, text_of_range, text_of_piece, text_of_ranges, text_of_reason, text_of_kind, text_of_bytes, spaced};
 
 use crate::machine::command::{Ending, Fault, Reply};
 use std::fmt;
-use vm_memory_base::{IommuError, IovaRange, MappedRange, Reason};
+use std::io::ErrorKind;
+use vm_memory_base::{IommuError, IovaRange, IovaRangeList, MappedRange, Reason};
 
 /// What a setup line answers. All but the numbers changed nothing.
 #[derive(Drop)]
@@ -28,6 +32,8 @@ pub(super) enum SetupReply {
 }
 
 impl fmt::Display for SetupReply {
+    ghost output = { λ r. Some (text_of_setup r) };
+
     fn fmt<W: fmt::Write>(&self, f: &mut fmt::Formatter<W>) -> fmt::Result {
         match self {
             SetupReply::BlockMade(number) => write!(f, "block {number}"),
@@ -44,6 +50,8 @@ impl fmt::Display for SetupReply {
 }
 
 impl fmt::Display for Reply {
+    ghost output = { λ r. Some (text_of r) };
+
     fn fmt<W: fmt::Write>(&self, f: &mut fmt::Formatter<W>) -> fmt::Result {
         match self {
             Reply::Layout(number) => write!(f, "layout {number}"),
@@ -61,8 +69,8 @@ impl fmt::Display for Reply {
             Reply::Fails(fails) => write!(
                 f,
                 "fails misses {} access {}",
-                Spaced(fails.misses.as_slice()),
-                Spaced(fails.access_fails.as_slice())
+                Ranges(&fails.misses),
+                Ranges(&fails.access_fails)
             ),
             Reply::Fault(fault) => write!(f, "error {fault}"),
             Reply::NoSuch => write!(f, "error NoSuch"),
@@ -73,6 +81,8 @@ impl fmt::Display for Reply {
 }
 
 impl fmt::Display for Ending {
+    ghost output = { λ e. Some (text_of_ending e) };
+
     fn fmt<W: fmt::Write>(&self, f: &mut fmt::Formatter<W>) -> fmt::Result {
         match self {
             Ending::Count(count) => write!(f, "count {count}"),
@@ -83,10 +93,12 @@ impl fmt::Display for Ending {
 }
 
 impl fmt::Display for Fault {
+    ghost output = { λ f. Some (text_of_fault f) };
+
     fn fmt<W: fmt::Write>(&self, f: &mut fmt::Formatter<W>) -> fmt::Result {
         match self {
-            Fault::InvalidGuestAddress(addr) => write!(f, "G1 {:#x}", addr.0),
-            Fault::IOError(kind) => write!(f, "G2 {kind:?}"),
+            Fault::InvalidGuestAddress(addr) => write!(f, "G1 0x{:x}", addr.0),
+            Fault::IOError(kind) => write!(f, "G2 {}", name_of(*kind)),
             Fault::PartialBuffer {
                 expected,
                 completed,
@@ -108,6 +120,8 @@ impl fmt::Display for Fault {
 struct Translation<'a>(&'a IommuError);
 
 impl fmt::Display for Translation<'_> {
+    ghost output = { λ t. Some (text_of_refusal t.0.now) };
+
     fn fmt<W: fmt::Write>(&self, f: &mut fmt::Formatter<W>) -> fmt::Result {
         match self.0 {
             IommuError::CannotResolve { iova_range, reason } => {
@@ -123,7 +137,21 @@ impl fmt::Display for Translation<'_> {
     }
 }
 
-fn word_of(reason: Reason) -> &'static str {
+// The name of a kind that a script can meet. Every other is told as `Other`.
+fn name_of(kind: ErrorKind) -> &'static str
+    ensures { result.now ≡ text_of_kind kind }
+{
+    match kind {
+        ErrorKind::Interrupted => "Interrupted",
+        ErrorKind::WriteZero => "WriteZero",
+        ErrorKind::UnexpectedEof => "UnexpectedEof",
+        _ => "Other",
+    }
+}
+
+fn word_of(reason: Reason) -> &'static str
+    ensures { result.now ≡ text_of_reason reason }
+{
     match reason {
         Reason::MissingMapping => "missing",
         Reason::AccessNotAllowed => "access",
@@ -136,29 +164,41 @@ fn word_of(reason: Reason) -> &'static str {
 struct Range(IovaRange);
 
 impl fmt::Display for Range {
+    ghost output = { λ r. Some (text_of_range r.0.base.0 r.0.length) };
+
     fn fmt<W: fmt::Write>(&self, f: &mut fmt::Formatter<W>) -> fmt::Result {
-        write!(f, "{:#x}+{:#x}", self.0.base.0, self.0.length)
+        write!(f, "0x{:x}+0x{:x}", self.0.base.0, self.0.length)
     }
 }
 
 // What stands in a printed list.
 trait Item {
-    fn put<W: fmt::Write>(&self, f: &mut fmt::Formatter<W>) -> fmt::Result;
+    // Its text.
+    ghost text: { Self → List ℕ };
+
+    fn put<W: fmt::Write>(&self, f: &mut fmt::Formatter<W>) -> fmt::Result
+        ensures { WritesOnOk W.write_str_gives f.old result (text self.now) f.new };
 }
 
 impl Item for usize {
+    ghost text = { decimal };
+
     fn put<W: fmt::Write>(&self, f: &mut fmt::Formatter<W>) -> fmt::Result {
         write!(f, "{self}")
     }
 }
 
 impl Item for IovaRange {
+    ghost text = { λ r. text_of_range r.base.0 r.length };
+
     fn put<W: fmt::Write>(&self, f: &mut fmt::Formatter<W>) -> fmt::Result {
         write!(f, "{}", Range(*self))
     }
 }
 
 impl Item for MappedRange {
+    ghost text = { text_of_piece };
+
     fn put<W: fmt::Write>(&self, f: &mut fmt::Formatter<W>) -> fmt::Result {
         let range = IovaRange {
             base: self.base,
@@ -173,6 +213,8 @@ impl Item for MappedRange {
 struct Spaced<'a, T>(&'a [T]);
 
 impl<T: Item> fmt::Display for Spaced<'_, T> {
+    ghost output = { λ l. Some (spaced (map T.text l.0.now)) };
+
     fn fmt<W: fmt::Write>(&self, f: &mut fmt::Formatter<W>) -> fmt::Result {
         let Some((first, others)) = self.0.split_first() else {
             return write!(f, "-");
@@ -186,16 +228,30 @@ impl<T: Item> fmt::Display for Spaced<'_, T> {
     }
 }
 
+// A list of ranges.
+#[derive(Drop)]
+struct Ranges<'a>(&'a IovaRangeList);
+
+impl fmt::Display for Ranges<'_> {
+    ghost output = { λ l. Some (text_of_ranges l.0.now) };
+
+    fn fmt<W: fmt::Write>(&self, f: &mut fmt::Formatter<W>) -> fmt::Result {
+        write!(f, "{}", Spaced(self.0.as_slice()))
+    }
+}
+
 // Two hexadecimal digits a byte, or a dash where there is none.
 #[derive(Drop)]
 struct Hex<'a>(&'a [u8]);
 
 impl fmt::Display for Hex<'_> {
+    ghost output = { λ h. Some (text_of_bytes h.0.now) };
+
     fn fmt<W: fmt::Write>(&self, f: &mut fmt::Formatter<W>) -> fmt::Result {
         if self.0.is_empty() {
             return write!(f, "-");
         }
-        for byte in self.0 {
+        for &byte in self.0 {
             write!(f, "{byte:02x}")?;
         }
         Ok(())

@@ -1,4 +1,8 @@
 //! Lines that may come before the first command only.
+ghost use Rattle.std.specs.Option.{option_map};
+ghost use Rattle.vm_memory.specs.Reading.{Gives};
+ghost use Rattle.vm_memory.specs.Lines.{setup_fields};
+ghost use Rattle.vm_memory.specs.LineReading.{setup_at};
 
 use super::words::{LineError, Words};
 use std::num::NonZeroUsize;
@@ -30,7 +34,10 @@ pub(super) enum Setup {
 }
 
 /// The setup line that begins with a word, if there is one.
-pub(super) fn parse(word: &str, words: &mut Words<'_>) -> Result<Option<Setup>, LineError> {
+#[tactic(auto, unfolding(crate::specs::LineReading::setup_at))]
+pub(super) fn parse(word: &str, words: &mut Words<'_>) -> Result<Option<Setup>, LineError>
+    ensures { Gives (option_map setup_fields) result words.new (setup_at word.now words.old) }
+{
     Ok(match word {
         "block" => Some(Setup::Block {
             size: words.index()?,

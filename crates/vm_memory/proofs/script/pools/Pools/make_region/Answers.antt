@@ -1,11 +1,12 @@
-use Rattle.std.proofs.Common.{map, flat_map, arith}
+use Rattle.std.proofs.Common.{◌≡◌, ◌∙◌, true, length, rules, map, flat_map, slice_get, is_some, sym, ap, arith}
 use Rattle.std.proofs.lemmas.Grind.{common_steps, flat_map-append}
 use Rattle.std.proofs.lemmas.List.{map-append}
 use Rattle.vm_memory_guest.specs.Collection.{regions_of}
-use Rattle.vm_memory_guest.specs.Host.{Block, Place, IsHeld, shape_of}
-use Rattle.vm_memory_guest.specs.Mmap.{mmap_region}
+use Rattle.vm_memory_guest.specs.Host.{Shape, Block, Place, IsHeld, shape_of}
+use Rattle.vm_memory_guest.specs.Mmap.{WholeBlock, mmap_region}
 use Rattle.vm_memory_guest.specs.Region.{region_names}
 use Rattle.vm_memory_guest.proofs.HoldsLemmas.{Holds-append, IsHeld-whole}
+use Rattle.vm_memory.proofs.SetupLemmas.{IsWhole, region_added, region_refused}
 use Rattle.vm_memory.proofs.script.pools.Pools.make_region.Goals.{in-Ok, in-Err}
 use Rattle.vm_memory.proofs.script.pools.Pools.make_region.Goals as goal
 
@@ -28,3 +29,29 @@ invariant_of-self c =
           )
       | in-Err w ↦ (rw w.in-Err.ensures.err c.self.invariant.0, c.self.invariant.1)
     ]
+
+pub returns : goal.returns
+returns c =
+    let inside = c.self.inside in
+    let region = c.in-Some.region in
+    let is = c.in-Some.ensures.value in
+    let some : is_some c.block_len.result ≡ true = search rules in
+    let count : c.len-number.result ≡ length (regions_of inside.regions) = grind (arith, common_steps) in
+    let there = ap (λ (s : Shape). is_some (slice_get s.blocks c.args.block.0)) (sym c.shape.ensures.value)
+    ∙ ap is_some (sym c.block_len.ensures) ∙ some in
+    let whole : IsWhole inside.host c.args.block c.args.addr region = record {
+      there = there;
+      start = is.0;
+      block_is = ap (λ (m : WholeBlock). m.block) is.1 ∙ c.of_block-mapping.ensures.block;
+      size = ap (λ (m : WholeBlock). m.size) is.1 ∙ c.of_block-mapping.ensures.size;
+    } in
+    rw (← c.self.view_is) (elim c.match-add.branch [
+      | in-Ok w ↦
+          rw w.result-is
+          (region_added inside.host (regions_of inside.regions) _ (regions_of inside.translators) c.args.block c.args.addr
+          region _ whole count w.in-Ok.ensures.ok)
+      | in-Err w ↦
+          rw w.result-is
+          (region_refused inside.host (regions_of inside.regions) _ (regions_of inside.translators) c.args.block
+          c.args.addr region whole w.in-Err.ensures.err)
+    ])

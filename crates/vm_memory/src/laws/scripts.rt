@@ -1,0 +1,27 @@
+//! What holds of every line and of every script: each function here is a theorem, and does nothing.
+ghost use Rattle.std.specs.Prelude.{◌≡◌, ◌++◌, List, ℕ, flat_map};
+ghost use Rattle.vm_memory.specs.Lines.{Means};
+ghost use Rattle.vm_memory.specs.Machine.{Run};
+ghost use Rattle.vm_memory.specs.Pools.{no_parts, state_made};
+ghost use Rattle.vm_memory.specs.Script.{Answers, Stage, beginning, state_at};
+ghost use Rattle.vm_memory.specs.ScriptRun.{SetUpRun, commands_of, reply_line, setup_line, setups_of};
+ghost use Rattle.vm_memory.specs.State.{State};
+ghost use Rattle.vm_memory.specs.Words.{Each};
+ghost use Rattle.vm_memory.specs.declared.machine.command.Reply.{Reply};
+ghost use Rattle.vm_memory.specs.declared.script.line.Line.{Line};
+ghost use Rattle.vm_memory.specs.declared.script.reply.SetupReply.{SetupReply};
+
+/// A line means at most one thing.
+pub fn lines_mean_one_thing()
+    ensures { (line : List ℕ) (a b : Line) → Means line a → Means line b → a ≡ b }
+{}
+
+/// Where lines are answered one after another, their setup lines are made first, and then their commands are a run of
+/// the model. The text is that of the replies, a line each.
+pub fn scripts_run_the_model()
+    ensures { (lines : List (List ℕ)) (text : List ℕ) (end : Stage) → Answers beginning lines text end
+        → (meanings : List Line) × (made : List SetupReply) × (start : State) × (replies : List Reply)
+        × Each Means lines meanings × SetUpRun (state_made no_parts) (setups_of meanings) made start
+        × Run start (commands_of meanings) replies (state_at end)
+        × (text ≡ flat_map setup_line made ++ flat_map reply_line replies) }
+{}

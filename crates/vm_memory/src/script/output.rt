@@ -1,0 +1,73 @@
+//! What a script writes: texts, which wait until many of them are written at once.
+ghost use Rattle.std.specs.Prelude.{◌≡◌, ◌≤◌, ◌++◌, [], length, take, drop, IsTrue, MatchOption};
+ghost use Rattle.std.specs.Io.KnownBytes.{Appends, Keeps};
+ghost use Rattle.vm_memory.specs.Told.{Puts};
+
+use std::io::{ErrorKind, Write};
+
+// Texts of this many bytes in all wait at most.
+pub(super) const ROOM: usize = 0x2000;
+
+/// Takes a text, which waits behind those before it, or writes them. False where the output fails.
+pub(super) fn put<W: Write>(output: &mut W, waiting: &mut Vec<u8>, text: &[u8]) -> bool
+    ensures { Puts (W.contents output.old) waiting.old.items text.now result (W.contents output.new) waiting.new.items }
+{
+    if text.len() > ROOM.saturating_sub(waiting.len()) {
+        return put_behind(output, waiting, text);
+    }
+    waiting.extend_from_slice(text).is_ok()
+}
+
+// Writes what waits, and then takes a text, or writes a long one.
+fn put_behind<W: Write>(output: &mut W, waiting: &mut Vec<u8>, text: &[u8]) -> bool
+    ensures { Puts (W.contents output.old) waiting.old.items text.now result (W.contents output.new) waiting.new.items }
+{
+    if !write_all(output, waiting.as_slice()) {
+        return false;
+    }
+    waiting.clear();
+    if text.len() < ROOM {
+        return waiting.extend_from_slice(text).is_ok();
+    }
+    write_all(output, text)
+}
+
+/// Writes bytes. False where the output fails; then it may have taken the first of them.
+pub(super) fn write_all<W: Write>(output: &mut W, bytes: &[u8]) -> bool
+    ensures { Puts (W.contents output.old) [] bytes.now result (W.contents output.new) [] }
+{
+    write_out(output, bytes) == bytes.len()
+}
+
+// Writes bytes until the output fails, and answers how many it took.
+#[tactic(auto, using(crate::proofs::ToldLemmas::keeps_keeps, crate::proofs::ToldLemmas::keeps_then, crate::proofs::ToldLemmas::appends_appends))]
+fn write_out<W: Write>(output: &mut W, bytes: &[u8]) -> usize
+    ensures bound { result ≤ length bytes.now }
+    ensures wrote { Appends (W.contents output.old) (W.contents output.new) (take result bytes.now) }
+{
+    let mut written = 0;
+    while written < bytes.len() {
+        match write_again(output, &bytes[written..]) {
+            Some(count) if count > 0 => written += count,
+            _ => return written,
+        }
+    }
+    written
+}
+
+// Writes the first of these bytes, again where that is interrupted. None where the output fails.
+#[tactic(auto, using(crate::proofs::ToldLemmas::keeps_keeps, crate::proofs::ToldLemmas::keeps_then, crate::proofs::ToldLemmas::appends_appends))]
+fn write_again<W: Write>(output: &mut W, bytes: &[u8]) -> Option<usize>
+    ensures { MatchOption result (Keeps (W.contents output.old) (W.contents output.new))
+        (λ count. (count ≤ length bytes.now)
+        × Appends (W.contents output.old) (W.contents output.new) (take count bytes.now)) }
+{
+    for _ in 0..u64::MAX {
+        match output.write(bytes) {
+            Ok(count) => return Some(count),
+            Err(error) if error.kind() == ErrorKind::Interrupted => {}
+            Err(_) => return None,
+        }
+    }
+    None
+}
