@@ -39,3 +39,4 @@ pub mod ToldLemmas
 pub mod SessionLemmas
 pub mod ScriptLemmas
 pub mod ScriptLaws
+pub mod WritingLemmas
