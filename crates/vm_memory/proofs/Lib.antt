@@ -40,3 +40,4 @@ pub mod ToldLemmas
 pub mod SessionLemmas
 pub mod ScriptLemmas
 pub mod ScriptLaws
+pub mod WritingLemmas

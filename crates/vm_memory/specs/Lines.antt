@@ -1,16 +1,19 @@
 -- What the lines of a script mean.
-use Rattle.std.specs.Prelude.{◌≡◌, ◌==◌, ℕ, Bool, true, IsTrue, Result, Ok, Err, List, [], ◌∷◌, map, codes, Some, None}
+use Rattle.std.specs.Prelude.{◌≡◌, ◌<◌, ◌^◌, ◌==◌, ℕ, Bool, true, IsTrue, Result, Ok, Err, List, [], ◌∷◌, map, codes, Some, None}
 use Rattle.std.specs.Int.NonZero.{non_zero_usize_get}
 use Rattle.vm_memory.specs.Words.{Each, IsNumber, IsBytes, IsSourceStep, IsSinkStep, AreSteps, parts_of, word_of_access, word_of_switch, bytes_of_width}
 use Rattle.vm_memory_base.specs.declared.bitmap.BitmapId.{BitmapId}
 use Rattle.vm_memory_base.specs.declared.bitmap.BitmapId.TheVariants as bitmaps
 use Rattle.vm_memory_base.specs.declared.io.scripted.SourceStep.{SourceStep}
+use Rattle.vm_memory_base.specs.declared.io.scripted.SourceStep.TheVariants as gives
 use Rattle.vm_memory_base.specs.declared.io.scripted.SinkStep.{SinkStep}
+use Rattle.vm_memory_base.specs.declared.io.scripted.SinkStep.TheVariants as takes
 use Rattle.vm_memory.specs.declared.machine.command.Command as commands
 use Rattle.vm_memory.specs.declared.machine.command.Command.TheVariants.{FromRegions, Insert, Remove, Plain, NewMemory, ReplaceBackend, Enable}
 use Rattle.vm_memory.specs.declared.machine.command.Command.TheVariants.{Read, Write, ReadSlice, WriteSlice, Store, Load}
 use Rattle.vm_memory.specs.declared.machine.command.Command.TheVariants.{ReadFrom, ReadExactFrom, WriteTo, WriteAllTo, CheckRange, Copy}
 use Rattle.vm_memory.specs.declared.machine.command.Command.TheVariants.{Set, Invalidate, InvalidateAll, Lookup, Dirty, Harvest}
+use Rattle.std.specs.List.{AllByRecursion}
 use Rattle.std.specs.Str.{IsUtf8}
 use Rattle.vm_memory.specs.declared.script.line.Line.{Line}
 use Rattle.vm_memory.specs.declared.script.line.Line.TheVariants.{Nothing, Setup, Command}
@@ -34,6 +37,23 @@ IsField text (number n) = IsNumber text n
 IsField text (bytes bs) = IsBytes text bs
 IsField text (source steps) = AreSteps IsSourceStep text steps
 IsField text (sink steps) = AreSteps IsSinkStep text steps
+
+-- what a word can spell: numbers of 64 bits and bytes. Every value of a program is such
+abbrev pub CanGive : SourceStep → Type 0
+CanGive (gives.Give bs) = AllByRecursion (λ b. b < 256) bs
+CanGive (gives.Interrupted bs) = AllByRecursion (λ b. b < 256) bs
+CanGive (gives.Fail bs) = AllByRecursion (λ b. b < 256) bs
+
+abbrev pub CanTake : SinkStep → Type 0
+CanTake (takes.Take most) = most < 2 ^ 64
+CanTake step = Unit {0}
+
+abbrev pub CanSpell : Field → Type 0
+CanSpell (word w) = Unit {0}
+CanSpell (number n) = n < 2 ^ 64
+CanSpell (bytes bs) = AllByRecursion (λ b. b < 256) bs
+CanSpell (source steps) = AllByRecursion CanGive steps
+CanSpell (sink steps) = AllByRecursion CanTake steps
 
 -- the words of a line, with one space between any two, are these
 abbrev pub Spells : List ℕ → List Field → Type 0

@@ -1,19 +1,31 @@
 //! What holds of every line and of every script: each function here is a theorem, and does nothing.
 ghost use Rattle.std.specs.Prelude.{◌≡◌, ◌++◌, List, ℕ, flat_map};
-ghost use Rattle.vm_memory.specs.Lines.{Means};
+ghost use Rattle.std.specs.List.{AllByRecursion};
+ghost use Rattle.vm_memory.specs.Lines.{CanSpell, Means, command_fields, setup_fields};
 ghost use Rattle.vm_memory.specs.Machine.{Run};
 ghost use Rattle.vm_memory.specs.Pools.{no_parts, state_made};
 ghost use Rattle.vm_memory.specs.Script.{Answers, Stage, beginning, state_at};
 ghost use Rattle.vm_memory.specs.ScriptRun.{SetUpRun, commands_of, reply_line, setup_line, setups_of};
 ghost use Rattle.vm_memory.specs.State.{State};
 ghost use Rattle.vm_memory.specs.Words.{Each};
+ghost use Rattle.vm_memory.specs.declared.machine.command.Command.{Command};
 ghost use Rattle.vm_memory.specs.declared.machine.command.Reply.{Reply};
 ghost use Rattle.vm_memory.specs.declared.script.line.Line.{Line};
+ghost use Rattle.vm_memory.specs.declared.script.line.Line.TheVariants as lines;
+ghost use Rattle.vm_memory.specs.declared.script.setup.Setup.{Setup};
 ghost use Rattle.vm_memory.specs.declared.script.reply.SetupReply.{SetupReply};
 
 /// A line means at most one thing.
 pub fn lines_mean_one_thing()
     ensures { (line : List ℕ) (a b : Line) → Means line a → Means line b → a ≡ b }
+{}
+
+/// Each command and each setup line of numbers of 64 bits and bytes has a line that means it.
+pub fn meanings_have_lines()
+    ensures command { (c : Command) → AllByRecursion CanSpell (command_fields c)
+        → (line : List ℕ) × Means line (lines.Command c) }
+    ensures setup { (s : Setup) → AllByRecursion CanSpell (setup_fields s)
+        → (line : List ℕ) × Means line (lines.Setup s) }
 {}
 
 /// Where lines are answered one after another, their setup lines are made first, and then their commands are a run of
