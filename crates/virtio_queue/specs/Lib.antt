@@ -1,0 +1,9 @@
+pub mod Available
+pub mod ChainInside
+pub mod Descriptor
+pub mod Error
+pub mod Fields
+pub mod Notification
+pub mod Rings
+pub mod State
+pub mod Used
