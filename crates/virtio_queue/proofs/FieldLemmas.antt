@@ -51,7 +51,7 @@ word_answers m host base offset a p r placed at bytes outcome =
     let window = place_of 2 (reached_at m host a 2 permissions.Read) in
     let value = from_le_bytes w16 in
     let same : answered (λ w. value (bytes_at host.blocks (cells_of w))) window ≡ answered value (loaded m host a 2) =
-        answered_then (λ w. bytes_at host.blocks (cells_of w)) value window ∙ ap (answered value) bytes in
+    answered_then (λ w. bytes_at host.blocks (cells_of w)) value window ∙ ap (answered value) bytes in
     let given = access_answers _ r (λ (n : NeedsTranslation m 2). n.0) outcome in
     rw (← placed, at) (subst (λ e. Answers (IsOn m) (told e) (told r)) same given)
 
@@ -70,12 +70,12 @@ descriptor_answers m host table i a p r placed at (count, same_cells) outcome =
     let x = reached_at m host a 16 permissions.Read in
     let whole = all_of errors.PartialBuffer 16 (ended (length x.path) (option_map error_of x.fault)) in
     let same : answered (λ _. descriptor_of (bytes_at host.blocks (cells (windows x.path))))
-        (all_of errors.PartialBuffer 16 (ended (span (windows x.path)) (option_map error_of x.fault)))
-        ≡ answered descriptor_of (bytes_in m host a 16) =
-        ap (λ n. answered (λ _. descriptor_of (bytes_at host.blocks (cells (windows x.path))))
-        (all_of errors.PartialBuffer 16 (ended n (option_map error_of x.fault)))) count
-        ∙ ap (λ cs. answered (λ (u : Unit {0}). descriptor_of (bytes_at host.blocks cs)) whole) same_cells
-        ∙ answered_then (λ (u : Unit {0}). bytes_at host.blocks (path_cells x.path)) descriptor_of whole in
+    (all_of errors.PartialBuffer 16 (ended (span (windows x.path)) (option_map error_of x.fault)))
+    ≡ answered descriptor_of (bytes_in m host a 16) =
+    ap (λ n. answered (λ _. descriptor_of (bytes_at host.blocks (cells (windows x.path))))
+    (all_of errors.PartialBuffer 16 (ended n (option_map error_of x.fault)))) count
+    ∙ ap (λ cs. answered (λ (u : Unit {0}). descriptor_of (bytes_at host.blocks cs)) whole) same_cells
+    ∙ answered_then (λ (u : Unit {0}). bytes_at host.blocks (path_cells x.path)) descriptor_of whole in
     let given = access_answers _ r (λ (n : NeedsTranslation m 16). n.0) outcome in
     rw (← placed, at) (subst (λ e. Answers (IsOn m) (told e) (told r)) same given)
 

@@ -21,9 +21,9 @@ slot_of_count size n divides = mod-mod_of_dvd size n (dvd_of_mod-eq-zero size di
 -- numbers less than the size apart have different slots
 quotients : (size p q r i j : ℕ) → r + size * p ≡ i → r + size * q ≡ j → i < j → j < i + size → ⊥
 quotients size p q r i j is_i is_j below near = elim (cases_lt p q) [
-      | inl less ↦ let more = mul-le size (suc p) size q (omega arith) (omega arith) in omega (arith, more, mul-suc size p)
-      | inr least ↦ let more = mul-le size q size p (omega arith) least in omega (arith, more)
-    ]
+  | inl less ↦ let more = mul-le size (suc p) size q (omega arith) (omega arith) in omega (arith, more, mul-suc size p)
+  | inr least ↦ let more = mul-le size q size p (omega arith) least in omega (arith, more)
+]
 
 apart : (size i j : ℕ) → i < j → j < i + size → slot size j ≡ slot size i → ⊥
 apart size i j below near same =
@@ -81,12 +81,12 @@ module _ {X : Type 0} where
       → Keeps size start (with_slot slots (slot size index) x) (put ++ x ∷ []) gone
   put_one size start gone index slots put x divides is room keeps j least most =
       let place : slot size index ≡ slot size (start + length put) =
-          ap (slot size) is ∙ slot_of_count size (start + length put) divides in
+      ap (slot size) is ∙ slot_of_count size (start + length put) divides in
       elim (cases_lt j (length put)) [
         | inl before ↦
             let there = keeps j least before in
             let differs : slot size (start + j) ≡ slot size index → ⊥ =
-                λ e. apart size (start + j) (start + length put) (omega arith) (omega arith) (sym (e ∙ place)) in
+            λ e. apart size (start + j) (start + length put) (omega arith) (omega arith) (sym (e ∙ place)) in
             get_before put x j before ∙ there
             ∙ ap Some (sym (other_slot slots (slot size index) (slot size (start + j)) x differs))
         | inr behind ↦
@@ -139,14 +139,14 @@ module _ (size avail used : ℕ) (some : 0 < size) (fits : size ≤ 32768) (divi
       let gone = length s.popped in
       let n = ahead s.rings.avail_idx s.rings.next_avail in
       let away : n + gone ≡ put =
-          rw (h.avail_idx, h.next_avail) (ahead_is avail put gone h.popped_within
-          (omega (arith, h.room, h.taken_within, h.returned_within))) in
+      rw (h.avail_idx, h.next_avail) (ahead_is avail put gone h.popped_within
+      (omega (arith, h.room, h.taken_within, h.returned_within))) in
       elim (cases_lt gone put) [
         | inl more ↦
             let place : slot size s.rings.next_avail ≡ slot size (avail + gone) =
-                ap (slot size) h.next_avail ∙ slot_of_count size (avail + gone) divides in
+            ap (slot size) h.next_avail ∙ slot_of_count size (avail + gone) divides in
             next_some size s.rings.avail_idx s.rings.next_avail s.rings.avail (omega arith)
-                (omega (arith, h.room, h.taken_within, h.returned_within))
+            (omega (arith, h.room, h.taken_within, h.returned_within))
             ∙ ap (λ i. Ok (Some (s.rings.avail i))) place
             ∙ ap Ok (sym (h.heads gone (omega arith) more))
         | inr all ↦
@@ -167,13 +167,13 @@ module _ (size avail used : ℕ) (some : 0 < size) (fits : size ≤ 32768) (divi
       elim (cases_eq put gone) [
         | inl all ↦
             let same : s.rings.used_idx ≡ s.rings.next_used =
-                h.used_idx ∙ ap (λ n. (used + n) % 65536) all ∙ sym h.next_used in
+            h.used_idx ∙ ap (λ n. (used + n) % 65536) all ∙ sym h.next_used in
             none_there s same ∙ sym (slice_get_past s.returned gone (omega arith))
         | inr more ↦
             let differs : s.rings.used_idx ≡ s.rings.next_used → ⊥ =
-                λ e. more (same_count put gone h.taken_within near (sym h.used_idx ∙ e ∙ h.next_used)) in
+            λ e. more (same_count put gone h.taken_within near (sym h.used_idx ∙ e ∙ h.next_used)) in
             let place : slot size s.rings.next_used ≡ slot size (used + gone) =
-                ap (slot size) h.next_used ∙ slot_of_count size (used + gone) divides in
+            ap (slot size) h.next_used ∙ slot_of_count size (used + gone) divides in
             one_there s differs ∙ ap (λ i. Some (s.rings.used i)) place
             ∙ sym (h.entries gone (omega arith) (less put gone h.taken_within more))
       ]
@@ -317,9 +317,9 @@ size_divides n is =
     let none : 32768 % n ≡ 0 = eqb-true (32768 % n) 0 parts.1 in
     let twice : 65536 % n ≡ 0 = sym (mul-mod_second 2 32768 n) ∙ ap (λ r. 2 * r % n) none ∙ zero-mod n in
     let within : n ≤ 32768 = elim (cases_lt 32768 n) [
-          | inl past ↦ let whole : 32768 % n ≡ 32768 = mod-eq_of_lt past in absurd (omega arith)
-          | inr inside ↦ inside
-        ] in
+      | inl past ↦ let whole : 32768 % n ≡ 32768 = mod-eq_of_lt past in absurd (omega arith)
+      | inr inside ↦ inside
+    ] in
     record { some = ltb-true 0 n parts.0; fits = within; divides = twice }
 
 pub order_is_kept : (size avail used : ℕ) (es : List Event) → IsTrue (is_size size) → avail < 65536 → used < 65536
@@ -333,6 +333,9 @@ order_is_kept size avail used es is a u may =
     let d = size_divides size is in
     let s = story size es (beginning (empty_rings avail used)) in
     let h = story_holds size avail used d.some d.fits d.divides es (beginning (empty_rings avail used))
-        (begins size avail used d.some d.fits d.divides a u) may in
-    (h.popped, next_head size avail used d.some d.fits d.divides s h, h.taken,
-    next_entry size avail used d.some d.fits d.divides s h)
+    (begins size avail used d.some d.fits d.divides a u) may in (
+      h.popped,
+      next_head size avail used d.some d.fits d.divides s h,
+      h.taken,
+      next_entry size avail used d.some d.fits d.divides s h,
+    )

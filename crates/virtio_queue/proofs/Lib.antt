@@ -1,1 +1,3 @@
+mod ChainLemmas
 mod FieldLemmas
+mod HistoryLemmas

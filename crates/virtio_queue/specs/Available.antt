@@ -62,25 +62,23 @@ module _ {B : Type 0} (m : Memory) (host : Host B) where
   abbrev pub indirect_segments : Descriptor → Result (List Segment) QueueError
   indirect_segments d = and_then (indirect_len d) (λ n. and_then (followed_in d.addr n 0) direct)
 
-  -- the segments of a chain: the direct ones, and those of the indirect table that ends them, if one does
+  -- the segments that a head leads to: direct ones, and those of the indirect table that ends them, if one does
   abbrev pub with_indirect : List Segment → Option Descriptor → Result (List Segment) QueueError
   with_indirect front None = Ok front
   with_indirect front (Some d) = and_then (indirect_segments d) (λ behind. Ok (front ++ behind))
 
-  -- segments that make a chain
+  abbrev pub segments_at : QueueState → ℕ → Result (List Segment) QueueError
+  segments_at q head = and_then (followed_in q.desc_table q.size head) (λ f. with_indirect f.segments f.indirect)
+
+  -- the chain of a head, where its segments make one
   abbrev pub if_chain : List Segment → Option ChainFault → Result (List Segment) QueueError
   if_chain segments None = Ok segments
   if_chain segments (Some fault) = Err (errors.InvalidChain fault)
 
-  abbrev pub chained : List Segment → Result (List Segment) QueueError
-  chained segments = if_chain segments (chain_fault segments)
-
-  -- the chain of a head
   abbrev pub chain_at : QueueState → ℕ → Result (List Segment) QueueError
-  chain_at q head = and_then (followed_in q.desc_table q.size head) (λ f.
-      and_then (with_indirect f.segments f.indirect) chained)
+  chain_at q head = and_then (segments_at q head) (λ segments. if_chain segments (chain_fault segments))
 
-  -- ---- the available ring
+-- ---- the available ring
 
   -- the driver's index
   abbrev pub avail_idx : QueueState → Result ℕ QueueError

@@ -73,6 +73,14 @@ abbrev pub descriptor_at : {B : Type 0} → Memory → Host B → ℕ → ℕ �
 descriptor_at m host table i = and_then (place table (16 * i) 16) (λ a.
     told (answered descriptor_of (bytes_in m host a 16)))
 
+-- a used entry is 8 bytes: a head and a length, each with its lowest byte first
+abbrev pub pair_of : List ℕ → ℕ × ℕ
+pair_of bytes = (from_le_bytes w32 (take 4 bytes), from_le_bytes w32 (drop 4 bytes))
+
+-- the two numbers of 32 bits so far behind an address
+abbrev pub pair_at : {B : Type 0} → Memory → Host B → ℕ → ℕ → Result (ℕ × ℕ) QueueError
+pair_at m host base offset = and_then (place base offset 8) (λ a. told (answered pair_of (bytes_in m host a 8)))
+
 -- ---- writing
 
 -- whether n bytes at an address lie whole in memory and may be accessed so

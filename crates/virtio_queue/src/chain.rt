@@ -1,9 +1,9 @@
 //! Chains: what following `next` from a head gives.
-ghost use Rattle.std.specs.Prelude.{◌≡◌};
+ghost use Rattle.std.specs.Prelude.{◌≡◌, Ok, MatchResult};
 ghost use Rattle.vm_memory_guest.specs.Host.{shape_of, Holds};
-ghost use Rattle.virtio_queue.specs.Available.{chain_at, followed_in, indirect_len, indirect_segments};
+ghost use Rattle.virtio_queue.specs.Available.{chain_at, followed_in, indirect_len, indirect_segments, segments_at};
 ghost use Rattle.virtio_queue.specs.ChainInside.{Adds, Follows};
-ghost use Rattle.virtio_queue.specs.Fields.{Answers};
+ghost use Rattle.virtio_queue.specs.Fields.{Answers, Refuses};
 
 use crate::descriptor::Descriptor;
 use crate::error::QueueError;
@@ -27,7 +27,7 @@ fn follow<M: GuestMemory, B: Bitmap>(
         segments.new.items }
 {
     let mut index = first;
-    for _ in 0..len {
+    for _step in 0..len {
         if index >= len {
             return Err(QueueError::InvalidDescriptorIndex);
         }
@@ -43,11 +43,10 @@ fn follow<M: GuestMemory, B: Bitmap>(
         }
         index = descriptor.next;
     }
-    Err(if index < len {
-        QueueError::DescriptorLoop
-    } else {
-        QueueError::InvalidDescriptorIndex
-    })
+    if index >= len {
+        return Err(QueueError::InvalidDescriptorIndex);
+    }
+    Err(QueueError::DescriptorLoop)
 }
 
 // How many descriptors an indirect table has.
@@ -81,6 +80,27 @@ fn follow_indirect<M: GuestMemory, B: Bitmap>(
     }
 }
 
+// The segments of the chain of a head.
+fn segments_at<M: GuestMemory, B: Bitmap>(
+    alloc: Global,
+    mem: &M,
+    host: &HostMemory<B>,
+    state: &QueueState,
+    head: u16,
+) -> Result<Vec<Segment>, QueueError>
+    requires { Holds (shape_of host.now) (M.names mem.now) }
+    ensures { let expected = segments_at (M.memory mem.now) host.now state.now head in
+        MatchResult result (λ segments. expected ≡ Ok segments.items) (Refuses (Unit {0}) expected) }
+{
+    let mut segments = Vec::new(alloc);
+    let table = state.desc_table;
+    let Some(descriptor) = follow(mem, host, table, state.size, head, &mut segments)? else {
+        return Ok(segments);
+    };
+    follow_indirect(mem, host, &descriptor, &mut segments)?;
+    Ok(segments)
+}
+
 // The chain of a head.
 pub(crate) fn chain_at<M: GuestMemory, B: Bitmap>(
     alloc: Global,
@@ -92,12 +112,7 @@ pub(crate) fn chain_at<M: GuestMemory, B: Bitmap>(
     requires { Holds (shape_of host.now) (M.names mem.now) }
     ensures { Answers (Unit {0}) (chain_at (M.memory mem.now) host.now state.now head) result }
 {
-    let mut segments = Vec::new(alloc);
-    let end = follow(mem, host, state.desc_table, state.size, head, &mut segments)?;
-    if let Some(descriptor) = end {
-        follow_indirect(mem, host, &descriptor, &mut segments)?;
-    }
-    match Chain::new(segments) {
+    match Chain::new(segments_at(alloc, mem, host, state, head)?) {
         Ok(chain) => Ok(chain),
         Err(fault) => Err(QueueError::InvalidChain(fault)),
     }

@@ -4,12 +4,13 @@ ghost use Rattle.std.specs.Int.{w32, to_le_bytes};
 ghost use Rattle.vm_memory_base.specs.declared.iotlb.Permissions.TheVariants.{Write};
 ghost use Rattle.vm_memory_guest.specs.Host.{shape_of, Holds};
 ghost use Rattle.vm_memory_guest.specs.Memory.{IsOn};
-ghost use Rattle.virtio_queue.specs.Fields.{Answers, StoresWord, WritesBytes, descriptor_at, lies_whole, place, word_at};
+ghost use Rattle.virtio_queue.specs.Driver.{Puts};
+ghost use Rattle.virtio_queue.specs.Fields.{Answers, StoresWord, WritesBytes, descriptor_at, lies_whole, pair_at, place, word_at};
 
 use crate::descriptor::Descriptor;
 use crate::error::QueueError;
 use std::sync::atomic::Ordering;
-use vm_memory::{Bitmap, Bytes, GuestAddress, GuestMemory, HostMemory, Permissions};
+use vm_memory::{Bitmap, ByteValued, Bytes, GuestAddress, GuestMemory, HostMemory, Permissions};
 use vm_memory_guest::laws::accesses::{accesses_are_by_bytes, windows_of_accesses_are_their_paths};
 use vm_memory_guest::laws::typed::loads_and_stores_are_by_bytes;
 
@@ -106,6 +107,49 @@ pub(crate) fn write_pair<M: GuestMemory, B: Bitmap>(
     accesses_are_by_bytes::<()>();
     match Bytes::write_obj(mem, host, (first, second), GuestAddress(addr)) {
         Ok(()) => Ok(()),
+        Err(error) => Err(QueueError::of_access(error)),
+    }
+}
+
+// Writes a value so far behind an address, as far as memory goes.
+pub(crate) fn put_value<T: ByteValued, M: GuestMemory, B: Bitmap>(
+    mem: &M,
+    host: &mut HostMemory<B>,
+    base: u64,
+    offset: u64,
+    value: T,
+) -> Result<(), QueueError>
+    requires held { Holds (shape_of host.old) (M.names mem.now) }
+    requires some { 0 < T.width }
+    requires near { offset + T.width < 2 ^ 32 }
+    ensures put { Puts B.marks (M.memory mem.now) base offset (T.bytes value) host.old result host.new }
+    ensures shape { shape_of host.new ≡ shape_of host.old }
+{
+    accesses_are_by_bytes::<()>();
+    value.known();
+    let addr = GuestAddress(place(base, offset, T::size() as u64)?);
+    match Bytes::write_obj(mem, host, value, addr) {
+        Ok(()) => Ok(()),
+        Err(error) => Err(QueueError::of_access(error)),
+    }
+}
+
+// Reads two numbers of 32 bits so far behind an address.
+pub(crate) fn read_pair<M: GuestMemory, B: Bitmap>(
+    mem: &M,
+    host: &HostMemory<B>,
+    base: u64,
+    offset: u64,
+) -> Result<(u32, u32), QueueError>
+    requires held { Holds (shape_of host.now) (M.names mem.now) }
+    requires near { offset + 8 < 2 ^ 32 }
+    ensures { let m = M.memory mem.now in Answers (IsOn m) (pair_at m host.now base offset) result }
+{
+    accesses_are_by_bytes::<()>();
+    windows_of_accesses_are_their_paths();
+    let addr = GuestAddress(place(base, offset, 8)?);
+    match Bytes::read_obj::<(u32, u32), B>(mem, host, addr) {
+        Ok(pair) => Ok(pair),
         Err(error) => Err(QueueError::of_access(error)),
     }
 }

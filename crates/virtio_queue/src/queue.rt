@@ -7,6 +7,7 @@ mod available;
 mod notification;
 mod used;
 
+pub use self::notification::{VRING_AVAIL_F_NO_INTERRUPT, VRING_USED_F_NO_NOTIFY};
 use crate::error::QueueError;
 use crate::state::QueueState;
 use std::marker::Model;
@@ -42,7 +43,7 @@ impl Model for Queue {
 
 // Whether a size is a power of two, from 1 to 32768.
 #[inline]
-fn is_size(size: u16) -> bool
+pub(crate) fn is_size(size: u16) -> bool
     ensures { result ≡ is_size size }
 {
     size > 0 && 0x8000 % size == 0
