@@ -1,5 +1,5 @@
 -- Chains: what following `next` adds to the segments, turn by turn.
-use Rattle.std.proofs.Common.{◌≡◌, ◌∙◌, ℕ, suc, ◌+◌, ◌-◌, ◌<◌, ◌≤◌, nat_lt, if◌then◌else◌, Bool, true, false, List, [], ◌∷◌, ◌++◌, Option, Some, None, Result, Ok, Err, ap, inl, inr, refl, sym, subst, arith, append_assoc, append-nil, lt-ltb, le-ltb}
+use Rattle.std.proofs.Common.{◌≡◌, ◌∙◌, ℕ, suc, ◌+◌, ◌-◌, ◌<◌, ◌≤◌, if◌then◌else◌, true, false, List, [], ◌∷◌, ◌++◌, Some, None, Result, Ok, Err, ap, inl, inr, refl, sym, arith, append_assoc, append-nil, lt-ltb, le-ltb}
 use Rattle.std.proofs.lemmas.Bool.{cond_above, cond_below}
 use Rattle.vm_memory.specs.declared.chain.Segment.{Segment}
 use Rattle.virtio_queue.specs.Available.{Followed, entry, followed, prefixed}

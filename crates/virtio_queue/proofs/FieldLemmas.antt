@@ -1,9 +1,6 @@
 -- Fields of a queue: what accesses answer, told as what a queue answers.
-use Rattle.std.proofs.Common.{◌≡◌, ◌∙◌, ℕ, ◌+◌, ◌*◌, ◌^◌, nat_le, Bool, true, false, ◌&&◌, ◌==◌, List, [], ◌∷◌, length, Option, Some, None, option_map, Result, Ok, Err, ap, inl, inr, refl, subst, sym}
+use Rattle.std.proofs.Common.{◌≡◌, ◌∙◌, ℕ, ◌*◌, length, option_map, Result, Ok, Err, ap, inl, inr, refl, subst, sym}
 use Rattle.std.specs.Int.{w16, from_le_bytes, to_le_bytes}
-use Rattle.std.specs.Result.{MatchResult}
-use Rattle.std.proofs.lemmas.Bool.{eqb-true}
-use Rattle.vm_memory_base.specs.declared.iotlb.Permissions.{Permissions}
 use Rattle.vm_memory_base.specs.declared.iotlb.Permissions.TheVariants as permissions
 use Rattle.vm_memory_guest.specs.Access.{windows}
 use Rattle.vm_memory_guest.specs.Answer.{Outcome}
@@ -11,17 +8,15 @@ use Rattle.vm_memory_guest.specs.Dirt.{path_cells}
 use Rattle.vm_memory_guest.specs.Error.{error_of}
 use Rattle.vm_memory_guest.specs.Host.{Host, bytes_at}
 use Rattle.vm_memory_guest.specs.Memory.{Memory, IsOn, NeedsTranslation}
-use Rattle.vm_memory_guest.specs.Queries.{is_whole}
 use Rattle.vm_memory_guest.specs.Transfer.{all_of, ended}
 use Rattle.vm_memory_guest.specs.Typed.{answered, given, place_of, typed_path}
 use Rattle.vm_memory_guest.specs.Window.{Window, Writes, cells, cells_of, span}
 use Rattle.vm_memory_guest.specs.declared.region.error.GuestMemoryError.{GuestMemoryError}
 use Rattle.vm_memory_guest.specs.declared.region.error.GuestMemoryError.TheVariants as errors
 use Rattle.virtio_queue.specs.Error.{of_access}
-use Rattle.virtio_queue.specs.Fields.{Answers, Refuses, StoresWord, bytes_in, descriptor_at, descriptor_of, lies_whole, loaded, place, reached_at, told, word_at, word_window}
+use Rattle.virtio_queue.specs.Fields.{Answers, StoresWord, bytes_in, descriptor_at, descriptor_of, loaded, place, reached_at, told, word_at, word_window}
 use Rattle.virtio_queue.specs.declared.descriptor.Descriptor.{Descriptor}
 use Rattle.virtio_queue.specs.declared.error.QueueError.{QueueError}
-use Rattle.virtio_queue.specs.declared.error.QueueError.TheVariants as queue
 
 -- one function after another
 answered_then : {X Y Z E : Type 0} (f : X → Y) (g : Y → Z) (r : Result X E)

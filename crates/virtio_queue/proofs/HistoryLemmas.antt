@@ -1,5 +1,5 @@
 -- Histories of a queue: heads and entries keep their order.
-use Rattle.std.proofs.Common.{◌≡◌, ◌∙◌, ◌⊎◌, ℕ, zero, suc, ◌+◌, ◌*◌, ◌/◌, ◌%◌, ◌^◌, ◌<◌, ◌≤◌, Bool, true, false, ◌==◌, nat_lt, if◌then◌else◌, List, [], ◌∷◌, ◌++◌, length, take, Option, Some, None, Result, Ok, Err, IsTrue, ap, refl, sym, arith, rules, inl, inr, length-append}
+use Rattle.std.proofs.Common.{◌≡◌, ◌∙◌, ℕ, zero, suc, ◌+◌, ◌*◌, ◌/◌, ◌%◌, ◌^◌, ◌<◌, ◌≤◌, ◌==◌, nat_lt, if◌then◌else◌, List, [], ◌∷◌, ◌++◌, length, take, Option, Some, None, Ok, Err, IsTrue, ap, refl, sym, arith, inl, inr, length-append}
 use Rattle.std.specs.List.{slice_get}
 use Rattle.std.proofs.Math.Nat.{mod-eq_of_lt, mod-mod_of_dvd, mod-add-div, mul-suc, zero-mod}
 use Rattle.std.proofs.lemmas.Nat.{mul-le, mul-mod_second}
@@ -8,10 +8,9 @@ use Rattle.std.proofs.lemmas.Bool.{and_parts, cases_eq, cases_lt, eqb-true}
 use borrow.Author.Tests.{ltb-true}
 use Rattle.std.proofs.lemmas.Bool.Decides.{nat_tests}
 use Rattle.std.proofs.lemmas.Option.{slice_get_past, slice_get_within}
-use Rattle.virtio_queue.specs.History.{Entry, Rings, Story, Event, Publish, Pop, Return, Take, with_slot, head_to_pop, entry_to_take, after, after_pop, after_take, May, AllMay, story, beginning, empty_rings}
+use Rattle.virtio_queue.specs.History.{Entry, Story, Event, Publish, Pop, Return, Take, with_slot, head_to_pop, entry_to_take, after, after_pop, after_take, May, AllMay, story, beginning, empty_rings}
 use Rattle.virtio_queue.specs.Rings.{ahead, behind, next_in, slot}
 use Rattle.virtio_queue.specs.State.{is_size}
-use Rattle.virtio_queue.specs.declared.error.QueueError.{QueueError}
 use Rattle.virtio_queue.specs.declared.error.QueueError.TheVariants.{InvalidAvailRingIndex}
 
 -- the slot of an index is that of the number that it counts, since the size divides 2^16

@@ -1,5 +1,5 @@
 -- What the driver publishes: the available ring, and the chains of descriptors that its heads lead to.
-use Rattle.std.specs.Prelude.{◌≡◌, ◌⊎◌, ℕ, zero, suc, ◌+◌, ◌-◌, ◌*◌, ◌/◌, ◌%◌, ◌^◌, nat_lt, Bool, not, ◌&&◌, ◌==◌, if◌then◌else◌, List, [], ◌∷◌, ◌++◌, Option, Some, None, Result, Ok, Err}
+use Rattle.std.specs.Prelude.{◌≡◌, ◌⊎◌, ℕ, zero, suc, ◌+◌, ◌*◌, ◌/◌, ◌%◌, ◌^◌, nat_lt, ◌&&◌, ◌==◌, if◌then◌else◌, List, [], ◌∷◌, ◌++◌, Option, Some, None, Result, Ok, Err}
 use Rattle.vm_memory.specs.Chain.{chain_fault}
 use Rattle.vm_memory.specs.declared.chain.ChainFault.{ChainFault}
 use Rattle.vm_memory.specs.declared.chain.Segment.{Segment}
@@ -78,7 +78,7 @@ module _ {B : Type 0} (m : Memory) (host : Host B) where
   abbrev pub chain_at : QueueState → ℕ → Result (List Segment) QueueError
   chain_at q head = and_then (segments_at q head) (λ segments. if_chain segments (chain_fault segments))
 
--- ---- the available ring
+  -- ---- the available ring
 
   -- the driver's index
   abbrev pub avail_idx : QueueState → Result ℕ QueueError

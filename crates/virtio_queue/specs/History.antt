@@ -1,5 +1,5 @@
 -- Histories of a queue: the driver publishes heads and takes entries, and the device pops heads and returns entries.
-use Rattle.std.specs.Prelude.{◌≡◌, ℕ, ◌+◌, ◌<◌, Bool, ◌==◌, if◌then◌else◌, List, [], ◌∷◌, ◌++◌, length, Option, Some, None, Result, Ok, Err}
+use Rattle.std.specs.Prelude.{ℕ, ◌+◌, ◌<◌, ◌==◌, if◌then◌else◌, List, [], ◌∷◌, ◌++◌, length, Option, Some, None, Result, Ok, Err}
 use Rattle.virtio_queue.specs.Rings.{behind, next_in, slot}
 use Rattle.virtio_queue.specs.declared.error.QueueError.{QueueError}
 

@@ -5,6 +5,7 @@ pub mod Driver
 pub mod Error
 pub mod Fields
 pub mod History
+pub mod Linked
 pub mod Notification
 pub mod Rings
 pub mod State

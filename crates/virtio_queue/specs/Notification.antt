@@ -1,5 +1,5 @@
 -- Notifications: by flags, or by event indices.
-use Rattle.std.specs.Prelude.{◌≡◌, ℕ, ◌+◌, ◌-◌, ◌*◌, ◌%◌, ◌^◌, nat_lt, Bool, true, not, ◌==◌, if◌then◌else◌, Option, Some, None, Result, Ok, Err, MatchBool}
+use Rattle.std.specs.Prelude.{◌≡◌, ℕ, ◌+◌, ◌*◌, nat_lt, Bool, true, not, ◌==◌, if◌then◌else◌, Option, Some, None, Result, Ok, Err, MatchBool}
 use Rattle.vm_memory_guest.specs.Host.{Host}
 use Rattle.vm_memory_guest.specs.Memory.{Memory, IsOn}
 use Rattle.virtio_queue.specs.Available.{avail_idx}

@@ -1,5 +1,5 @@
 -- What the device gives back: the used ring, and whether a queue's areas lie in memory.
-use Rattle.std.specs.Prelude.{◌≡◌, ◌⊎◌, ℕ, ◌+◌, ◌*◌, ◌%◌, nat_le, not, ◌&&◌, min, if◌then◌else◌, List, ◌++◌, Option, Some, None, option_map, Bool, Result, Ok, Err}
+use Rattle.std.specs.Prelude.{◌≡◌, ◌⊎◌, ℕ, ◌+◌, ◌*◌, nat_le, not, ◌&&◌, min, if◌then◌else◌, List, ◌++◌, option_map, Bool, Result, Ok, Err}
 use Rattle.std.specs.Int.{w32, to_le_bytes}
 use Rattle.vm_memory_base.specs.declared.iotlb.Permissions.TheVariants as permissions
 use Rattle.vm_memory_guest.specs.Host.{Host}
