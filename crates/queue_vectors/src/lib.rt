@@ -4,4 +4,6 @@
 #[cfg(test)]
 mod pops;
 #[cfg(test)]
+mod returns;
+#[cfg(test)]
 mod rings;

@@ -1,6 +1,6 @@
 //! Chains that are popped, and everything that is refused.
 
-use crate::rings::{Host, Memory, Ring, halves_of, memory_of};
+use crate::rings::{Host, MIDDLE, Memory, Ring, bytes_of, changed, halves_of, memory_of};
 use std::alloc::Global;
 use std::test::Fail;
 use test_text::expect_text;
@@ -344,16 +344,27 @@ fn fill(host: &mut Host, memory: &Memory) -> Result<(), Fail> {
     Ok(())
 }
 
+// Where the areas of a queue begin, and whether pages are scattered: in one region, across pages, and across regions.
+const PLACES: [(u64, bool); 4] = [
+    (0x13c0, false),
+    (0x13c0, true),
+    (MIDDLE - 0x20, false),
+    (MIDDLE - 0x30, true),
+];
+
 #[test]
 fn chains_are_popped_or_refused(rt: HostRuntime) -> Result<(), Fail> {
     for (number, (ring, wanted)) in CASES.iter().enumerate() {
-        for scattered in [false, true] {
+        for (base, scattered) in PLACES {
             let mut host = HostMemory::new(rt.alloc());
             let memory = memory_of(rt.alloc(), &mut host, scattered)?;
             fill(&mut host, &memory)?;
-            let (_, mut queue) = halves_of(&mut host, &memory, 0x13c0, ring)?;
+            let (_, mut queue) = halves_of(&mut host, &memory, base, ring)?;
+            let before = bytes_of(rt.alloc(), &host, &memory)?;
             let told = pop_all(rt.alloc(), &host, &memory, &mut queue)?;
             expect_text(number, told.as_str(), wanted)?;
+            let changed = changed(rt.alloc(), &host, &memory, before.as_slice())?;
+            assert_eq!(rt; changed, 0);
         }
     }
     Ok(())

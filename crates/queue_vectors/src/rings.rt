@@ -13,31 +13,56 @@ pub type Host = HostMemory<ExclusiveBitmap>;
 
 pub type Memory = MachineMemory<GuestRegionMmap, TableIommu>;
 
-/// Where memory ends. It has two regions, which touch in the middle.
+/// Where memory begins, where its two regions touch, and where it ends.
+pub const BEGIN: u64 = 0x1000;
+
+pub const MIDDLE: u64 = 0x6000;
+
 pub const END: u64 = 0x8000;
 
 // The pages behind an IOMMU: each leads to another one.
 const PAGE: u64 = 0x400;
 
+const PAGES: u64 = 28;
+
 /// Memory of two regions, or the same behind an IOMMU whose pages are scattered.
 pub fn memory_of(alloc: Global, host: &mut Host, scattered: bool) -> Result<Memory, Fail> {
-    let half = (END / 2) as usize;
-    let ranges = [(GuestAddress(0), half), (GuestAddress(END / 2), half)];
+    let ranges = [
+        (GuestAddress(BEGIN), (MIDDLE - BEGIN) as usize),
+        (GuestAddress(MIDDLE), (END - MIDDLE) as usize),
+    ];
     let layout = GuestMemoryMmap::from_ranges(alloc, host, &ranges)?;
     if !scattered {
         return Ok(MachineMemory::Plain(layout));
     }
     let table = host.new_table()?;
     let space = host.new_space(ExclusiveBitmap::with_len(alloc, END as usize)?)?;
-    for page in 0..32u64 {
-        let from = GuestAddress(page * PAGE);
-        let to = GuestAddress((page * 5 + 3) % 32 * PAGE);
+    for page in 0..PAGES {
+        let from = GuestAddress(BEGIN + page * PAGE);
+        let to = GuestAddress(BEGIN + (page * 5 + 3) % PAGES * PAGE);
         host.table_mut(table)
             .set_mapping(from, to, PAGE as usize, Permissions::ReadWrite)?;
     }
     let iommu = Arc::new(alloc, TableIommu::new(table))?;
     let memory = IommuMemory::new(alloc, layout, iommu, true, space);
     Ok(MachineMemory::Translated(memory))
+}
+
+/// All bytes of a memory.
+pub fn bytes_of(alloc: Global, host: &Host, memory: &Memory) -> Result<Vec<u8>, Fail> {
+    if !host.holds(memory) {
+        return Err(Fail::new("the host holds the memory"));
+    }
+    let mut bytes = vec![in alloc; 0u8; (END - BEGIN) as usize]?;
+    memory.read_slice(host, bytes.as_mut_slice(), GuestAddress(BEGIN))?;
+    Ok(bytes)
+}
+
+/// How many bytes of a memory are not what they were.
+pub fn changed(alloc: Global, host: &Host, memory: &Memory, before: &[u8]) -> Result<usize, Fail> {
+    let now = bytes_of(alloc, host, memory)?;
+    let pairs = now.iter().zip(before.iter());
+    Ok(pairs.filter(|(a, b)| **a != **b).count())
 }
 
 /// A descriptor by its address, length, flags and next.
