@@ -1,275 +1,87 @@
 //! Chains that are popped, and everything that is refused.
 
-use crate::rings::{Host, MIDDLE, Memory, Ring, bytes_of, changed, halves_of, memory_of};
+use crate::rings::{Host, MIDDLE, Memory, bytes_of, changed, memory_of, put, queue_of};
 use std::alloc::Global;
 use std::test::Fail;
 use test_text::expect_text;
-use virtio_queue::Queue;
+use virtio_queue::{Queue, QueueError};
 use vm_memory::{Bytes, Chain, GuestAddress, HostMemory};
 
-// Flags of descriptors.
-const N: u16 = 1;
-
-const W: u16 = 2;
-
-const I: u16 = 4;
-
-const NOTHING: Ring = Ring {
-    size: 4,
-    start: 0,
-    table: &[],
-    indirect: &[],
-    heads: &[],
-    ahead: 0,
-};
-
-// Rings, and what popping answers until there is no more or something is refused, with `next_avail` then. Of a chain
-// it tells the head, the first bytes that can be read, and how many can be read and written.
-const CASES: [(Ring, &str); 28] = [
-    (NOTHING, "none 0"),
+// Rings as lines, and what popping answers until there is no more or something is refused, with `next_avail` then. Of a
+// chain it tells the head, the first bytes that can be read, and how many can be read and written.
+const CASES: [(&str, &str); 30] = [
+    ("q,4", "none 0"),
     // Chains of one, two and all descriptors.
+    ("q,4 t,1,4000,3,0,0 h,1", "1 [0, 1, 2] 3 0; none 1"),
     (
-        Ring {
-            table: &[(1, (0x4000, 3, 0, 0))],
-            heads: &[1],
-            ..NOTHING
-        },
-        "1 [0, 1, 2] 3 0; none 1",
-    ),
-    (
-        Ring {
-            table: &[(3, (0x4005, 2, N, 0)), (0, (0x4010, 7, W, 9))],
-            heads: &[3, 0],
-            ..NOTHING
-        },
+        "q,4 t,3,4005,2,1,0 t,0,4010,7,2,9 h,3 h,0",
         "3 [5, 6] 2 7; 0 [] 0 7; none 2",
     ),
     (
-        Ring {
-            table: &[
-                (2, (0x4001, 1, N, 3)),
-                (3, (0x4003, 1, N, 0)),
-                (0, (0x4005, 1, N, 1)),
-                (1, (0x4007, 1, 0, 0)),
-            ],
-            heads: &[2],
-            ..NOTHING
-        },
+        "q,4 t,2,4001,1,1,3 t,3,4003,1,1,0 t,0,4005,1,1,1 t,1,4007,1,0,0 h,2",
         "2 [1, 3, 5, 7] 4 0; none 1",
     ),
     // Loops of one and of two descriptors, and a `next` past the table.
-    (
-        Ring {
-            table: &[(0, (0x4000, 1, N, 0))],
-            heads: &[0],
-            ..NOTHING
-        },
-        "DescriptorLoop 0",
-    ),
-    (
-        Ring {
-            table: &[(0, (0x4000, 1, N, 1)), (1, (0x4000, 1, N, 0))],
-            heads: &[1],
-            ..NOTHING
-        },
-        "DescriptorLoop 0",
-    ),
-    (
-        Ring {
-            table: &[(0, (0x4000, 1, N, 4))],
-            heads: &[0],
-            ..NOTHING
-        },
-        "InvalidDescriptorIndex 0",
-    ),
+    ("q,4 t,0,4000,1,1,0 h,0", "DescriptorLoop 0"),
+    ("q,4 t,0,4000,1,1,1 t,1,4000,1,1,0 h,1", "DescriptorLoop 0"),
+    ("q,4 t,0,4000,1,1,4 h,0", "InvalidDescriptorIndex 0"),
     // Heads at the edges of the table.
     (
-        Ring {
-            table: &[(3, (0x4000, 1, 0, 0))],
-            heads: &[3, 4],
-            ..NOTHING
-        },
+        "q,4 t,3,4000,1,0,0 h,3 h,4",
         "3 [0] 1 0; InvalidDescriptorIndex 1",
     ),
-    (
-        Ring {
-            heads: &[65535],
-            ..NOTHING
-        },
-        "InvalidDescriptorIndex 0",
-    ),
+    ("q,4 h,ffff", "InvalidDescriptorIndex 0"),
     // An index that is as far ahead as the ring has slots, and one more, also across 65535.
+    ("q,2 t,0,4009,1,0,0 h,0 a,1", "0 [9] 1 0; 0 [9] 1 0; none 2"),
+    ("q,2 h,0 a,2", "InvalidAvailRingIndex 0"),
     (
-        Ring {
-            size: 2,
-            heads: &[0],
-            ahead: 1,
-            table: &[(0, (0x4009, 1, 0, 0))],
-            ..NOTHING
-        },
-        "0 [9] 1 0; 0 [9] 1 0; none 2",
-    ),
-    (
-        Ring {
-            size: 2,
-            heads: &[0],
-            ahead: 2,
-            ..NOTHING
-        },
-        "InvalidAvailRingIndex 0",
-    ),
-    (
-        Ring {
-            size: 2,
-            start: 65535,
-            heads: &[1, 0],
-            table: &[(0, (0x4009, 1, 0, 0)), (1, (0x4001, 2, 0, 0))],
-            ..NOTHING
-        },
+        "q,2,ffff t,0,4009,1,0,0 t,1,4001,2,0,0 h,1 h,0",
         "1 [1, 2] 2 0; 0 [9] 1 0; none 1",
     ),
-    (
-        Ring {
-            size: 2,
-            start: 65535,
-            heads: &[1, 0],
-            ahead: 1,
-            ..NOTHING
-        },
-        "InvalidAvailRingIndex 65535",
-    ),
-    (
-        Ring {
-            ahead: 65535,
-            ..NOTHING
-        },
-        "InvalidAvailRingIndex 0",
-    ),
+    ("q,2,ffff h,1 h,0 a,1", "InvalidAvailRingIndex 65535"),
+    ("q,4 a,ffff", "InvalidAvailRingIndex 0"),
     // A queue of one descriptor.
-    (
-        Ring {
-            size: 1,
-            start: 65535,
-            heads: &[0],
-            table: &[(0, (0x4002, 1, 0, 0))],
-            ..NOTHING
-        },
-        "0 [2] 1 0; none 0",
-    ),
-    (
-        Ring {
-            size: 1,
-            heads: &[1],
-            ..NOTHING
-        },
-        "InvalidDescriptorIndex 0",
-    ),
+    ("q,1,ffff t,0,4002,1,0,0 h,0", "0 [2] 1 0; none 0"),
+    ("q,1 h,1", "InvalidDescriptorIndex 0"),
     // Indirect tables: alone with WRITE, which is ignored, and behind direct descriptors.
     (
-        Ring {
-            table: &[(2, (0x3008, 16, I | W, 9))],
-            indirect: &[(0x3008, (0x4004, 2, 0, 9))],
-            heads: &[2],
-            ..NOTHING
-        },
+        "q,4 t,2,3008,10,6,9 i,3008,4004,2,0,9 h,2",
         "2 [4, 5] 2 0; none 1",
     ),
     (
-        Ring {
-            table: &[(0, (0x4001, 1, N, 1)), (1, (0x3000, 48, I, 0))],
-            indirect: &[
-                (0x3000, (0x4003, 1, N, 2)),
-                (0x3010, (0x4005, 9, W, 0)),
-                (0x3020, (0x4007, 8, N | W, 1)),
-            ],
-            heads: &[0],
-            ..NOTHING
-        },
+        "q,4 t,0,4001,1,1,1 t,1,3000,30,4,0 i,3000,4003,1,1,2 i,3010,4005,9,2,0 i,3020,4007,8,3,1 h,0",
         "0 [1, 3] 2 17; none 1",
     ),
     // What an indirect descriptor and its table may not be.
+    ("q,4 t,0,3000,10,5,1 h,0", "IndirectWithNext 0"),
     (
-        Ring {
-            table: &[(0, (0x3000, 16, I | N, 1))],
-            heads: &[0],
-            ..NOTHING
-        },
-        "IndirectWithNext 0",
-    ),
-    (
-        Ring {
-            table: &[(0, (0x3000, 16, I, 0))],
-            indirect: &[(0x3000, (0x3000, 16, I, 0))],
-            heads: &[0],
-            ..NOTHING
-        },
+        "q,4 t,0,3000,10,4,0 i,3000,3000,10,4,0 h,0",
         "NestedIndirect 0",
     ),
+    ("q,4 t,0,3000,0,4,0 h,0", "InvalidIndirectTable 0"),
+    ("q,4 t,0,3000,18,4,0 h,0", "InvalidIndirectTable 0"),
+    ("q,4 t,0,3000,100000,4,0 h,0", "InvalidIndirectTable 0"),
     (
-        Ring {
-            table: &[(0, (0x3000, 0, I, 0))],
-            heads: &[0],
-            ..NOTHING
-        },
-        "InvalidIndirectTable 0",
-    ),
-    (
-        Ring {
-            table: &[(0, (0x3000, 24, I, 0))],
-            heads: &[0],
-            ..NOTHING
-        },
-        "InvalidIndirectTable 0",
-    ),
-    (
-        Ring {
-            table: &[(0, (0x3000, 65536 * 16, I, 0))],
-            heads: &[0],
-            ..NOTHING
-        },
-        "InvalidIndirectTable 0",
-    ),
-    (
-        Ring {
-            table: &[(0, (0x3000, 32, I, 0))],
-            indirect: &[(0x3000, (0x4000, 1, N, 2))],
-            heads: &[0],
-            ..NOTHING
-        },
+        "q,4 t,0,3000,20,4,0 i,3000,4000,1,1,2 h,0",
         "InvalidDescriptorIndex 0",
     ),
     (
-        Ring {
-            table: &[(0, (0x3000, 32, I, 0))],
-            indirect: &[(0x3000, (0x4000, 1, N, 1)), (0x3010, (0x4000, 1, N, 0))],
-            heads: &[0],
-            ..NOTHING
-        },
+        "q,4 t,0,3000,20,4,0 i,3000,4000,1,1,1 i,3010,4000,1,1,0 h,0",
         "DescriptorLoop 0",
     ),
-    (
-        Ring {
-            table: &[(0, (0xffff_ffff_ffff_fff8, 16, I, 0))],
-            heads: &[0],
-            ..NOTHING
-        },
-        "AddressOverflow 0",
-    ),
+    ("q,4 t,0,fffffffffffffff8,10,4,0 h,0", "AddressOverflow 0"),
+    ("q,4 t,0,8000,10,4,0 h,0", "GuestMemory 0"),
     // Segments that make no chain.
     (
-        Ring {
-            table: &[(0, (0x4000, 1, N | W, 1)), (1, (0x4000, 1, 0, 0))],
-            heads: &[0],
-            ..NOTHING
-        },
+        "q,4 t,0,ffffffffffffffff,1,0,0 h,0",
+        "InvalidChain(Range) 0",
+    ),
+    (
+        "q,4 t,0,4000,1,3,1 t,1,4000,1,0,0 h,0",
         "InvalidChain(Order) 0",
     ),
     (
-        Ring {
-            table: &[(0, (0x4000, 0xffff_ffff, N, 1)), (1, (0x4000, 1, W, 0))],
-            heads: &[0],
-            ..NOTHING
-        },
+        "q,4 t,0,4000,ffffffff,1,1 t,1,4000,1,2,0 h,0",
         "InvalidChain(TooLong) 0",
     ),
 ];
@@ -317,6 +129,7 @@ fn pop(
             return Ok(true);
         }
         Ok(None) => write!(told, "none")?,
+        Err(QueueError::GuestMemory(_)) => write!(told, "GuestMemory")?,
         Err(error) => write!(told, "{error:?}")?,
     }
     Ok(false)
@@ -354,18 +167,51 @@ const PLACES: [(u64, bool); 4] = [
 
 #[test]
 fn chains_are_popped_or_refused(rt: HostRuntime) -> Result<(), Fail> {
-    for (number, (ring, wanted)) in CASES.iter().enumerate() {
+    for (number, (line, wanted)) in CASES.iter().enumerate() {
         for (base, scattered) in PLACES {
             let mut host = HostMemory::new(rt.alloc());
             let memory = memory_of(rt.alloc(), &mut host, scattered)?;
             fill(&mut host, &memory)?;
-            let (_, mut queue) = halves_of(&mut host, &memory, base, ring)?;
+            let mut queue = queue_of(&mut host, &memory, base, line)?;
             let before = bytes_of(rt.alloc(), &host, &memory)?;
             let told = pop_all(rt.alloc(), &host, &memory, &mut queue)?;
             expect_text(number, told.as_str(), wanted)?;
             let changed = changed(rt.alloc(), &host, &memory, before.as_slice())?;
             assert_eq!(rt; changed, 0);
         }
+    }
+    Ok(())
+}
+
+// Puts an indirect table of 300 descriptors of one byte each, which follow one another.
+fn put_long_table(host: &mut Host, memory: &Memory) -> Result<(), Fail> {
+    for i in 0..300u16 {
+        let flags = u16::from(i < 299);
+        let parts = (0x4000 + u64::from(i % 16), 1, flags, i.wrapping_add(1));
+        put(host, memory, 0x2000 + 16 * u64::from(i), parts)?;
+    }
+    Ok(())
+}
+
+#[test]
+fn indirect_tables_may_be_longer_than_a_queue(rt: HostRuntime) -> Result<(), Fail> {
+    for (number, (line, wanted)) in [
+        (
+            "q,2 t,1,2000,12c0,4,0 h,1",
+            "1 [0, 1, 2, 3, 4, 5, 6, 7] 300 0; none 1",
+        ),
+        ("q,2 t,1,2000,12b0,4,0 h,1", "InvalidDescriptorIndex 0"),
+    ]
+    .iter()
+    .enumerate()
+    {
+        let mut host = HostMemory::new(rt.alloc());
+        let memory = memory_of(rt.alloc(), &mut host, true)?;
+        fill(&mut host, &memory)?;
+        put_long_table(&mut host, &memory)?;
+        let mut queue = queue_of(&mut host, &memory, 0x1400, line)?;
+        let told = pop_all(rt.alloc(), &host, &memory, &mut queue)?;
+        expect_text(number, told.as_str(), wanted)?;
     }
     Ok(())
 }

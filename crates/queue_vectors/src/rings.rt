@@ -6,7 +6,7 @@ use std::test::Fail;
 use virtio_queue::{Descriptor, DriverQueue, Queue, QueueField};
 use vm_memory::{
     Bytes, ExclusiveBitmap, GuestAddress, GuestMemoryMmap, GuestRegionMmap, HostMemory,
-    IommuMemory, MachineMemory, NewBitmap, Permissions, TableIommu,
+    IommuMemory, MachineMemory, NewBitmap, Permissions, TableIommu, TlbId,
 };
 
 pub type Host = HostMemory<ExclusiveBitmap>;
@@ -25,6 +25,18 @@ const PAGE: u64 = 0x400;
 
 const PAGES: u64 = 28;
 
+// Maps a page to another one.
+fn map_page(host: &mut Host, table: TlbId, page: u64) -> Result<(), Fail> {
+    if page >= PAGES || !host.shape().has_table(table) {
+        return Err(Fail::new("the host has the table"));
+    }
+    let from = GuestAddress(BEGIN + page * PAGE);
+    let to = GuestAddress(BEGIN + (page * 5 + 3) % PAGES * PAGE);
+    host.table_mut(table)
+        .set_mapping(from, to, PAGE as usize, Permissions::ReadWrite)?;
+    Ok(())
+}
+
 /// Memory of two regions, or the same behind an IOMMU whose pages are scattered.
 pub fn memory_of(alloc: Global, host: &mut Host, scattered: bool) -> Result<Memory, Fail> {
     let ranges = [
@@ -38,10 +50,7 @@ pub fn memory_of(alloc: Global, host: &mut Host, scattered: bool) -> Result<Memo
     let table = host.new_table()?;
     let space = host.new_space(ExclusiveBitmap::with_len(alloc, END as usize)?)?;
     for page in 0..PAGES {
-        let from = GuestAddress(BEGIN + page * PAGE);
-        let to = GuestAddress(BEGIN + (page * 5 + 3) % PAGES * PAGE);
-        host.table_mut(table)
-            .set_mapping(from, to, PAGE as usize, Permissions::ReadWrite)?;
+        map_page(host, table, page)?;
     }
     let iommu = Arc::new(alloc, TableIommu::new(table))?;
     let memory = IommuMemory::new(alloc, layout, iommu, true, space);
@@ -79,24 +88,27 @@ pub fn descriptor_of(parts: Parts) -> Descriptor {
     }
 }
 
-/// What a driver put into memory.
-#[derive(Clone, Copy)]
-pub struct Ring {
-    /// The size of the queue.
-    pub size: u16,
-    /// Where the indices begin.
-    pub start: u16,
-    /// Descriptors of the table, with their indices.
-    pub table: &'static [(u16, Parts)],
-    /// Descriptors of indirect tables, with their addresses.
-    pub indirect: &'static [(u64, Parts)],
-    /// The heads that were published.
-    pub heads: &'static [u16],
-    /// How far the index is ahead of them.
-    pub ahead: u16,
+// A word of a line, which begins with a letter, and up to five numbers behind it, in base 16.
+fn parts_of(word: &str) -> Result<(&str, [u64; 5]), Fail> {
+    let mut kind = "";
+    let mut numbers = [0; 5];
+    for (place, part) in word.split(',').enumerate() {
+        if place == 0 {
+            kind = part;
+        } else if let Some(number) = numbers.get_mut(place - 1) {
+            *number = u64::from_str_radix(part, 16)?;
+        }
+    }
+    Ok((kind, numbers))
 }
 
-fn put(host: &mut Host, memory: &Memory, addr: u64, parts: Parts) -> Result<(), Fail> {
+// The lowest 16 bits of a number.
+fn low(number: u64) -> u16 {
+    (number & 0xffff) as u16
+}
+
+/// Puts a descriptor at an address.
+pub fn put(host: &mut Host, memory: &Memory, addr: u64, parts: Parts) -> Result<(), Fail> {
     if !host.holds(memory) {
         return Err(Fail::new("the host holds the memory"));
     }
@@ -117,32 +129,62 @@ fn publish(
     Ok(())
 }
 
-/// A driver's and a device's half over a ring that was put into memory, from an address on.
-pub fn halves_of(
+fn set_index(
     host: &mut Host,
     memory: &Memory,
-    base: u64,
-    ring: &Ring,
-) -> Result<(DriverQueue, Queue), Fail> {
-    let mut driver = DriverQueue::new(GuestAddress(base), ring.size)?;
-    let mut queue = driver.queue()?;
-    driver.next_avail = ring.start;
-    driver.next_used = ring.start;
-    queue.set_next_avail(ring.start);
-    queue.set_next_used(ring.start);
-    for (index, parts) in ring.table {
-        put(host, memory, base + 16 * u64::from(*index), *parts)?;
-    }
-    for (addr, parts) in ring.indirect {
-        put(host, memory, *addr, *parts)?;
-    }
-    for head in ring.heads {
-        publish(host, memory, &mut driver, *head)?;
-    }
+    driver: &DriverQueue,
+    index: u16,
+) -> Result<(), Fail> {
     if !host.holds(memory) {
         return Err(Fail::new("the host holds the memory"));
     }
-    let index = driver.next_avail.wrapping_add(ring.ahead);
     driver.set_field(memory, host, QueueField::AvailIdx, index)?;
-    Ok((driver, queue))
+    Ok(())
+}
+
+// Does what a word says.
+fn act(
+    host: &mut Host,
+    memory: &Memory,
+    base: u64,
+    driver: &mut DriverQueue,
+    word: &str,
+) -> Result<(), Fail> {
+    let (kind, [first, addr, len, flags, next]) = parts_of(word)?;
+    let parts = (addr, (len & 0xffff_ffff) as u32, low(flags), low(next));
+    match kind {
+        "q" => {
+            *driver = DriverQueue::new(GuestAddress(base), low(first))?;
+            driver.next_avail = low(addr);
+            driver.next_used = low(addr);
+            set_index(host, memory, driver, low(addr))
+        }
+        "t" => put(
+            host,
+            memory,
+            base.wrapping_add(16 * u64::from(low(first))),
+            parts,
+        ),
+        "i" => put(host, memory, first, parts),
+        "h" => publish(host, memory, driver, low(first)),
+        _ => set_index(
+            host,
+            memory,
+            driver,
+            driver.next_avail.wrapping_add(low(first)),
+        ),
+    }
+}
+
+/// A device's half over a ring that a line tells of. Its words are `q` (the size, and where the indices begin), `t`
+/// and `i` (the index in the table or the address of a descriptor, and its address, length, flags and next), `h` (a
+/// head that is published), `a` (how far the index is ahead of these).
+pub fn queue_of(host: &mut Host, memory: &Memory, base: u64, line: &str) -> Result<Queue, Fail> {
+    let mut driver = DriverQueue::new(GuestAddress(base), 1)?;
+    for word in line.split(' ') {
+        act(host, memory, base, &mut driver, word)?;
+    }
+    let mut queue = driver.queue()?;
+    queue.set_next_avail(driver.next_used);
+    Ok(queue)
 }
