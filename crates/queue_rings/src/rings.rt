@@ -1,4 +1,5 @@
 //! Rings from a fixed sequence of numbers: each field is mostly near what is right.
+ghost use Rattle.std.specs.Prelude.{◌≡◌, ◌⊎◌, ◌<◌, ◌^◌};
 
 use std::alloc::{AllocError, Global};
 use test_text::next_number;
@@ -28,7 +29,9 @@ impl Numbers {
     }
 
     /// A number below another, or 0 where that is 0.
-    pub fn below(&mut self, limit: u64) -> u64 {
+    pub fn below(&mut self, limit: u64) -> u64
+        ensures { (result < limit) ⊎ (result ≡ 0) }
+    {
         if limit == 0 {
             return 0;
         }
@@ -121,7 +124,9 @@ fn indirect_len(numbers: &mut Numbers) -> u64 {
 }
 
 // An index: mostly below a length, or just past it.
-fn index(numbers: &mut Numbers, len: u64) -> u64 {
+fn index(numbers: &mut Numbers, len: u64) -> u64
+    requires { len < 2 ^ 32 }
+{
     match numbers.below(64) {
         0 => len + numbers.below(2),
         1 => 65535 - numbers.below(2),
@@ -130,7 +135,9 @@ fn index(numbers: &mut Numbers, len: u64) -> u64 {
 }
 
 // Puts a descriptor of a table of so many, of which one in so many is indirect.
-fn put_descriptor(numbers: &mut Numbers, image: &mut Image, at: u64, len: u64, indirect: u64) {
+fn put_descriptor(numbers: &mut Numbers, image: &mut Image, at: u64, len: u64, indirect: u64)
+    requires { len < 2 ^ 32 }
+{
     let mut flags = 2 * u64::from(numbers.one_in(5)) + u64::from(numbers.below(8) < 4);
     let (mut addr, mut bytes) = (segment_addr(numbers), segment_len(numbers));
     if numbers.one_in(indirect) {
@@ -141,7 +148,7 @@ fn put_descriptor(numbers: &mut Numbers, image: &mut Image, at: u64, len: u64, i
         }
     }
     if numbers.one_in(64) {
-        flags += 8;
+        flags |= 8;
     }
     image.put(at, addr, 8);
     image.put(at.wrapping_add(8), bytes, 4);

@@ -155,9 +155,11 @@ pub fn popped(alloc: Global, image: &Image, setup: &Setup) -> Result<Outcome, Al
     let start = u64::from(setup.start);
     let size = u64::from(setup.size);
     // How many heads are there: the index counts modulo 65536.
-    let mut ahead = 0u64;
-    while ahead <= size && (start + ahead) % 65536 != index {
-        ahead += 1;
+    let mut ahead = 65536;
+    for count in 0..=size {
+        if ahead > size && (start + count) % 65536 == index {
+            ahead = count;
+        }
     }
     if ahead == 0 {
         return Ok(Outcome::Nothing);

@@ -88,18 +88,17 @@ pub fn descriptor_of(parts: Parts) -> Descriptor {
     }
 }
 
-// A word of a line, which begins with a letter, and up to five numbers behind it, in base 16.
-fn parts_of(word: &str) -> Result<(&str, [u64; 5]), Fail> {
-    let mut kind = "";
+// Up to five numbers of a word, in base 16, behind its letter.
+fn numbers_of(word: &str) -> Result<[u64; 5], Fail> {
     let mut numbers = [0; 5];
-    for (place, part) in word.split(',').enumerate() {
-        if place == 0 {
-            kind = part;
-        } else if let Some(number) = numbers.get_mut(place - 1) {
-            *number = u64::from_str_radix(part, 16)?;
+    let mut place = 0usize;
+    for part in word.split(',') {
+        if place > 0 && place <= 5 {
+            numbers[place - 1] = u64::from_str_radix(part, 16)?;
         }
+        place = place.saturating_add(1);
     }
-    Ok((kind, numbers))
+    Ok(numbers)
 }
 
 // The lowest 16 bits of a number.
@@ -150,23 +149,23 @@ fn act(
     driver: &mut DriverQueue,
     word: &str,
 ) -> Result<(), Fail> {
-    let (kind, [first, addr, len, flags, next]) = parts_of(word)?;
+    let [first, addr, len, flags, next] = numbers_of(word)?;
     let parts = (addr, (len & 0xffff_ffff) as u32, low(flags), low(next));
-    match kind {
-        "q" => {
+    match word.as_bytes().first() {
+        Some(b'q') => {
             *driver = DriverQueue::new(GuestAddress(base), low(first))?;
             driver.next_avail = low(addr);
             driver.next_used = low(addr);
             set_index(host, memory, driver, low(addr))
         }
-        "t" => put(
+        Some(b't') => put(
             host,
             memory,
             base.wrapping_add(16 * u64::from(low(first))),
             parts,
         ),
-        "i" => put(host, memory, first, parts),
-        "h" => publish(host, memory, driver, low(first)),
+        Some(b'i') => put(host, memory, first, parts),
+        Some(b'h') => publish(host, memory, driver, low(first)),
         _ => set_index(
             host,
             memory,
