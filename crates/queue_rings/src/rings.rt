@@ -106,6 +106,16 @@ fn segment_addr(numbers: &mut Numbers) -> u64 {
     }
 }
 
+// Where an indirect table lies: mostly where descriptors are, or at the end of memory, or at the greatest addresses.
+fn table_addr(numbers: &mut Numbers) -> u64 {
+    match numbers.below(24) {
+        0 => u64::MAX - numbers.below(24),
+        1 => BEGIN + SIZE as u64 - numbers.below(48),
+        2 => segment_addr(numbers),
+        _ => INDIRECT + 8 * numbers.below(8),
+    }
+}
+
 // How long a segment is: mostly short, or near 2^32.
 fn segment_len(numbers: &mut Numbers) -> u64 {
     if numbers.one_in(24) {
@@ -143,9 +153,7 @@ fn put_descriptor(numbers: &mut Numbers, image: &mut Image, at: u64, len: u64, i
     if numbers.one_in(indirect) {
         flags = (flags & 2) + 4 + u64::from(numbers.one_in(8));
         bytes = indirect_len(numbers);
-        if !numbers.one_in(8) {
-            addr = INDIRECT + 8 * numbers.below(8);
-        }
+        addr = table_addr(numbers);
     }
     if numbers.one_in(64) {
         flags |= 8;
