@@ -1,0 +1,5 @@
+mod ChainLemmas
+mod FieldLemmas
+mod HistoryLemmas
+mod LawLemmas
+mod LinkedLemmas

@@ -1,0 +1,12 @@
+pub mod Available
+pub mod ChainInside
+pub mod Descriptor
+pub mod Driver
+pub mod Error
+pub mod Fields
+pub mod History
+pub mod Linked
+pub mod Notification
+pub mod Rings
+pub mod State
+pub mod Used

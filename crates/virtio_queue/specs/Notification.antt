@@ -1,0 +1,64 @@
+-- Notifications: by flags, or by event indices.
+use Rattle.std.specs.Prelude.{◌≡◌, ℕ, ◌+◌, ◌*◌, nat_lt, Bool, true, not, ◌==◌, if◌then◌else◌, Option, Some, None, Result, Ok, Err, MatchBool}
+use Rattle.vm_memory_guest.specs.Host.{Host}
+use Rattle.vm_memory_guest.specs.Memory.{Memory, IsOn}
+use Rattle.virtio_queue.specs.Available.{avail_idx}
+use Rattle.virtio_queue.specs.Descriptor.{has_flag}
+use Rattle.virtio_queue.specs.Fields.{word_at, Answers, StoresWord}
+use Rattle.virtio_queue.specs.Rings.{ahead, and_then, before}
+use Rattle.virtio_queue.specs.State.{Virtqueue}
+use Rattle.virtio_queue.specs.declared.error.QueueError.{QueueError}
+use Rattle.virtio_queue.specs.declared.error.QueueError.TheVariants as errors
+use Rattle.virtio_queue.specs.declared.state.QueueState.{QueueState}
+
+-- whether an index is one of the n before the next one, modulo 2^16
+abbrev pub is_among : ℕ → ℕ → ℕ → Bool
+is_among n next i = nat_lt (ahead (before next) i) n
+
+module _ {B : Type 0} (m : Memory) (host : Host B) where
+  -- whether the driver wants to know of the last n entries: with event indices where its event is among them, else
+  -- where its flag NO_INTERRUPT is not set. Where it is not known how many are new, it does
+  abbrev pub wants_notification : QueueState → Option ℕ → Result Bool QueueError
+  wants_notification q None = Ok true
+  wants_notification q (Some n) = if q.event_idx_enabled
+      then and_then (word_at m host q.avail_ring (4 + 2 * q.size)) (λ event. Ok (is_among n q.next_used event))
+      else and_then (word_at m host q.avail_ring 0) (λ flags. Ok (not (has_flag flags 1)))
+
+  abbrev pub needs_notification : Virtqueue → Result Bool QueueError
+  needs_notification q =
+      if q.state.ready then wants_notification q.state q.added else Err errors.QueueNotReady
+
+  -- whether the driver has published more than was popped
+  abbrev pub has_more : QueueState → Result Bool QueueError
+  has_more q = and_then (avail_idx m host q) (λ idx. Ok (not (idx == q.next_avail)))
+
+-- the queue after it was asked whether the driver needs a notification: from now on entries count anew
+abbrev pub after_asked : Virtqueue → Result Bool QueueError → Virtqueue
+after_asked q (Ok needs) = record { state = q.state; added = Some 0 }
+after_asked q (Err e) = q
+
+-- where a device tells the driver when to notify it, behind the start of the used ring, and what it writes there to
+-- be notified: with event indices the next entry that it waits for, else no flag
+abbrev pub kick_offset : QueueState → ℕ
+kick_offset q = if q.event_idx_enabled then 4 + 8 * q.size else 0
+
+abbrev pub kick_value : QueueState → ℕ
+kick_value q = if q.event_idx_enabled then q.next_avail else 0
+
+module _ {B : Type 0} (marks : B → ℕ → ℕ → B → Type 0) (m : Memory) (q : QueueState) where
+  -- the driver is asked to notify, and then it is answered whether there is more in the ring by now
+  abbrev pub Enables : Host B → Result Bool QueueError → Host B → Type 0
+  Enables old answer new = (stored : Result (Unit {0}) QueueError)
+      × StoresWord marks m q.used_ring (kick_offset q) (kick_value q) old stored new
+      × Answers (IsOn m) (and_then stored (λ _. has_more m new q)) answer
+
+  -- a queue that is not ready is refused, and nothing changes
+  abbrev pub EnablesIfReady : Host B → Result Bool QueueError → Host B → Type 0
+  EnablesIfReady old answer new =
+      MatchBool q.ready (Enables old answer new) ((answer ≡ Err errors.QueueNotReady) × (new ≡ old))
+
+  -- the driver is asked not to notify, by the flag NO_NOTIFY. With event indices nothing has to be done
+  abbrev pub Disables : Host B → Result (Unit {0}) QueueError → Host B → Type 0
+  Disables old answer new = MatchBool q.ready
+      (MatchBool q.event_idx_enabled ((answer ≡ Ok tt) × (new ≡ old)) (StoresWord marks m q.used_ring 0 1 old answer new))
+      ((answer ≡ Err errors.QueueNotReady) × (new ≡ old))

@@ -1,0 +1,61 @@
+-- What the device gives back: the used ring, and whether a queue's areas lie in memory.
+use Rattle.std.specs.Prelude.{◌≡◌, ◌⊎◌, ℕ, ◌+◌, ◌*◌, nat_le, not, ◌&&◌, min, if◌then◌else◌, List, ◌++◌, option_map, Bool, Result, Ok, Err}
+use Rattle.std.specs.Int.{w32, to_le_bytes}
+use Rattle.vm_memory_base.specs.declared.iotlb.Permissions.TheVariants as permissions
+use Rattle.vm_memory_guest.specs.Host.{Host}
+use Rattle.vm_memory_guest.specs.Memory.{Memory, IsOn}
+use Rattle.virtio_queue.specs.Fields.{lies_whole, place, word_at, Refuses, StoresWord, WritesBytes}
+use Rattle.virtio_queue.specs.Rings.{and_then, behind, slot}
+use Rattle.virtio_queue.specs.State.{Virtqueue}
+use Rattle.virtio_queue.specs.declared.error.QueueError.{QueueError}
+use Rattle.virtio_queue.specs.declared.error.QueueError.TheVariants as errors
+use Rattle.virtio_queue.specs.declared.state.QueueState.{QueueState}
+
+module _ {B : Type 0} (m : Memory) (host : Host B) where
+  -- whether the table and the rings lie whole in memory, and the device may read the first two and write the third
+  abbrev pub areas_lie_whole : QueueState → Bool
+  areas_lie_whole q = lies_whole m host q.desc_table (16 * q.size) permissions.Read
+      && lies_whole m host q.avail_ring (6 + 2 * q.size) permissions.Read
+      && lies_whole m host q.used_ring (6 + 8 * q.size) permissions.Write
+
+  abbrev pub valid : QueueState → Result Bool QueueError
+  valid q = if q.ready then Ok (areas_lie_whole q) else Err errors.QueueNotReady
+
+  -- the device's index, as it lies in the ring
+  abbrev pub used_idx : QueueState → Result ℕ QueueError
+  used_idx q = if q.ready then word_at m host q.used_ring 2 else Err errors.QueueNotReady
+
+  -- the address of the entry that is written next, where it can be. That of an index lies at the index modulo the
+  -- size, and tells a head, which has to be one
+  abbrev pub entry_place : QueueState → ℕ → Result ℕ QueueError
+  entry_place q head = if not q.ready then Err errors.QueueNotReady
+      else if nat_le q.size head then Err errors.InvalidDescriptorIndex
+      else and_then (place q.used_ring (4 + 8 * slot q.size q.next_used) 8) (λ a.
+      if lies_whole m host a 8 permissions.Write then Ok a else Err errors.InvalidUsedEntry)
+
+-- the bytes of an entry: a head and how many bytes the device wrote, each with its lowest byte first
+abbrev pub entry_bytes : ℕ → ℕ → List ℕ
+entry_bytes head len = to_le_bytes w32 head ++ to_le_bytes w32 len
+
+module _ {B : Type 0} (marks : B → ℕ → ℕ → B → Type 0) (m : Memory) (q : QueueState) (head len : ℕ) where
+  -- the entry was written, and nothing else changed
+  abbrev pub WritesEntry : Host B → Host B → Type 0
+  WritesEntry old new = (a : ℕ) × (entry_place m old q head ≡ Ok a) × WritesBytes marks m a (entry_bytes head len) old new
+
+  -- the entry was refused, and nothing changed. Or it was written, and behind it the index was stored or refused
+  abbrev pub AddsUsed : Host B → Result (Unit {0}) QueueError → Host B → Type 0
+  AddsUsed old answer new =
+      ((e : QueueError) × (answer ≡ Err e) × Refuses (IsOn m) (entry_place m old q head) e × (new ≡ old))
+      ⊎ ((mid : Host B) × WritesEntry old mid × StoresWord marks m q.used_ring 2 (behind q.next_used) mid answer new)
+
+-- one entry more is counted, up to 65536
+abbrev pub one_more : ℕ → ℕ
+one_more n = min (n + 1) 65536
+
+-- the queue after an entry was added, or was not
+abbrev pub after_used : Virtqueue → Result (Unit {0}) QueueError → Virtqueue
+after_used q (Ok _) = record {
+  state = record q.state { next_used = behind q.state.next_used };
+  added = option_map one_more q.added;
+}
+after_used q (Err e) = q

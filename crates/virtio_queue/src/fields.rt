@@ -1,0 +1,177 @@
+//! The fields of a queue in guest memory: each is read or written by one access.
+ghost use Rattle.std.specs.Prelude.{◌≡◌, ◌+◌, ◌<◌, ◌^◌, ◌++◌, Ok, IsTrue, MatchResult};
+ghost use Rattle.std.specs.Int.{w32, to_le_bytes};
+ghost use Rattle.vm_memory_base.specs.declared.iotlb.Permissions.TheVariants.{Write};
+ghost use Rattle.vm_memory_guest.specs.Host.{shape_of, Holds};
+ghost use Rattle.vm_memory_guest.specs.Memory.{IsOn};
+ghost use Rattle.virtio_queue.specs.Driver.{Puts};
+ghost use Rattle.virtio_queue.specs.Fields.{Answers, StoresWord, WritesBytes, descriptor_at, lies_whole, pair_at, place, word_at};
+
+use crate::descriptor::Descriptor;
+use crate::error::QueueError;
+use std::sync::atomic::Ordering;
+use vm_memory::{Bitmap, ByteValued, Bytes, GuestAddress, GuestMemory, HostMemory, Permissions};
+use vm_memory_guest::laws::accesses::{accesses_are_by_bytes, windows_of_accesses_are_their_paths};
+use vm_memory_guest::laws::typed::loads_and_stores_are_by_bytes;
+
+// The address of a field of `size` bytes that lies so far behind an address.
+#[inline]
+pub(crate) fn place(base: u64, offset: u64, size: u64) -> Result<u64, QueueError>
+    requires some { 0 < size }
+    requires near { offset + size < 2 ^ 32 }
+    ensures { result ≡ place base offset size }
+{
+    match base.checked_add(offset + (size - 1)) {
+        Some(last) => Ok(last - (size - 1)),
+        None => Err(QueueError::AddressOverflow),
+    }
+}
+
+// Loads the number of 16 bits so far behind an address.
+#[inline]
+pub(crate) fn load_word<M: GuestMemory, B: Bitmap>(
+    mem: &M,
+    host: &HostMemory<B>,
+    base: u64,
+    offset: u64,
+) -> Result<u16, QueueError>
+    requires held { Holds (shape_of host.now) (M.names mem.now) }
+    requires near { offset + 2 < 2 ^ 32 }
+    ensures { let m = M.memory mem.now in Answers (IsOn m) (word_at m host.now base offset) result }
+{
+    loads_and_stores_are_by_bytes::<()>();
+    let addr = GuestAddress(place(base, offset, 2)?);
+    match Bytes::load::<u16, B>(mem, host, addr, Ordering::SeqCst) {
+        Ok(word) => Ok(word),
+        Err(error) => Err(QueueError::of_access(error)),
+    }
+}
+
+// Reads the descriptor of this index in a table.
+#[inline]
+pub(crate) fn descriptor_at<M: GuestMemory, B: Bitmap>(
+    mem: &M,
+    host: &HostMemory<B>,
+    table: u64,
+    index: u16,
+) -> Result<Descriptor, QueueError>
+    requires { Holds (shape_of host.now) (M.names mem.now) }
+    ensures { let m = M.memory mem.now in Answers (IsOn m) (descriptor_at m host.now table index) result }
+{
+    accesses_are_by_bytes::<()>();
+    windows_of_accesses_are_their_paths();
+    let addr = GuestAddress(place(table, 16 * u64::from(index), 16)?);
+    match Bytes::read_obj::<Descriptor, B>(mem, host, addr) {
+        Ok(descriptor) => Ok(descriptor),
+        Err(error) => Err(QueueError::of_access(error)),
+    }
+}
+
+// Stores a number of 16 bits so far behind an address.
+#[inline]
+pub(crate) fn store_word<M: GuestMemory, B: Bitmap>(
+    mem: &M,
+    host: &mut HostMemory<B>,
+    base: u64,
+    offset: u64,
+    value: u16,
+) -> Result<(), QueueError>
+    requires held { Holds (shape_of host.old) (M.names mem.now) }
+    requires near { offset + 2 < 2 ^ 32 }
+    ensures stored { StoresWord B.marks (M.memory mem.now) base offset value host.old result host.new }
+    ensures shape { shape_of host.new ≡ shape_of host.old }
+{
+    let addr = GuestAddress(place(base, offset, 2)?);
+    match Bytes::store(mem, host, value, addr, Ordering::SeqCst) {
+        Ok(()) => Ok(()),
+        Err(error) => Err(QueueError::of_access(error)),
+    }
+}
+
+// Writes two numbers of 32 bits to an address at which they lie whole.
+#[inline]
+pub(crate) fn write_pair<M: GuestMemory, B: Bitmap>(
+    mem: &M,
+    host: &mut HostMemory<B>,
+    addr: u64,
+    first: u32,
+    second: u32,
+) -> Result<(), QueueError>
+    requires held { Holds (shape_of host.old) (M.names mem.now) }
+    requires whole { IsTrue (lies_whole (M.memory mem.now) host.old addr 8 Write) }
+    ensures written { let m = M.memory mem.now in MatchResult result
+        (λ _. WritesBytes B.marks m addr (to_le_bytes w32 first ++ to_le_bytes w32 second) host.old host.new)
+        (λ e. (e ≡ QueueError.Memory) × IsOn m × (host.new ≡ host.old)) }
+    ensures shape { shape_of host.new ≡ shape_of host.old }
+{
+    accesses_are_by_bytes::<()>();
+    match Bytes::write_obj(mem, host, (first, second), GuestAddress(addr)) {
+        Ok(()) => Ok(()),
+        Err(error) => Err(QueueError::of_access(error)),
+    }
+}
+
+// Writes a value so far behind an address, as far as memory goes.
+pub(crate) fn put_value<T: ByteValued, M: GuestMemory, B: Bitmap>(
+    mem: &M,
+    host: &mut HostMemory<B>,
+    base: u64,
+    offset: u64,
+    value: T,
+) -> Result<(), QueueError>
+    requires held { Holds (shape_of host.old) (M.names mem.now) }
+    requires some { 0 < T.width }
+    requires near { offset + T.width < 2 ^ 32 }
+    ensures put { Puts B.marks (M.memory mem.now) base offset (T.bytes value) host.old result host.new }
+    ensures shape { shape_of host.new ≡ shape_of host.old }
+{
+    accesses_are_by_bytes::<()>();
+    value.known();
+    let addr = GuestAddress(place(base, offset, T::size() as u64)?);
+    match Bytes::write_obj(mem, host, value, addr) {
+        Ok(()) => Ok(()),
+        Err(error) => Err(QueueError::of_access(error)),
+    }
+}
+
+// Reads two numbers of 32 bits so far behind an address.
+pub(crate) fn read_pair<M: GuestMemory, B: Bitmap>(
+    mem: &M,
+    host: &HostMemory<B>,
+    base: u64,
+    offset: u64,
+) -> Result<(u32, u32), QueueError>
+    requires held { Holds (shape_of host.now) (M.names mem.now) }
+    requires near { offset + 8 < 2 ^ 32 }
+    ensures { let m = M.memory mem.now in Answers (IsOn m) (pair_at m host.now base offset) result }
+{
+    accesses_are_by_bytes::<()>();
+    windows_of_accesses_are_their_paths();
+    let addr = GuestAddress(place(base, offset, 8)?);
+    match Bytes::read_obj::<(u32, u32), B>(mem, host, addr) {
+        Ok(pair) => Ok(pair),
+        Err(error) => Err(QueueError::of_access(error)),
+    }
+}
+
+// Whether so many bytes at an address lie whole in memory and may be accessed so.
+pub(crate) fn lies_whole<M: GuestMemory, B: Bitmap>(
+    mem: &M,
+    host: &HostMemory<B>,
+    addr: u64,
+    count: u64,
+    access: Permissions,
+) -> Result<bool, QueueError>
+    requires held { Holds (shape_of host.now) (M.names mem.now) }
+    requires some { 0 < count }
+    ensures { let m = M.memory mem.now in
+        Answers (IsOn m) (Ok (lies_whole m host.now addr count access)) result }
+{
+    if addr > u64::MAX - (count - 1) {
+        return Ok(false);
+    }
+    match mem.check_range(host, GuestAddress(addr), count as usize, access) {
+        Ok(whole) => Ok(whole),
+        Err(error) => Err(QueueError::of_access(error)),
+    }
+}

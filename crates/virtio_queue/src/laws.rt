@@ -1,0 +1,78 @@
+//! What becomes of the heads and entries of a queue: each function here is a theorem, and does nothing.
+ghost use Rattle.std.specs.Prelude.{◌≡◌, ◌<◌, ◌≤◌, ◌^◌, ℕ, List, All, length, take, slice_get, IsTrue, Result, Ok, Err};
+ghost use Rattle.std.specs.Int.{w16, to_le_bytes};
+ghost use Rattle.vm_memory_base.specs.declared.iotlb.Permissions.TheVariants.{Write};
+ghost use Rattle.vm_memory_guest.specs.Access.{Reached};
+ghost use Rattle.vm_memory_guest.specs.Dirt.{after_write, with_pages};
+ghost use Rattle.vm_memory_guest.specs.Host.{Host};
+ghost use Rattle.vm_memory_guest.specs.Memory.{Memory};
+ghost use Rattle.vm_memory_guest.specs.Region.{IsRegion};
+ghost use Rattle.vm_memory_guest.specs.Typed.{typed_path};
+ghost use Rattle.virtio_queue.specs.Available.{Followed, avail_idx, followed, head_in, next_head};
+ghost use Rattle.virtio_queue.specs.Fields.{StoresWord, place, reached_at};
+ghost use Rattle.virtio_queue.specs.History.{Event, Rings, AllMay, beginning, empty_rings, entry_to_take, head_to_pop, story};
+ghost use Rattle.virtio_queue.specs.Linked.{AreLinked, told_by};
+ghost use Rattle.virtio_queue.specs.State.{is_size};
+ghost use Rattle.virtio_queue.specs.Used.{WritesEntry, entry_bytes, entry_place};
+ghost use Rattle.virtio_queue.specs.declared.descriptor.Descriptor.{Descriptor};
+ghost use Rattle.virtio_queue.specs.declared.error.QueueError.{QueueError};
+ghost use Rattle.virtio_queue.specs.declared.error.QueueError.TheVariants.{DescriptorLoop};
+ghost use Rattle.virtio_queue.specs.declared.state.QueueState.{QueueState};
+
+use vm_memory::{Bitmap, ExactBitmap};
+use vm_memory_guest::laws::accesses::accesses_are_by_bytes;
+use vm_memory_guest::laws::typed::loads_and_stores_are_by_bytes;
+
+/// What following `next` from an index gives is what some linked descriptors tell of, and no other: at most as many as
+/// is allowed, which is the length of the table. Where more are linked, they are a loop.
+pub fn chains_are_linked_descriptors()
+    ensures followed { (descriptor : ℕ → Result Descriptor QueueError) (len most i : ℕ) (f : Followed)
+        → followed descriptor len most i ≡ Ok f
+        → (ds : List Descriptor) × AreLinked descriptor len i ds × (length ds ≤ most) × (f ≡ told_by ds) }
+    ensures linked { (descriptor : ℕ → Result Descriptor QueueError) (len most i : ℕ) (ds : List Descriptor)
+        → AreLinked descriptor len i ds → length ds ≤ most → followed descriptor len most i ≡ Ok (told_by ds) }
+    ensures endless { (descriptor : ℕ → Result Descriptor QueueError) (len most i : ℕ) (ds : List Descriptor)
+        → AreLinked descriptor len i ds → most < length ds
+        → followed descriptor len most i ≡ Err DescriptorLoop }
+{}
+
+/// A store of a number of 16 bits, in a host with exact bitmaps, is the write of its bytes, one after the other, and so
+/// is the write of a used entry: each byte takes its place, and leaves its dirt. Nothing else changes.
+pub fn used_entries_are_written_by_bytes<B: ExactBitmap>()
+    ensures stored { (m : Memory) (base offset value : ℕ) (old new : Host B) → All IsRegion m.regions
+        → StoresWord B.marks m base offset value old (Ok tt) new
+        → (a : ℕ) × (xs : List Reached) × (place base offset 2 ≡ Ok a)
+        × (typed_path 2 (reached_at m old a 2 Write) ≡ Ok xs)
+        × (with_pages B.pages new ≡ after_write xs (to_le_bytes w16 value) (with_pages B.pages old)) }
+    ensures entry { (m : Memory) (q : QueueState) (head len : ℕ) (old new : Host B) → All IsRegion m.regions
+        → WritesEntry B.marks m q head len old new
+        → (a : ℕ) × (entry_place m old q head ≡ Ok a)
+        × (with_pages B.pages new
+        ≡ after_write (reached_at m old a 8 Write).path (entry_bytes head len) (with_pages B.pages old)) }
+{
+    accesses_are_by_bytes::<B>();
+    loads_and_stores_are_by_bytes::<B>();
+}
+
+/// Where the rings of a history say what lies in memory, the head that a queue pops next is the one that an event of
+/// the history pops.
+pub fn queues_pop_as_histories_do<B: Bitmap>()
+    ensures { (m : Memory) (host : Host B) (q : QueueState) (r : Rings) → q.next_avail ≡ r.next_avail
+        → avail_idx m host q ≡ Ok r.avail_idx
+        → ((i : ℕ) → i < q.size → head_in m host q i ≡ Ok (r.avail i)) → 0 < q.size
+        → next_head m host q ≡ head_to_pop q.size r }
+{}
+
+/// After all events in which the driver has at most `size` heads out, and the device returns no more than it popped:
+/// the heads that were popped are the first of those that were published, in order, and the next one is what is
+/// popped next. So none is popped twice and none is lost. And the entries that the driver took are the first of those
+/// that were returned, in order, and the next one is what it takes next. The indices begin anywhere.
+pub fn heads_and_entries_keep_their_order()
+    ensures { (size avail used : ℕ) (events : List Event) → IsTrue (is_size size) → avail < 2 ^ 16 → used < 2 ^ 16
+        → AllMay size events (beginning (empty_rings avail used))
+        → let s = story size events (beginning (empty_rings avail used)) in
+        (s.popped ≡ take (length s.popped) s.published)
+        × (head_to_pop size s.rings ≡ Ok (slice_get s.published (length s.popped)))
+        × (s.taken ≡ take (length s.taken) s.returned)
+        × (entry_to_take size s.rings ≡ slice_get s.returned (length s.taken)) }
+{}

@@ -1,0 +1,17 @@
+//! Split virtqueues over guest memory: what a device takes from a driver, and what it gives back.
+#![tactic(auto)]
+
+mod chain;
+mod descriptor;
+mod driver;
+mod error;
+mod fields;
+pub mod laws;
+mod queue;
+mod state;
+
+pub use descriptor::{Descriptor, VRING_DESC_F_INDIRECT, VRING_DESC_F_NEXT, VRING_DESC_F_WRITE};
+pub use driver::{DriverQueue, QueueField};
+pub use error::QueueError;
+pub use queue::{Queue, VRING_AVAIL_F_NO_INTERRUPT, VRING_USED_F_NO_NOTIFY};
+pub use state::QueueState;

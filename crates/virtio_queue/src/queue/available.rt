@@ -1,0 +1,92 @@
+//! What the driver publishes: the available ring, and the chains of its heads.
+ghost use Rattle.std.specs.Prelude.{◌≡◌, ◌<◌};
+ghost use Rattle.vm_memory_guest.specs.Host.{shape_of, Holds};
+ghost use Rattle.vm_memory_guest.specs.Memory.{IsOn};
+ghost use Rattle.virtio_queue.specs.Available.{MayWantChain, after_pop, avail_idx, next_head, popped};
+ghost use Rattle.virtio_queue.specs.Fields.{Answers};
+ghost use Rattle.virtio_queue.specs.State.{with_state};
+
+use super::Queue;
+use crate::chain::chain_at;
+use crate::error::QueueError;
+use crate::fields::load_word;
+use crate::state::QueueState;
+use std::alloc::Global;
+use vm_memory::{Bitmap, Chain, GuestMemory, HostMemory};
+
+// The driver's index.
+#[inline]
+pub(super) fn avail_idx<M: GuestMemory, B: Bitmap>(
+    mem: &M,
+    host: &HostMemory<B>,
+    state: &QueueState,
+) -> Result<u16, QueueError>
+    requires { Holds (shape_of host.now) (M.names mem.now) }
+    ensures { let m = M.memory mem.now in Answers (IsOn m) (avail_idx m host.now state.now) result }
+{
+    if !state.ready {
+        return Err(QueueError::QueueNotReady);
+    }
+    load_word(mem, host, state.avail_ring, 2)
+}
+
+// The head that is popped next, if the driver has published one.
+#[inline]
+fn next_head<M: GuestMemory, B: Bitmap>(
+    mem: &M,
+    host: &HostMemory<B>,
+    state: &QueueState,
+) -> Result<Option<u16>, QueueError>
+    requires held { Holds (shape_of host.now) (M.names mem.now) }
+    requires some { 0 < state.now.size }
+    ensures { let m = M.memory mem.now in Answers (IsOn m) (next_head m host.now state.now) result }
+{
+    let ahead = avail_idx(mem, host, state)?.wrapping_sub(state.next_avail);
+    if ahead == 0 {
+        return Ok(None);
+    }
+    if ahead > state.size {
+        return Err(QueueError::InvalidAvailRingIndex);
+    }
+    let slot = state.next_avail % state.size;
+    let head = load_word(mem, host, state.avail_ring, 4 + 2 * u64::from(slot))?;
+    Ok(Some(head))
+}
+
+impl Queue {
+    /// The driver's index in the available ring: how many heads it has published, modulo 2^16.
+    pub fn avail_idx<M: GuestMemory, B: Bitmap>(
+        &self,
+        mem: &M,
+        host: &HostMemory<B>,
+    ) -> Result<u16, QueueError>
+        requires { Holds (shape_of host.now) (M.names mem.now) }
+        ensures { let m = M.memory mem.now in Answers (IsOn m) (avail_idx m host.now self.now.state) result }
+    {
+        avail_idx(mem, host, &self.state)
+    }
+
+    /// The next chain that the driver has published, with its head, or `None` where there is none. Its place moves on
+    /// by one where there is a chain, and stays otherwise.
+    ///
+    /// The first thing that is wrong is refused, in the order of docs/VIRTQUEUE.md, "Popping". After an error a device
+    /// has to be reset: the next call meets the same error as long as the driver leaves it there.
+    pub fn pop_descriptor_chain<M: GuestMemory, B: Bitmap>(
+        &mut self,
+        alloc: Global,
+        mem: &M,
+        host: &HostMemory<B>,
+    ) -> Result<Option<(u16, Chain)>, QueueError>
+        requires { Holds (shape_of host.now) (M.names mem.now) }
+        ensures popped { let m = M.memory mem.now in let q = self.old.state in
+            Answers (MayWantChain m host.now q) (popped m host.now q) result }
+        ensures moved { self.new ≡ with_state self.old (after_pop self.old.state result) }
+    {
+        let Some(head) = next_head(mem, host, &self.state)? else {
+            return Ok(None);
+        };
+        let chain = chain_at(alloc, mem, host, &self.state, head)?;
+        self.state.next_avail = self.state.next_avail.wrapping_add(1);
+        Ok(Some((head, chain)))
+    }
+}

@@ -1,0 +1,116 @@
+//! Notifications: when the driver has to be told of used entries, and the device of available ones.
+ghost use Rattle.std.specs.Prelude.{◌≡◌};
+ghost use Rattle.vm_memory_guest.specs.Host.{shape_of, Holds};
+ghost use Rattle.vm_memory_guest.specs.Memory.{IsOn};
+ghost use Rattle.virtio_queue.specs.Fields.{Answers};
+ghost use Rattle.virtio_queue.specs.Notification.{Disables, EnablesIfReady, after_asked, is_among, needs_notification, wants_notification};
+
+use super::Queue;
+use super::available::avail_idx;
+use crate::error::QueueError;
+use crate::fields::{load_word, store_word};
+use crate::state::QueueState;
+use vm_memory::{Bitmap, GuestMemory, HostMemory};
+
+/// The flag of the available ring by which a driver asks for no notification.
+pub const VRING_AVAIL_F_NO_INTERRUPT: u16 = 1;
+
+/// The flag of the used ring by which a device asks for no notification.
+pub const VRING_USED_F_NO_NOTIFY: u16 = 1;
+
+// Whether an index is one of the `count` before the next one.
+#[inline]
+fn is_among(count: u32, next: u16, index: u16) -> bool
+    ensures { result ≡ is_among count next index }
+{
+    u32::from(next.wrapping_sub(1).wrapping_sub(index)) < count
+}
+
+// Whether the driver wants to know of the last entries, if it is known how many are new.
+fn wants_notification<M: GuestMemory, B: Bitmap>(
+    mem: &M,
+    host: &HostMemory<B>,
+    state: &QueueState,
+    added: Option<u32>,
+) -> Result<bool, QueueError>
+    requires { Holds (shape_of host.now) (M.names mem.now) }
+    ensures { let m = M.memory mem.now in Answers (IsOn m) (wants_notification m host.now state.now added) result }
+{
+    let Some(count) = added else {
+        return Ok(true);
+    };
+    if state.event_idx_enabled {
+        let offset = 4 + 2 * u64::from(state.size);
+        let event = load_word(mem, host, state.avail_ring, offset)?;
+        return Ok(is_among(count, state.next_used, event));
+    }
+    let flags = load_word(mem, host, state.avail_ring, 0)?;
+    Ok(flags & VRING_AVAIL_F_NO_INTERRUPT == 0)
+}
+
+impl Queue {
+    /// Whether the driver has to be notified of what was added to the used ring since this was last asked. With event
+    /// indices it has to where the index that it waits for is among these entries, and else where its flag does not
+    /// forbid it. At the first ask after `from_state` or `set_next_used` the answer is true.
+    pub fn needs_notification<M: GuestMemory, B: Bitmap>(
+        &mut self,
+        mem: &M,
+        host: &HostMemory<B>,
+    ) -> Result<bool, QueueError>
+        requires { Holds (shape_of host.now) (M.names mem.now) }
+        ensures needs { let m = M.memory mem.now in
+            Answers (IsOn m) (needs_notification m host.now self.old) result }
+        ensures asked { self.new ≡ after_asked self.old result }
+    {
+        if !self.state.ready {
+            return Err(QueueError::QueueNotReady);
+        }
+        let needs = wants_notification(mem, host, &self.state, self.added)?;
+        self.added = Some(0);
+        Ok(needs)
+    }
+
+    /// Asks the driver to notify the device of what it publishes, and answers whether there is more in the ring by
+    /// then than was popped. So a device that goes on popping where it is true misses nothing.
+    pub fn enable_notification<M: GuestMemory, B: Bitmap>(
+        &self,
+        mem: &M,
+        host: &mut HostMemory<B>,
+    ) -> Result<bool, QueueError>
+        requires { Holds (shape_of host.old) (M.names mem.now) }
+        ensures enabled { EnablesIfReady B.marks (M.memory mem.now) self.now.state host.old result host.new }
+        ensures shape { shape_of host.new ≡ shape_of host.old }
+    {
+        if !self.state.ready {
+            return Err(QueueError::QueueNotReady);
+        }
+        let state = &self.state;
+        if state.event_idx_enabled {
+            let offset = 4 + 8 * u64::from(state.size);
+            store_word(mem, host, state.used_ring, offset, state.next_avail)?;
+        } else {
+            store_word(mem, host, state.used_ring, 0, 0)?;
+        }
+        Ok(avail_idx(mem, host, state)? != state.next_avail)
+    }
+
+    /// Asks the driver not to notify the device. With event indices it does nothing: the driver notifies once, of the
+    /// entry that the device waits for.
+    pub fn disable_notification<M: GuestMemory, B: Bitmap>(
+        &self,
+        mem: &M,
+        host: &mut HostMemory<B>,
+    ) -> Result<(), QueueError>
+        requires { Holds (shape_of host.old) (M.names mem.now) }
+        ensures disabled { Disables B.marks (M.memory mem.now) self.now.state host.old result host.new }
+        ensures shape { shape_of host.new ≡ shape_of host.old }
+    {
+        if !self.state.ready {
+            return Err(QueueError::QueueNotReady);
+        }
+        if self.state.event_idx_enabled {
+            return Ok(());
+        }
+        store_word(mem, host, self.state.used_ring, 0, VRING_USED_F_NO_NOTIFY)
+    }
+}
