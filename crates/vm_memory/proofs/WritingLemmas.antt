@@ -31,30 +31,30 @@ use Rattle.vm_memory.proofs.SpellingLemmas.{first, second}
 -- ---- texts and their parts
 
 -- a letter, a digit, a dash or a colon; and one of these or a comma
-abbrev IsLetter : ℕ → Type 0
+abbrev pub IsLetter : ℕ → Type 0
 IsLetter b = (44 < b) × (b < 128)
 
-abbrev IsInWord : ℕ → Type 0
+abbrev pub IsInWord : ℕ → Type 0
 IsInWord b = (32 < b) × (b < 128)
 
-abbrev Letters : List ℕ → Type 0
+abbrev pub Letters : List ℕ → Type 0
 Letters text = AllByRecursion IsLetter text
 
-abbrev InWord : List ℕ → Type 0
+abbrev pub InWord : List ℕ → Type 0
 InWord text = AllByRecursion IsInWord text
 
 -- what holds of each holds of what follows from it
-weaker : {A : Type 0} (P Q : A → Type 0) (xs : List A) → ((x : A) → P x → Q x) → AllByRecursion P xs
+pub weaker : {A : Type 0} (P Q : A → Type 0) (xs : List A) → ((x : A) → P x → Q x) → AllByRecursion P xs
     → AllByRecursion Q xs
 weaker P Q [] f h = tt
 weaker P Q (x ∷ xs) f h = (f x h.0, weaker P Q xs f h.1)
 
-both : {A : Type 0} (P : A → Type 0) (xs ys : List A) → AllByRecursion P xs → AllByRecursion P ys
+pub both : {A : Type 0} (P : A → Type 0) (xs ys : List A) → AllByRecursion P xs → AllByRecursion P ys
     → AllByRecursion P (xs ++ ys)
 both P [] ys h k = k
 both P (x ∷ xs) ys h k = (h.0, both P xs ys h.1 k)
 
-in-word : (text : List ℕ) → Letters text → InWord text
+pub in-word : (text : List ℕ) → Letters text → InWord text
 in-word text h = weaker IsLetter IsInWord text (λ b l. let low = l.0 in (omega arith, l.1)) h
 
 -- texts with a separator between any two
@@ -62,10 +62,10 @@ joined : ℕ → List ℕ → List (List ℕ) → List ℕ
 joined c text [] = text
 joined c text (other ∷ texts) = text ++ c ∷ joined c other texts
 
-abbrev Apart : ℕ → List ℕ → Type 0
+abbrev pub Apart : ℕ → List ℕ → Type 0
 Apart c text = AllByRecursion (λ b. nat_eq b c ≡ false) text
 
-parts-one : (c : ℕ) (text : List ℕ) → Apart c text → parts_of c text ≡ text ∷ []
+pub parts-one : (c : ℕ) (text : List ℕ) → Apart c text → parts_of c text ≡ text ∷ []
 parts-one c [] h = refl
 parts-one c (b ∷ text) h = second _ _ _ h.0 ∙ ap (onto_first b) (parts-one c text h.1)
 
@@ -103,7 +103,7 @@ digits-letters (c ∷ cs) h =
     let high = range.1 in
     ((omega arith, omega arith), digits-letters cs h.1)
 
-decimal-letters : (n : ℕ) → n < 2 ^ 64 → Letters (decimal n)
+pub decimal-letters : (n : ℕ) → n < 2 ^ 64 → Letters (decimal n)
 decimal-letters n h = digits-letters (decimal n) (decimal_is_IsNumeral n h).0.1
 
 number-spelled : (n : ℕ) → n < 2 ^ 64 → IsNumber (decimal n) n
@@ -264,7 +264,7 @@ ascii : (text : List ℕ) → AllByRecursion (λ b. b < 128) text → IsAscii te
 ascii [] h = IsAscii-nil
 ascii (b ∷ text) h = IsAscii-cons b text h.0 (ascii text h.1)
 
-no_space : (text : List ℕ) → InWord text → Apart 32 text
+pub no_space : (text : List ℕ) → InWord text → Apart 32 text
 no_space text h =
     weaker IsInWord (λ b. nat_eq b 32 ≡ false) text (λ b l. let low = l.0 in ne_eqb b 32 (λ e. omega arith)) h
 
