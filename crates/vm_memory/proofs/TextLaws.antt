@@ -1,5 +1,5 @@
 -- Replies that differ have texts that differ.
-use Rattle.std.proofs.Common.{◌≡◌, ◌≢◌, ◌∙◌, ℕ, zero, suc, ◌+◌, ◌/◌, ◌%◌, ◌*◌, ◌<◌, ◌≤◌, ◌^◌, Bool, true, false, nat_eq, cond, List, [], ◌∷◌, ◌++◌, append_assoc, append-nil, map, flat_map, slice_index, Option, Some, None, refl, sym, ap, subst, inl, inr, codes, arith, lit<}
+use Rattle.std.proofs.Common.{◌≡◌, ◌≢◌, ◌∙◌, ℕ, ◌+◌, ◌/◌, ◌%◌, ◌*◌, ◌<◌, ◌^◌, Bool, true, false, nat_eq, cond, List, [], ◌∷◌, ◌++◌, append_assoc, append-nil, map, flat_map, refl, sym, ap, subst, codes, arith, lit<}
 use Rattle.std.specs.Fmt.{decimal, digits, digit_glyph}
 use Rattle.std.specs.List.{AllByRecursion, onto_first}
 use Rattle.std.specs.Str.{bytes_eq}
@@ -10,9 +10,7 @@ use Rattle.std.proofs.lemmas.Bool.{eq-eqb, ne_eqb}
 use Rattle.std.proofs.lemmas.Bool.Decides.{nat_tests}
 use Rattle.std.specs.Char.{digit_value}
 use Rattle.std.proofs.lemmas.Fmt.{decimal_is_IsNumeral, digits_is_IsNumeral}
-use Rattle.std.proofs.lemmas.Option.{same_Some}
 use Rattle.vm_memory_base.specs.Table.{Range}
-use Rattle.vm_memory_base.specs.declared.address.GuestAddress.{GuestAddress}
 use Rattle.vm_memory_base.specs.declared.iotlb.IovaRange.{IovaRange}
 use Rattle.vm_memory_base.specs.declared.iotlb.IommuError as errors
 use Rattle.vm_memory_base.specs.declared.iotlb.IommuError.TheVariants as error
@@ -20,13 +18,16 @@ use Rattle.vm_memory_base.specs.declared.iotlb.Reason.{Reason}
 use Rattle.vm_memory_base.specs.declared.iotlb.Reason.TheVariants.{MissingMapping, AccessNotAllowed, NotConfigured}
 use Rattle.vm_memory_base.specs.declared.iotlb.lookup.MappedRange.{MappedRange}
 use Rattle.vm_memory.specs.Words.{parts_of}
-use Rattle.vm_memory.specs.Texts.{CanEnd, CanFault, CanRefuse, CanTell, IsMet, hexadecimal, spaced, text_of, text_of_bytes, text_of_ending, text_of_fault, text_of_kind, text_of_piece, text_of_range, text_of_ranges, text_of_reason, text_of_refusal, two_digits, behind_space}
+use Rattle.vm_memory.specs.Texts.{CanEnd, CanFault, CanRefuse, CanTell, CanTellSetup, IsMet, text_of_setup, hexadecimal, spaced, text_of, text_of_bytes, text_of_ending, text_of_fault, text_of_kind, text_of_piece, text_of_range, text_of_ranges, text_of_reason, text_of_refusal, two_digits, behind_space}
 use Rattle.vm_memory.specs.declared.machine.command.Fault as faults
 use Rattle.vm_memory.specs.declared.machine.command.Fault.TheVariants as fault
 use Rattle.vm_memory.specs.declared.machine.command.Ending as endings
 use Rattle.vm_memory.specs.declared.machine.command.Ending.TheVariants as ending
 use Rattle.vm_memory.specs.declared.machine.command.Reply as replies
 use Rattle.vm_memory.specs.declared.machine.command.Reply.TheVariants as reply
+use Rattle.vm_memory.proofs.ReplyLemmas.{glyph-letter, glyph-value}
+use Rattle.vm_memory.specs.declared.script.reply.SetupReply as setups
+use Rattle.vm_memory.specs.declared.script.reply.SetupReply.TheVariants as setup
 use Rattle.vm_memory.proofs.SpellingLemmas.{first, other_word, second}
 use Rattle.vm_memory.proofs.WritingLemmas.{Apart, Letters, both, decimal-letters, in-word, no_space, parts-one, weaker}
 
@@ -250,44 +251,6 @@ range-letters base len h =
 range-word : (base len : ℕ) → Fits base len → parts_of 32 (text_of_range base len) ≡ text_of_range base len ∷ []
 range-word base len h = parts-one 32 _ (no_space (text_of_range base len) (range-letters base len h))
 
-glyph-letter : (n : ℕ) → n < 16 → (44 < digit_glyph false n) × (digit_glyph false n < 128)
-glyph-letter zero h = (lit< tt, lit< tt)
-glyph-letter (suc zero) h = (lit< tt, lit< tt)
-glyph-letter (suc (suc zero)) h = (lit< tt, lit< tt)
-glyph-letter (suc (suc (suc zero))) h = (lit< tt, lit< tt)
-glyph-letter (suc (suc (suc (suc zero)))) h = (lit< tt, lit< tt)
-glyph-letter (suc (suc (suc (suc (suc zero))))) h = (lit< tt, lit< tt)
-glyph-letter (suc (suc (suc (suc (suc (suc zero)))))) h = (lit< tt, lit< tt)
-glyph-letter (suc (suc (suc (suc (suc (suc (suc zero))))))) h = (lit< tt, lit< tt)
-glyph-letter (suc (suc (suc (suc (suc (suc (suc (suc zero)))))))) h = (lit< tt, lit< tt)
-glyph-letter (suc (suc (suc (suc (suc (suc (suc (suc (suc zero))))))))) h = (lit< tt, lit< tt)
-glyph-letter (suc (suc (suc (suc (suc (suc (suc (suc (suc (suc zero)))))))))) h = (lit< tt, lit< tt)
-glyph-letter (suc (suc (suc (suc (suc (suc (suc (suc (suc (suc (suc zero))))))))))) h = (lit< tt, lit< tt)
-glyph-letter (suc (suc (suc (suc (suc (suc (suc (suc (suc (suc (suc (suc zero)))))))))))) h = (lit< tt, lit< tt)
-glyph-letter (suc (suc (suc (suc (suc (suc (suc (suc (suc (suc (suc (suc (suc zero))))))))))))) h = (lit< tt, lit< tt)
-glyph-letter (suc (suc (suc (suc (suc (suc (suc (suc (suc (suc (suc (suc (suc (suc zero)))))))))))))) h = (lit< tt, lit< tt)
-glyph-letter (suc (suc (suc (suc (suc (suc (suc (suc (suc (suc (suc (suc (suc (suc (suc zero))))))))))))))) h = (lit< tt, lit< tt)
-glyph-letter (suc (suc (suc (suc (suc (suc (suc (suc (suc (suc (suc (suc (suc (suc (suc (suc n)))))))))))))))) h = absurd (omega arith)
-
-glyph-value : (n : ℕ) → n < 16 → digit_value (digit_glyph false n) ≡ n
-glyph-value zero h = refl
-glyph-value (suc zero) h = refl
-glyph-value (suc (suc zero)) h = refl
-glyph-value (suc (suc (suc zero))) h = refl
-glyph-value (suc (suc (suc (suc zero)))) h = refl
-glyph-value (suc (suc (suc (suc (suc zero))))) h = refl
-glyph-value (suc (suc (suc (suc (suc (suc zero)))))) h = refl
-glyph-value (suc (suc (suc (suc (suc (suc (suc zero))))))) h = refl
-glyph-value (suc (suc (suc (suc (suc (suc (suc (suc zero)))))))) h = refl
-glyph-value (suc (suc (suc (suc (suc (suc (suc (suc (suc zero))))))))) h = refl
-glyph-value (suc (suc (suc (suc (suc (suc (suc (suc (suc (suc zero)))))))))) h = refl
-glyph-value (suc (suc (suc (suc (suc (suc (suc (suc (suc (suc (suc zero))))))))))) h = refl
-glyph-value (suc (suc (suc (suc (suc (suc (suc (suc (suc (suc (suc (suc zero)))))))))))) h = refl
-glyph-value (suc (suc (suc (suc (suc (suc (suc (suc (suc (suc (suc (suc (suc zero))))))))))))) h = refl
-glyph-value (suc (suc (suc (suc (suc (suc (suc (suc (suc (suc (suc (suc (suc (suc zero)))))))))))))) h = refl
-glyph-value (suc (suc (suc (suc (suc (suc (suc (suc (suc (suc (suc (suc (suc (suc (suc zero))))))))))))))) h = refl
-glyph-value (suc (suc (suc (suc (suc (suc (suc (suc (suc (suc (suc (suc (suc (suc (suc (suc n)))))))))))))))) h = absurd (omega arith)
-
 bytes-letters : (bs : List ℕ) → AllByRecursion (λ b. b < 256) bs → Letters (flat_map two_digits bs)
 bytes-letters [] h = tt
 bytes-letters (b ∷ bs) h =
@@ -359,9 +322,6 @@ page-word n h = record {
   some = other_word (decimal n) (codes "-") (dash_digits n h);
   read = decimal-back n h;
 }
-
-range_text : Range → List ℕ
-range_text r = text_of_range r.base r.len
 
 range-item : (r : Range) → Fits r.base r.len → HasWord (λ (q : Range). text_of_range q.base q.len)
     (λ w. plain_range (range_back w)) r
@@ -599,3 +559,40 @@ reply-back reply.Memory h = refl
 -- replies of one text are one
 pub same_reply : (r s : replies.Reply) → CanTell r → CanTell s → text_of r ≡ text_of s → r ≡ s
 same_reply r s h k e = sym (reply-back r h) ∙ ap (λ t. reply_back (parts_of 32 t)) e ∙ reply-back s k
+
+-- ---- replies to setup lines
+
+setup_back : List (List ℕ) → setups.SetupReply
+setup_back ws =
+    let name = head ws in
+    let more = head (tail ws) in
+    cond (bytes_eq name (codes "block")) (setup.BlockMade (decimal_back more))
+    (cond (bytes_eq name (codes "space")) (setup.SpaceMade (decimal_back more))
+    (cond (bytes_eq name (codes "table")) (setup.TableMade (decimal_back more))
+    (cond (bytes_eq name (codes "region")) (setup.RegionMade (decimal_back more))
+    (cond (bytes_eq name (codes "translator")) (setup.TranslatorMade (decimal_back more))
+    (cond (bytes_eq more (codes "M1")) setup.InvalidSize
+    (cond (bytes_eq more (codes "F3")) setup.InvalidRegion
+    (cond (bytes_eq more (codes "NoSuch")) setup.NoSuch setup.Memory)))))))
+
+setup-back : (r : setups.SetupReply) → CanTellSetup r → setup_back (parts_of 32 (text_of_setup r)) ≡ r
+unfolding setup_back head tail
+setup-back (setup.BlockMade n) h =
+    ap (λ l. setup_back (codes "block" ∷ l)) (decimal-word n h) ∙ ap setup.BlockMade (decimal-back n h)
+setup-back (setup.SpaceMade n) h =
+    ap (λ l. setup_back (codes "space" ∷ l)) (decimal-word n h) ∙ ap setup.SpaceMade (decimal-back n h)
+setup-back (setup.TableMade n) h =
+    ap (λ l. setup_back (codes "table" ∷ l)) (decimal-word n h) ∙ ap setup.TableMade (decimal-back n h)
+setup-back (setup.RegionMade n) h =
+    ap (λ l. setup_back (codes "region" ∷ l)) (decimal-word n h) ∙ ap setup.RegionMade (decimal-back n h)
+setup-back (setup.TranslatorMade n) h =
+    ap (λ l. setup_back (codes "translator" ∷ l)) (decimal-word n h) ∙ ap setup.TranslatorMade (decimal-back n h)
+setup-back setup.InvalidSize h = refl
+setup-back setup.InvalidRegion h = refl
+setup-back setup.NoSuch h = refl
+setup-back setup.Memory h = refl
+
+pub same_setup_reply : (r s : setups.SetupReply) → CanTellSetup r → CanTellSetup s → text_of_setup r ≡ text_of_setup s
+    → r ≡ s
+same_setup_reply r s h k e =
+    sym (setup-back r h) ∙ ap (λ t. setup_back (parts_of 32 t)) e ∙ setup-back s k

@@ -1,16 +1,15 @@
 -- Each meaning of a line has a line.
-use Rattle.std.proofs.Common.{◌≡◌, ◌≢◌, ◌∙◌, ℕ, zero, suc, ◌+◌, ◌/◌, ◌%◌, ◌<◌, ◌≤◌, ◌^◌, Bool, true, false, ◌&&◌, nat_eq, nat_lt, cond, List, [], ◌∷◌, ◌++◌, map, slice_index, Option, Some, None, Ok, refl, sym, ap, subst, inl, inr, codes, arith, lit<}
+use Rattle.std.proofs.Common.{◌≡◌, ◌≢◌, ◌∙◌, ℕ, zero, suc, ◌/◌, ◌%◌, ◌<◌, ◌^◌, Bool, true, false, ◌&&◌, nat_eq, nat_lt, List, [], ◌∷◌, ◌++◌, map, slice_index, Some, None, refl, sym, ap, subst, inl, inr, codes, arith, lit<}
 use Rattle.std.specs.Fmt.{decimal}
-use Rattle.std.specs.Int.NonZero.{non_zero_usize_get}
 use Rattle.std.specs.List.{AllByRecursion, list_all, onto_first}
 use Rattle.std.specs.Str.{IsAscii, IsUtf8}
-use Rattle.std.specs.Str.Parse.{AllDigits, IsNumeral, digits_value}
+use Rattle.std.specs.Str.Parse.{AllDigits}
 use Rattle.std.proofs.lemmas.Bool.{and_parts, eq-eqb, ltb-true, ne_eqb}
 use Rattle.std.proofs.lemmas.Fmt.{decimal_is_IsNumeral}
 use Rattle.std.proofs.lemmas.Str.{IsUtf8-from_ascii}
 use Rattle.std.proofs.lemmas.Str.Ascii.{IsAscii-nil, IsAscii-cons}
 use Rattle.std.proofs.lemmas.Str.Parse.{digit_from_value}
-use Rattle.hex.specs.Hex.{IsBytes as AreBytes, decode_of, encode_lower, encode_with, lower_digits}
+use Rattle.hex.specs.Hex.{IsBytes as AreBytes, encode_lower, encode_with, lower_digits}
 use Rattle.hex.proofs.HexLemmas.{decode_of-encode_lower}
 use Rattle.vm_memory_base.specs.declared.bitmap.BitmapId.TheVariants as bitmaps
 use Rattle.vm_memory_base.specs.declared.iotlb.Permissions.{Permissions}
@@ -20,7 +19,7 @@ use Rattle.vm_memory_base.specs.declared.io.scripted.SourceStep.TheVariants as g
 use Rattle.vm_memory_base.specs.declared.io.scripted.SinkStep.{SinkStep}
 use Rattle.vm_memory_base.specs.declared.io.scripted.SinkStep.TheVariants as takes
 use Rattle.vm_memory.specs.Words.{AreSteps, Each, IsBytes, IsNumber, IsSinkStep, IsSourceStep, parts_of, word_of_access, word_of_switch}
-use Rattle.vm_memory.specs.Lines.{CanGive, CanSpell, CanTake, Field, IsField, Means, Spells, word, number, bytes, source, sink, command_fields, setup_fields, fields_of_bitmap}
+use Rattle.vm_memory.specs.Lines.{CanGive, CanSpell, CanTake, Field, IsField, Means, Spells, word, number, bytes, source, sink, command_fields, setup_fields}
 use Rattle.vm_memory.specs.declared.machine.command.Command as commands
 use Rattle.vm_memory.specs.declared.machine.command.Command.TheVariants as make
 use Rattle.vm_memory.specs.declared.script.line.Line.TheVariants.{Command, Setup}

@@ -167,3 +167,11 @@ CanTell (reply.Fails fails) = AllByRecursion (λ (r : Range). (r.base < 2 ^ 64) 
     × AllByRecursion (λ (r : Range). (r.base < 2 ^ 64) × (r.len < 2 ^ 64)) fails.access_fails
 CanTell (reply.Fault f) = CanFault f
 CanTell reply = Unit {0}
+
+abbrev pub CanTellSetup : setups.SetupReply → Type 0
+CanTellSetup (setup.BlockMade number) = number < 2 ^ 64
+CanTellSetup (setup.SpaceMade number) = number < 2 ^ 64
+CanTellSetup (setup.TableMade number) = number < 2 ^ 64
+CanTellSetup (setup.RegionMade number) = number < 2 ^ 64
+CanTellSetup (setup.TranslatorMade number) = number < 2 ^ 64
+CanTellSetup reply = Unit {0}
