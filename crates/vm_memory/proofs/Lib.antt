@@ -41,3 +41,4 @@ pub mod SessionLemmas
 pub mod ScriptLemmas
 pub mod ScriptLaws
 pub mod WritingLemmas
+pub mod TextLaws

@@ -1,6 +1,7 @@
 -- The texts of lists.
-use Rattle.std.proofs.Common.{◌≡◌, ◌∙◌, ℕ, ◌+◌, ◌-◌, ◌<◌, ◌^◌, false, List, [], ◌∷◌, ◌++◌, length, take, get_or, map, flat_map, refl, sym, ap}
-use Rattle.std.specs.Fmt.{digits, padded_integral, format_spec}
+use Rattle.std.proofs.Common.{zero, suc, lit<, arith, ◌≡◌, ◌∙◌, ℕ, ◌+◌, ◌-◌, ◌<◌, ◌^◌, false, List, [], ◌∷◌, ◌++◌, length, take, get_or, map, flat_map, refl, sym, ap}
+use Rattle.std.specs.Char.{digit_value}
+use Rattle.std.specs.Fmt.{digit_glyph, digits, padded_integral, format_spec}
 use Rattle.std.proofs.lemmas.Fmt.{hex_byte}
 use Rattle.std.proofs.lemmas.List.{flat_map_more, take_more}
 use Rattle.vm_memory_base.specs.Lookup.{range_in}
@@ -28,3 +29,42 @@ map-range_in (r ∷ ranges) = ap (λ texts. text_of_range r.base.0 r.length ∷ 
 pub text_of_ranges-map : (ranges : List IovaRange)
     → text_of_ranges (map range_in ranges) ≡ spaced (map (λ (r : IovaRange). text_of_range r.base.0 r.length) ranges)
 text_of_ranges-map ranges = ap spaced (map-range_in ranges)
+
+-- a hexadecimal digit is a letter or a decimal digit, and has its value
+pub glyph-letter : (n : ℕ) → n < 16 → (44 < digit_glyph false n) × (digit_glyph false n < 128)
+glyph-letter zero h = (lit< tt, lit< tt)
+glyph-letter (suc zero) h = (lit< tt, lit< tt)
+glyph-letter (suc (suc zero)) h = (lit< tt, lit< tt)
+glyph-letter (suc (suc (suc zero))) h = (lit< tt, lit< tt)
+glyph-letter (suc (suc (suc (suc zero)))) h = (lit< tt, lit< tt)
+glyph-letter (suc (suc (suc (suc (suc zero))))) h = (lit< tt, lit< tt)
+glyph-letter (suc (suc (suc (suc (suc (suc zero)))))) h = (lit< tt, lit< tt)
+glyph-letter (suc (suc (suc (suc (suc (suc (suc zero))))))) h = (lit< tt, lit< tt)
+glyph-letter (suc (suc (suc (suc (suc (suc (suc (suc zero)))))))) h = (lit< tt, lit< tt)
+glyph-letter (suc (suc (suc (suc (suc (suc (suc (suc (suc zero))))))))) h = (lit< tt, lit< tt)
+glyph-letter (suc (suc (suc (suc (suc (suc (suc (suc (suc (suc zero)))))))))) h = (lit< tt, lit< tt)
+glyph-letter (suc (suc (suc (suc (suc (suc (suc (suc (suc (suc (suc zero))))))))))) h = (lit< tt, lit< tt)
+glyph-letter (suc (suc (suc (suc (suc (suc (suc (suc (suc (suc (suc (suc zero)))))))))))) h = (lit< tt, lit< tt)
+glyph-letter (suc (suc (suc (suc (suc (suc (suc (suc (suc (suc (suc (suc (suc zero))))))))))))) h = (lit< tt, lit< tt)
+glyph-letter (suc (suc (suc (suc (suc (suc (suc (suc (suc (suc (suc (suc (suc (suc zero)))))))))))))) h = (lit< tt, lit< tt)
+glyph-letter (suc (suc (suc (suc (suc (suc (suc (suc (suc (suc (suc (suc (suc (suc (suc zero))))))))))))))) h = (lit< tt, lit< tt)
+glyph-letter (suc (suc (suc (suc (suc (suc (suc (suc (suc (suc (suc (suc (suc (suc (suc (suc n)))))))))))))))) h = absurd (omega arith)
+
+pub glyph-value : (n : ℕ) → n < 16 → digit_value (digit_glyph false n) ≡ n
+glyph-value zero h = refl
+glyph-value (suc zero) h = refl
+glyph-value (suc (suc zero)) h = refl
+glyph-value (suc (suc (suc zero))) h = refl
+glyph-value (suc (suc (suc (suc zero)))) h = refl
+glyph-value (suc (suc (suc (suc (suc zero))))) h = refl
+glyph-value (suc (suc (suc (suc (suc (suc zero)))))) h = refl
+glyph-value (suc (suc (suc (suc (suc (suc (suc zero))))))) h = refl
+glyph-value (suc (suc (suc (suc (suc (suc (suc (suc zero)))))))) h = refl
+glyph-value (suc (suc (suc (suc (suc (suc (suc (suc (suc zero))))))))) h = refl
+glyph-value (suc (suc (suc (suc (suc (suc (suc (suc (suc (suc zero)))))))))) h = refl
+glyph-value (suc (suc (suc (suc (suc (suc (suc (suc (suc (suc (suc zero))))))))))) h = refl
+glyph-value (suc (suc (suc (suc (suc (suc (suc (suc (suc (suc (suc (suc zero)))))))))))) h = refl
+glyph-value (suc (suc (suc (suc (suc (suc (suc (suc (suc (suc (suc (suc (suc zero))))))))))))) h = refl
+glyph-value (suc (suc (suc (suc (suc (suc (suc (suc (suc (suc (suc (suc (suc (suc zero)))))))))))))) h = refl
+glyph-value (suc (suc (suc (suc (suc (suc (suc (suc (suc (suc (suc (suc (suc (suc (suc zero))))))))))))))) h = refl
+glyph-value (suc (suc (suc (suc (suc (suc (suc (suc (suc (suc (suc (suc (suc (suc (suc (suc n)))))))))))))))) h = absurd (omega arith)

@@ -1,16 +1,15 @@
 -- Each meaning of a line has a line.
-use Rattle.std.proofs.Common.{◌≡◌, ◌≢◌, ◌∙◌, ℕ, zero, suc, ◌+◌, ◌/◌, ◌%◌, ◌<◌, ◌≤◌, ◌^◌, Bool, true, false, ◌&&◌, nat_eq, nat_lt, cond, List, [], ◌∷◌, ◌++◌, map, slice_index, Option, Some, None, Ok, refl, sym, ap, subst, inl, inr, codes, arith, lit<}
+use Rattle.std.proofs.Common.{◌≡◌, ◌≢◌, ◌∙◌, ℕ, zero, suc, ◌/◌, ◌%◌, ◌<◌, ◌^◌, Bool, true, false, ◌&&◌, nat_eq, nat_lt, List, [], ◌∷◌, ◌++◌, map, slice_index, Some, None, refl, sym, ap, subst, inl, inr, codes, arith, lit<}
 use Rattle.std.specs.Fmt.{decimal}
-use Rattle.std.specs.Int.NonZero.{non_zero_usize_get}
 use Rattle.std.specs.List.{AllByRecursion, list_all, onto_first}
 use Rattle.std.specs.Str.{IsAscii, IsUtf8}
-use Rattle.std.specs.Str.Parse.{AllDigits, IsNumeral, digits_value}
+use Rattle.std.specs.Str.Parse.{AllDigits}
 use Rattle.std.proofs.lemmas.Bool.{and_parts, eq-eqb, ltb-true, ne_eqb}
 use Rattle.std.proofs.lemmas.Fmt.{decimal_is_IsNumeral}
 use Rattle.std.proofs.lemmas.Str.{IsUtf8-from_ascii}
 use Rattle.std.proofs.lemmas.Str.Ascii.{IsAscii-nil, IsAscii-cons}
 use Rattle.std.proofs.lemmas.Str.Parse.{digit_from_value}
-use Rattle.hex.specs.Hex.{IsBytes as AreBytes, decode_of, encode_lower, encode_with, lower_digits}
+use Rattle.hex.specs.Hex.{IsBytes as AreBytes, encode_lower, encode_with, lower_digits}
 use Rattle.hex.proofs.HexLemmas.{decode_of-encode_lower}
 use Rattle.vm_memory_base.specs.declared.bitmap.BitmapId.TheVariants as bitmaps
 use Rattle.vm_memory_base.specs.declared.iotlb.Permissions.{Permissions}
@@ -20,7 +19,7 @@ use Rattle.vm_memory_base.specs.declared.io.scripted.SourceStep.TheVariants as g
 use Rattle.vm_memory_base.specs.declared.io.scripted.SinkStep.{SinkStep}
 use Rattle.vm_memory_base.specs.declared.io.scripted.SinkStep.TheVariants as takes
 use Rattle.vm_memory.specs.Words.{AreSteps, Each, IsBytes, IsNumber, IsSinkStep, IsSourceStep, parts_of, word_of_access, word_of_switch}
-use Rattle.vm_memory.specs.Lines.{CanGive, CanSpell, CanTake, Field, IsField, Means, Spells, word, number, bytes, source, sink, command_fields, setup_fields, fields_of_bitmap}
+use Rattle.vm_memory.specs.Lines.{CanGive, CanSpell, CanTake, Field, IsField, Means, Spells, word, number, bytes, source, sink, command_fields, setup_fields}
 use Rattle.vm_memory.specs.declared.machine.command.Command as commands
 use Rattle.vm_memory.specs.declared.machine.command.Command.TheVariants as make
 use Rattle.vm_memory.specs.declared.script.line.Line.TheVariants.{Command, Setup}
@@ -31,30 +30,30 @@ use Rattle.vm_memory.proofs.SpellingLemmas.{first, second}
 -- ---- texts and their parts
 
 -- a letter, a digit, a dash or a colon; and one of these or a comma
-abbrev IsLetter : ℕ → Type 0
+abbrev pub IsLetter : ℕ → Type 0
 IsLetter b = (44 < b) × (b < 128)
 
-abbrev IsInWord : ℕ → Type 0
+abbrev pub IsInWord : ℕ → Type 0
 IsInWord b = (32 < b) × (b < 128)
 
-abbrev Letters : List ℕ → Type 0
+abbrev pub Letters : List ℕ → Type 0
 Letters text = AllByRecursion IsLetter text
 
-abbrev InWord : List ℕ → Type 0
+abbrev pub InWord : List ℕ → Type 0
 InWord text = AllByRecursion IsInWord text
 
 -- what holds of each holds of what follows from it
-weaker : {A : Type 0} (P Q : A → Type 0) (xs : List A) → ((x : A) → P x → Q x) → AllByRecursion P xs
+pub weaker : {A : Type 0} (P Q : A → Type 0) (xs : List A) → ((x : A) → P x → Q x) → AllByRecursion P xs
     → AllByRecursion Q xs
 weaker P Q [] f h = tt
 weaker P Q (x ∷ xs) f h = (f x h.0, weaker P Q xs f h.1)
 
-both : {A : Type 0} (P : A → Type 0) (xs ys : List A) → AllByRecursion P xs → AllByRecursion P ys
+pub both : {A : Type 0} (P : A → Type 0) (xs ys : List A) → AllByRecursion P xs → AllByRecursion P ys
     → AllByRecursion P (xs ++ ys)
 both P [] ys h k = k
 both P (x ∷ xs) ys h k = (h.0, both P xs ys h.1 k)
 
-in-word : (text : List ℕ) → Letters text → InWord text
+pub in-word : (text : List ℕ) → Letters text → InWord text
 in-word text h = weaker IsLetter IsInWord text (λ b l. let low = l.0 in (omega arith, l.1)) h
 
 -- texts with a separator between any two
@@ -62,10 +61,10 @@ joined : ℕ → List ℕ → List (List ℕ) → List ℕ
 joined c text [] = text
 joined c text (other ∷ texts) = text ++ c ∷ joined c other texts
 
-abbrev Apart : ℕ → List ℕ → Type 0
+abbrev pub Apart : ℕ → List ℕ → Type 0
 Apart c text = AllByRecursion (λ b. nat_eq b c ≡ false) text
 
-parts-one : (c : ℕ) (text : List ℕ) → Apart c text → parts_of c text ≡ text ∷ []
+pub parts-one : (c : ℕ) (text : List ℕ) → Apart c text → parts_of c text ≡ text ∷ []
 parts-one c [] h = refl
 parts-one c (b ∷ text) h = second _ _ _ h.0 ∙ ap (onto_first b) (parts-one c text h.1)
 
@@ -103,7 +102,7 @@ digits-letters (c ∷ cs) h =
     let high = range.1 in
     ((omega arith, omega arith), digits-letters cs h.1)
 
-decimal-letters : (n : ℕ) → n < 2 ^ 64 → Letters (decimal n)
+pub decimal-letters : (n : ℕ) → n < 2 ^ 64 → Letters (decimal n)
 decimal-letters n h = digits-letters (decimal n) (decimal_is_IsNumeral n h).0.1
 
 number-spelled : (n : ℕ) → n < 2 ^ 64 → IsNumber (decimal n) n
@@ -264,7 +263,7 @@ ascii : (text : List ℕ) → AllByRecursion (λ b. b < 128) text → IsAscii te
 ascii [] h = IsAscii-nil
 ascii (b ∷ text) h = IsAscii-cons b text h.0 (ascii text h.1)
 
-no_space : (text : List ℕ) → InWord text → Apart 32 text
+pub no_space : (text : List ℕ) → InWord text → Apart 32 text
 no_space text h =
     weaker IsInWord (λ b. nat_eq b 32 ≡ false) text (λ b l. let low = l.0 in ne_eqb b 32 (λ e. omega arith)) h
 

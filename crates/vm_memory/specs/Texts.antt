@@ -1,8 +1,9 @@
 -- The texts of replies, as bytes.
-use Rattle.std.specs.Prelude.{ℕ, ◌/◌, ◌%◌, ◌++◌, Bool, true, false, List, [], ◌∷◌, map, flat_map, codes}
+use Rattle.std.specs.Prelude.{ℕ, ◌<◌, ◌^◌, ◌/◌, ◌%◌, ◌++◌, Bool, true, false, List, [], ◌∷◌, map, flat_map, codes}
+use Rattle.std.specs.List.{AllByRecursion}
 use Rattle.std.specs.Fmt.{decimal, digits, digit_glyph}
 use Rattle.std.specs.declared.io.ErrorKind.{ErrorKind}
-use Rattle.std.specs.declared.io.ErrorKind.TheVariants.{Interrupted, WriteZero, UnexpectedEof}
+use Rattle.std.specs.declared.io.ErrorKind.TheVariants.{Interrupted, WriteZero, UnexpectedEof, Other}
 use Rattle.vm_memory_base.specs.Table.{Range}
 use Rattle.vm_memory_base.specs.declared.iotlb.lookup.MappedRange.{MappedRange}
 use Rattle.vm_memory_base.specs.declared.iotlb.Reason.{Reason}
@@ -125,3 +126,52 @@ text_of_setup setup.InvalidSize = codes "error M1"
 text_of_setup setup.InvalidRegion = codes "error F3"
 text_of_setup setup.NoSuch = codes "error NoSuch"
 text_of_setup setup.Memory = codes "error Memory"
+
+-- what a script can tell: numbers of 64 bits, bytes, and the kinds of I/O errors that it can meet
+abbrev pub IsMet : ErrorKind → Type 0
+IsMet Interrupted = Unit {0}
+IsMet WriteZero = Unit {0}
+IsMet UnexpectedEof = Unit {0}
+IsMet Other = Unit {0}
+IsMet kind = ⊥
+
+abbrev pub CanRefuse : errors.IommuError → Type 0
+CanRefuse (error.CannotResolve range reason) = (range.base.0 < 2 ^ 64) × (range.length < 2 ^ 64)
+CanRefuse (error.Fragmented range length) =
+    (range.base.0 < 2 ^ 64) × (range.length < 2 ^ 64) × (length < 2 ^ 64)
+CanRefuse e = Unit {0}
+
+abbrev pub CanFault : faults.Fault → Type 0
+CanFault (fault.InvalidGuestAddress addr) = addr.0 < 2 ^ 64
+CanFault (fault.IOError kind) = IsMet kind
+CanFault (fault.PartialBuffer expected completed) = (expected < 2 ^ 64) × (completed < 2 ^ 64)
+CanFault (fault.IommuError e) = CanRefuse e
+CanFault f = Unit {0}
+
+abbrev pub CanEnd : endings.Ending → Type 0
+CanEnd (ending.Count count) = count < 2 ^ 64
+CanEnd ending.Done = Unit {0}
+CanEnd (ending.Fault f) = CanFault f
+
+abbrev pub CanTell : replies.Reply → Type 0
+CanTell (reply.Layout number) = number < 2 ^ 64
+CanTell (reply.MemoryMade number) = number < 2 ^ 64
+CanTell (reply.Count count) = count < 2 ^ 64
+CanTell (reply.Value value) = value < 2 ^ 64
+CanTell (reply.Bytes bytes) = AllByRecursion (λ b. b < 256) bytes
+CanTell (reply.Sent end taken) = CanEnd end × AllByRecursion (λ b. b < 256) taken
+CanTell (reply.Pages pages) = AllByRecursion (λ page. page < 2 ^ 64) pages
+CanTell (reply.Pieces pieces) =
+    AllByRecursion (λ (p : MappedRange). (p.base.0 < 2 ^ 64) × (p.length < 2 ^ 64)) pieces
+CanTell (reply.Fails fails) = AllByRecursion (λ (r : Range). (r.base < 2 ^ 64) × (r.len < 2 ^ 64)) fails.misses
+    × AllByRecursion (λ (r : Range). (r.base < 2 ^ 64) × (r.len < 2 ^ 64)) fails.access_fails
+CanTell (reply.Fault f) = CanFault f
+CanTell reply = Unit {0}
+
+abbrev pub CanTellSetup : setups.SetupReply → Type 0
+CanTellSetup (setup.BlockMade number) = number < 2 ^ 64
+CanTellSetup (setup.SpaceMade number) = number < 2 ^ 64
+CanTellSetup (setup.TableMade number) = number < 2 ^ 64
+CanTellSetup (setup.RegionMade number) = number < 2 ^ 64
+CanTellSetup (setup.TranslatorMade number) = number < 2 ^ 64
+CanTellSetup reply = Unit {0}

@@ -7,6 +7,7 @@ ghost use Rattle.vm_memory.specs.Pools.{no_parts, state_made};
 ghost use Rattle.vm_memory.specs.Script.{Answers, Stage, beginning, state_at};
 ghost use Rattle.vm_memory.specs.ScriptRun.{SetUpRun, commands_of, reply_line, setup_line, setups_of};
 ghost use Rattle.vm_memory.specs.State.{State};
+ghost use Rattle.vm_memory.specs.Texts.{CanTell, CanTellSetup, text_of, text_of_setup};
 ghost use Rattle.vm_memory.specs.Words.{Each};
 ghost use Rattle.vm_memory.specs.declared.machine.command.Command.{Command};
 ghost use Rattle.vm_memory.specs.declared.machine.command.Reply.{Reply};
@@ -26,6 +27,14 @@ pub fn meanings_have_lines()
         → (line : List ℕ) × Means line (lines.Command c) }
     ensures setup { (s : Setup) → AllByRecursion CanSpell (setup_fields s)
         → (line : List ℕ) × Means line (lines.Setup s) }
+{}
+
+/// Replies that differ have texts that differ, where they tell numbers of 64 bits, bytes, and kinds of I/O errors that a
+/// script can meet.
+pub fn replies_that_differ_have_other_texts()
+    ensures replies { (r s : Reply) → CanTell r → CanTell s → text_of r ≡ text_of s → r ≡ s }
+    ensures setup { (r s : SetupReply) → CanTellSetup r → CanTellSetup s → text_of_setup r ≡ text_of_setup s
+        → r ≡ s }
 {}
 
 /// Where lines are answered one after another, their setup lines are made first, and then their commands are a run of
