@@ -341,3 +341,13 @@ order_is_kept size avail used es is a u may =
       h.taken,
       next_entry size avail used d.some d.fits d.divides s h,
     )
+
+-- a returned entry goes into its slot, and no other slot changes
+pub returned_alike : (size next index : ℕ) (slots : ℕ → Entry) (entry : Entry) → index ≡ next
+    → (behind index ≡ behind next) × (with_slot slots (slot size index) entry (slot size next) ≡ entry)
+    × ((j : ℕ) → (j ≡ slot size next → ⊥) → with_slot slots (slot size index) entry j ≡ slots j)
+returned_alike size next index slots entry e = (
+  ap behind e,
+  same_slot slots (slot size index) (slot size next) entry (ap (slot size) (sym e)),
+  λ j differs. other_slot slots (slot size index) j entry (λ h. differs (h ∙ ap (slot size) e)),
+)
