@@ -1,10 +1,12 @@
 //! Chains that are popped, and everything that is refused.
 
-use crate::rings::{Host, MIDDLE, Memory, bytes_of, changed, memory_of, put, queue_of};
+use crate::rings::{
+    BEGIN, END, Host, MIDDLE, Memory, bytes_of, changed, descriptor_of, memory_of, put, queue_of,
+};
 use std::alloc::Global;
 use std::test::Fail;
 use test_text::expect_text;
-use virtio_queue::{Queue, QueueError};
+use virtio_queue::{DriverQueue, Queue, QueueError, QueueField};
 use vm_memory::{Bytes, Chain, GuestAddress, HostMemory};
 
 // Rings as lines, and what popping answers until there is no more or something is refused, with `next_avail` then. Of a
@@ -211,6 +213,54 @@ fn indirect_tables_may_be_longer_than_a_queue(rt: HostRuntime) -> Result<(), Fai
         put_long_table(&mut host, &memory)?;
         let mut queue = queue_of(&mut host, &memory, 0x1400, line)?;
         let told = pop_all(rt.alloc(), &host, &memory, &mut queue)?;
+        expect_text(number, told.as_str(), wanted)?;
+    }
+    Ok(())
+}
+
+// Where the table and the available ring of a queue of 4 descriptors lie, where its indices begin, and what is popped
+// after head 3 is in every slot.
+const EDGES: [(u64, u64, u16, &str); 8] = [
+    (0x2000, END - 12, 3, "3 [0] 1 0; none 4"),
+    (0x2000, END - 10, 2, "3 [0] 1 0; none 3"),
+    (0x2000, END - 10, 3, "GuestMemory 3"),
+    (0x2000, BEGIN - 2, 1, "3 [0] 1 0; none 2"),
+    (0x2000, BEGIN - 4, 1, "GuestMemory 1"),
+    (END - 64, 0x2000, 0, "3 [0] 1 0; none 1"),
+    (END - 48, 0x2000, 0, "GuestMemory 0"),
+    (0x2000, 0xffff_ffff_ffff_fffe, 0, "AddressOverflow 0"),
+];
+
+// Pops from a queue whose areas lie there, as far as the driver can write them.
+fn edge(
+    alloc: Global,
+    host: &mut Host,
+    memory: &Memory,
+    areas: (u64, u64),
+    start: u16,
+) -> Result<String, Fail> {
+    let mut driver = DriverQueue::new(GuestAddress(0x3000), 4)?;
+    driver.desc_table = areas.0;
+    driver.avail_ring = areas.1;
+    let mut queue = driver.queue()?;
+    queue.set_next_avail(start);
+    if !host.holds(memory) {
+        return Err(Fail::new("the host holds the memory"));
+    }
+    let _ = driver.put_descriptor(memory, host, 3, descriptor_of((0x4000, 1, 0, 0)));
+    let _ = driver.set_field(memory, host, QueueField::AvailIdx, start.wrapping_add(1));
+    let slot = QueueField::AvailHead(start % 4);
+    let _ = driver.set_field(memory, host, slot, 3);
+    pop_all(alloc, host, memory, &mut queue)
+}
+
+#[test]
+fn rings_may_end_with_memory(rt: HostRuntime) -> Result<(), Fail> {
+    for (number, (table, avail, start, wanted)) in EDGES.iter().enumerate() {
+        let mut host = HostMemory::new(rt.alloc());
+        let memory = memory_of(rt.alloc(), &mut host, false)?;
+        fill(&mut host, &memory)?;
+        let told = edge(rt.alloc(), &mut host, &memory, (*table, *avail), *start)?;
         expect_text(number, told.as_str(), wanted)?;
     }
     Ok(())

@@ -11,12 +11,13 @@ use Rattle.virtio_queue.specs.declared.error.QueueError.{QueueError}
 use Rattle.virtio_queue.specs.declared.error.QueueError.TheVariants as errors
 
 -- a call that answers something answers what is expected, and one that is refused is so as is expected
-pub answers_ok : (W : Type 0) {T : Type 0} (expected : Result T QueueError) (v : T) → Answers W expected (Ok v) → expected ≡ Ok v
+pub answers_ok : (W : Type 0) {T : Type 0} (expected : Result T QueueError) (v : T) → Answers W expected (Ok v)
+    → expected ≡ Ok v
 answers_ok W expected v (inl is) = sym is
 answers_ok W expected v (inr (is, wants)) = absurd (cc)
 
-pub refused_so : (W : Type 0) {S T : Type 0} (given : Result S QueueError) (expected : Result T QueueError) (e : QueueError)
-    → Answers W given (Err e) → (given ≡ Err e → expected ≡ Err e) → Refuses (Unit {0}) expected e
+pub refused_so : (W : Type 0) {S T : Type 0} (given : Result S QueueError) (expected : Result T QueueError)
+    (e : QueueError) → Answers W given (Err e) → (given ≡ Err e → expected ≡ Err e) → Refuses (Unit {0}) expected e
 refused_so W given expected e (inl is) so = inl (so (sym is))
 refused_so W given expected e (inr (is, wants)) so = let wanted : e ≡ errors.Memory = cc in inr (wanted, tt)
 
@@ -26,7 +27,8 @@ prefixed_none (Err e) = refl
 
 prefixed_twice : (xs ys : List Segment) (r : Result Followed QueueError)
     → prefixed xs (prefixed ys r) ≡ prefixed (xs ++ ys) r
-prefixed_twice xs ys (Ok f) = ap (λ ss. Ok (record { segments = ss; indirect = f.indirect })) (sym (append_assoc xs ys f.segments))
+prefixed_twice xs ys (Ok f) =
+    ap (λ ss. Ok (record { segments = ss; indirect = f.indirect })) (sym (append_assoc xs ys f.segments))
 prefixed_twice xs ys (Err e) = refl
 
 module _ (descriptor : ℕ → Result Descriptor QueueError) (len : ℕ) where
@@ -58,7 +60,9 @@ module _ (descriptor : ℕ → Result Descriptor QueueError) (len : ℕ) where
   there index r h e = sym (cond_below index len (descriptor index) (Err errors.InvalidDescriptorIndex) h) ∙ e
 
   past : (index : ℕ) → len ≤ index → entry descriptor len index ≡ Err errors.InvalidDescriptorIndex
-  past index h = sym (cond_above index len (descriptor index) (Err errors.InvalidDescriptorIndex) (Err errors.InvalidDescriptorIndex) h refl)
+  past index h =
+      let outside : Result Descriptor QueueError = Err errors.InvalidDescriptorIndex in
+      sym (cond_above index len (descriptor index) outside outside h refl)
 
   module _ (expected : Result Followed QueueError) (before now : List Segment) (turns index : ℕ)
       (came : Came expected before now turns index) where

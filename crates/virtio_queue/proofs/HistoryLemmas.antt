@@ -105,7 +105,9 @@ next_some : (size index next : ℕ) (f : ℕ → ℕ) → 0 < ahead index next �
 next_some size index next f some within = go (ahead index next) some within
   where
     go : (n : ℕ) → 0 < n → n ≤ size
-        → (if n == 0 then Ok None else if nat_lt size n then Err InvalidAvailRingIndex else Ok (Some (f (slot size next))))
+        → (if n == 0 then Ok None
+        else if nat_lt size n then Err InvalidAvailRingIndex
+        else Ok (Some (f (slot size next))))
         ≡ Ok (Some (f (slot size next)))
     go n h k = grind (arith, nat_tests)
 
@@ -276,7 +278,8 @@ module _ (size avail used : ℕ) (some : 0 < size) (fits : size ≤ 32768) (divi
         taken = taken_more s.returned s.taken entry h.taken (sym e);
       }
 
-  after_holds : (e : Event) (s : Story) → Holds size avail used s → May size e s → Holds size avail used (after size e s)
+  after_holds : (e : Event) (s : Story) → Holds size avail used s → May size e s
+      → Holds size avail used (after size e s)
   after_holds (Publish head) s h may = after_publish_holds head s h may
   after_holds Pop s h may = rw (next_head s h) (after_pop_holds s (slice_get s.published (length s.popped)) refl h)
   after_holds (Return entry) s h may = after_return_holds entry s h may
@@ -338,3 +341,13 @@ order_is_kept size avail used es is a u may =
       h.taken,
       next_entry size avail used d.some d.fits d.divides s h,
     )
+
+-- a returned entry goes into its slot, and no other slot changes
+pub returned_alike : (size next index : ℕ) (slots : ℕ → Entry) (entry : Entry) → index ≡ next
+    → (behind index ≡ behind next) × (with_slot slots (slot size index) entry (slot size next) ≡ entry)
+    × ((j : ℕ) → (j ≡ slot size next → ⊥) → with_slot slots (slot size index) entry j ≡ slots j)
+returned_alike size next index slots entry e = (
+  ap behind e,
+  same_slot slots (slot size index) (slot size next) entry (ap (slot size) (sym e)),
+  λ j differs. other_slot slots (slot size index) j entry (λ h. differs (h ∙ ap (slot size) e)),
+)

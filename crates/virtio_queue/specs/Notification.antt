@@ -60,5 +60,6 @@ module _ {B : Type 0} (marks : B → ℕ → ℕ → B → Type 0) (m : Memory) 
   -- the driver is asked not to notify, by the flag NO_NOTIFY. With event indices nothing has to be done
   abbrev pub Disables : Host B → Result (Unit {0}) QueueError → Host B → Type 0
   Disables old answer new = MatchBool q.ready
-      (MatchBool q.event_idx_enabled ((answer ≡ Ok tt) × (new ≡ old)) (StoresWord marks m q.used_ring 0 1 old answer new))
+      (MatchBool q.event_idx_enabled ((answer ≡ Ok tt) × (new ≡ old))
+      (StoresWord marks m q.used_ring 0 1 old answer new))
       ((answer ≡ Err errors.QueueNotReady) × (new ≡ old))

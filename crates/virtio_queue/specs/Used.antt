@@ -25,8 +25,7 @@ module _ {B : Type 0} (m : Memory) (host : Host B) where
   abbrev pub used_idx : QueueState → Result ℕ QueueError
   used_idx q = if q.ready then word_at m host q.used_ring 2 else Err errors.QueueNotReady
 
-  -- the address of the entry that is written next, where it can be. That of an index lies at the index modulo the
-  -- size, and tells a head, which has to be one
+  -- the address of the entry of the next index, where it can be written for a head, which has to be below the size
   abbrev pub entry_place : QueueState → ℕ → Result ℕ QueueError
   entry_place q head = if not q.ready then Err errors.QueueNotReady
       else if nat_le q.size head then Err errors.InvalidDescriptorIndex
@@ -40,7 +39,8 @@ entry_bytes head len = to_le_bytes w32 head ++ to_le_bytes w32 len
 module _ {B : Type 0} (marks : B → ℕ → ℕ → B → Type 0) (m : Memory) (q : QueueState) (head len : ℕ) where
   -- the entry was written, and nothing else changed
   abbrev pub WritesEntry : Host B → Host B → Type 0
-  WritesEntry old new = (a : ℕ) × (entry_place m old q head ≡ Ok a) × WritesBytes marks m a (entry_bytes head len) old new
+  WritesEntry old new =
+      (a : ℕ) × (entry_place m old q head ≡ Ok a) × WritesBytes marks m a (entry_bytes head len) old new
 
   -- the entry was refused, and nothing changed. Or it was written, and behind it the index was stored or refused
   abbrev pub AddsUsed : Host B → Result (Unit {0}) QueueError → Host B → Type 0

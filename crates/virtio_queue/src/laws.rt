@@ -10,10 +10,11 @@ ghost use Rattle.vm_memory_guest.specs.Region.{IsRegion};
 ghost use Rattle.vm_memory_guest.specs.Typed.{typed_path};
 ghost use Rattle.virtio_queue.specs.Available.{Followed, avail_idx, followed, head_in, next_head};
 ghost use Rattle.virtio_queue.specs.Fields.{StoresWord, place, reached_at};
-ghost use Rattle.virtio_queue.specs.History.{Event, Rings, AllMay, beginning, empty_rings, entry_to_take, head_to_pop, story};
+ghost use Rattle.virtio_queue.specs.History.{Entry, Event, Return, Rings, Story, AllMay, after, beginning, empty_rings, entry_to_take, head_to_pop, story};
 ghost use Rattle.virtio_queue.specs.Linked.{AreLinked, told_by};
-ghost use Rattle.virtio_queue.specs.State.{is_size};
-ghost use Rattle.virtio_queue.specs.Used.{WritesEntry, entry_bytes, entry_place};
+ghost use Rattle.virtio_queue.specs.Rings.{slot};
+ghost use Rattle.virtio_queue.specs.State.{Virtqueue, is_size};
+ghost use Rattle.virtio_queue.specs.Used.{WritesEntry, after_used, entry_bytes, entry_place};
 ghost use Rattle.virtio_queue.specs.declared.descriptor.Descriptor.{Descriptor};
 ghost use Rattle.virtio_queue.specs.declared.error.QueueError.{QueueError};
 ghost use Rattle.virtio_queue.specs.declared.error.QueueError.TheVariants.{DescriptorLoop};
@@ -61,6 +62,15 @@ pub fn queues_pop_as_histories_do<B: Bitmap>()
         → avail_idx m host q ≡ Ok r.avail_idx
         → ((i : ℕ) → i < q.size → head_in m host q i ≡ Ok (r.avail i)) → 0 < q.size
         → next_head m host q ≡ head_to_pop q.size r }
+{}
+
+/// The entry that a history's device returns goes into the slot whose place `add_used` writes, no other slot changes,
+/// and the index goes where the queue's does.
+pub fn queues_return_as_histories_do()
+    ensures { (q : Virtqueue) (s : Story) (entry : Entry) → s.rings.used_idx ≡ q.state.next_used
+        → let t = after q.state.size (Return entry) s in let i = slot q.state.size q.state.next_used in
+        (t.rings.used_idx ≡ (after_used q (Ok tt)).state.next_used) × (t.rings.used i ≡ entry)
+        × ((j : ℕ) → (j ≡ i → ⊥) → t.rings.used j ≡ s.rings.used j) }
 {}
 
 /// After all events in which the driver has at most `size` heads out, and the device returns no more than it popped:

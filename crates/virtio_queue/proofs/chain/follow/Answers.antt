@@ -56,7 +56,8 @@ returns-then-not-has_next g c =
     l._step l.index l.invariant d c.push.new.self.items c.loop-step-test.true c.if-index-len.false
     (answers_ok (IsOn m) (descriptor l.index) d c.in_ok-descriptor.ensures)
     (sym c.refers_to_indirect_table.ensures ∙ c.if-refers_to_indirect_table.false)
-    (sym c.has_next.ensures ∙ c.if-not-has_next.true) (rw (← c.segment.ensures) (rw c.if-is_err.ensures.negation at c.push.ensures.items))
+    (sym c.has_next.ensures ∙ c.if-not-has_next.true)
+    (rw (← c.segment.ensures) (rw c.if-is_err.ensures.negation at c.push.ensures.items))
 
 pub loop-step-preserved : goal.loop-step-preserved
 loop-step-preserved g c =

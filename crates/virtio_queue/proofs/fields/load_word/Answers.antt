@@ -10,8 +10,11 @@ returns-in-Ok g c =
     let host = c.args.host.now in
     let each = g.met.M.GuestMemory.each_fits c.args.mem.now in
     let a = c.in_ok-place.field-0 in
-    let bytes = c.loads_and_stores_are_by_bytes.ensures.loads m.regions (route m host.tables) a 2 permissions.Read host.blocks each in
-    word_answers m host c.args.base c.args.offset a c.place.result (Ok c.in-Ok.word) c.place.ensures c.in_ok-place.was bytes c.in-Ok.ensures
+    let way = route m host.tables in
+    let laws = c.loads_and_stores_are_by_bytes.ensures in
+    let bytes = laws.loads m.regions way a 2 permissions.Read host.blocks each in
+    word_answers m host c.args.base c.args.offset a c.place.result (Ok c.in-Ok.word) c.place.ensures
+    c.in_ok-place.was bytes c.in-Ok.ensures
 
 pub returns-in-Err : goal.returns-in-Err
 returns-in-Err g c =
@@ -19,6 +22,9 @@ returns-in-Err g c =
     let host = c.args.host.now in
     let each = g.met.M.GuestMemory.each_fits c.args.mem.now in
     let a = c.in_ok-place.field-0 in
-    let bytes = c.loads_and_stores_are_by_bytes.ensures.loads m.regions (route m host.tables) a 2 permissions.Read host.blocks each in
+    let way = route m host.tables in
+    let laws = c.loads_and_stores_are_by_bytes.ensures in
+    let bytes = laws.loads m.regions way a 2 permissions.Read host.blocks each in
     rw c.of_access.ensures
-    (word_answers m host c.args.base c.args.offset a c.place.result (Err c.in-Err.error) c.place.ensures c.in_ok-place.was bytes c.in-Err.ensures)
+    (word_answers m host c.args.base c.args.offset a c.place.result (Err c.in-Err.error) c.place.ensures
+    c.in_ok-place.was bytes c.in-Err.ensures)
