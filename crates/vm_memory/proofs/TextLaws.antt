@@ -120,7 +120,8 @@ fault_back ws =
     let more = tail ws in
     cond (bytes_eq name (codes "G1")) (fault.InvalidGuestAddress (record { 0 = digits_back (head more) }))
     (cond (bytes_eq name (codes "G2")) (fault.IOError (kind_back (head more)))
-    (cond (bytes_eq name (codes "G3")) (fault.PartialBuffer (decimal_back (head more)) (decimal_back (head (tail more))))
+    (cond (bytes_eq name (codes "G3"))
+    (fault.PartialBuffer (decimal_back (head more)) (decimal_back (head (tail more))))
     (cond (bytes_eq name (codes "G4")) fault.InvalidBackendAddress
     (cond (bytes_eq name (codes "G5")) fault.HostAddressNotAvailable
     (cond (bytes_eq name (codes "G6")) fault.CallbackOutOfRange
@@ -233,7 +234,8 @@ range-text base len = append_assoc (hexadecimal base) (43 ∷ []) (hexadecimal l
 range-back : (base len : ℕ) → Fits base len → range_back (text_of_range base len) ≡ (base, len)
 unfolding range_back head tail
 range-back base len h =
-    let one = λ (n : ℕ) (k : n < 2 ^ 64). parts-one 43 (hexadecimal n) (no_plus (hexadecimal n) (hexadecimal-letters n k)) in
+    let one = λ (n : ℕ) (k : n < 2 ^ 64).
+    parts-one 43 (hexadecimal n) (no_plus (hexadecimal n) (hexadecimal-letters n k)) in
     let words : parts_of 43 (text_of_range base len) ≡ hexadecimal base ∷ hexadecimal len ∷ [] =
     ap (parts_of 43) (range-text base len) ∙ parts-append 43 (hexadecimal base) (hexadecimal len)
     ∙ ap (λ l. l ++ parts_of 43 (hexadecimal len)) (one base h.0) ∙ ap (λ l. hexadecimal base ∷ l) (one len h.1) in
@@ -380,7 +382,8 @@ refusal-back (error.CannotResolve range reason) h =
     ∙ ap (λ l. codes "I1" ∷ (l ++ parts_of 32 (text_of_reason reason))) (range-word range.base.0 range.length h)
     ∙ ap (λ l. codes "I1" ∷ text_of_range range.base.0 range.length ∷ l) (reason-word reason) in
     ap refusal_back words
-    ∙ ap (λ r. error.CannotResolve (iova r) (reason_back (text_of_reason reason))) (range-back range.base.0 range.length h)
+    ∙ ap (λ r. error.CannotResolve (iova r) (reason_back (text_of_reason reason)))
+    (range-back range.base.0 range.length h)
     ∙ ap (error.CannotResolve range) (reason-back reason)
 refusal-back (error.Fragmented range length) h =
     let fits : Fits range.base.0 range.length = (h.0, h.1) in
@@ -560,8 +563,7 @@ reply-back reply.Memory h = refl
 pub same_reply : (r s : replies.Reply) → CanTell r → CanTell s → text_of r ≡ text_of s → r ≡ s
 same_reply r s h k e = sym (reply-back r h) ∙ ap (λ t. reply_back (parts_of 32 t)) e ∙ reply-back s k
 
--- ---- replies to setup lines
-
+-- ---- setup lines
 setup_back : List (List ℕ) → setups.SetupReply
 setup_back ws =
     let name = head ws in

@@ -1,5 +1,5 @@
 -- Lines, and what is written of their answers.
-use Rattle.std.proofs.Common.{◌≡◌, ◌∙◌, ℕ, ◌+◌, ◌-◌, ◌≤◌, Bool, true, false, nat_eq, cond, List, [], ◌∷◌, ◌++◌, length, take, drop, append_assoc, append-nil, length-drop, Option, Some, None, refl, sym, ap, subst, arith}
+use Rattle.std.proofs.Common.{◌≡◌, ◌∙◌, ℕ, ◌+◌, ◌-◌, ◌<◌, ◌≤◌, Bool, true, false, nat_eq, cond, List, [], ◌∷◌, ◌++◌, length, take, drop, append_assoc, append-nil, length-drop, Option, Some, None, refl, sym, ap, subst, arith}
 use Rattle.std.specs.Io.KnownBytes.{Appends, Keeps}
 use Rattle.std.specs.List.{position, position_or_len}
 use Rattle.std.proofs.lemmas.Bool.{ltb-true, ltb-false, eqb-true}
@@ -17,7 +17,8 @@ pub lines-first : (text : List ℕ) (end : ℕ) → position (λ b. nat_eq b 10)
     → parts_of 10 text ≡ take end text ∷ parts_of 10 (take (length text - (end + 1)) (drop (end + 1) text))
 lines-first text end h =
     let found = cond_some _ _ end h in
-    let within = ltb-true _ _ found.0 in
+    let within : position_or_len (λ b. nat_eq b 10) text < length text = ltb-true _ _ found.0 in
+    let at : position_or_len (λ b. nat_eq b 10) text ≡ end = found.1 in
     let rest : take (length text - (end + 1)) (drop (end + 1) text) ≡ drop (end + 1) text =
     take_all (length text - (end + 1)) (drop (end + 1) text) (omega (arith, length-drop (end + 1) text)) in
     slice_split_first (λ b. nat_eq b 10) text 0 within
@@ -91,7 +92,9 @@ puts-first a c bytes n h = go (nat_eq n (length bytes)) refl
   where
     go : (b : Bool) → nat_eq n (length bytes) ≡ b → Puts a [] bytes b c []
     go true e =
-        let all : take n bytes ≡ bytes = ap (λ k. take k bytes) (eqb-true n (length bytes) e) ∙ take_all (length bytes) bytes (omega arith) in
+        let all : take n bytes ≡ bytes =
+        ap (λ k. take k bytes) (eqb-true n (length bytes) e)
+        ∙ take_all (length bytes) bytes (omega arith) in
         (bytes, subst (Appends a c) all h, sym (append-nil bytes))
     go false e = (take n bytes, drop n bytes, h, sym (take-append-drop n bytes))
 

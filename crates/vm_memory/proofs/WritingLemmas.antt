@@ -123,9 +123,12 @@ digit-letter (suc (suc (suc (suc (suc (suc (suc (suc (suc (suc zero)))))))))) h 
 digit-letter (suc (suc (suc (suc (suc (suc (suc (suc (suc (suc (suc zero))))))))))) h = (lit< tt, lit< tt)
 digit-letter (suc (suc (suc (suc (suc (suc (suc (suc (suc (suc (suc (suc zero)))))))))))) h = (lit< tt, lit< tt)
 digit-letter (suc (suc (suc (suc (suc (suc (suc (suc (suc (suc (suc (suc (suc zero))))))))))))) h = (lit< tt, lit< tt)
-digit-letter (suc (suc (suc (suc (suc (suc (suc (suc (suc (suc (suc (suc (suc (suc zero)))))))))))))) h = (lit< tt, lit< tt)
-digit-letter (suc (suc (suc (suc (suc (suc (suc (suc (suc (suc (suc (suc (suc (suc (suc zero))))))))))))))) h = (lit< tt, lit< tt)
-digit-letter (suc (suc (suc (suc (suc (suc (suc (suc (suc (suc (suc (suc (suc (suc (suc (suc n)))))))))))))))) h = absurd (omega arith)
+digit-letter (suc (suc (suc (suc (suc (suc (suc (suc
+    (suc (suc (suc (suc (suc (suc zero)))))))))))))) h = (lit< tt, lit< tt)
+digit-letter (suc (suc (suc (suc (suc (suc (suc (suc
+    (suc (suc (suc (suc (suc (suc (suc zero))))))))))))))) h = (lit< tt, lit< tt)
+digit-letter (suc (suc (suc (suc (suc (suc (suc (suc
+    (suc (suc (suc (suc (suc (suc (suc (suc n)))))))))))))))) h = absurd (omega arith)
 
 encoded-letters : (bs : List ℕ) → AllByRecursion (λ b. b < 256) bs → Letters (encode_lower bs)
 unfolding encode_with
@@ -314,25 +317,38 @@ line-of-command (make.FromRegions numbers) h = line-of _ _ h (plain-by (codes "l
 line-of-command (make.Insert layout region) h = line-of _ _ h (plain-by (codes "insert") refl, (tt, (tt, tt)))
 line-of-command (make.Remove layout base size) h = line-of _ _ h (plain-by (codes "remove") refl, (tt, (tt, (tt, tt))))
 line-of-command (make.Plain layout) h = line-of _ _ h (plain-by (codes "plain") refl, (tt, tt))
-line-of-command (make.NewMemory layout translator space on) h = line-of _ _ h (plain-by (codes "memory") refl, (tt, (tt, (tt, (plain-switch on, tt)))))
+line-of-command (make.NewMemory layout translator space on) h =
+    line-of _ _ h (plain-by (codes "memory") refl, (tt, (tt, (tt, (plain-switch on, tt)))))
 line-of-command (make.ReplaceBackend memory layout) h = line-of _ _ h (plain-by (codes "replace") refl, (tt, (tt, tt)))
 line-of-command (make.Enable memory on) h = line-of _ _ h (plain-by (codes "enable") refl, (tt, (plain-switch on, tt)))
 line-of-command (make.Read memory addr count) h = line-of _ _ h (plain-by (codes "read") refl, (tt, (tt, (tt, tt))))
 line-of-command (make.Write memory addr bs) h = line-of _ _ h (plain-by (codes "write") refl, (tt, (tt, (tt, tt))))
-line-of-command (make.ReadSlice memory addr count) h = line-of _ _ h (plain-by (codes "readx") refl, (tt, (tt, (tt, tt))))
-line-of-command (make.WriteSlice memory addr bs) h = line-of _ _ h (plain-by (codes "writex") refl, (tt, (tt, (tt, tt))))
-line-of-command (make.Store memory width addr value) h = line-of _ _ h (plain-by (codes "store") refl, (tt, (tt, (tt, (tt, tt)))))
+line-of-command (make.ReadSlice memory addr count) h =
+    line-of _ _ h (plain-by (codes "readx") refl, (tt, (tt, (tt, tt))))
+line-of-command (make.WriteSlice memory addr bs) h =
+    line-of _ _ h (plain-by (codes "writex") refl, (tt, (tt, (tt, tt))))
+line-of-command (make.Store memory width addr value) h =
+    line-of _ _ h (plain-by (codes "store") refl, (tt, (tt, (tt, (tt, tt)))))
 line-of-command (make.Load memory width addr) h = line-of _ _ h (plain-by (codes "load") refl, (tt, (tt, (tt, tt))))
-line-of-command (make.ReadFrom memory addr count steps) h = line-of _ _ h (plain-by (codes "from") refl, (tt, (tt, (tt, (tt, tt)))))
-line-of-command (make.ReadExactFrom memory addr count steps) h = line-of _ _ h (plain-by (codes "fromx") refl, (tt, (tt, (tt, (tt, tt)))))
-line-of-command (make.WriteTo memory addr count steps) h = line-of _ _ h (plain-by (codes "to") refl, (tt, (tt, (tt, (tt, tt)))))
-line-of-command (make.WriteAllTo memory addr count steps) h = line-of _ _ h (plain-by (codes "tox") refl, (tt, (tt, (tt, (tt, tt)))))
-line-of-command (make.CheckRange memory addr count access) h = line-of _ _ h (plain-by (codes "check") refl, (tt, (tt, (tt, (plain-access access, tt)))))
-line-of-command (make.Copy from to) h = line-of _ _ h (plain-by (codes "copy") refl, (tt, (tt, (tt, (tt, (tt, (tt, tt)))))))
-line-of-command (make.Set table iova to length access) h = line-of _ _ h (plain-by (codes "set") refl, (tt, (tt, (tt, (tt, (plain-access access, tt))))))
-line-of-command (make.Invalidate table iova length) h = line-of _ _ h (plain-by (codes "invalidate") refl, (tt, (tt, (tt, tt))))
+line-of-command (make.ReadFrom memory addr count steps) h =
+    line-of _ _ h (plain-by (codes "from") refl, (tt, (tt, (tt, (tt, tt)))))
+line-of-command (make.ReadExactFrom memory addr count steps) h =
+    line-of _ _ h (plain-by (codes "fromx") refl, (tt, (tt, (tt, (tt, tt)))))
+line-of-command (make.WriteTo memory addr count steps) h =
+    line-of _ _ h (plain-by (codes "to") refl, (tt, (tt, (tt, (tt, tt)))))
+line-of-command (make.WriteAllTo memory addr count steps) h =
+    line-of _ _ h (plain-by (codes "tox") refl, (tt, (tt, (tt, (tt, tt)))))
+line-of-command (make.CheckRange memory addr count access) h =
+    line-of _ _ h (plain-by (codes "check") refl, (tt, (tt, (tt, (plain-access access, tt)))))
+line-of-command (make.Copy from to) h =
+    line-of _ _ h (plain-by (codes "copy") refl, (tt, (tt, (tt, (tt, (tt, (tt, tt)))))))
+line-of-command (make.Set table iova to length access) h =
+    line-of _ _ h (plain-by (codes "set") refl, (tt, (tt, (tt, (tt, (plain-access access, tt))))))
+line-of-command (make.Invalidate table iova length) h =
+    line-of _ _ h (plain-by (codes "invalidate") refl, (tt, (tt, (tt, tt))))
 line-of-command (make.InvalidateAll table) h = line-of _ _ h (plain-by (codes "clear") refl, (tt, tt))
-line-of-command (make.Lookup table iova length access) h = line-of _ _ h (plain-by (codes "lookup") refl, (tt, (tt, (tt, (plain-access access, tt)))))
+line-of-command (make.Lookup table iova length access) h =
+    line-of _ _ h (plain-by (codes "lookup") refl, (tt, (tt, (tt, (plain-access access, tt)))))
 line-of-command (make.Dirty (bitmaps.Block id)) h =
     let w = plain-by (codes "dirty") refl in
     let kind = plain-by (codes "block") refl in
@@ -350,7 +366,8 @@ line-of-command (make.Harvest (bitmaps.Space id)) h =
     let kind = plain-by (codes "space") refl in
     line-of _ _ h (w, (kind, (tt, tt)))
 
-pub line-of-setup : (s : setups.Setup) → AllByRecursion CanSpell (setup_fields s) → (line : List ℕ) × Means line (Setup s)
+pub line-of-setup : (s : setups.Setup) → AllByRecursion CanSpell (setup_fields s)
+    → (line : List ℕ) × Means line (Setup s)
 line-of-setup (Block size page) h = line-of _ _ h (plain-by (codes "block") refl, (tt, (tt, tt)))
 line-of-setup (Space size page) h = line-of _ _ h (plain-by (codes "space") refl, (tt, (tt, tt)))
 line-of-setup (Table None) h = line-of _ _ h (plain-by (codes "table") refl, tt)

@@ -29,8 +29,8 @@ pub fn meanings_have_lines()
         → (line : List ℕ) × Means line (lines.Setup s) }
 {}
 
-/// Replies that differ have texts that differ, where they tell numbers of 64 bits, bytes, and kinds of I/O errors that a
-/// script can meet.
+/// Replies that differ have texts that differ, where they tell numbers of 64 bits, bytes, and kinds of I/O errors
+/// that a script can meet.
 pub fn replies_that_differ_have_other_texts()
     ensures replies { (r s : Reply) → CanTell r → CanTell s → text_of r ≡ text_of s → r ≡ s }
     ensures setup { (r s : SetupReply) → CanTellSetup r → CanTellSetup s → text_of_setup r ≡ text_of_setup s

@@ -48,8 +48,8 @@ returns c =
     rw (← c.self.view_is) (elim c.match-add.branch [
       | in-Ok w ↦
           rw w.result-is
-          (region_added inside.host (regions_of inside.regions) _ (regions_of inside.translators) c.args.block c.args.addr
-          region _ whole count w.in-Ok.ensures.ok)
+          (region_added inside.host (regions_of inside.regions) _ (regions_of inside.translators) c.args.block
+          c.args.addr region _ whole count w.in-Ok.ensures.ok)
       | in-Err w ↦
           rw w.result-is
           (region_refused inside.host (regions_of inside.regions) _ (regions_of inside.translators) c.args.block

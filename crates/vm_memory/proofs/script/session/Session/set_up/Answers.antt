@@ -12,7 +12,7 @@ returns g c =
     let after = g.W.Write.contents c.tell.new.output in
     let left = c.tell.new.waiting.items in
     let none : is_some self.machine ≡ false = sym c.is_some.ensures ∙ c.if-is_some.false in
-    no_machine before pending after left self.machine self.pools c.make-reply.new.self (Setup c.args.setup) c.args.number
-    c.tell.result none
+    no_machine before pending after left self.machine self.pools c.make-reply.new.self (Setup c.args.setup)
+    c.args.number c.tell.result none
     (setup-told before pending after left _ _ c.args.setup c.make-reply.result c.args.number c.tell.result
     c.make-reply.ensures c.tell.ensures)
