@@ -5,6 +5,7 @@ mod chain;
 mod descriptor;
 mod driver;
 mod error;
+pub mod examples;
 mod fields;
 pub mod laws;
 mod queue;
