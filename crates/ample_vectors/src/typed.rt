@@ -116,12 +116,17 @@ fn typed(machine: &mut TestMachine, command: &Command) -> Result<Reply, Fail> {
             width,
             addr,
             value,
-        } => done(match width {
-            Width::One => machine.store(*memory, *addr, *value as u8),
-            Width::Two => machine.store(*memory, *addr, *value as u16),
-            Width::Four => machine.store(*memory, *addr, *value as u32),
-            Width::Eight => machine.store(*memory, *addr, *value),
-        }),
+        } => {
+            if !width.fits(*value) {
+                return Err(Fail::new("the value fits"));
+            }
+            done(match width {
+                Width::One => machine.store(*memory, *addr, *value as u8),
+                Width::Two => machine.store(*memory, *addr, *value as u16),
+                Width::Four => machine.store(*memory, *addr, *value as u32),
+                Width::Eight => machine.store(*memory, *addr, *value),
+            })
+        }
         Command::Load {
             memory,
             width,
