@@ -67,7 +67,8 @@ module _ (m : Memory) (host : Host PageSet) (a : ℕ) (buffer : List ℕ) (each 
   -- what is told of its answer
   pub read_is : take (length reached.path) after ≡ bytes_read reached.path host → (new : List ℕ)
       → (r : Result ℕ GuestMemoryError)
-      → Outcome errors.Memory (NeedsTranslation m (length buffer)) (access_result reached) (new ≡ buffer) (new ≡ after) r
+      → Outcome errors.Memory (NeedsTranslation m (length buffer)) (access_result reached) (new ≡ buffer)
+      (new ≡ after) r
       → ((replied (λ (count : ℕ). Bytes (take count new)) (refused_as r) ≡ reads m host a (length buffer))
       × (new ≡ filled_from (Some m) host a buffer))
       ⊎ ((refused_as r ≡ Err refusal.Memory) × NeedsTranslation m (length buffer) × (new ≡ buffer))

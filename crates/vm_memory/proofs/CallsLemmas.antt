@@ -37,8 +37,8 @@ there_meant {X} f xs i x is = slice_get-map f xs i ∙ ap (λ (o : Option X). op
 
 -- a call that changes the host by a memory that is there
 pub changes_are_step : (old : State) (memory : ℕ) (m : guest.Memory) → slice_get old.memories memory ≡ Some m → (n : ℕ)
-    (does : guest.Memory → Host PageSet → Reply × Host PageSet) {T : Type 0} (told : T → Reply) (result : Result T Refusal)
-    (after : Host PageSet)
+    (does : guest.Memory → Host PageSet → Reply × Host PageSet) {T : Type 0} (told : T → Reply)
+    (result : Result T Refusal) (after : Host PageSet)
     → ((replied told result, after) ≡ does m old.host)
     ⊎ ((result ≡ Err refusal.Memory) × NeedsTranslation m n × (after ≡ old.host))
     → CallsOf old memory n does (replied told result) (record old { host = after })

@@ -92,7 +92,8 @@ done_so : (r : Result (Unit {0}) GuestMemoryError)
 done_so (Ok u) = refl
 done_so (Err e) = refl
 
-pub whole_so : (n : ℕ) (r : Result ℕ GuestMemoryError) → replied as_done (refused_as (all_moved n r)) ≡ moved_as true n r
+pub whole_so : (n : ℕ) (r : Result ℕ GuestMemoryError)
+    → replied as_done (refused_as (all_moved n r)) ≡ moved_as true n r
 whole_so n r = done_so (all_moved n r)
 
 -- a transfer whose answer is told so of its count

@@ -18,7 +18,8 @@ returns-clause-moved g c =
     let there : slice_get m.memories c.args.memory ≡ Some c.in-Some.memory.now =
     slice_get_read m.memories (length m.memories) c.args.memory c.in-Some.memory.now refl
     (ltb-true c.args.memory (length m.memories) (sym seen.0)) seen.1 in
-    rw (← c.self.view_is, there_meant meant m.memories c.args.memory c.in-Some.memory.now there) c.receive_whole.ensures.moved
+    rw (← c.self.view_is, there_meant meant m.memories c.args.memory c.in-Some.memory.now there)
+    c.receive_whole.ensures.moved
 
 pub returns-clause-step : goal.returns-clause-step
 returns-clause-step g c = λ steps tells.

@@ -17,4 +17,5 @@ returns-clause-step g c = λ steps sink.
     let it = meant c.in-Some.memory.now in
     sends_are_step now it c.args.count (command.WriteAllTo c.args.memory c.args.addr c.args.count steps)
     (sends true it now.host c.args.addr.0 c.args.count steps) (rw here refl) (λ wants. rw here (refl, wants.1))
-    (g.F.WriteVolatile.taken c.send_whole.new.dst) (replied as_done c.send_whole.result) (rw (← c.self.view_is) (c.send_whole.ensures.step steps sink))
+    (g.F.WriteVolatile.taken c.send_whole.new.dst) (replied as_done c.send_whole.result)
+    (rw (← c.self.view_is) (c.send_whole.ensures.step steps sink))

@@ -18,4 +18,5 @@ returns-clause-step g c = λ steps sink.
     let it = meant c.in-Some.memory.now in
     sends_are_step now it c.args.count (command.WriteTo c.args.memory c.args.addr c.args.count steps)
     (sends false it now.host c.args.addr.0 c.args.count steps) (rw here refl) (λ wants. rw here (refl, wants.1))
-    (g.F.WriteVolatile.taken c.send.new.dst) (replied (λ k. reply.Count k) c.send.result) (rw (← c.self.view_is) (c.send.ensures.step steps sink))
+    (g.F.WriteVolatile.taken c.send.new.dst) (replied (λ k. reply.Count k) c.send.result)
+    (rw (← c.self.view_is) (c.send.ensures.step steps sink))

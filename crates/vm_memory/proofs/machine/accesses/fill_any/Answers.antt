@@ -16,7 +16,8 @@ returns-in-Ok g c =
     let each = g.met.M.GuestMemory.each_fits c.args.memory.now in
     let given = rw (by_bytes.count m.regions way a (length buffer) permissions.Read) at c.in-Ok.ensures.answer in
     fill_is m (with_pages g.B.ExactBitmap.pages host) a buffer each
-    (by_bytes.reads m.regions way a (length buffer) permissions.Read host.blocks buffer each) c.read_slice.new.buf (omega arith)
+    (by_bytes.reads m.regions way a (length buffer) permissions.Read host.blocks buffer each)
+    c.read_slice.new.buf (omega arith)
     (Ok tt) given
 
 pub returns-in-Err : goal.returns-in-Err
@@ -31,5 +32,6 @@ returns-in-Err g c =
     let given = rw (by_bytes.count m.regions way a (length buffer) permissions.Read) at c.in-Err.ensures.answer in
     rw (c.from.ensures)
     (fill_is m (with_pages g.B.ExactBitmap.pages host) a buffer each
-    (by_bytes.reads m.regions way a (length buffer) permissions.Read host.blocks buffer each) c.read_slice.new.buf (omega arith)
+    (by_bytes.reads m.regions way a (length buffer) permissions.Read host.blocks buffer each)
+    c.read_slice.new.buf (omega arith)
     (Err c.in-Err.error) given)

@@ -27,7 +27,8 @@ returns-in-Ok-clause-step g c = λ steps tells.
     let n = c.args.count in
     let reached = reached_by m host.tables a n permissions.Write in
     let fault = option_map error_of reached.fault in
-    (received_is false m (with_pages pages host) a n (λ r. r) (λ k. Count k) (counted_so n) (Ok c.in-Ok.count) steps (with_pages pages new)
+    (received_is false m (with_pages pages host) a n (λ r. r) (λ k. Count k) (counted_so n) (Ok c.in-Ok.count)
+    steps (with_pages pages new)
     (elim c.in-Ok.ensures.answer [
       | inl wanted ↦ inl (wanted.0, wanted.1, ap (λ p. with_pages pages p.1) wanted.2)
       | inr so ↦
@@ -46,7 +47,9 @@ returns-in-Err-clause-step g c = λ steps tells.
     let n = c.args.count in
     let reached = reached_by m host.tables a n permissions.Write in
     let fault = option_map error_of reached.fault in
-    rw c.from.ensures (received_is false m (with_pages pages host) a n (λ r. r) (λ k. Count k) (counted_so n) (Err c.in-Err.error) steps (with_pages pages new)
+    rw c.from.ensures
+    (received_is false m (with_pages pages host) a n (λ r. r) (λ k. Count k) (counted_so n) (Err c.in-Err.error)
+    steps (with_pages pages new)
     (elim c.in-Err.ensures.answer [
       | inl wanted ↦ inl (wanted.0, wanted.1, ap (λ p. with_pages pages p.1) wanted.2)
       | inr so ↦

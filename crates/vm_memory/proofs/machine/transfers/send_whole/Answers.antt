@@ -30,7 +30,8 @@ returns-in-Ok-clause-step g c = λ steps sink.
     let state : Sink = record { next = map taking_of steps; room = Some n } in
     let old = c.args.dst.now in
     let new = c.write_all_volatile_to.new.dst in
-    (sent_is true m (with_pages g.B.ExactBitmap.pages host) a n (λ r. all_moved n r) as_done (whole_so n) (Ok tt) each steps
+    (sent_is true m (with_pages g.B.ExactBitmap.pages host) a n (λ r. all_moved n r) as_done (whole_so n) (Ok tt)
+    each steps
     (g.F.WriteVolatile.taken new)
     (elim c.in-Ok.ensures.answer [
       | inl wanted ↦ inl (wanted.0, wanted.1, ap (λ s. g.F.WriteVolatile.taken s) wanted.2 ∙ sink.empty)
@@ -59,7 +60,9 @@ returns-in-Err-clause-step g c = λ steps sink.
     let state : Sink = record { next = map taking_of steps; room = Some n } in
     let old = c.args.dst.now in
     let new = c.write_all_volatile_to.new.dst in
-    rw c.from.ensures (sent_is true m (with_pages g.B.ExactBitmap.pages host) a n (λ r. all_moved n r) as_done (whole_so n) (Err c.in-Err.error) each steps
+    rw c.from.ensures
+    (sent_is true m (with_pages g.B.ExactBitmap.pages host) a n (λ r. all_moved n r) as_done (whole_so n) (Err c.in-Err.error)
+    each steps
     (g.F.WriteVolatile.taken new)
     (elim c.in-Err.ensures.answer [
       | inl wanted ↦ inl (wanted.0, wanted.1, ap (λ s. g.F.WriteVolatile.taken s) wanted.2 ∙ sink.empty)
