@@ -85,7 +85,8 @@ abbrev pub TransfersOf : {T X : Type 0} → Option Memory → Host PageSet → �
 TransfersOf None host a n access Moves told old result new = (result ≡ Err refusal.NoSuch) × (new ≡ old)
 TransfersOf {T} (Some m) host a n access Moves told old result new =
     (answer : Result T GuestMemoryError) × (result ≡ refused_as answer)
-    × Transfers errors.Memory (NeedsTranslation m n) of_window (transfer_reach m host a n access) Moves told old answer new
+    × Transfers errors.Memory (NeedsTranslation m n) of_window (transfer_reach m host a n access) Moves told old answer
+    new
 
 -- a sink that keeps what it takes has nothing yet, and does what these steps say, with room for n bytes and without
 -- memory

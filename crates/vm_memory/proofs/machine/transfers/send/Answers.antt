@@ -31,7 +31,8 @@ returns-in-Ok-clause-step g c = λ steps sink.
     let state : Sink = record { next = map taking_of steps; room = Some n } in
     let old = c.args.dst.now in
     let new = c.write_volatile_to.new.dst in
-    (sent_is false m (with_pages g.B.ExactBitmap.pages host) a n (λ r. r) (λ k. Count k) (counted_so n) (Ok c.in-Ok.count)
+    (sent_is false m (with_pages g.B.ExactBitmap.pages host) a n (λ r. r) (λ k. Count k)
+    (counted_so n) (Ok c.in-Ok.count)
     each steps
     (g.F.WriteVolatile.taken new)
     (elim c.in-Ok.ensures.answer [
@@ -62,7 +63,8 @@ returns-in-Err-clause-step g c = λ steps sink.
     let old = c.args.dst.now in
     let new = c.write_volatile_to.new.dst in
     rw c.from.ensures
-    (sent_is false m (with_pages g.B.ExactBitmap.pages host) a n (λ r. r) (λ k. Count k) (counted_so n) (Err c.in-Err.error)
+    (sent_is false m (with_pages g.B.ExactBitmap.pages host) a n (λ r. r) (λ k. Count k)
+    (counted_so n) (Err c.in-Err.error)
     each steps
     (g.F.WriteVolatile.taken new)
     (elim c.in-Err.ensures.answer [

@@ -61,7 +61,8 @@ returns-in-Err-clause-step g c = λ steps sink.
     let old = c.args.dst.now in
     let new = c.write_all_volatile_to.new.dst in
     rw c.from.ensures
-    (sent_is true m (with_pages g.B.ExactBitmap.pages host) a n (λ r. all_moved n r) as_done (whole_so n) (Err c.in-Err.error)
+    (sent_is true m (with_pages g.B.ExactBitmap.pages host) a n (λ r. all_moved n r) as_done
+    (whole_so n) (Err c.in-Err.error)
     each steps
     (g.F.WriteVolatile.taken new)
     (elim c.in-Err.ensures.answer [
