@@ -18,13 +18,12 @@ mod session;
 mod setup;
 mod words;
 
-pub use pools::{Pools, ScriptMachine};
-pub use reply::SetupReply;
-pub use setup::Setup;
-
 use lines::Lines;
 use output::{ROOM, write_all};
+pub use pools::{Pools, ScriptMachine};
+pub use reply::SetupReply;
 use session::Session;
+pub use setup::Setup;
 use std::alloc::Global;
 use std::error::Error;
 use std::fmt;
