@@ -1,14 +1,14 @@
 //! The calls of a machine, each beside its command on an equal machine.
 
-use crate::calls::{ROUNDS, SIZE, TestMachine, bare_machine, round_of};
+use crate::calls::{ROUNDS, SIZE, bare_machine, round_of};
 use std::alloc::{AllocError, Global};
 use std::slice;
 use std::test::Fail;
 use test_machines::write_of;
 use vm_memory::{
-    BitmapId, BlockRange, ByteList, Command, Ending, Fault, GuestAddress, NumberList, Permissions,
-    Refusal, Reply, ScriptSink, ScriptSource, SinkList, SinkStep, SourceList, SourceStep, Width,
-    run,
+    BitmapId, BlockRange, ByteList, Command, Ending, ExactBitmap, Fault, GuestAddress,
+    GuestMemoryRegion, Iommu, Machine, NumberList, Permissions, Refusal, Reply, ScriptSink,
+    ScriptSource, SinkList, SinkStep, SourceList, SourceStep, Width, run,
 };
 
 // What stands in a buffer before it is read into.
@@ -85,7 +85,11 @@ fn read_reply(mut buffer: Vec<u8>, answer: Result<usize, Refusal>) -> Result<Rep
     })
 }
 
-fn read_into(alloc: Global, machine: &TestMachine, command: &Command) -> Result<Reply, Fail> {
+fn read_into<R: GuestMemoryRegion, I: Iommu, B: ExactBitmap>(
+    alloc: Global,
+    machine: &Machine<R, I, B>,
+    command: &Command,
+) -> Result<Reply, Fail> {
     match command {
         Command::Read {
             memory,
@@ -109,7 +113,10 @@ fn read_into(alloc: Global, machine: &TestMachine, command: &Command) -> Result<
     }
 }
 
-fn typed(machine: &mut TestMachine, command: &Command) -> Result<Reply, Fail> {
+fn typed<R: GuestMemoryRegion, I: Iommu, B: ExactBitmap>(
+    machine: &mut Machine<R, I, B>,
+    command: &Command,
+) -> Result<Reply, Fail> {
     Ok(match command {
         Command::Store {
             memory,
@@ -152,7 +159,11 @@ fn sent(reply: Reply, sink: ScriptSink<'_>) -> Reply {
     Reply::Sent { ending, taken }
 }
 
-fn transferred(alloc: Global, machine: &mut TestMachine, command: &Command) -> Result<Reply, Fail> {
+fn transferred<R: GuestMemoryRegion, I: Iommu, B: ExactBitmap>(
+    alloc: Global,
+    machine: &mut Machine<R, I, B>,
+    command: &Command,
+) -> Result<Reply, Fail> {
     Ok(match command {
         Command::ReadFrom {
             memory,
@@ -196,7 +207,10 @@ fn transferred(alloc: Global, machine: &mut TestMachine, command: &Command) -> R
     })
 }
 
-fn made(machine: &mut TestMachine, command: &Command) -> Result<Reply, Fail> {
+fn made<R: GuestMemoryRegion, I: Iommu, B: ExactBitmap>(
+    machine: &mut Machine<R, I, B>,
+    command: &Command,
+) -> Result<Reply, Fail> {
     Ok(match command {
         Command::FromRegions(numbers) => layout(machine.from_regions(numbers.as_slice())),
         Command::Insert {
@@ -223,7 +237,10 @@ fn made(machine: &mut TestMachine, command: &Command) -> Result<Reply, Fail> {
     })
 }
 
-fn looked_up(machine: &mut TestMachine, command: &Command) -> Result<Reply, Fail> {
+fn looked_up<R: GuestMemoryRegion, I: Iommu, B: ExactBitmap>(
+    machine: &mut Machine<R, I, B>,
+    command: &Command,
+) -> Result<Reply, Fail> {
     Ok(match command {
         Command::Set {
             table,
@@ -253,7 +270,11 @@ fn looked_up(machine: &mut TestMachine, command: &Command) -> Result<Reply, Fail
 }
 
 // The reply of a command, by its call.
-fn reply_of(alloc: Global, machine: &mut TestMachine, command: &Command) -> Result<Reply, Fail> {
+fn reply_of<R: GuestMemoryRegion, I: Iommu, B: ExactBitmap>(
+    alloc: Global,
+    machine: &mut Machine<R, I, B>,
+    command: &Command,
+) -> Result<Reply, Fail> {
     match command {
         Command::Read { .. } | Command::ReadSlice { .. } => read_into(alloc, machine, command),
         Command::Write {
@@ -304,10 +325,10 @@ fn reply_of(alloc: Global, machine: &mut TestMachine, command: &Command) -> Resu
 }
 
 // Runs a command on one machine, and makes its call on the other. Fails where the answers differ.
-fn expect_same(
+fn expect_same<R: GuestMemoryRegion, I: Iommu, B: ExactBitmap>(
     alloc: Global,
-    machine: &mut TestMachine,
-    called: &mut TestMachine,
+    machine: &mut Machine<R, I, B>,
+    called: &mut Machine<R, I, B>,
     command: &Command,
 ) -> Result<(), Fail> {
     let mut replies = Vec::new(alloc);
@@ -535,10 +556,10 @@ fn is_short(command: &Command) -> bool {
     }
 }
 
-fn expect_all(
+fn expect_all<R: GuestMemoryRegion, I: Iommu, B: ExactBitmap>(
     alloc: Global,
-    machine: &mut TestMachine,
-    called: &mut TestMachine,
+    machine: &mut Machine<R, I, B>,
+    called: &mut Machine<R, I, B>,
     commands: &[Command],
 ) -> Result<(), Fail> {
     for command in commands {
