@@ -1,0 +1,6 @@
+mod ElfLemmas
+mod NoteLemmas
+mod PvhLemmas
+mod ZeroLemmas
+mod LoadLemmas
+mod LayoutLemmas

@@ -1,0 +1,1 @@
+//! What is loaded, in terms of bytes.

@@ -1,0 +1,5 @@
+//! Tests of loaders.
+#![tactic(auto)]
+
+#[cfg(test)]
+mod small;
