@@ -4,3 +4,4 @@ mod PvhLemmas
 mod ZeroLemmas
 mod LoadLemmas
 mod LayoutLemmas
+mod PlanLemmas

@@ -137,11 +137,17 @@ elf_planned segments entry pvh = record {
   };
 }
 
--- what is to be loaded of a file, at so many addresses above where it says
-abbrev pub elf_plan : List ℕ → ℕ → ℕ → Result Planned LoaderError
-elf_plan all offset lowest = and_then (elf_header all lowest) (λ h.
-    let headers = headers_in all h in
-    and_then (segments_of (length all) offset headers) (λ found.
-    and_then (some_segment found) (λ segments.
+-- the segments that program headers name, of which there has to be one
+abbrev pub some_segments : ℕ → ℕ → List ProgramHeader → Result (List Segment) LoaderError
+some_segments size offset headers = and_then (segments_of size offset headers) some_segment
+
+-- what is to be loaded of a file with this header, at so many addresses above where it says
+unfoldable pub elf_named : List ℕ → ℕ → ElfHeader → Result Planned LoaderError
+elf_named all offset h = let headers = headers_in all h in
+    and_then (some_segments (length all) offset headers) (λ segments.
     and_then (entry_at h.entry offset) (λ entry.
-    and_then (pvh_entry all headers) (λ pvh. Ok (elf_planned segments entry pvh))))))
+    and_then (pvh_entry all headers) (λ pvh. Ok (elf_planned segments entry pvh))))
+
+-- what is to be loaded of a file
+unfoldable pub elf_plan : List ℕ → ℕ → ℕ → Result Planned LoaderError
+elf_plan all offset lowest = and_then (elf_header all lowest) (λ h. elf_named all offset h)

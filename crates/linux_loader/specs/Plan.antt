@@ -1,5 +1,5 @@
 -- What is to be loaded of an image, and where.
-use Rattle.std.specs.Prelude.{◌≡◌, ◌⊎◌, ℕ, ◌+◌, ◌^◌, ◌<◌, ◌≤◌, max, List, [], ◌∷◌, AllPairs, Option, Some, None, Result, Ok, Err, Vec}
+use Rattle.std.specs.Prelude.{◌≡◌, ◌⊎◌, ℕ, ◌+◌, ◌^◌, ◌<◌, ◌≤◌, max, List, [], ◌∷◌, AllPairs, Option, unwrap_or, Result, Ok, Err, Vec}
 use Rattle.std.specs.declared.alloc.Global.{Global}
 use Rattle.vm_memory_base.specs.declared.address.GuestAddress.{GuestAddress}
 use Rattle.linux_loader.specs.declared.error.LoaderError.{LoaderError}
@@ -18,8 +18,7 @@ planned_of p = record { segments = p.segments.items; result = p.result }
 
 -- an address that may be given, or another
 abbrev pub address_or : ℕ → Option GuestAddress → ℕ
-address_or other None = other
-address_or other (Some a) = a.0
+address_or other o = (unwrap_or o (record { 0 = other })).0
 
 -- the address behind the last byte of a segment
 abbrev pub end_of : Segment → ℕ
@@ -47,6 +46,11 @@ Answers expected answer = (answer ≡ expected) ⊎ (answer ≡ Err errors.Memor
 abbrev pub Lists : {T : Type 0} → Result (List T) LoaderError → Result (Vec T Global) LoaderError → Type 0
 Lists expected (Ok v) = expected ≡ Ok v.items
 Lists expected (Err e) = (expected ≡ Err e) ⊎ (e ≡ errors.Memory)
+
+-- what is planned is what is expected, or an allocation failed
+abbrev pub Names : Result Planned LoaderError → Result KernelPlan LoaderError → Type 0
+Names expected (Ok p) = expected ≡ Ok (planned_of p)
+Names expected (Err e) = (expected ≡ Err e) ⊎ (e ≡ errors.Memory)
 
 -- what is planned is what is expected, where no two segments share an address. Or an allocation failed
 abbrev pub Plans : Result Planned LoaderError → Result KernelPlan LoaderError → Type 0

@@ -1,11 +1,11 @@
 //! ELF images.
 
-ghost use Rattle.std.specs.Prelude.{◌≡◌, ◌+◌, ◌*◌, ◌≤◌, length, AllPairs, IfOk, MatchResult, Some, Err, Ok};
+ghost use Rattle.std.specs.Prelude.{◌≡◌, ◌+◌, ◌*◌, ◌≤◌, length, All, AllPairs, IfOk, MatchResult, Some, Err, Ok};
 ghost use Rattle.vm_memory_guest.specs.Host.{shape_of, Holds};
-ghost use Rattle.linux_loader.specs.Elf.{capability, elf_header, elf_plan, entry_at, headers_in};
+ghost use Rattle.linux_loader.specs.Elf.{capability, elf_header, elf_named, elf_plan, elf_planned, entry_at, headers_in, some_segments};
 ghost use Rattle.linux_loader.specs.Load.{LoadsImage};
 ghost use Rattle.linux_loader.specs.Image.{IfKnown};
-ghost use Rattle.linux_loader.specs.Plan.{Apart, Lists, Plans, address_or};
+ghost use Rattle.linux_loader.specs.Plan.{Apart, HasBytes, Lists, Names, Plans, address_or, planned_of};
 
 mod header;
 mod notes;
@@ -17,8 +17,8 @@ use self::header::{
 use self::notes::pvh_entry;
 use crate::error::LoaderError;
 use crate::image::KernelImage;
-use crate::layout::{highest_end, lie_apart};
-use crate::plan::{KernelLoaderResult, KernelPlan, PvhBootCapability};
+use crate::layout::highest_end;
+use crate::plan::{KernelLoaderResult, KernelPlan, PvhBootCapability, Segment, apart};
 use std::alloc::Global;
 use vm_memory::{Bitmap, GuestAddress, GuestMemory, HostMemory};
 
@@ -77,6 +77,61 @@ fn capability(entry: Option<u64>) -> PvhBootCapability
     }
 }
 
+// The segments that program headers name, of which there has to be one.
+fn some_segments(
+    alloc: Global,
+    headers: &[ProgramHeader],
+    size: u64,
+    kernel_offset: u64,
+) -> Result<Vec<Segment>, LoaderError>
+    ensures listed { Lists (some_segments size kernel_offset headers.now) result }
+    ensures some { IfOk result (λ segments. All HasBytes segments.items) }
+{
+    let segments = segments_of(alloc, headers, size, kernel_offset)?;
+    if segments.is_empty() {
+        return Err(LoaderError::NoLoadSegment);
+    }
+    Ok(segments)
+}
+
+// What is to be loaded of segments.
+fn plan_of(segments: Vec<Segment>, entry: GuestAddress, pvh: Option<u64>) -> KernelPlan
+    requires { All HasBytes segments.items }
+    ensures { planned_of result ≡ elf_planned segments.items entry pvh }
+{
+    let kernel_end = highest_end(segments.as_slice());
+    KernelPlan {
+        segments,
+        result: KernelLoaderResult {
+            kernel_load: entry,
+            kernel_end,
+            setup_header: None,
+            pvh_boot_cap: capability(pvh),
+        },
+    }
+}
+
+// What is to be loaded of an image of so many bytes with this header, if the segments lie apart.
+fn named<F: KernelImage>(
+    alloc: Global,
+    image: &mut F,
+    header: &ElfHeader,
+    size: u64,
+    kernel_offset: u64,
+) -> Result<KernelPlan, LoaderError>
+    requires { header.now.table + 56 * header.now.count ≤ size }
+    ensures named { IfKnown (F.bytes image.old) (λ all. (F.bytes image.new ≡ Some all)
+        × (size ≡ length all → Names (elf_named all kernel_offset header.now) result)) }
+    ensures some { IfOk result (λ plan. All HasBytes plan.segments.items) }
+{
+    let table = read_program_headers(alloc, image, header)?;
+    let headers = table.as_slice();
+    let segments = some_segments(alloc, headers, size, kernel_offset)?;
+    let entry = entry_at(header.entry, kernel_offset)?;
+    let pvh = pvh_entry(alloc, image, headers, size)?;
+    Ok(plan_of(segments, entry, pvh))
+}
+
 impl Elf {
     /// What is to be loaded of an image, and where.
     pub fn plan<F: KernelImage>(
@@ -93,26 +148,8 @@ impl Elf {
         let lowest = highmem_start.unwrap_or(GuestAddress(0)).0;
         let size = image.size()?;
         let header = read_header(image, size, lowest)?;
-        let headers = read_program_headers(alloc, image, &header)?;
-        let segments = segments_of(alloc, headers.as_slice(), size, offset)?;
-        if segments.is_empty() {
-            return Err(LoaderError::NoLoadSegment);
-        }
-        let entry = entry_at(header.entry, offset)?;
-        let pvh = pvh_entry(alloc, image, headers.as_slice(), size)?;
-        if !lie_apart(alloc, segments.as_slice())? {
-            return Err(LoaderError::SegmentsOverlap);
-        }
-        let kernel_end = highest_end(segments.as_slice());
-        Ok(KernelPlan {
-            segments,
-            result: KernelLoaderResult {
-                kernel_load: entry,
-                kernel_end,
-                setup_header: None,
-                pvh_boot_cap: capability(pvh),
-            },
-        })
+        let plan = named(alloc, image, &header, size, offset)?;
+        apart(alloc, plan)
     }
 
     /// Loads an image.

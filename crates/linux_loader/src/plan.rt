@@ -1,12 +1,15 @@
 //! What is to be loaded of an image, and where, and how it is loaded.
 
-ghost use Rattle.std.specs.Prelude.{◌≡◌};
+ghost use Rattle.std.specs.Prelude.{◌≡◌, ◌⊎◌, All, AllPairs, MatchResult};
 ghost use Rattle.vm_memory_guest.specs.Host.{shape_of, Holds};
+ghost use Rattle.linux_loader.specs.Plan.{Apart, HasBytes, planned_of};
 ghost use Rattle.linux_loader.specs.Load.{Clears, ClearsRest, FillsFront, LoadsAll, LoadsPlan, LoadsSegment};
 
 use crate::error::LoaderError;
 use crate::image::KernelImage;
+use crate::layout::lie_apart;
 use crate::zeros::Zeros;
+use std::alloc::Global;
 use vm_memory::{Bitmap, Bytes, GuestAddress, GuestMemory, GuestUsize, HostMemory};
 
 /// A part of an image that is loaded to guest memory.
@@ -64,6 +67,19 @@ pub struct KernelPlan {
     pub segments: Vec<Segment>,
     /// What a loader answers.
     pub result: KernelLoaderResult,
+}
+
+// A plan, if its segments lie apart.
+pub(crate) fn apart(alloc: Global, plan: KernelPlan) -> Result<KernelPlan, LoaderError>
+    requires { All HasBytes plan.segments.items }
+    ensures { MatchResult result (λ p. (planned_of p ≡ planned_of plan) × AllPairs Apart p.segments.items)
+        (λ e. (e ≡ LoaderError.Memory)
+        ⊎ ((e ≡ LoaderError.SegmentsOverlap) × ¬ AllPairs Apart plan.segments.items)) }
+{
+    if !lie_apart(alloc, plan.segments.as_slice())? {
+        return Err(LoaderError::SegmentsOverlap);
+    }
+    Ok(plan)
 }
 
 // Lends an image the bytes of a segment that come from it.
@@ -151,8 +167,6 @@ pub(crate) fn load_segment<M: GuestMemory, F: KernelImage, B: Bitmap>(
 }
 
 impl KernelPlan {
-    ghost use Rattle.linux_loader.specs.Plan.{planned_of};
-
     /// Loads each segment, one after the other, up to the first that is refused.
     pub fn load<M: GuestMemory, F: KernelImage, B: Bitmap>(
         self,
