@@ -1,3 +1,4 @@
+pub mod BzImage
 pub mod Elf
 pub mod Error
 pub mod Image

@@ -10,6 +10,7 @@ use crate::image::KernelImage;
 use crate::layout::lie_apart;
 use crate::zeros::Zeros;
 use std::alloc::Global;
+use std::marker::Model;
 use vm_memory::{Bitmap, Bytes, GuestAddress, GuestMemory, GuestUsize, HostMemory};
 
 /// A part of an image that is loaded to guest memory.
@@ -53,9 +54,22 @@ pub struct SetupHeader {
     pub(crate) bytes: Vec<u8>,
 }
 
+// It is seen as its bytes.
+impl Model for SetupHeader {
+    ghost use Rattle.std.specs.Prelude.{ℕ, List};
+
+    ghost Value = { List ℕ };
+
+    ghost view = { λ h. h.bytes.items };
+}
+
 impl SetupHeader {
+    ghost use Rattle.std.specs.Prelude.{◌≡◌};
+
     /// Its bytes, of which the first lies at 0x1f1 of the image.
-    pub fn as_slice(&self) -> &[u8] {
+    pub fn as_slice(&self) -> &[u8]
+        ensures { result.now ≡ self.now }
+    {
         self.bytes.as_slice()
     }
 }
