@@ -26,9 +26,12 @@ zeros_tried left count buf new is made =
     let long : count ≤ left = omega arith in (
       ap (λ (k : ℕ). Ok k) counted ∙ sym gives.answer,
       made ∙ over count bytes,
-      ap (λ (xs : List Next). Some xs) (ap (λ (xs : List ℕ). giving xs []) (sym (drop-replicate count left 0)) ∙ ap (λ (k : ℕ). giving (drop k (replicate left 0)) []) counted ∙ sym gives.left),
+      ap (λ (xs : List Next). Some xs) (rest counted ∙ sym gives.left),
     )
   where
+    rest : {k : ℕ} → count ≡ k → giving (replicate (left - count) 0) [] ≡ giving (drop k (replicate left 0)) []
+    rest e = rw (← e, drop-replicate) refl
+
     over : (k : ℕ) → (tried (length buf) (giving (replicate left 0) [])).bytes ≡ replicate k 0
         → replicate k 0 ++ drop k buf ≡ over_front (tried (length buf) (giving (replicate left 0) [])).bytes buf
     over k e = rw e (rw length-replicate refl)

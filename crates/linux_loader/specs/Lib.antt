@@ -1,8 +1,10 @@
 pub mod BzImage
+pub mod Cmdline
 pub mod Elf
 pub mod Error
 pub mod Image
 pub mod ImageBytes
+pub mod Initrd
 pub mod Load
 pub mod Notes
 pub mod Numbers

@@ -190,7 +190,7 @@ fn header_as_loaded(alloc: Global, header: &[u8], addr: u32) -> Result<SetupHead
 {
     let size = header_size(header);
     let mut bytes = Vec::new(alloc);
-    bytes.extend_from_slice(&header[..CODE32_START])?;
+    bytes.extend_from_slice(&header[0..CODE32_START])?;
     bytes.extend_from_slice(&addr.to_le_bytes())?;
     bytes.extend_from_slice(&header[LEAST_HEADER..size])?;
     Ok(SetupHeader { bytes })
