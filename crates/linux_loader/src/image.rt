@@ -96,6 +96,7 @@ impl ReadVolatile for ImageBytes<'_> {
 }
 
 impl KernelImage for ImageBytes<'_> {
+    ghost use Rattle.std.proofs.Common.{ap};
     ghost use Rattle.linux_loader.specs.ImageBytes.{bytes_of};
 
     ghost bytes = { λ s. Some (bytes_of s) };
@@ -115,7 +116,7 @@ impl KernelImage for ImageBytes<'_> {
         copy_from(all, offset, buf)
     }
 
-    ghost reads_keep = { λ s t old new answer h. same_some h };
+    ghost reads_keep = { λ s t old new answer h. ap (λ (all : List ℕ). Some all) h };
 }
 
 impl KernelImage for File {

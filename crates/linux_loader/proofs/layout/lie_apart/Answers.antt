@@ -1,4 +1,3 @@
-use Rattle.std.proofs.Common.{rules}
 use Rattle.std.proofs.lemmas.List.Sorted.{All-permutation, IsPermutation-sym}
 use Rattle.linux_loader.specs.Plan.{HasBytes}
 use Rattle.linux_loader.proofs.LayoutLemmas.{apart_moved}

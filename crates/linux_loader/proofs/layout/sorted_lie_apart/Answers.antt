@@ -1,4 +1,4 @@
-use Rattle.linux_loader.proofs.LayoutLemmas.{scanned_all, scanned_meets, scanned_more, scanned_none}
+use Rattle.linux_loader.proofs.LayoutLemmas.{scanned_meets}
 use Rattle.linux_loader.proofs.layout.sorted_lie_apart.Goals as goal
 
 pub returns-then-segment-end : goal.returns-then-segment-end

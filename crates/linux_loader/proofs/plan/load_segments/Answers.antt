@@ -1,6 +1,6 @@
-use Rattle.std.proofs.Common.{◌∙◌, Ok, Err, ap, refl}
+use Rattle.std.proofs.Common.{◌∙◌}
 use Rattle.std.proofs.lemmas.Result.{err_from_is_err_and}
-use Rattle.linux_loader.proofs.LoadLemmas.{loaded_all, loaded_failed, loaded_more, loaded_none}
+use Rattle.linux_loader.proofs.LoadLemmas.{loaded_all, loaded_failed, loaded_more}
 use Rattle.linux_loader.proofs.plan.load_segments.Goals as goal
 
 pub returns-in_err-load_segment-clause-loaded : goal.returns-in_err-load_segment-clause-loaded

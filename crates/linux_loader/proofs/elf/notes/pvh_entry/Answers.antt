@@ -1,4 +1,3 @@
-use Rattle.std.proofs.Common.{Some, None}
 use Rattle.std.proofs.lemmas.Result.{err_from_is_err_and}
 use Rattle.linux_loader.proofs.PvhLemmas.{sought_ended, sought_failed, sought_first, sought_found, sought_on}
 use Rattle.linux_loader.proofs.elf.notes.pvh_entry.Goals as goal
