@@ -11,8 +11,8 @@ pub type Host = HostMemory<ExclusiveBitmap>;
 
 /// Where memory begins, where its two regions touch, and where it ends.
 pub const BEGIN: u64 = 0x1000;
-pub const MIDDLE: u64 = 0x2000;
-pub const END: u64 = 0x3000;
+pub const MIDDLE: u64 = 0x1200;
+pub const END: u64 = 0x1400;
 
 /// What stands in each byte of memory before a load.
 pub const BEFORE: u8 = 0xaa;
@@ -66,12 +66,12 @@ pub const ELF: [Edit; 32] = [
     (104, 8, 0x20),
     (120, 4, 1),
     (128, 8, 0x140),
-    (144, 8, 0x1ff0),
+    (144, 8, 0x11f0),
     (152, 8, 0x20),
     (160, 8, 0x20),
     (176, 4, 1),
     (184, 8, 0x160),
-    (200, 8, 0x2100),
+    (200, 8, 0x1300),
     (208, 8, 0x10),
     (216, 8, 0x40),
     (232, 4, 4),
@@ -80,20 +80,20 @@ pub const ELF: [Edit; 32] = [
     (280, 8, 4),
     (0x170, 8, 0x0000_0008_0000_0004),
     (0x178, 8, 0x006e_6558_0000_0012),
-    (0x180, 8, 0x2108),
+    (0x180, 8, 0x1308),
 ];
 
 /// How many bytes the small bzImage has.
 pub const BZ_SIZE: usize = 0x410;
 
-/// The small bzImage: a boot sector, one sector of setup code and a kernel of 16 bytes, loaded at 0x1ff8.
+/// The small bzImage: a boot sector, one sector of setup code and a kernel of 16 bytes, loaded at 0x11f8.
 pub const BZ: [Edit; 7] = [
     (0x1f1, 1, 1),
     (0x201, 1, 0x66),
     (0x202, 4, 0x5372_6448),
     (0x206, 2, 0x20f),
     (0x211, 1, 1),
-    (0x214, 4, 0x1ff8),
+    (0x214, 4, 0x11f8),
     (0x22c, 8, 0x7fff_ffff),
 ];
 
