@@ -5,3 +5,4 @@ mod ZeroLemmas
 mod LoadLemmas
 mod LayoutLemmas
 mod PlanLemmas
+mod KeepLemmas

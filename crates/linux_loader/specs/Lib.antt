@@ -6,6 +6,7 @@ pub mod Image
 pub mod ImageBytes
 pub mod Initrd
 pub mod Load
+pub mod Loaded
 pub mod Notes
 pub mod Numbers
 pub mod Plan

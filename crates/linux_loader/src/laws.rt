@@ -1,1 +1,19 @@
-//! What is loaded, in terms of bytes.
+//! What loads leave of a host, from any image: each function here is a theorem, and does nothing.
+ghost use Rattle.std.specs.Prelude.{◌≡◌, ℕ, List, Contains, Result};
+ghost use Rattle.vm_memory_guest.specs.Host.{Host, Cell};
+ghost use Rattle.vm_memory_guest.specs.Memory.{Memory};
+ghost use Rattle.linux_loader.specs.Load.{LoadsAll};
+ghost use Rattle.linux_loader.specs.Loaded.{IsUnnamed, Keeps};
+ghost use Rattle.linux_loader.specs.declared.error.LoaderError.{LoaderError};
+ghost use Rattle.linux_loader.specs.declared.plan.Segment.{Segment};
+
+use crate::image::KernelImage;
+use vm_memory::Bitmap;
+
+/// However a load of segments ends, a byte that none of them names is as it was, and so are the tables of the host.
+pub fn loads_keep_what_no_segment_names<F: KernelImage, B: Bitmap>()
+    ensures { (m : Memory) (segments : List Segment) (image after : F) (old new : Host B)
+        (answer : Result (Unit {0}) LoaderError) (c : Cell)
+        → LoadsAll F.bytes F.source F.reads F.known_left B.marks m segments (image, old) answer (after, new)
+        → ((s : Segment) → Contains segments s → IsUnnamed m old c s) → Keeps c old new }
+{}

@@ -1,8 +1,6 @@
 //! What the program is asked for.
-ghost use Rattle.std.specs.Prelude.{◌<◌, ◌^◌};
 
 use anyhow::{Context, Result, bail};
-use std::alloc::Global;
 
 /// How the program is called.
 const USAGE: &str = "usage: vmmem_boot IMAGE [--memory MIB] [--offset N] [--cmdline TEXT] [--initrd FILE]";
@@ -49,7 +47,7 @@ fn take<'a>(asked: &mut Asked<'a>, name: &str, value: &'a str) -> Result<()> {
 }
 
 /// Reads the words behind the program's name.
-pub fn read_words<'a>(_alloc: Global, words: &'a [String]) -> Result<Asked<'a>> {
+pub fn read_words<'a>(words: &'a [String]) -> Result<Asked<'a>> {
     let mut asked = Asked {
         image: "",
         memory: 128,
@@ -57,21 +55,25 @@ pub fn read_words<'a>(_alloc: Global, words: &'a [String]) -> Result<Asked<'a>> 
         cmdline: None,
         initrd: None,
     };
-    let mut name = "";
-    for word in words.iter().skip(1) {
+    // The next word was taken already, as the program's name or as a value.
+    let mut taken = true;
+    for (place, word) in words.iter().enumerate() {
         let word = word.as_str();
-        if name != "" {
-            take(&mut asked, name, word)?;
-            name = "";
+        if taken {
+            taken = false;
         } else if word.starts_with("--") {
-            name = word;
+            let Some(value) = words.get(place.wrapping_add(1)) else {
+                bail!("{USAGE}");
+            };
+            take(&mut asked, word, value.as_str())?;
+            taken = true;
         } else if asked.image == "" {
             asked.image = word;
         } else {
             bail!("{USAGE}");
         }
     }
-    if asked.image == "" || name != "" {
+    if asked.image == "" {
         bail!("{USAGE}");
     }
     Ok(asked)

@@ -108,7 +108,7 @@ fn put_initrd(
 }
 
 fn run(rt: &HostRuntime, words: &[String]) -> Result<()> {
-    let asked = read_words(rt.alloc(), words)?;
+    let asked = read_words(words)?;
     let path = asked.image;
     let mut image = File::open(rt, path).context(format_args!("{path}"))?;
     let mut host = HostMemory::new(rt.alloc());

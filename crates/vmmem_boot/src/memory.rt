@@ -1,5 +1,4 @@
 //! Guest memory of a machine, and what lies in it.
-ghost use Rattle.std.specs.Prelude.{◌<◌, ◌≤◌, ◌^◌};
 
 use anyhow::{Result, bail};
 use sha2::{Digest, Sha256};
@@ -12,6 +11,9 @@ use vm_memory::{
 pub type Host = HostMemory<ExclusiveBitmap>;
 
 const MIB: u64 = 0x10_0000;
+
+// How many bytes are read at once.
+const CHUNK: u64 = 0x1_0000;
 
 // Where devices have their addresses: memory past 3 GiB lies from 4 GiB on.
 const HOLE: u64 = 0xc000_0000;
@@ -52,14 +54,14 @@ pub fn digest_of(
         bail!("the host holds the memory");
     }
     let mut hasher = Sha256::new();
-    let mut buffer = vec![in alloc; 0u8; 0x1_0000]?;
-    let mut done = 0;
-    while done < size {
-        let count = (size - done).min(buffer.len() as u64) as usize;
+    let mut buffer = vec![in alloc; 0u8; CHUNK as usize]?;
+    for number in 0..size.div_ceil(CHUNK) {
+        let done = number.saturating_mul(CHUNK);
+        let left = size.saturating_sub(done) as usize;
+        let count = left.min(buffer.len());
         let part = &mut buffer.as_mut_slice()[..count];
         memory.read_slice(host, part, GuestAddress(addr.wrapping_add(done)))?;
         hasher.update(&*part);
-        done += count as u64;
     }
     let digest = hasher.finalize();
     Ok(hex::encode(alloc, &digest)?)
