@@ -126,7 +126,7 @@ module _ {B : Type 0} (marks : B → ℕ → ℕ → B → Type 0) (c : Cell) wh
         lends_keeps a n x r z out h = receives_keeps a n x h.0 z out h.1
 
 module _ {B : Type 0} (marks : B → ℕ → ℕ → B → Type 0) (c : Cell) (m : Memory) where
-  clears_keeps : (s : Segment) (old : Host B) (r : Result (Unit {0}) LoaderError) (new : Host B)
+  pub clears_keeps : (s : Segment) (old : Host B) (r : Result (Unit {0}) LoaderError) (new : Host B)
       → Outside (windows_at m old (s.addr.0 + s.file_size) (s.size - s.file_size)) c → ClearsRest marks m s old r new
       → Keeps c old new
   clears_keeps s old r new out h = go (s.size - s.file_size == 0) h
@@ -146,7 +146,7 @@ module _ {B : Type 0} (marks : B → ℕ → ℕ → B → Type 0) (c : Cell) (m
 
   module _ {S : Type 0} (bytes : S → Option (List ℕ)) (source : S → Option (List Next))
       (reads : S → List ℕ → Answer → List ℕ → S → Type 0) (known : S → Option ℕ) where
-    front_keeps : (s : Segment) (x : S × Host B) (r : Result (Unit {0}) LoaderError) (z : S × Host B)
+    pub front_keeps : (s : Segment) (x : S × Host B) (r : Result (Unit {0}) LoaderError) (z : S × Host B)
         → Outside (windows_at m x.1 s.addr.0 s.file_size) c
         → FillsFront bytes source reads known marks m s x r z → Keeps c x.1 z.1
     front_keeps s x r z out h = go (s.file_size == 0) h

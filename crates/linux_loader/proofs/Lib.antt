@@ -6,3 +6,4 @@ mod LoadLemmas
 mod LayoutLemmas
 mod PlanLemmas
 mod KeepLemmas
+mod DirtyLemmas

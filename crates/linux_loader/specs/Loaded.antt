@@ -1,7 +1,9 @@
 -- What loads leave of a host: bytes that stay, and pages that are dirty.
 use Rattle.std.specs.Prelude.{◌≡◌, ℕ, ◌+◌, ◌-◌, List, Contains}
+use Rattle.vm_memory_base.specs.Pages.{PageSet}
 use Rattle.vm_memory_base.specs.declared.iotlb.Permissions.TheVariants as permissions
 use Rattle.vm_memory_guest.specs.Host.{Host, Cell, byte_at}
+use Rattle.vm_memory_guest.specs.Lent.{AreDirty}
 use Rattle.vm_memory_guest.specs.Memory.{Memory}
 use Rattle.vm_memory_guest.specs.Walk.{reached}
 use Rattle.vm_memory_guest.specs.Window.{Window, cells_of}
@@ -31,3 +33,8 @@ pub record IsUnnamed {B : Type 0} (m : Memory) (host : Host B) (c : Cell) (s : S
 pub record Keeps {B : Type 0} (c : Cell) (old new : Host B) : Type 0 where
   pub byte : byte_at new.blocks c ≡ byte_at old.blocks c
   pub tables : new.tables ≡ old.tables
+
+-- each byte of a segment that was loaded is dirty
+pub record IsDirtySegment {B : Type 0} (m : Memory) (host : Host B) (s : Segment) (pages : Host PageSet) : Type 0 where
+  pub front : AreDirty (front_windows m host s) pages
+  pub rest : AreDirty (rest_windows m host s) pages
