@@ -1,5 +1,5 @@
 -- What loads that succeed leave: each byte of their segments is dirty.
-use Rattle.std.proofs.Common.{◌≡◌, ◌⊎◌, ◌∙◌, inl, inr, ℕ, zero, suc, ◌+◌, ◌-◌, ◌^◌, ◌<◌, ◌≤◌, ◌==◌, nat_lt, Bool, true, false, if◌then◌else◌, MatchBool, MatchResult, List, [], ◌∷◌, Contains, Option, None, Result, Ok, Err, arith, ap, refl, subst, sym}
+use Rattle.std.proofs.Common.{◌≡◌, ◌∙◌, inl, inr, ℕ, zero, suc, ◌+◌, ◌-◌, ◌^◌, ◌<◌, ◌≤◌, ◌==◌, nat_lt, Bool, true, false, if◌then◌else◌, MatchBool, MatchResult, List, [], ◌∷◌, Contains, Option, None, Result, Ok, Err, arith, ap, refl, subst, sym}
 use Rattle.std.specs.Bool.{⊤}
 use Rattle.std.proofs.lemmas.Bool.Decides.{nat_tests}
 use Rattle.vm_memory_base.specs.Pages.{PageSet, marked}
@@ -11,10 +11,10 @@ use Rattle.vm_memory_guest.specs.Access.{access_of}
 use Rattle.vm_memory_guest.specs.Dirt.{with_pages}
 use Rattle.vm_memory_guest.specs.Error.{of_window}
 use Rattle.vm_memory_guest.specs.Host.{Host, Cell, cells_from}
-use Rattle.vm_memory_guest.specs.Lent.{AreDirty}
+use Rattle.vm_memory_guest.specs.Lent.{AllWhole, AreDirty}
 use Rattle.vm_memory_guest.specs.Memory.{Memory, route}
-use Rattle.vm_memory_guest.specs.Transfer.{Fills, UntilWhole, all_of}
-use Rattle.vm_memory_guest.specs.Window.{Window, cells_of, span}
+use Rattle.vm_memory_guest.specs.Transfer.{Fills, UntilWhole}
+use Rattle.vm_memory_guest.specs.Window.{Window, span}
 use Rattle.vm_memory_guest.specs.declared.region.error.GuestMemoryError.{GuestMemoryError}
 use Rattle.vm_memory_guest.specs.declared.region.error.GuestMemoryError.TheVariants as access
 use Rattle.vm_memory_guest.proofs.DirtLaws.{EmptyMark}
@@ -41,7 +41,7 @@ bound : List Window → ℕ
 bound [] = 0
 bound (w ∷ ws) = w.offset + w.size + bound ws
 
-far : List Window → Cell
+pub far : List Window → Cell
 unfolding bound
 far ws = record { block = 0; offset = bound ws }
 
@@ -51,7 +51,7 @@ within_bound [] w (i, within, is) = absurd (omega arith)
 within_bound (v ∷ ws) w (zero, within, is) = let e = ap (λ (x : Window). x.offset + x.size) is in omega arith
 within_bound (v ∷ ws) w (suc i, within, is) = let l = within_bound ws w (i, omega arith, is) in omega arith
 
-far_outside : (ws : List Window) → Outside ws (far ws)
+pub far_outside : (ws : List Window) → Outside ws (far ws)
 unfolding far
 far_outside ws w among h =
     let l = below w.block.0 w.offset w.size (far ws) h in let m = within_bound ws w among in omega arith
@@ -75,6 +75,29 @@ none_dirty : {B : Type 0} (m : Memory) (host : Host B) (a n : ℕ) (h : Host Pag
     → AreDirty (windows_at m host a n) h
 none_dirty m host a n h none w among at within =
     let l = part_of_span (windows_at m host a n) w among in let s = span_at m host a n in absurd (omega arith)
+
+-- what was lent whole was lent window by window, and these have all bytes
+module _ {B : Type 0} (marks : B → ℕ → ℕ → B → Type 0) (m : Memory) {S : Type 0} (source : S → Option (List Next))
+    (reads : S → List ℕ → Answer → List ℕ → S → Type 0) (known : S → Option ℕ) where
+  counted : (n k : ℕ) (b : Bool) → (k == n) ≡ b
+      → ◌≡◌ {A = Result (Unit {0}) GuestMemoryError} (Ok tt) (if b then Ok tt else Err (access.PartialBuffer n k))
+      → k ≡ n
+  counted n k true is told = grind (arith, nat_tests)
+  counted n k false is told = absurd (cc)
+
+  pub received_whole : (a n : ℕ) (x z : S × Host B) → Receives source reads known marks m a n x (Ok tt) z
+      → (span (windows_at m x.1 a n) ≡ n)
+      × AllWhole (Fills source reads known marks UntilWhole) (windows_at m x.1 a n) x z
+  received_whole a n x z (inl (told, wants, same)) = absurd (cc)
+  received_whole a n x z (inr (Err e, told, order)) = absurd (cc)
+  received_whole a n x z (inr (Ok k, told, order)) =
+      let ws = windows_at m x.1 a n in
+      let count : k ≡ n = counted n k (k == n) refl told in
+      let short = span_at m x.1 a n in
+      let enough : 0 + span ws ≤ k = omega arith in
+      let whole = whole_if_all of_window _ (Fills source reads known marks UntilWhole)
+      (fills_within source reads marks known) ws 0 k x z order enough in
+      (let e = whole.0 in omega arith, whole.1)
 
 module _ {B : Type 0} (marks : B → ℕ → ℕ → B → Type 0) (pages : B → PageSet)
     (exact : (old new : B) (offset len : ℕ) → marks old offset len new → pages new ≡ marked offset len (pages old))
@@ -104,24 +127,11 @@ module _ {B : Type 0} (marks : B → ℕ → ℕ → B → Type 0) (pages : B �
 
   module _ {S : Type 0} (source : S → Option (List Next)) (reads : S → List ℕ → Answer → List ℕ → S → Type 0)
       (known : S → Option ℕ) where
-    counted : (n k : ℕ) (b : Bool) → (k == n) ≡ b
-        → ◌≡◌ {A = Result (Unit {0}) GuestMemoryError} (Ok tt) (if b then Ok tt else Err (access.PartialBuffer n k))
-        → k ≡ n
-    counted n k true is told = grind (arith, nat_tests)
-    counted n k false is told = absurd (cc)
-
     received_leaves : (a n : ℕ) (x z : S × Host B) → Receives source reads known marks m a n x (Ok tt) z
         → Leaves (windows_at m x.1 a n) x.1 z.1
-    received_leaves a n x z (inl (told, wants, same)) = absurd (cc)
-    received_leaves a n x z (inr (Err e, told, order)) = absurd (cc)
-    received_leaves a n x z (inr (Ok k, told, order)) =
-        let ws = windows_at m x.1 a n in
-        let count : k ≡ n = counted n k (k == n) refl told in
-        let short = span_at m x.1 a n in
-        let enough : 0 + span ws ≤ k = omega arith in
-        all_leave source reads marks pages exact empty shape_stays stays dirties known ws x z
-        (whole_if_all of_window _ (Fills source reads known marks UntilWhole)
-        (fills_within source reads marks known) ws 0 k x z order enough).1
+    received_leaves a n x z got =
+        all_leave source reads marks pages exact empty shape_stays stays dirties known (windows_at m x.1 a n) x z
+        (received_whole marks m source reads known a n x z got).1
 
     lends_leaves : (a n : ℕ) (x z : S × Host B) → Lends source reads known marks m a n x (Ok tt) z
         → Leaves (windows_at m x.1 a n) x.1 z.1

@@ -1,5 +1,5 @@
 -- Program headers and the segments that they name, one after the other.
-use Rattle.std.proofs.Common.{◌≡◌, ◌∙◌, ℕ, suc, ◌+◌, ◌*◌, ◌-◌, ◌<◌, ◌≤◌, List, [], ◌∷◌, ◌++◌, add-one, append-nil, append_assoc, drop, length, All, Option, Some, None, Result, Ok, Err, ap, get_or, refl, subst, sym, take}
+use Rattle.std.proofs.Common.{◌≡◌, ◌∙◌, ℕ, suc, ◌+◌, ◌*◌, ◌-◌, ◌<◌, ◌≤◌, List, [], ◌∷◌, ◌++◌, add-one, append-nil, append_assoc, drop, length, Option, Some, None, Result, Ok, Err, ap, get_or, refl, subst, sym, take}
 use Rattle.std.proofs.Math.Seq.{drop-cons}
 use Rattle.std.proofs.lemmas.List.{drop_all, take_rest}
 use Rattle.linux_loader.specs.Elf.{program_header, program_headers, segment_of, segments_of, onto}

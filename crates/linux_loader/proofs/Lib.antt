@@ -7,3 +7,4 @@ mod LayoutLemmas
 mod PlanLemmas
 mod KeepLemmas
 mod DirtyLemmas
+mod BytesLemmas

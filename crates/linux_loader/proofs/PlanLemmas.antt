@@ -1,5 +1,5 @@
 -- What is planned of an ELF file, step by step.
-use Rattle.std.proofs.Common.{◌≡◌, ◌⊎◌, ◌∙◌, ℕ, ◌+◌, ◌-◌, ◌≤◌, List, arith, false, nat_lt, drop, length, length-drop, min, take, AllPairs, Option, Result, Ok, Err, MatchResult, Vec, ap, inl, inr, refl, subst, sym}
+use Rattle.std.proofs.Common.{◌≡◌, ◌⊎◌, ◌∙◌, ℕ, ◌+◌, ◌-◌, ◌≤◌, List, arith, false, nat_lt, drop, length, length-drop, min, take, AllPairs, Option, Result, Ok, Err, MatchResult, Vec, ap, inl, inr, refl, sym}
 use Rattle.std.proofs.lemmas.Bool.Decides.{nat_tests}
 use Rattle.std.proofs.lemmas.List.{take_min}
 use Rattle.std.specs.declared.alloc.Global.{Global}

@@ -1,5 +1,5 @@
 -- Program headers of notes, one after the other, up to the first that leads to the PVH entry.
-use Rattle.std.proofs.Common.{◌≡◌, ◌⊎◌, ◌∙◌, ℕ, suc, ◌+◌, ◌<◌, ◌≤◌, List, [], ◌∷◌, add-one, drop, length, get_or, Option, Some, None, Result, Ok, Err, ap, inl, inr, refl, subst, sym}
+use Rattle.std.proofs.Common.{◌≡◌, ◌∙◌, ℕ, suc, ◌+◌, ◌<◌, ◌≤◌, List, [], ◌∷◌, add-one, drop, length, get_or, Option, Some, None, Result, Ok, Err, ap, inl, inr, refl, sym}
 use Rattle.std.proofs.Math.Seq.{drop-cons}
 use Rattle.std.proofs.lemmas.List.{drop_all}
 use Rattle.linux_loader.specs.Elf.{entry_of, pvh_entry}
@@ -8,7 +8,6 @@ use Rattle.linux_loader.specs.Notes.{or_else}
 use Rattle.linux_loader.specs.Plan.{Answers}
 use Rattle.linux_loader.specs.declared.elf.header.ProgramHeader.{ProgramHeader}
 use Rattle.linux_loader.specs.declared.error.LoaderError.{LoaderError}
-use Rattle.linux_loader.specs.declared.error.LoaderError.TheVariants as errors
 
 module _ (all : List ℕ) where
   one : (p : ProgramHeader) (ps : List ProgramHeader)

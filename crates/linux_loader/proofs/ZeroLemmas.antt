@@ -1,5 +1,5 @@
 -- Zeros as a source.
-use Rattle.std.proofs.Common.{◌≡◌, ◌∙◌, ◌⊎◌, ℕ, ◌-◌, ◌≤◌, List, [], ◌++◌, arith, drop, inl, inr, length, min, replicate, take, Ok, Some, ap, refl, sym}
+use Rattle.std.proofs.Common.{◌≡◌, ◌∙◌, ℕ, ◌-◌, ◌≤◌, List, [], ◌++◌, arith, drop, inl, inr, length, min, replicate, take, Ok, Some, ap, refl, sym}
 use Rattle.std.proofs.lemmas.Bool.{cases_lt}
 use Rattle.std.proofs.lemmas.List.{drop-replicate, length-replicate, take-replicate, take_all}
 use Rattle.vm_memory_base.specs.Transfer.{Next, giving, over_front, tried}

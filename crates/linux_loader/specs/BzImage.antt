@@ -1,5 +1,5 @@
 -- bzImages, as a loader reads them. The setup header begins at 0x1f1, and its fields are told by their places in it.
-use Rattle.std.specs.Prelude.{ℕ, ◌+◌, ◌-◌, ◌*◌, ◌^◌, nat_lt, nat_le, Bool, not, ◌&&◌, ◌||◌, ◌==◌, if◌then◌else◌, bit_and, List, [], ◌∷◌, ◌++◌, take, drop, slice_range, length, Option, Some, Result, Ok, Err}
+use Rattle.std.specs.Prelude.{ℕ, ◌+◌, ◌-◌, ◌*◌, ◌^◌, nat_lt, nat_le, Bool, not, ◌&&◌, ◌==◌, if◌then◌else◌, bit_and, List, [], ◌∷◌, ◌++◌, take, drop, slice_range, length, Option, Some, Result, Ok, Err}
 use Rattle.std.specs.Int.{w32, to_le_bytes}
 use Rattle.vm_memory_base.specs.declared.address.GuestAddress.{GuestAddress}
 use Rattle.linux_loader.specs.Error.{and_then}

@@ -1,5 +1,5 @@
 -- The notes of an ELF file, and Xen's among them, which tells the PVH entry.
-use Rattle.std.specs.Prelude.{ℕ, zero, suc, ◌+◌, ◌-◌, ◌*◌, ◌/◌, nat_lt, Bool, not, ◌&&◌, ◌||◌, ◌==◌, if◌then◌else◌, List, take, drop, length, Option, Some, None, Result, Ok, Err}
+use Rattle.std.specs.Prelude.{ℕ, zero, suc, ◌+◌, ◌-◌, ◌*◌, ◌/◌, nat_lt, Bool, not, ◌&&◌, ◌||◌, ◌==◌, if◌then◌else◌, List, drop, length, Option, Some, None, Result, Ok, Err}
 use Rattle.linux_loader.specs.Error.{and_then}
 use Rattle.linux_loader.specs.Numbers.{field}
 use Rattle.linux_loader.specs.declared.elf.notes.Note.{Note}
