@@ -45,7 +45,8 @@ module _ {S B : Type 0} (bytes : S → Option (List ℕ)) (source : S → Option
       (let t = length-take (length buffer) bs in omega arith) in
       let given : l.bytes ≡ take w.size bs =
       told.1 ∙ ap (λ (xs : List ℕ). over_front xs buffer) gives.bytes
-      ∙ ap (λ (xs : List ℕ). take (length buffer) bs ++ xs) (drop_all (length (take (length buffer) bs)) buffer (omega arith))
+      ∙ ap (λ (xs : List ℕ). take (length buffer) bs ++ xs)
+      (drop_all (length (take (length buffer) bs)) buffer (omega arith))
       ∙ append-nil (take (length buffer) bs) ∙ ap (λ (n : ℕ). take n bs) size in
       let mid : Host B = record x.1 { blocks = written (cells_of w) l.bytes x.1.blocks } in (
         told.0 ∙ gives.answer ∙ ap (λ (n : ℕ). Ok n) all,
@@ -148,7 +149,8 @@ module _ {S B : Type 0} (bytes : S → Option (List ℕ)) (source : S → Option
       record {
         blocks = more.blocks
             ∙ ap (λ (bs' : List (List ℕ)). written (cells ws) (take (span ws) (drop w.size bs)) bs') first.blocks
-            ∙ sym (written-append (cells_of w) (cells ws) (take w.size bs) (take (span ws) (drop w.size bs)) x.1.blocks count)
+            ∙ sym (written-append (cells_of w) (cells ws) (take w.size bs) (take (span ws) (drop w.size bs))
+            x.1.blocks count)
             ∙ ap (λ (xs : List ℕ). written (cells_of w ++ cells ws) xs x.1.blocks)
             (sym (cut w.size (span ws) bs) ∙ ap (λ (n : ℕ). take n bs) (sym size));
         left = more.left ∙ ap (λ (xs : List ℕ). Some (giving xs []))
@@ -202,7 +204,8 @@ module _ {B : Type 0} (marks : B → ℕ → ℕ → B → Type 0) (m : Memory) 
       go true is h =
           let none : s.size - s.file_size ≡ 0 = grind (arith, nat_tests) in
           ap (λ (x : Host B). x.blocks) h.1
-          ∙ sym (written_none (cells (rest_windows m old s)) (replicate (s.size - s.file_size) 0) old.blocks (rw none refl))
+          ∙ sym (written_none (cells (rest_windows m old s)) (replicate (s.size - s.file_size) 0) old.blocks
+          (rw none refl))
 
   module _ {S : Type 0} (bytes : S → Option (List ℕ)) (source : S → Option (List Next))
       (reads : S → List ℕ → Answer → List ℕ → S → Type 0) (known : S → Option ℕ)
@@ -214,17 +217,20 @@ module _ {B : Type 0} (marks : B → ℕ → ℕ → B → Type 0) (m : Memory) 
     front_gives s x z has enough h = go (s.file_size == 0) refl h
       where
         from : (f : FillsFrom bytes source reads known marks m s x (Ok tt) z)
-            → (z.1.blocks ≡ written (cells (front_windows m x.1 s)) (take s.file_size (drop s.file_offset all)) x.1.blocks)
+            → (z.1.blocks ≡ written (cells (front_windows m x.1 s)) (take s.file_size (drop s.file_offset all))
+            x.1.blocks)
             × (bytes z.0 ≡ Some all)
         from f = stood f.0 f.3
           where
-            stands_at : (bytes f.1 ≡ Some all) × (f.0 ≡ Ok tt) × (source f.1 ≡ Some (giving (drop s.file_offset all) []))
+            stands_at : (bytes f.1 ≡ Some all) × (f.0 ≡ Ok tt)
+                × (source f.1 ≡ Some (giving (drop s.file_offset all) []))
             stands_at = rw has at f.2
 
             stood : (stands : Result (Unit {0}) VolatileMemoryError) → MatchResult stands
                 (λ _. Lends source reads known marks m s.addr.0 s.file_size (f.1, x.1) (Ok tt) z)
                 (λ e. (◌≡◌ {A = Result (Unit {0}) LoaderError} (Ok tt) (Err (errors.Image e))) × (z ≡ (f.1, x.1)))
-                → (z.1.blocks ≡ written (cells (front_windows m x.1 s)) (take s.file_size (drop s.file_offset all)) x.1.blocks)
+                → (z.1.blocks ≡ written (cells (front_windows m x.1 s)) (take s.file_size (drop s.file_offset all))
+                x.1.blocks)
                 × (bytes z.0 ≡ Some all)
             stood (Err e) over = absurd (let no = over.0 in cc)
             stood (Ok u) l =
@@ -236,13 +242,15 @@ module _ {B : Type 0} (marks : B → ℕ → ℕ → B → Type 0) (m : Memory) 
         go : (b : Bool) → (s.file_size == 0) ≡ b
             → MatchBool b ((◌≡◌ {A = Result (Unit {0}) LoaderError} (Ok tt) (Ok tt)) × (z ≡ x))
             (FillsFrom bytes source reads known marks m s x (Ok tt) z)
-            → (z.1.blocks ≡ written (cells (front_windows m x.1 s)) (take s.file_size (drop s.file_offset all)) x.1.blocks)
+            → (z.1.blocks ≡ written (cells (front_windows m x.1 s)) (take s.file_size (drop s.file_offset all))
+            x.1.blocks)
             × (bytes z.0 ≡ Some all)
         go false is h = from h
         go true is h =
             let none : s.file_size ≡ 0 = grind (arith, nat_tests) in (
               ap (λ (q : S × Host B). q.1.blocks) h.1
-                  ∙ sym (written_none (cells (front_windows m x.1 s)) (take s.file_size (drop s.file_offset all)) x.1.blocks
+                  ∙ sym (written_none (cells (front_windows m x.1 s)) (take s.file_size (drop s.file_offset all))
+                  x.1.blocks
                   (rw none refl)),
               ap (λ (q : S × Host B). bytes q.0) h.1 ∙ has,
             )
@@ -261,7 +269,8 @@ module _ {B : Type 0} (marks : B → ℕ → ℕ → B → Type 0) (m : Memory) 
           rest
               ∙ ap (λ (tables : List Table). written (cells (rest_windows m (record x.1 { tables = tables }) s))
               (replicate (s.size - s.file_size) 0) mid.1.blocks) first.tables
-              ∙ ap (λ (bs : List (List ℕ)). written (cells (rest_windows m x.1 s)) (replicate (s.size - s.file_size) 0) bs)
+              ∙ ap (λ (bs : List (List ℕ)). written (cells (rest_windows m x.1 s))
+              (replicate (s.size - s.file_size) 0) bs)
               front.0,
           ap bytes same ∙ front.1,
           second.tables ∙ first.tables,
@@ -277,7 +286,10 @@ module _ {B : Type 0} (marks : B → ℕ → ℕ → B → Type 0) (m : Memory) 
     all_given (s ∷ ss) x z host same has enough (Ok u, mid, loads, more) =
         let first = segment_gives s x mid has (enough s (0, omega arith, refl)) loads in
         let here : mid.1.blocks ≡ with_segment m host all s x.1.blocks =
-        first.0 ∙ ap (λ (tables : List Table). with_segment m (record host { tables = tables }) all s x.1.blocks) same in
+        first.0 ∙ ap (λ (tables : List Table). with_segment m (record host {
+          tables =
+              tables;
+        }) all s x.1.blocks) same in
         all_given ss mid z host (first.2 ∙ same) first.1
         (λ t among. enough t (suc among.0, omega (arith, among.1), among.2)) more
         ∙ ap (λ (bs : List (List ℕ)). blocks_after m host all ss bs) here

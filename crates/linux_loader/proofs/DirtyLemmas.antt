@@ -156,9 +156,10 @@ module _ {B : Type 0} (marks : B → ℕ → ℕ → B → Type 0) (pages : B �
           ((◌≡◌ {A = Result (Unit {0}) LoaderError} (Ok tt) (Err errors.MemoryOverflow)) × (new ≡ old)))
           → Leaves (rest_windows m old s) old new
       go true is h =
-          let none : s.size - s.file_size ≡ 0 = grind (arith, nat_tests) in
-          (subst (λ (x : Host B). Dirtier (seen old) (seen x)) (sym h.1) (same_pages old),
-          none_dirty m old (s.addr.0 + s.file_size) (s.size - s.file_size) (seen new) none)
+          let none : s.size - s.file_size ≡ 0 = grind (arith, nat_tests) in (
+            subst (λ (x : Host B). Dirtier (seen old) (seen x)) (sym h.1) (same_pages old),
+            none_dirty m old (s.addr.0 + s.file_size) (s.size - s.file_size) (seen new) none,
+          )
       go false is h = inside (nat_lt (s.addr.0 + s.file_size) (2 ^ 64)) h
 
   module _ {S : Type 0} (bytes : S → Option (List ℕ)) (source : S → Option (List Next))
@@ -181,9 +182,10 @@ module _ {B : Type 0} (marks : B → ℕ → ℕ → B → Type 0) (pages : B �
             → MatchBool b ((◌≡◌ {A = Result (Unit {0}) LoaderError} (Ok tt) (Ok tt)) × (z ≡ x))
             (FillsFrom bytes source reads known marks m s x (Ok tt) z) → Leaves (front_windows m x.1 s) x.1 z.1
         go true is h =
-            let none : s.file_size ≡ 0 = grind (arith, nat_tests) in
-            (subst (λ (y : S × Host B). Dirtier (seen x.1) (seen y.1)) (sym h.1) (same_pages x.1),
-            none_dirty m x.1 s.addr.0 s.file_size (seen z.1) none)
+            let none : s.file_size ≡ 0 = grind (arith, nat_tests) in (
+              subst (λ (y : S × Host B). Dirtier (seen x.1) (seen y.1)) (sym h.1) (same_pages x.1),
+              none_dirty m x.1 s.addr.0 s.file_size (seen z.1) none,
+            )
         go false is h = from h
 
     segment_leaves : (s : Segment) (x z : S × Host B) → LoadsSegment bytes source reads known marks m s x (Ok tt) z
@@ -199,7 +201,10 @@ module _ {B : Type 0} (marks : B → ℕ → ℕ → B → Type 0) (pages : B �
           both x.1 mid.1 z.1 front.0 rest.0,
           record {
             front = still (front_windows m x.1 s) mid.1 z.1 rest.0 front.1;
-            rest = subst (λ (tables : List Table). AreDirty (rest_windows m (record x.1 { tables = tables }) s) (seen z.1))
+            rest = subst (λ (tables : List Table). AreDirty (rest_windows m (record x.1 {
+              tables =
+                  tables;
+            }) s) (seen z.1))
                 first.tables rest.1;
           },
           second.tables ∙ first.tables,

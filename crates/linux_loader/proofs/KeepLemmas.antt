@@ -102,7 +102,8 @@ module _ {B : Type 0} (marks : B → ℕ → ℕ → B → Type 0) (c : Cell) wh
           Others : Type 0
           Others = (now : ℕ) → InOrder failure fault Moves ws now h.1 answer z → Keeps c h.1.1 z.1
 
-          next : Others → (count : ℕ) (b : Bool) → MatchBool b (InOrder failure fault Moves ws (total + count) h.1 answer z)
+          next : Others → (count : ℕ) (b : Bool) → MatchBool b (InOrder failure fault Moves ws (total + count) h.1
+              answer z)
               ((answer ≡ Ok (total + count)) × (z ≡ h.1)) → Keeps c h.1.1 z.1
           next others count true rest = others (total + count) rest
           next others count false over = keeps_is h.1.1 z.1 (ap (λ (p : S × Host B). p.1) over.1)
@@ -119,7 +120,8 @@ module _ {B : Type 0} (marks : B → ℕ → ℕ → B → Type 0) (c : Cell) wh
             → Outside (windows_at m x.1 a n) c → Receives source reads known marks m a n x r z → Keeps c x.1 z.1
         receives_keeps a n x r z out (inl (told, wants, same)) =
             keeps_is x.1 z.1 (ap (λ (p : S × Host B). p.1) same)
-        receives_keeps a n x r z out (inr (total, told, order)) = order_keeps _ _ (windows_at m x.1 a n) 0 x total z out order
+        receives_keeps a n x r z out (inr (total, told, order)) =
+            order_keeps _ _ (windows_at m x.1 a n) 0 x total z out order
 
         lends_keeps : (a n : ℕ) (x : S × Host B) (r : Result (Unit {0}) LoaderError) (z : S × Host B)
             → Outside (windows_at m x.1 a n) c → Lends source reads known marks m a n x r z → Keeps c x.1 z.1
@@ -185,7 +187,10 @@ module _ {B : Type 0} (marks : B → ℕ → ℕ → B → Type 0) (c : Cell) (m
 
     unnamed_still : (s : Segment) (old new : Host B) → Keeps c old new → IsUnnamed m old c s → IsUnnamed m new c s
     unnamed_still s old new k out = record {
-      front = subst (λ (tables : List Table). Outside (windows_at m (record new { tables = tables }) s.addr.0 s.file_size) c)
+      front = subst (λ (tables : List Table). Outside (windows_at m (record new {
+        tables =
+            tables;
+      }) s.addr.0 s.file_size) c)
           (sym k.tables) out.front;
       rest = subst (λ (tables : List Table). Outside
           (windows_at m (record new { tables = tables }) (s.addr.0 + s.file_size) (s.size - s.file_size)) c)

@@ -61,17 +61,18 @@ pub scanned_more : (xs : List Segment) (i end : ℕ) (d : Segment) → Scanned x
 scanned_more xs i end d s l above = record {
   pairs = λ j k e m n. elim (cases_eq k i) [
     | inl is ↦ (let here : get_or xs k e ≡ get_or xs i d = ap (λ (x : ℕ). get_or xs x e) is ∙ irrelevant xs i e d l in
-      let start = ap (λ (x : Segment). x.addr.0) here in
-      let before = s.ends j e (omega arith) in omega arith)
+        let start = ap (λ (x : Segment). x.addr.0) here in
+        let before = s.ends j e (omega arith) in omega arith)
     | inr other ↦ s.pairs j k e m (omega arith)
   ];
   ends = λ k e m. elim (cases_eq k i) [
     | inl is ↦ (let here : get_or xs k e ≡ get_or xs i d = ap (λ (x : ℕ). get_or xs x e) is ∙ irrelevant xs i e d l in
-      let same = ap end_of here in omega arith)
+        let same = ap end_of here in omega arith)
     | inr other ↦ (let before = s.ends k e (omega arith) in omega arith)
   ];
   first = λ e. absurd (omega arith);
-  last = λ p e is. ap end_of (irrelevant xs i d e l ∙ ap (λ (x : ℕ). get_or xs x e) (let same : i ≡ p = omega arith in same));
+  last = λ p e is. ap end_of (irrelevant xs i d e l
+      ∙ ap (λ (x : ℕ). get_or xs x e) (let same : i ≡ p = omega arith in same));
 }
 
 pub scanned_all : (xs : List Segment) (i end : ℕ) → Scanned xs i end → length xs ≤ i → AllPairs Apart xs
@@ -87,8 +88,9 @@ scanned_meets xs (suc p) end d some sorted s l below apart =
     elim (apart p (suc p) d (omega arith) l) [
       | inl before ↦ omega arith
       | inr behind ↦ (let has = (some (suc p) d l).some in
-        let above = not_below (get_or xs (p + 1) d).addr.0 (get_or xs p d).addr.0 (order (omega arith) (omega arith)) in
-        let same : (get_or xs (p + 1) d).addr.0 ≡ (get_or xs (suc p) d).addr.0 = rw add-one refl in omega arith)
+          let above = not_below (get_or xs (p + 1) d).addr.0 (get_or xs p d).addr.0
+          (order (omega arith) (omega arith)) in
+          let same : (get_or xs (p + 1) d).addr.0 ≡ (get_or xs (suc p) d).addr.0 = rw add-one refl in omega arith)
     ]
 
 -- ---- segments in another order

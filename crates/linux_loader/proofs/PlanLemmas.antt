@@ -145,7 +145,8 @@ module _ (all : List ℕ) (at : Option GuestAddress) (lowest : ℕ) where
 
 -- ---- the header of a bzImage
 
-pub header_cut : (all : List ℕ) (n : ℕ) → n ≡ min (length all - 0x1f1) 272 → take n (drop 0x1f1 all) ≡ take 272 (drop 0x1f1 all)
+pub header_cut : (all : List ℕ) (n : ℕ) → n ≡ min (length all - 0x1f1) 272
+    → take n (drop 0x1f1 all) ≡ take 272 (drop 0x1f1 all)
 header_cut all n is =
     let size = length-drop 0x1f1 all in
     let m : n ≡ min 272 (length (drop 0x1f1 all)) = omega arith in

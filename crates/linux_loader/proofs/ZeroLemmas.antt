@@ -8,7 +8,8 @@ use Rattle.vm_memory_base.proofs.TransferLemmas.{gives_front}
 take_zeros : (n left : ℕ) → take n (replicate {A = ℕ} left 0) ≡ replicate (min left n) 0
 take_zeros n left = elim (cases_lt n left) [
   | inl l ↦ (let e : min left n ≡ n = omega arith in rw e (take-replicate n left 0 (omega arith)))
-  | inr l ↦ (let e : min left n ≡ left = omega arith in let k : length (replicate {A = ℕ} left 0) ≡ left = length-replicate left 0 in rw e (take_all n (replicate left 0) (omega arith)))
+  | inr l ↦ (let e : min left n ≡ left = omega arith in let k : length (replicate {A = ℕ} left 0) ≡ left =
+      length-replicate left 0 in rw e (take_all n (replicate left 0) (omega arith)))
 ]
 
 pub zeros_tried : (left count : ℕ) (buf new : List ℕ) → count ≡ min left (length buf)

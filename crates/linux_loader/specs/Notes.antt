@@ -31,7 +31,11 @@ abbrev pub note_of : ℕ → List ℕ → Result Note LoaderError
 note_of align notes =
     if nat_lt (length notes) (descriptor_place align notes + field 4 4 notes) then Err errors.InvalidNote
     else if not (is_pvh notes) then Ok (record { entry = None; size = note_size align notes })
-    else and_then (number_in (field 4 4 notes) (descriptor_place align notes) notes) (λ e. Ok (record { entry = Some e; size = note_size align notes }))
+    else and_then (number_in (field 4 4 notes) (descriptor_place align notes) notes) (λ e. Ok (record {
+      entry =
+          Some e;
+      size = note_size align notes;
+    }))
 
 -- what is found, or else sought on
 abbrev pub or_else : Option ℕ → Result (Option ℕ) LoaderError → Result (Option ℕ) LoaderError

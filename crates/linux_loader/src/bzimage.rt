@@ -9,22 +9,25 @@ ghost use Rattle.linux_loader.specs.Plan.{Apart, HasBytes, Lists, Names, Plans, 
 use crate::error::LoaderError;
 use crate::image::KernelImage;
 use crate::numbers::{u16_at, u32_at};
-use crate::plan::{
-    KernelLoaderResult, KernelPlan, PvhBootCapability, Segment, SetupHeader, apart,
-};
+use crate::plan::{KernelLoaderResult, KernelPlan, PvhBootCapability, Segment, SetupHeader, apart};
 use std::alloc::{AllocError, Global};
 use vm_memory::{Bitmap, GuestAddress, GuestMemory, HostMemory};
 
 // Where the setup header begins, and how many bytes it has at most.
 const HEADER_START: u64 = 0x1f1;
+
 const MOST_HEADER: u64 = 0x110;
 
 // The places of its fields behind its first byte. `SIZE` is that of the byte at 0x201: how many bytes the header has
 // behind 0x202.
 const SIZE: usize = 0x10;
+
 const MAGIC: usize = 0x11;
+
 const VERSION: usize = 0x15;
+
 const LOADFLAGS: usize = 0x20;
+
 const CODE32_START: usize = 0x23;
 
 // "HdrS", as a number.
@@ -85,9 +88,7 @@ fn is_header(header: &[u8]) -> bool
     requires { 39 ≤ length header.now }
     ensures { result ≡ is_header header.now }
 {
-    u32_at(header, MAGIC) == HDRS
-        && u16_at(header, VERSION) >= 0x200
-        && header[LOADFLAGS] & 1 != 0
+    u32_at(header, MAGIC) == HDRS && u16_at(header, VERSION) >= 0x200 && header[LOADFLAGS] & 1 != 0
 }
 
 // Whether a header is one of a kernel that may be loaded.

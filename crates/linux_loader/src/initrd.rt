@@ -12,7 +12,9 @@ use vm_memory::{Bitmap, GuestAddress, GuestMemory, HostMemory};
 
 // The places of fields behind the first byte of a setup header.
 const VERSION: usize = 0x15;
+
 const INITRD_ADDR_MAX: usize = 0x3b;
+
 const INIT_SIZE: usize = 0x6f;
 
 // The greatest address of an initrd before a header tells it.

@@ -50,7 +50,13 @@ const CASES: [Case; 32] = [
     (ALL, &[(0x206, 2, 0x200)], None, None, DONE),
     (ALL, &[(0x211, 1, 0xfe)], None, None, "InvalidBzImage"),
     (ALL, &[(0x211, 1, 0x81)], None, None, DONE),
-    (ALL, &[(0x201, 1, 0x15)], None, None, "InvalidSetupHeaderSize"),
+    (
+        ALL,
+        &[(0x201, 1, 0x15)],
+        None,
+        None,
+        "InvalidSetupHeaderSize",
+    ),
     (
         ALL,
         &[(0x201, 1, 0x16)],
@@ -66,7 +72,13 @@ const CASES: [Case; 32] = [
         "load 0x11f8 end 0x1208 header 272 code32_start 0x11f8",
     ),
     // No sectors of setup code are 4.
-    (ALL, &[(0x1f1, 1, 0)], None, None, "ReadBzImageCompressedKernel"),
+    (
+        ALL,
+        &[(0x1f1, 1, 0)],
+        None,
+        None,
+        "ReadBzImageCompressedKernel",
+    ),
     (
         0xa01,
         &[(0x1f1, 1, 0)],
@@ -81,12 +93,30 @@ const CASES: [Case; 32] = [
         None,
         "load 0x11f8 end 0x11f9 header 119 code32_start 0x11f8",
     ),
-    (ALL, &[(0x1f1, 1, 2)], None, None, "ReadBzImageCompressedKernel"),
-    (ALL, &[(0x1f1, 1, 0xff)], None, None, "ReadBzImageCompressedKernel"),
+    (
+        ALL,
+        &[(0x1f1, 1, 2)],
+        None,
+        None,
+        "ReadBzImageCompressedKernel",
+    ),
+    (
+        ALL,
+        &[(0x1f1, 1, 0xff)],
+        None,
+        None,
+        "ReadBzImageCompressedKernel",
+    ),
     // Where the kernel is loaded.
     (ALL, &[], None, Some(0x11f8), DONE),
     (ALL, &[], None, Some(0x11f9), "InvalidKernelStartAddress"),
-    (ALL, &[], Some(0x1200), Some(0x11f9), "InvalidKernelStartAddress"),
+    (
+        ALL,
+        &[],
+        Some(0x1200),
+        Some(0x11f9),
+        "InvalidKernelStartAddress",
+    ),
     (
         ALL,
         &[],
@@ -122,7 +152,13 @@ const CASES: [Case; 32] = [
         None,
         "GuestMemory(InvalidGuestAddress(GuestAddress(4294967295)))",
     ),
-    (ALL, &[], Some(0x1_0000_0000), None, "InvalidKernelStartAddress"),
+    (
+        ALL,
+        &[],
+        Some(0x1_0000_0000),
+        None,
+        "InvalidKernelStartAddress",
+    ),
     (ALL, &[], Some(u64::MAX), None, "InvalidKernelStartAddress"),
 ];
 
@@ -174,7 +210,11 @@ fn edits_of_a_small_bzimage(rt: HostRuntime) -> Result<(), Fail> {
         }
         let mut image = ImageBytes::new(bytes.as_slice());
         let answer = loaded(rt.alloc(), &mut host, &memory, &mut image, case)?;
-        expect_text(number, told_with_header(rt.alloc(), &answer)?.as_str(), case.4)?;
+        expect_text(
+            number,
+            told_with_header(rt.alloc(), &answer)?.as_str(),
+            case.4,
+        )?;
     }
     Ok(())
 }
@@ -224,9 +264,7 @@ struct Failing<'a> {
 impl Failing<'_> {
     fn step(&mut self) -> VolatileMemoryResult<()> {
         if self.left == 0 {
-            return Err(VolatileMemoryError::IOError(IoError::of_kind(
-                ErrorKind::Other,
-            )));
+            return Err(VolatileMemoryError::IOError(IoError::of_kind(ErrorKind::Other)));
         }
         self.left -= 1;
         Ok(())

@@ -12,7 +12,13 @@ use vm_memory::{GuestAddress, GuestMemoryMmap, HostMemory};
 
 // How many bytes of the file there are, edits of it, the offset of the kernel, where high memory begins, and what is
 // told.
-type Case = (usize, &'static [Edit], Option<u64>, Option<u64>, &'static str);
+type Case = (
+    usize,
+    &'static [Edit],
+    Option<u64>,
+    Option<u64>,
+    &'static str,
+);
 
 const ALL: usize = ELF_SIZE;
 
@@ -49,18 +55,42 @@ const CASES: [Case; 74] = [
     (ALL, &[(56, 2, 0xffff)], None, None, "TooManyProgramHeaders"),
     (ALL, &[(56, 2, 0xfffe)], None, None, "ReadProgramHeader"),
     (ALL, &[(56, 2, 6)], None, None, "ReadProgramHeader"),
-    (ALL, &[(32, 8, 63)], None, None, "InvalidProgramHeaderOffset"),
+    (
+        ALL,
+        &[(32, 8, 63)],
+        None,
+        None,
+        "InvalidProgramHeaderOffset",
+    ),
     (ALL, &[(32, 8, 0x189)], None, None, "ReadProgramHeader"),
     (ALL, &[(32, 8, u64::MAX)], None, None, "ReadProgramHeader"),
     // The entry, which is compared before the offset is added.
     (ALL, &[], None, Some(0x1100), DONE),
     (ALL, &[], None, Some(0x1101), "InvalidEntryAddress"),
     (ALL, &[], Some(0x10), Some(0x1101), "InvalidEntryAddress"),
-    (ALL, &[], Some(0x10), Some(0x1100), "load 0x1110 end 0x1350 pvh 0x1308"),
+    (
+        ALL,
+        &[],
+        Some(0x10),
+        Some(0x1100),
+        "load 0x1110 end 0x1350 pvh 0x1308",
+    ),
     (ALL, &[(24, 8, u64::MAX)], Some(1), None, "EntryOverflow"),
     // Sums that are no numbers of 64 bits.
-    (ALL, &[], Some(0xffff_ffff_ffff_ef00), None, "InvalidProgramHeaderAddress"),
-    (ALL, &[(88, 8, 0xffff_ffff_ffff_ffe0)], None, None, "MemoryOverflow"),
+    (
+        ALL,
+        &[],
+        Some(0xffff_ffff_ffff_ef00),
+        None,
+        "InvalidProgramHeaderAddress",
+    ),
+    (
+        ALL,
+        &[(88, 8, 0xffff_ffff_ffff_ffe0)],
+        None,
+        None,
+        "MemoryOverflow",
+    ),
     (ALL, &[(104, 8, u64::MAX)], None, None, "MemoryOverflow"),
     (ALL, &[(72, 8, u64::MAX)], None, None, "ReadKernelImage"),
     (ALL, &[(240, 8, u64::MAX)], None, None, "ReadNoteHeader"),
@@ -84,7 +114,13 @@ const CASES: [Case; 74] = [
     (ALL, &[(144, 8, 0x10e1)], None, None, "SegmentsOverlap"),
     (ALL, &[(144, 8, 0x10e0)], None, None, DONE),
     (ALL, &[(144, 8, 0x133f)], None, None, "SegmentsOverlap"),
-    (ALL, &[(144, 8, 0x1340)], None, None, "load 0x1100 end 0x1360 pvh 0x1308"),
+    (
+        ALL,
+        &[(144, 8, 0x1340)],
+        None,
+        None,
+        "load 0x1100 end 0x1360 pvh 0x1308",
+    ),
     (ALL, &[(144, 8, 0x1100)], None, None, "SegmentsOverlap"),
     (
         ALL,
@@ -94,7 +130,13 @@ const CASES: [Case; 74] = [
         DONE,
     ),
     // The ends of memory.
-    (ALL, &[(88, 8, 0x13e0)], None, None, "load 0x1100 end 0x1400 pvh 0x1308"),
+    (
+        ALL,
+        &[(88, 8, 0x13e0)],
+        None,
+        None,
+        "load 0x1100 end 0x1400 pvh 0x1308",
+    ),
     (
         ALL,
         &[(88, 8, 0x13e1)],
@@ -117,7 +159,13 @@ const CASES: [Case; 74] = [
         None,
         "GuestMemory(InvalidGuestAddress(GuestAddress(4095)))",
     ),
-    (ALL, &[(216, 8, 0x100)], None, None, "load 0x1100 end 0x1400 pvh 0x1308"),
+    (
+        ALL,
+        &[(216, 8, 0x100)],
+        None,
+        None,
+        "load 0x1100 end 0x1400 pvh 0x1308",
+    ),
     (
         ALL,
         &[(216, 8, 0x101)],
@@ -137,7 +185,13 @@ const CASES: [Case; 74] = [
     (ALL, &[(0x174, 4, 5)], None, None, "InvalidPvhNote"),
     (ALL, &[(0x174, 4, 9)], None, None, "InvalidNote"),
     (ALL, &[(0x178, 4, 19)], None, None, "load 0x1100 end 0x1340"),
-    (ALL, &[(0x17c, 4, 0x006e_6559)], None, None, "load 0x1100 end 0x1340"),
+    (
+        ALL,
+        &[(0x17c, 4, 0x006e_6559)],
+        None,
+        None,
+        "load 0x1100 end 0x1340",
+    ),
     (ALL, &[(0x170, 4, 5)], None, None, "InvalidNote"),
     // A note of another kind comes first.
     (

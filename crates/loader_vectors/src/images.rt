@@ -3,15 +3,15 @@
 use linux_loader::{KernelLoaderResult, LoaderError, PvhBootCapability};
 use std::alloc::{AllocError, Global};
 use std::test::Fail;
-use vm_memory::{
-    Bytes, ExclusiveBitmap, GuestAddress, GuestMemoryMmap, HostMemory, Permissions,
-};
+use vm_memory::{Bytes, ExclusiveBitmap, GuestAddress, GuestMemoryMmap, HostMemory, Permissions};
 
 pub type Host = HostMemory<ExclusiveBitmap>;
 
 /// Where memory begins, where its two regions touch, and where it ends.
 pub const BEGIN: u64 = 0x1000;
+
 pub const MIDDLE: u64 = 0x1200;
+
 pub const END: u64 = 0x1400;
 
 /// What stands in each byte of memory before a load.

@@ -1,6 +1,6 @@
 //! Command lines, and where initrds lie.
 
-use crate::images::{BEGIN, BZ, BZ_SIZE, Edit, END, Host, image_of, memory_of, put};
+use crate::images::{BEGIN, BZ, BZ_SIZE, END, Edit, Host, image_of, memory_of, put};
 use linux_loader::{BzImage, Cmdline, ImageBytes, initrd_address, load_cmdline};
 use std::alloc::Global;
 use std::test::Fail;
@@ -29,7 +29,11 @@ const LINES: [Line; 16] = [
     (9, &[("a", Some("c d"))], "Err(HasSpace) ''"),
     (9, &[("a=b", Some("c"))], "Err(HasEquals) ''"),
     (9, &[("a", Some("b=c"))], "Err(HasEquals) ''"),
-    (9, &[("a\t", None), ("é", None)], "Err(InvalidAscii) Err(InvalidAscii) ''"),
+    (
+        9,
+        &[("a\t", None), ("é", None)],
+        "Err(InvalidAscii) Err(InvalidAscii) ''",
+    ),
     (9, &[("~", Some("\u{7f}"))], "Err(InvalidAscii) ''"),
 ];
 
@@ -128,10 +132,25 @@ const INITRDS: [(&[Edit], u64, u64, &str); 14] = [
     (&[], u64::MAX, u64::MAX, "Err(NoRoomForInitrd)"),
     // The greatest address that the header tells.
     (&[], 0x1000, u64::MAX, "Ok(GuestAddress(2147479552))"),
-    (&[(0x206, 2, 0x202)], 0x1000, u64::MAX, "Ok(GuestAddress(939520000))"),
-    (&[(0x206, 2, 0x203)], 0x1000, u64::MAX, "Ok(GuestAddress(2147479552))"),
+    (
+        &[(0x206, 2, 0x202)],
+        0x1000,
+        u64::MAX,
+        "Ok(GuestAddress(939520000))",
+    ),
+    (
+        &[(0x206, 2, 0x203)],
+        0x1000,
+        u64::MAX,
+        "Ok(GuestAddress(2147479552))",
+    ),
     // The end that the header tells, from version 2.10 on.
-    (&[(0x260, 4, 0x10_0000)], 0x1000, 0x10_1fff, "Err(NoRoomForInitrd)"),
+    (
+        &[(0x260, 4, 0x10_0000)],
+        0x1000,
+        0x10_1fff,
+        "Err(NoRoomForInitrd)",
+    ),
     (
         &[(0x260, 4, 0x10_0000), (0x206, 2, 0x209)],
         0x1000,

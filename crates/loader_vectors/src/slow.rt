@@ -57,7 +57,10 @@ impl Slow {
             if i < part.count {
                 byte = (number(image, part.place.wrapping_add(i), 1) & 0xff) as u8;
             }
-            match self.memory.get_mut(part.addr.wrapping_add(i).wrapping_sub(BEGIN) as usize) {
+            match self
+                .memory
+                .get_mut(part.addr.wrapping_add(i).wrapping_sub(BEGIN) as usize)
+            {
                 Some(slot) => *slot = (byte, true),
                 None => self.refuse("GuestMemory"),
             }

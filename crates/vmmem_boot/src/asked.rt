@@ -3,7 +3,8 @@
 use anyhow::{Context, Result, bail};
 
 /// How the program is called.
-const USAGE: &str = "usage: vmmem_boot IMAGE [--memory MIB] [--offset N] [--cmdline TEXT] [--initrd FILE]";
+const USAGE: &str =
+    "usage: vmmem_boot IMAGE [--memory MIB] [--offset N] [--cmdline TEXT] [--initrd FILE]";
 
 // The most memory, in MiB: 1 TiB.
 const MOST_MEMORY: u64 = 0x10_0000;

@@ -116,7 +116,9 @@ fn run(rt: &HostRuntime, words: &[String]) -> Result<()> {
     let plan = plan_of(rt.alloc(), &mut image, asked.offset)?;
     let segments = plan.segments.as_slice().to_vec(rt.alloc())?;
     let kernel = load(&mut host, &memory, plan, &mut image)?;
-    println!(rt; "segment, place in the image, guest address, bytes from the image, zeroed bytes, SHA-256")?;
+    println!(rt;
+        "segment, place in the image, guest address, bytes from the image, zeroed bytes, SHA-256"
+    )?;
     for (name, segment) in segments.iter().enumerate() {
         tell_segment(rt, &host, &memory, name, segment)?;
     }

@@ -17,6 +17,7 @@ const CHUNK: u64 = 0x1_0000;
 
 // Where devices have their addresses: memory past 3 GiB lies from 4 GiB on.
 const HOLE: u64 = 0xc000_0000;
+
 const BEHIND_HOLE: u64 = 0x1_0000_0000;
 
 /// The last address of the memory below the hole, of a machine with so many MiB.

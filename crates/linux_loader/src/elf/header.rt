@@ -11,15 +11,23 @@ use vm_memory::GuestAddress;
 
 // How many bytes the header of an ELF file has, and a program header.
 pub(crate) const HEADER_SIZE: usize = 64;
+
 pub(crate) const PROGRAM_HEADER_SIZE: usize = 56;
 
 const MAGIC: u32 = 0x464c_457f;
+
 const CLASS_64: u8 = 2;
+
 const LITTLE_ENDIAN: u8 = 1;
+
 const EXECUTABLE: u16 = 2;
+
 const SHARED_OBJECT: u16 = 3;
+
 const X86_64: u16 = 62;
+
 const PN_XNUM: u16 = 0xffff;
+
 const PT_LOAD: u32 = 1;
 
 // What the header of an ELF file tells a loader.

@@ -13,10 +13,12 @@ use crate::numbers::{u32_at, u64_at};
 use std::alloc::Global;
 
 const PT_NOTE: u32 = 4;
+
 const XEN_ELFNOTE_PHYS32_ENTRY: u32 = 18;
 
 // "Xen" with its terminating zero, as a number, and its length.
 const XEN: u32 = 0x006e_6558;
+
 const XEN_SIZE: u64 = 4;
 
 // How many bytes come before the name of a note.

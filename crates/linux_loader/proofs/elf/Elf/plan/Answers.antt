@@ -14,9 +14,11 @@ returns-in_err-header-clause-planned g c = λ all known.
     ap (λ (a : GuestAddress). a.0) c.unwrap_or-offset.ensures in
     let lowest : c.unwrap_or-lowest.result.0 ≡ address_or 0 c.args.highmem_start =
     ap (λ (a : GuestAddress). a.0) c.unwrap_or-lowest.ensures in
-    let p = err_from_is_err_and c.from_residual-in_err-header.result c.from_residual-in_err-header.ensures.1 in
-    (h.0, rw (p.1, p.2, ← offset, ← lowest)
-    (plan_no_header all c.unwrap_or-offset.result.0 c.unwrap_or-lowest.result.0 _ (h.1 sized)))
+    let p = err_from_is_err_and c.from_residual-in_err-header.result c.from_residual-in_err-header.ensures.1 in (
+      h.0,
+      rw (p.1, p.2, ← offset, ← lowest)
+          (plan_no_header all c.unwrap_or-offset.result.0 c.unwrap_or-lowest.result.0 _ (h.1 sized)),
+    )
 
 pub returns-in_err-plan-clause-planned : goal.returns-in_err-plan-clause-planned
 returns-in_err-plan-clause-planned g c = λ all known.
@@ -28,10 +30,13 @@ returns-in_err-plan-clause-planned g c = λ all known.
     ap (λ (a : GuestAddress). a.0) c.unwrap_or-offset.ensures in
     let lowest : c.unwrap_or-lowest.result.0 ≡ address_or 0 c.args.highmem_start =
     ap (λ (a : GuestAddress). a.0) c.unwrap_or-lowest.ensures in
-    let p = err_from_is_err_and c.from_residual-in_err-plan.result c.from_residual-in_err-plan.ensures.1 in
-    (n.0, rw (p.1, p.2, ← offset, ← lowest)
-    (plan_not_named all c.unwrap_or-offset.result.0 c.unwrap_or-lowest.result.0 c.in_ok-header.header (h.1 sized) _
-    (n.1 sized)))
+    let p = err_from_is_err_and c.from_residual-in_err-plan.result c.from_residual-in_err-plan.ensures.1 in (
+      n.0,
+      rw (p.1, p.2, ← offset, ← lowest)
+          (plan_not_named all c.unwrap_or-offset.result.0 c.unwrap_or-lowest.result.0 c.in_ok-header.header
+          (h.1 sized) _
+          (n.1 sized)),
+    )
 
 pub returns-clause-planned : goal.returns-clause-planned
 returns-clause-planned g c = λ all known.
@@ -42,7 +47,9 @@ returns-clause-planned g c = λ all known.
     let offset : c.unwrap_or-offset.result.0 ≡ address_or 0 c.args.kernel_offset =
     ap (λ (a : GuestAddress). a.0) c.unwrap_or-offset.ensures in
     let lowest : c.unwrap_or-lowest.result.0 ≡ address_or 0 c.args.highmem_start =
-    ap (λ (a : GuestAddress). a.0) c.unwrap_or-lowest.ensures in
-    (n.0, rw (← offset, ← lowest)
-    (plan_named all c.unwrap_or-offset.result.0 c.unwrap_or-lowest.result.0 c.in_ok-header.header (h.1 sized)
-    c.in_ok-plan.plan c.apart.result (n.1 sized) c.apart.ensures))
+    ap (λ (a : GuestAddress). a.0) c.unwrap_or-lowest.ensures in (
+      n.0,
+      rw (← offset, ← lowest)
+          (plan_named all c.unwrap_or-offset.result.0 c.unwrap_or-lowest.result.0 c.in_ok-header.header (h.1 sized)
+          c.in_ok-plan.plan c.apart.result (n.1 sized) c.apart.ensures),
+    )

@@ -20,16 +20,19 @@ loop-header-preserved c =
     elim c.match-branch-2.branch [
       | in-None w ↦ rw w.segments-is (
         comes_over_at c.args.size c.args.kernel_offset c.args.headers.now l.segments.items l.header-index _
-            l.invariant.0 c.loop-header-test.true (ap (λ (o : Option Segment). Ok o) (sym w.in-None.is) ∙ c.in_ok-segment_of.ensures.is),
+            l.invariant.0 c.loop-header-test.true (ap (λ (o : Option Segment). Ok o) (sym w.in-None.is)
+            ∙ c.in_ok-segment_of.ensures.is),
         l.invariant.1,
       )
       | in-Some+else-is_err w ↦ (let p = rw w.if-is_err.ensures.negation at w.push.ensures.items in
-        let more = rw w.in-Some.is at c.in_ok-segment_of.ensures.some in
-        rw w.segments-is (rw p (
-        comes_on_at c.args.size c.args.kernel_offset c.args.headers.now l.segments.items l.header-index _ w.in-Some.segment
-            l.invariant.0 c.loop-header-test.true (ap (λ (o : Option Segment). Ok o) (sym w.in-Some.is) ∙ c.in_ok-segment_of.ensures.is),
-        grind (arith, common_steps, more, l.invariant.1),
-      )))
+          let more = rw w.in-Some.is at c.in_ok-segment_of.ensures.some in
+          rw w.segments-is (rw p (
+            comes_on_at c.args.size c.args.kernel_offset c.args.headers.now l.segments.items l.header-index _
+                w.in-Some.segment
+                l.invariant.0 c.loop-header-test.true (ap (λ (o : Option Segment). Ok o) (sym w.in-Some.is)
+                ∙ c.in_ok-segment_of.ensures.is),
+            grind (arith, common_steps, more, l.invariant.1),
+          )))
     ]
 
 pub returns-clause-listed : goal.returns-clause-listed
