@@ -1,0 +1,10 @@
+mod ElfLemmas
+mod NoteLemmas
+mod PvhLemmas
+mod ZeroLemmas
+mod LoadLemmas
+mod LayoutLemmas
+mod PlanLemmas
+mod KeepLemmas
+mod DirtyLemmas
+mod BytesLemmas

@@ -1,0 +1,169 @@
+-- What is planned of an ELF file, step by step.
+use Rattle.std.proofs.Common.{◌≡◌, ◌⊎◌, ◌∙◌, ℕ, ◌+◌, ◌-◌, ◌≤◌, List, arith, false, nat_lt, drop, length, length-drop, min, take, AllPairs, Option, Result, Ok, Err, MatchResult, Vec, ap, inl, inr, refl, sym}
+use Rattle.std.proofs.lemmas.Bool.Decides.{nat_tests}
+use Rattle.std.proofs.lemmas.List.{take_min}
+use Rattle.std.specs.declared.alloc.Global.{Global}
+use Rattle.vm_memory_base.specs.declared.address.GuestAddress.{GuestAddress}
+use Rattle.linux_loader.specs.BzImage.{bz_kernel, bz_named, bz_plan, bz_planned, header_in}
+use Rattle.linux_loader.specs.Elf.{elf_header, elf_named, elf_plan, elf_planned, entry_at, headers_in, pvh_entry, some_segments}
+use Rattle.linux_loader.specs.Error.{and_then}
+use Rattle.linux_loader.specs.Plan.{Answers, Apart, Lists, Names, Planned, Plans, planned_of}
+use Rattle.linux_loader.specs.declared.elf.header.ElfHeader.{ElfHeader}
+use Rattle.linux_loader.specs.declared.elf.header.ProgramHeader.{ProgramHeader}
+use Rattle.linux_loader.specs.declared.error.LoaderError.{LoaderError}
+use Rattle.linux_loader.specs.declared.error.LoaderError.TheVariants as errors
+use Rattle.linux_loader.specs.declared.plan.KernelPlan.{KernelPlan}
+use Rattle.linux_loader.specs.declared.plan.Segment.{Segment}
+
+-- a list that was expected
+pub listed : {T : Type 0} (xs : List T) (v : Vec T Global) → Lists (Ok xs) (Ok v) → v.items ≡ xs
+listed xs v h = cc
+
+pub not_listed : {T : Type 0} (xs : List T) (e : LoaderError) → Lists (Ok xs) (Err e) → e ≡ errors.Memory
+not_listed xs e (inl h) = absurd (cc)
+not_listed xs e (inr memory) = memory
+
+module _ (all : List ℕ) (offset : ℕ) (h : ElfHeader) (size : ℕ) (headers : List ProgramHeader)
+    (sized : size ≡ length all) (read : headers ≡ headers_in all h) where
+  -- what comes of each answer
+  abbrev From : Result (List Segment) LoaderError → Result GuestAddress LoaderError
+      → Result (Option ℕ) LoaderError → Result Planned LoaderError
+  From segments entry pvh = and_then segments (λ segments. and_then entry (λ entry. and_then pvh (λ pvh.
+      Ok (elf_planned segments entry pvh))))
+
+  named_from : elf_named all offset h
+      ≡ From (some_segments size offset headers) (entry_at h.entry offset) (pvh_entry all headers)
+  unfolding elf_named
+  named_from = rw (sized, read) refl
+
+  pub named_no_segments : (e : LoaderError) → Lists (some_segments size offset headers) (Err e)
+      → Names (elf_named all offset h) (Err e)
+  named_no_segments e (inl is) = inl (named_from ∙ ap (λ (r : Result (List Segment) LoaderError).
+      From r (entry_at h.entry offset) (pvh_entry all headers)) is)
+  named_no_segments e (inr memory) = inr memory
+
+  module _ (segments : Vec Segment Global) (found : Lists (some_segments size offset headers) (Ok segments)) where
+    with_segments : elf_named all offset h ≡ From (Ok segments.items) (entry_at h.entry offset) (pvh_entry all headers)
+    with_segments = named_from ∙ ap (λ (r : Result (List Segment) LoaderError).
+        From r (entry_at h.entry offset) (pvh_entry all headers)) found
+
+    pub named_no_entry : (e : LoaderError) → Err e ≡ entry_at h.entry offset → Names (elf_named all offset h) (Err e)
+    named_no_entry e is = inl (with_segments ∙ ap (λ (r : Result GuestAddress LoaderError).
+        From (Ok segments.items) r (pvh_entry all headers)) (sym is))
+
+    module _ (entry : GuestAddress) (at : Ok entry ≡ entry_at h.entry offset) where
+      with_entry : elf_named all offset h ≡ From (Ok segments.items) (Ok entry) (pvh_entry all headers)
+      with_entry = with_segments ∙ ap (λ (r : Result GuestAddress LoaderError).
+          From (Ok segments.items) r (pvh_entry all headers)) (sym at)
+
+      pub named_no_pvh : (e : LoaderError) → Answers (pvh_entry all headers) (Err e)
+          → Names (elf_named all offset h) (Err e)
+      named_no_pvh e (inl is) = inl (with_entry ∙ ap (λ (r : Result (Option ℕ) LoaderError).
+          From (Ok segments.items) (Ok entry) r) (sym is))
+      named_no_pvh e (inr is) = inr (let same : e ≡ errors.Memory = cc in same)
+
+      pub named_all : (pvh : Option ℕ) (p : KernelPlan) → Answers (pvh_entry all headers) (Ok pvh)
+          → planned_of p ≡ elf_planned segments.items entry pvh → Names (elf_named all offset h) (Ok p)
+      named_all pvh p (inl is) made = with_entry ∙ ap (λ (r : Result (Option ℕ) LoaderError).
+          From (Ok segments.items) (Ok entry) r) (sym is) ∙ ap (λ (x : Planned). Ok x) (sym made)
+      named_all pvh p (inr is) made = absurd (cc)
+
+module _ (all : List ℕ) (offset lowest : ℕ) where
+  plan_from : elf_plan all offset lowest ≡ and_then (elf_header all lowest) (λ h. elf_named all offset h)
+  unfolding elf_plan
+  plan_from = refl
+
+  pub plan_no_header : (e : LoaderError) → Err e ≡ elf_header all lowest
+      → Plans (elf_plan all offset lowest) (Err e)
+  plan_no_header e is = inl (plan_from ∙ ap (λ (r : Result ElfHeader LoaderError).
+      and_then r (λ h. elf_named all offset h)) (sym is))
+
+  module _ (h : ElfHeader) (header : Ok h ≡ elf_header all lowest) where
+    with_header : elf_plan all offset lowest ≡ elf_named all offset h
+    with_header = plan_from ∙ ap (λ (r : Result ElfHeader LoaderError). and_then r (λ h. elf_named all offset h))
+        (sym header)
+
+    pub plan_not_named : (e : LoaderError) → Names (elf_named all offset h) (Err e)
+        → Plans (elf_plan all offset lowest) (Err e)
+    plan_not_named e (inl is) = inl (with_header ∙ is)
+    plan_not_named e (inr memory) = inr (inl memory)
+
+    pub plan_named : (p : KernelPlan) (r : Result KernelPlan LoaderError) → Names (elf_named all offset h) (Ok p)
+        → MatchResult r (λ q. (planned_of q ≡ planned_of p) × AllPairs Apart q.segments.items)
+        (λ e. (e ≡ errors.Memory) ⊎ ((e ≡ errors.SegmentsOverlap) × ¬ AllPairs Apart p.segments.items))
+        → Plans (elf_plan all offset lowest) r
+    plan_named p (Ok q) named (same, apart) =
+        (with_header ∙ named ∙ ap (λ (x : Planned). Ok x) (sym same), apart)
+    plan_named p (Err e) named (inl memory) = inr (inl memory)
+    plan_named p (Err e) named (inr (is, overlap)) = inr (inr (is, planned_of p, with_header ∙ named, overlap))
+
+-- ---- bzImages
+
+module _ (h : List ℕ) (size : ℕ) (at : Option GuestAddress) (lowest : ℕ) where
+  kernel_from : bz_named h size at lowest ≡ and_then (bz_kernel h size at lowest) (λ kernel. Ok (bz_planned h kernel))
+  unfolding bz_named
+  kernel_from = refl
+
+  pub bz_no_kernel : (e : LoaderError) → Err e ≡ bz_kernel h size at lowest
+      → Names (bz_named h size at lowest) (Err e)
+  bz_no_kernel e is = inl (kernel_from ∙ ap (λ (r : Result Segment LoaderError).
+      and_then r (λ kernel. Ok (bz_planned h kernel))) (sym is))
+
+  pub bz_all : (kernel : Segment) (p : KernelPlan) → Ok kernel ≡ bz_kernel h size at lowest
+      → planned_of p ≡ bz_planned h kernel → Names (bz_named h size at lowest) (Ok p)
+  bz_all kernel p is made = kernel_from ∙ ap (λ (r : Result Segment LoaderError).
+      and_then r (λ kernel. Ok (bz_planned h kernel))) (sym is) ∙ ap (λ (x : Planned). Ok x) (sym made)
+
+module _ (all : List ℕ) (at : Option GuestAddress) (lowest : ℕ) where
+  bz_from : bz_plan all at lowest ≡ and_then (header_in all) (λ h. bz_named h (length all) at lowest)
+  unfolding bz_plan
+  bz_from = refl
+
+  pub bz_no_header : (e : LoaderError) → Lists (header_in all) (Err e) → Plans (bz_plan all at lowest) (Err e)
+  bz_no_header e (inl is) = inl (bz_from ∙ ap (λ (r : Result (List ℕ) LoaderError).
+      and_then r (λ h. bz_named h (length all) at lowest)) is)
+  bz_no_header e (inr memory) = inr (inl memory)
+
+  module _ (h : List ℕ) (header : header_in all ≡ Ok h) where
+    bz_with : bz_plan all at lowest ≡ bz_named h (length all) at lowest
+    bz_with = bz_from ∙ ap (λ (r : Result (List ℕ) LoaderError). and_then r (λ h. bz_named h (length all) at lowest))
+        header
+
+    pub bz_not_named : (e : LoaderError) → Names (bz_named h (length all) at lowest) (Err e)
+        → Plans (bz_plan all at lowest) (Err e)
+    bz_not_named e (inl is) = inl (bz_with ∙ is)
+    bz_not_named e (inr memory) = inr (inl memory)
+
+    pub bz_is_named : (p : KernelPlan) (r : Result KernelPlan LoaderError)
+        → Names (bz_named h (length all) at lowest) (Ok p)
+        → MatchResult r (λ q. (planned_of q ≡ planned_of p) × AllPairs Apart q.segments.items)
+        (λ e. (e ≡ errors.Memory) ⊎ ((e ≡ errors.SegmentsOverlap) × ¬ AllPairs Apart p.segments.items))
+        → Plans (bz_plan all at lowest) r
+    bz_is_named p (Ok q) named (same, apart) = (bz_with ∙ named ∙ ap (λ (x : Planned). Ok x) (sym same), apart)
+    bz_is_named p (Err e) named (inl memory) = inr (inl memory)
+    bz_is_named p (Err e) named (inr (is, overlap)) = inr (inr (is, planned_of p, bz_with ∙ named, overlap))
+
+-- ---- the header of a bzImage
+
+pub header_cut : (all : List ℕ) (n : ℕ) → n ≡ min (length all - 0x1f1) 272
+    → take n (drop 0x1f1 all) ≡ take 272 (drop 0x1f1 all)
+header_cut all n is =
+    let size = length-drop 0x1f1 all in
+    let m : n ≡ min 272 (length (drop 0x1f1 all)) = omega arith in
+    rw m (take_min 272 (drop 0x1f1 all))
+
+pub header_read : (all : List ℕ) (size n : ℕ) (r : Result (Vec ℕ Global) LoaderError) → 0x218 ≤ size
+    → n ≡ min (size - 0x1f1) 272 → size ≡ length all
+    → (0x1f1 + n ≤ length all → MatchResult r (λ bytes. bytes.items ≡ take n (drop 0x1f1 all))
+    (λ e. e ≡ errors.Memory))
+    → Lists (header_in all) r
+header_read all size n r long is sized read = go r (read (omega arith))
+  where
+    test : nat_lt (length all) 0x218 ≡ false
+    test = grind (arith, nat_tests)
+
+    go : (r : Result (Vec ℕ Global) LoaderError)
+        → MatchResult r (λ bytes. bytes.items ≡ take n (drop 0x1f1 all)) (λ e. e ≡ errors.Memory)
+        → Lists (header_in all) r
+    go (Ok bytes) h = rw test (ap (λ (xs : List ℕ). Ok xs) (sym (h ∙ header_cut all n (rw (← sized) is))))
+    go (Err e) memory = inr memory

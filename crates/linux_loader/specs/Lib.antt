@@ -1,0 +1,12 @@
+pub mod BzImage
+pub mod Cmdline
+pub mod Elf
+pub mod Error
+pub mod Image
+pub mod ImageBytes
+pub mod Initrd
+pub mod Load
+pub mod Loaded
+pub mod Notes
+pub mod Numbers
+pub mod Plan

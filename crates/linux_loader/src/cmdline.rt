@@ -1,0 +1,216 @@
+//! The command line of a kernel.
+
+ghost use Rattle.std.specs.Prelude.{◌≡◌, ◌⊎◌, ◌+◌, ◌<◌, ◌≤◌, ◌++◌, ◌==◌, ◌∷◌, [], length, IfOk, MatchResult, Ok, Err};
+ghost use Rattle.std.specs.List.{list_all, list_any};
+ghost use Rattle.vm_memory_guest.specs.Host.{shape_of, Holds};
+ghost use Rattle.linux_loader.specs.Cmdline.{Becomes, LoadsLine, added, check_element, check_text, is_printable, separator, text_of, with_pair, with_text};
+
+use crate::error::LoaderError;
+use std::alloc::{AllocError, Global};
+use std::marker::Model;
+use thiserror::Error;
+use vm_memory::{Bitmap, Bytes, GuestAddress, GuestMemory, HostMemory};
+
+/// Why a command line is as it was.
+#[derive(Clone, Copy, Debug, PartialEq, Eq, Error)]
+pub enum CmdlineError {
+    /// A character is none of the 95 of ASCII from the space on.
+    #[error("character is not printable ASCII")]
+    InvalidAscii,
+    /// A key or a value has a space.
+    #[error("space in a key or a value")]
+    HasSpace,
+    /// A key or a value has an equals sign.
+    #[error("equals sign in a key or a value")]
+    HasEquals,
+    /// The line would have more bytes than its capacity, with its terminating zero.
+    #[error("command line is too long")]
+    TooLarge,
+    /// A capacity of 0 has no room for the terminating zero.
+    #[error("capacity of a command line is 0")]
+    InvalidCapacity,
+    /// An allocation failed.
+    #[error("out of memory")]
+    Memory,
+}
+
+impl From<AllocError> for CmdlineError {
+    ghost use Rattle.std.specs.Prelude.{◌≡◌};
+    ghost use Rattle.linux_loader.specs.declared.cmdline.CmdlineError.TheVariants as refusals;
+
+    ghost from_gives = { λ e r. r ≡ refusals.Memory };
+
+    fn from(_error: AllocError) -> CmdlineError {
+        CmdlineError::Memory
+    }
+}
+
+/// A command line with a capacity: how many bytes it has at most, with its terminating zero.
+#[derive(Debug, Drop)]
+pub struct Cmdline {
+    // The line and its terminating zero.
+    bytes: Vec<u8>,
+    capacity: usize,
+}
+
+// Whether each character is printable.
+fn is_text(text: &[u8]) -> bool
+    ensures { result ≡ list_all is_printable text.now }
+{
+    text.iter().all(|c| *c >= b' ' && *c <= b'~')
+}
+
+// Whether a text has a character.
+fn has(text: &[u8], character: u8) -> bool
+    ensures { result ≡ list_any (λ c. c == character) text.now }
+{
+    text.iter().any(|c| *c == character)
+}
+
+// Refuses a text with a character that is not printable.
+fn check_text(text: &[u8]) -> Result<(), CmdlineError>
+    ensures { result ≡ check_text text.now }
+{
+    if !is_text(text) {
+        return Err(CmdlineError::InvalidAscii);
+    }
+    Ok(())
+}
+
+// Refuses a text that may be no key and no value.
+fn check_element(text: &[u8]) -> Result<(), CmdlineError>
+    ensures { result ≡ check_element text.now }
+{
+    check_text(text)?;
+    if has(text, b' ') {
+        return Err(CmdlineError::HasSpace);
+    }
+    if has(text, b'=') {
+        return Err(CmdlineError::HasEquals);
+    }
+    Ok(())
+}
+
+// It is seen as its bytes, with the terminating zero, and its capacity.
+impl Model for Cmdline {
+    ghost use Rattle.std.specs.Prelude.{◌<◌, ◌≤◌, length};
+    ghost use Rattle.linux_loader.specs.Cmdline.{Line};
+
+    ghost Value = { Line };
+
+    ghost view = { λ c. record { bytes = c.bytes.items; capacity = c.capacity } };
+
+    ghost invariant = { λ c. (0 < length c.bytes.items) × (length c.bytes.items ≤ c.capacity) };
+}
+
+// A key and its value, as they stand in a line.
+fn pair_of(alloc: Global, key: &[u8], value: &[u8]) -> Result<Vec<u8>, AllocError>
+    ensures { IfOk result (λ pair. pair.items ≡ key.now ++ 61 ∷ value.now) }
+{
+    let mut bytes = Vec::new(alloc);
+    bytes.extend_from_slice(key)?;
+    bytes.push(b'=')?;
+    bytes.extend_from_slice(value)?;
+    Ok(bytes)
+}
+
+// The bytes of a text and more, with a space between them and a zero behind.
+fn line_of(alloc: Global, text: &[u8], more: &[u8]) -> Result<Vec<u8>, AllocError>
+    ensures { IfOk result (λ bytes. bytes.items ≡ text.now ++ separator text.now ++ more.now ++ 0 ∷ []) }
+{
+    let mut bytes = Vec::new(alloc);
+    bytes.extend_from_slice(text)?;
+    if !text.is_empty() {
+        bytes.push(b' ')?;
+    }
+    bytes.extend_from_slice(more)?;
+    bytes.push(0)?;
+    Ok(bytes)
+}
+
+impl Cmdline {
+    /// An empty line that has room for so many bytes, of which the last is the terminating zero.
+    pub fn new(alloc: Global, capacity: usize) -> Result<Cmdline, CmdlineError>
+        ensures { MatchResult result
+            (λ line. (line ≡ record { bytes = 0 ∷ []; capacity = capacity }) × (0 < capacity))
+            (λ e. (e ≡ CmdlineError.Memory) ⊎ ((e ≡ CmdlineError.InvalidCapacity) × (capacity ≡ 0))) }
+    {
+        if capacity == 0 {
+            return Err(CmdlineError::InvalidCapacity);
+        }
+        let mut bytes = Vec::new(alloc);
+        if bytes.push(0).is_err() {
+            return Err(CmdlineError::Memory);
+        }
+        Ok(Cmdline { bytes, capacity })
+    }
+
+    // Adds bytes, where there is room for them.
+    fn add(&mut self, alloc: Global, more: &[u8]) -> Result<(), CmdlineError>
+        ensures { Becomes (added self.old more.now) self.old result self.new }
+    {
+        let bytes = line_of(alloc, self.text(), more)?;
+        if bytes.len() > self.capacity {
+            return Err(CmdlineError::TooLarge);
+        }
+        self.bytes = bytes;
+        Ok(())
+    }
+
+    /// Adds a text, behind a space where the line is not empty. An error leaves the line as it was: `InvalidAscii`,
+    /// `TooLarge`, or `Memory`, the first that applies.
+    pub fn insert_str(&mut self, alloc: Global, text: &str) -> Result<(), CmdlineError>
+        ensures { Becomes (with_text self.old text.now) self.old result self.new }
+    {
+        check_text(text.as_bytes())?;
+        self.add(alloc, text.as_bytes())
+    }
+
+    /// Adds `key=value`, behind a space where the line is not empty. An error leaves the line as it was:
+    /// `InvalidAscii`, `HasSpace` or `HasEquals` of the key, the same of the value, `TooLarge`, or `Memory`, the first
+    /// that applies.
+    pub fn insert(&mut self, alloc: Global, key: &str, value: &str) -> Result<(), CmdlineError>
+        ensures { Becomes (with_pair self.old key.now value.now) self.old result self.new }
+    {
+        check_element(key.as_bytes())?;
+        check_element(value.as_bytes())?;
+        let pair = pair_of(alloc, key.as_bytes(), value.as_bytes())?;
+        self.add(alloc, pair.as_slice())
+    }
+
+    /// The line without its terminating zero.
+    pub fn text(&self) -> &[u8]
+        ensures { result.now ≡ text_of self.now }
+    {
+        &self.bytes.as_slice()[..self.bytes.len() - 1]
+    }
+
+    /// The line with its terminating zero.
+    pub fn as_slice_with_nul(&self) -> &[u8]
+        ensures bytes { result.now ≡ self.now.bytes }
+        ensures some { 0 < length result.now }
+    {
+        self.bytes.as_slice()
+    }
+}
+
+/// Writes a command line with its terminating zero to an address.
+pub fn load_cmdline<M: GuestMemory, B: Bitmap>(
+    mem: &M,
+    host: &mut HostMemory<B>,
+    addr: GuestAddress,
+    cmdline: &Cmdline,
+) -> Result<(), LoaderError>
+    requires { Holds (shape_of host.old) (M.names mem.now) }
+    ensures loads { LoadsLine B.marks (M.memory mem.now) addr.0 cmdline.now.bytes host.old result host.new }
+    ensures shape { shape_of host.new ≡ shape_of host.old }
+{
+    let bytes = cmdline.as_slice_with_nul();
+    if bytes.len() as u64 - 1 > u64::MAX - addr.0 {
+        return Err(LoaderError::CommandLineOverflow);
+    }
+    match Bytes::write_slice(mem, host, bytes, addr) {
+        Ok(()) => Ok(()),
+        Err(error) => Err(LoaderError::of_access(error)),
+    }
+}

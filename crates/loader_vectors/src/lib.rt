@@ -1,0 +1,13 @@
+//! Tests of loaders: images that are loaded or refused, command lines and initrds.
+#![tactic(auto)]
+
+#[cfg(test)]
+mod bzimages;
+#[cfg(test)]
+mod elves;
+#[cfg(test)]
+mod images;
+#[cfg(test)]
+mod lines;
+#[cfg(test)]
+mod slow;

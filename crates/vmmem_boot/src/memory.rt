@@ -1,0 +1,83 @@
+//! Guest memory of a machine, and what lies in it.
+
+use anyhow::{Result, bail};
+use sha2::{Digest, Sha256};
+use std::alloc::Global;
+use vm_memory::{
+    Bytes, ExactBitmap, ExclusiveBitmap, GuestAddress, GuestMemoryBackend, GuestMemoryMmap,
+    GuestMemoryRegion, HostMemory,
+};
+
+pub type Host = HostMemory<ExclusiveBitmap>;
+
+const MIB: u64 = 0x10_0000;
+
+// How many bytes are read at once.
+const CHUNK: u64 = 0x1_0000;
+
+// Where devices have their addresses: memory past 3 GiB lies from 4 GiB on.
+const HOLE: u64 = 0xc000_0000;
+
+const BEHIND_HOLE: u64 = 0x1_0000_0000;
+
+/// The last address of the memory below the hole, of a machine with so many MiB.
+pub fn last_low_address(mib: u64) -> u64 {
+    mib.saturating_mul(MIB).min(HOLE).saturating_sub(1)
+}
+
+/// Memory of so many MiB: the first of them, the others up to the hole, and the rest behind it.
+pub fn memory_of(alloc: Global, host: &mut Host, mib: u64) -> Result<GuestMemoryMmap> {
+    let low = last_low_address(mib).saturating_add(1);
+    let rest = mib.saturating_mul(MIB).saturating_sub(low);
+    let all = [
+        (GuestAddress(0), low.min(MIB)),
+        (GuestAddress(MIB), low.saturating_sub(MIB)),
+        (GuestAddress(BEHIND_HOLE), rest),
+    ];
+    let mut ranges = Vec::new(alloc);
+    for (start, size) in all {
+        if size > 0 {
+            ranges.push((start, size as usize))?;
+        }
+    }
+    Ok(GuestMemoryMmap::from_ranges(alloc, host, ranges.as_slice())?)
+}
+
+/// The SHA-256 of so many bytes at an address, in hexadecimal digits.
+pub fn digest_of(
+    alloc: Global,
+    host: &Host,
+    memory: &GuestMemoryMmap,
+    addr: u64,
+    size: u64,
+) -> Result<String> {
+    if !host.holds(memory) {
+        bail!("the host holds the memory");
+    }
+    let mut hasher = Sha256::new();
+    let mut buffer = vec![in alloc; 0u8; CHUNK as usize]?;
+    for number in 0..size.div_ceil(CHUNK) {
+        let done = number.saturating_mul(CHUNK);
+        let left = size.saturating_sub(done) as usize;
+        let count = left.min(buffer.len());
+        let part = &mut buffer.as_mut_slice()[..count];
+        memory.read_slice(host, part, GuestAddress(addr.wrapping_add(done)))?;
+        hasher.update(&*part);
+    }
+    let digest = hasher.finalize();
+    Ok(hex::encode(alloc, &digest)?)
+}
+
+/// How many pages of the memory are dirty.
+pub fn dirty_pages(alloc: Global, host: &Host, memory: &GuestMemoryMmap) -> Result<usize> {
+    let mut count = 0usize;
+    for region in memory.iter() {
+        let id = region.get_mmap().bitmap().id;
+        if !host.shape().has_bitmap(id) {
+            bail!("the host has the bitmap");
+        }
+        let pages = host.bitmap(id).dirty_pages(alloc)?;
+        count = count.saturating_add(pages.len());
+    }
+    Ok(count)
+}
