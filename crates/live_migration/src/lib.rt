@@ -1,0 +1,9 @@
+//! Live migration: a guest's memory moves over a stream in rounds while it is written.
+#![tactic(auto)]
+
+mod fields;
+mod frame;
+mod refusal;
+
+pub use frame::{Frame, MOST_PAGE_BYTES};
+pub use refusal::Refusal;
