@@ -1,2 +1,4 @@
 pub mod Frame
+pub mod Image
 pub mod Reading
+pub mod Rounds

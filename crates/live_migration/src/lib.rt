@@ -3,6 +3,7 @@
 
 mod fields;
 mod frame;
+pub mod laws;
 mod refusal;
 
 pub use frame::{Frame, MOST_PAGE_BYTES};
