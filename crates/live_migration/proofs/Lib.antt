@@ -1,5 +1,7 @@
 pub mod FieldLemmas
 pub mod FrameLemmas
+pub mod HeaderLemmas
+pub mod HeaderLoop
 pub mod ImageLemmas
 pub mod PutLemmas
 pub mod RoundsLemmas

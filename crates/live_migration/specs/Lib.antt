@@ -1,4 +1,5 @@
 pub mod Frame
+pub mod Header
 pub mod Image
 pub mod Reading
 pub mod Rounds

@@ -3,8 +3,10 @@
 
 mod fields;
 mod frame;
+mod header;
 pub mod laws;
 mod refusal;
 
 pub use frame::{Frame, MOST_PAGE_BYTES};
+pub use header::{BlockEntry, MOST_BLOCKS, decode_header};
 pub use refusal::Refusal;
