@@ -1,11 +1,11 @@
 -- What is read of a header is spelled so, and what is spelled so is read.
-use Rattle.std.proofs.Common.{◌≡◌, ℕ, zero, suc, ◌+◌, ◌-◌, ◌^◌, ◌<◌, ◌≤◌, Bool, true, false, cond, ltb, leb, eqb, ◌&&◌, List, [], ◌∷◌, ◌++◌, length, Result, Ok, Err, refl, sym, ap, subst, ◌∙◌, append_assoc, arith, lit<}
+use Rattle.std.proofs.Common.{◌≡◌, ℕ, zero, suc, ◌+◌, ◌-◌, ◌^◌, ◌<◌, ◌≤◌, Bool, true, false, cond, ltb, leb, eqb, ◌&&◌, List, [], ◌∷◌, ◌++◌, length, take, get_or, Result, Ok, Err, refl, sym, ap, subst, ◌∙◌, append_assoc, arith, lit<}
 use Rattle.std.specs.Prelude.{IfOk, flat_map}
 use Rattle.std.specs.Int.{w32, w64, to_le_bytes}
 use Rattle.std.specs.Borrow.{Bor}
 use Rattle.std.specs.Global.{Vec}
 use Rattle.std.proofs.lemmas.Bool.{eqb-true, eqb-false, ltb-true, ltb-false, le-ltb, lt-ltb, leb-true, le-leb, and_parts, and_from}
-use Rattle.std.proofs.lemmas.List.{append-nil, nil_from_length}
+use Rattle.std.proofs.lemmas.List.{append-nil, nil_from_length, flat_map_more, take_more}
 use Rattle.std.proofs.lemmas.List.Concat.{flat_map-cons}
 use Rattle.live_migration.specs.Header.{entry_bytes, header_bytes, IsEntry, AreEntries, IsHeader, GivesUnlessMemory, front_in, checked, entry_in, entries_in, header_in}
 use Rattle.live_migration.specs.Reading.{◌>>=◌, Gives, number_at}
@@ -235,3 +235,12 @@ unless_memory refusal.Order read h = h
 unless_memory refusal.Digest read h = h
 unless_memory refusal.Ended read h = h
 unless_memory refusal.Failed read h = h
+
+-- one entry more is written
+pub entry_behind : (front out new : List ℕ) (es : List BlockEntry) (i : ℕ) (d : BlockEntry) → i < length es
+    → out ≡ front ++ flat_map entry_bytes (take i es) → new ≡ out ++ entry_bytes (get_or es i d)
+    → new ≡ front ++ flat_map entry_bytes (take (i + 1) es)
+entry_behind front out new es i d l e f =
+    f ∙ ap (λ (x : List ℕ). x ++ entry_bytes (get_or es i d)) e
+    ∙ flat_map_more entry_bytes front (take i es) (get_or es i d)
+    ∙ ap (λ (x : List BlockEntry). front ++ flat_map entry_bytes x) (sym (take_more es i d l))

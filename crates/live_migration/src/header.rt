@@ -1,12 +1,13 @@
 //! The header of the stream: which blocks there are.
-ghost use Rattle.std.specs.Prelude.{◌≡◌, ◌+◌, ◌^◌, ◌<◌, ◌≤◌, List, IfOk, Ok};
-ghost use Rattle.live_migration.specs.Header.{GivesUnlessMemory, IsHeader, checked, entries_in, entry_in, front_in, header_bytes, header_in};
+ghost use Rattle.std.specs.Prelude.{◌≡◌, ◌+◌, ◌^◌, ◌<◌, ◌≤◌, ◌++◌, List, length, IfOk, Ok};
+ghost use Rattle.std.specs.Int.{w32, w64, to_le_bytes};
+ghost use Rattle.live_migration.specs.Header.{GivesUnlessMemory, entry_bytes, IsHeader, checked, entries_in, entry_in, front_in, header_bytes, header_in};
 ghost use Rattle.live_migration.specs.Reading.{Gives};
 ghost use Rattle.live_migration.specs.declared.header.BlockEntry.{BlockEntry};
 
 use crate::fields::{u32_at, u64_at};
 use crate::refusal::Refusal;
-use std::alloc::Global;
+use std::alloc::{AllocError, Global};
 
 const MAGIC: u64 = 0x5441_5247_494d_4d56;
 
@@ -155,4 +156,40 @@ pub fn decode_header(alloc: Global, limit: u64, bytes: &[u8]) -> Result<Vec<Bloc
     ensures exact { GivesUnlessMemory (λ v. v.items) result (header_in limit bytes.now) }
 {
     header_in(alloc, limit, bytes)
+}
+
+// The bytes of a block in the header.
+fn entry_bytes(entry: &BlockEntry) -> [u8; ENTRY]
+    ensures { result ≡ entry_bytes entry.now }
+{
+    let [a, b, c, d, e, f, g, h] = entry.len.to_le_bytes();
+    let [i, j, k, l, m, n, o, p] = entry.page_size.to_le_bytes();
+    let [q, r, s, t, u, v, w, x] = entry.address.to_le_bytes();
+    [
+        a, b, c, d, e, f, g, h, i, j, k, l, m, n, o, p, q, r, s, t, u, v, w, x,
+    ]
+}
+
+// The bytes in front of the blocks.
+fn front_bytes(count: u32) -> [u8; FRONT]
+    ensures { result ≡ to_le_bytes w64 0x5441_5247_494d_4d56 ++ (to_le_bytes w32 1 ++ to_le_bytes w32 count) }
+{
+    let [a, b, c, d, e, f, g, h] = MAGIC.to_le_bytes();
+    let [i, j, k, l] = VERSION.to_le_bytes();
+    let [m, n, o, p] = count.to_le_bytes();
+    [a, b, c, d, e, f, g, h, i, j, k, l, m, n, o, p]
+}
+
+/// The header of these blocks, as it goes over the stream. `AllocError` where its allocation fails.
+#[tactic(auto, unfolding(crate::specs::Header::header_bytes))]
+pub fn encode_header(alloc: Global, entries: &[BlockEntry]) -> Result<Vec<u8>, AllocError>
+    requires { length entries.now ≤ 256 }
+    ensures { IfOk result (λ v. v.items ≡ header_bytes entries.now) }
+{
+    let mut out = Vec::new(alloc);
+    out.extend_from_slice(&front_bytes(entries.len() as u32))?;
+    for entry in entries {
+        out.extend_from_slice(&entry_bytes(entry))?;
+    }
+    Ok(out)
 }

@@ -8,5 +8,5 @@ pub mod laws;
 mod refusal;
 
 pub use frame::{Frame, MOST_PAGE_BYTES};
-pub use header::{BlockEntry, MOST_BLOCKS, decode_header};
+pub use header::{BlockEntry, MOST_BLOCKS, decode_header, encode_header};
 pub use refusal::Refusal;
