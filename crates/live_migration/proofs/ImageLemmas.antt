@@ -38,13 +38,13 @@ get_or-placed at bytes image k l =
     get_or-map byte (numbers 0 (length image)) k 0 0 (omega (arith, count))
     ∙ ap byte (get_or-numbers 0 (length image) k 0 l ∙ zero-add k)
 
-is_inside : (at len k : ℕ) → at ≤ k → k < at + len → is_within at len k ≡ true
+pub is_inside : (at len k : ℕ) → at ≤ k → k < at + len → is_within at len k ≡ true
 is_inside at len k low high = and_from _ _ (le-leb _ _ low) (lt-ltb _ _ high)
 
-is_before : (at len k : ℕ) → k < at → is_within at len k ≡ false
+pub is_before : (at len k : ℕ) → k < at → is_within at len k ≡ false
 is_before at len k low = and_left _ _ (lt-leb _ _ low)
 
-is_behind : (at len k : ℕ) → at + len ≤ k → is_within at len k ≡ false
+pub is_behind : (at len k : ℕ) → at + len ≤ k → is_within at len k ≡ false
 is_behind at len k high = and_right _ _ (le-ltb _ _ high)
 
 length-zeros : (n : ℕ) → length (replicate {A = ℕ} n 0) ≡ n

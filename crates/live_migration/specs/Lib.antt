@@ -1,5 +1,6 @@
 pub mod Frame
 pub mod Header
 pub mod Image
+pub mod Placing
 pub mod Reading
 pub mod Rounds

@@ -5,6 +5,7 @@ mod fields;
 mod frame;
 mod header;
 pub mod laws;
+mod placing;
 mod refusal;
 
 pub use frame::{Frame, MOST_PAGE_BYTES};
