@@ -6,3 +6,4 @@ pub mod ImageLemmas
 pub mod PlacingLemmas
 pub mod PutLemmas
 pub mod RoundsLemmas
+pub mod StreamLemmas

@@ -4,3 +4,4 @@ pub mod Image
 pub mod Placing
 pub mod Reading
 pub mod Rounds
+pub mod Stages

@@ -1,5 +1,5 @@
 //! Frames of the stream.
-ghost use Rattle.std.specs.Prelude.{◌≡◌, ◌<◌, ℕ, List, [], ◌∷◌, ◌++◌, length, take, IfOk, OnOk, OnErr, Ok};
+ghost use Rattle.std.specs.Prelude.{◌≡◌, ◌+◌, ◌^◌, ◌<◌, ◌≤◌, ℕ, List, [], ◌∷◌, ◌++◌, length, take, IfOk, OnOk, OnErr, Ok};
 ghost use Rattle.std.specs.Int.{w32, w64, to_le_bytes};
 ghost use Rattle.live_migration.specs.Frame.{Message, IsMessage, head, kind_of, message_of, payload_of, spelling};
 ghost use Rattle.live_migration.specs.Reading.{Gives, message_in, pages_in, zero_page_in, round_end_in, section_in, empty_in};
@@ -22,6 +22,21 @@ const SECTION: u32 = 4;
 const DONE: u32 = 5;
 
 const GO: u32 = 6;
+
+// The greatest length of the payload of a frame of this kind, where pages have at most `longest` bytes in one frame.
+pub(crate) fn most_bytes(kind: u32, longest: u32) -> Result<u32, Refusal>
+    requires { longest ≤ 2 ^ 20 }
+    ensures { IfOk result (λ most. most ≤ 2 ^ 20 + 256) }
+{
+    match kind {
+        PAGES => Ok(12 + longest),
+        ZERO_PAGE => Ok(12),
+        ROUND_END => Ok(36),
+        SECTION => Ok(0x10_0100),
+        DONE | GO => Ok(0),
+        _ => Err(Refusal::FrameKind),
+    }
+}
 
 /// What a sender sends after its header.
 #[derive(Clone, Copy, Debug)]

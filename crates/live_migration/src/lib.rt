@@ -6,8 +6,11 @@ mod frame;
 mod header;
 pub mod laws;
 mod placing;
+mod receiver;
 mod refusal;
+mod stream;
 
 pub use frame::{Frame, MOST_PAGE_BYTES};
 pub use header::{BlockEntry, MOST_BLOCKS, decode_header, encode_header};
+pub use receiver::{Section, Stage};
 pub use refusal::Refusal;

@@ -1,0 +1,74 @@
+//! The receiving end.
+ghost use Rattle.std.specs.Prelude.{◌≡◌, ℕ, ◌+◌, ◌^◌, ◌<◌, ◌≤◌, List, ◌++◌, length, replicate, IfOk, OnOk, OnErr, IsOk, Ok};
+ghost use Rattle.live_migration.specs.Frame.{message_of};
+ghost use Rattle.live_migration.specs.Stages.{stage_after};
+
+use crate::frame::Frame;
+use crate::header::BlockEntry;
+use crate::refusal::Refusal;
+
+/// What a receiver waits for.
+#[derive(Clone, Copy, Debug, PartialEq, Eq)]
+pub enum Stage {
+    /// The next frame of a round.
+    Round,
+    /// The next frame of another round, or done.
+    RoundEnded,
+    /// Leave to run the guest.
+    Done,
+    /// Nothing: it may run the guest.
+    Gone,
+    /// Nothing: something was refused.
+    Failed,
+}
+
+/// The state of a device or a queue, as it came.
+#[derive(Debug, Drop)]
+pub struct Section {
+    /// Its name: at most 255 bytes.
+    pub name: Vec<u8>,
+    /// Its bytes: at most 2^20.
+    pub bytes: Vec<u8>,
+}
+
+// The stage after a frame.
+fn stage_after(stage: Stage, frame: &Frame<'_>) -> Result<Stage, Refusal>
+    ensures { result ≡ stage_after stage (message_of frame.now) }
+{
+    match stage {
+        Stage::Round => in_round(frame),
+        Stage::RoundEnded => behind_round(frame),
+        Stage::Done => behind_done(frame),
+        Stage::Gone | Stage::Failed => Err(Refusal::Order),
+    }
+}
+
+fn in_round(frame: &Frame<'_>) -> Result<Stage, Refusal>
+    ensures { result ≡ stage_after Stage.Round (message_of frame.now) }
+{
+    match frame {
+        Frame::Pages { .. } | Frame::ZeroPage { .. } | Frame::Section { .. } => Ok(Stage::Round),
+        Frame::RoundEnd { .. } => Ok(Stage::RoundEnded),
+        Frame::Done | Frame::Go => Err(Refusal::Order),
+    }
+}
+
+fn behind_round(frame: &Frame<'_>) -> Result<Stage, Refusal>
+    ensures { result ≡ stage_after Stage.RoundEnded (message_of frame.now) }
+{
+    match frame {
+        Frame::Done => Ok(Stage::Done),
+        Frame::Pages { .. } | Frame::ZeroPage { .. } | Frame::Section { .. } => Ok(Stage::Round),
+        Frame::RoundEnd { .. } => Ok(Stage::RoundEnded),
+        Frame::Go => Err(Refusal::Order),
+    }
+}
+
+fn behind_done(frame: &Frame<'_>) -> Result<Stage, Refusal>
+    ensures { result ≡ stage_after Stage.Done (message_of frame.now) }
+{
+    match frame {
+        Frame::Go => Ok(Stage::Gone),
+        _ => Err(Refusal::Order),
+    }
+}
