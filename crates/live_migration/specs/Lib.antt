@@ -3,5 +3,6 @@ pub mod Header
 pub mod Image
 pub mod Placing
 pub mod Reading
+pub mod Receiving
 pub mod Rounds
 pub mod Stages

@@ -152,7 +152,7 @@ fn frame_in(kind: u32, payload: &[u8]) -> Result<Frame<'_>, Refusal>
 }
 
 // The head of a frame.
-fn head_bytes(kind: u32, len: u32) -> [u8; 8]
+pub(crate) fn head_bytes(kind: u32, len: u32) -> [u8; 8]
     ensures { result ≡ head kind len }
 {
     let [a, b, c, d] = kind.to_le_bytes();

@@ -12,5 +12,5 @@ mod stream;
 
 pub use frame::{Frame, MOST_PAGE_BYTES};
 pub use header::{BlockEntry, MOST_BLOCKS, decode_header, encode_header};
-pub use receiver::{Section, Stage};
+pub use receiver::{Progress, Receiver, Section, Stage};
 pub use refusal::Refusal;

@@ -3,9 +3,11 @@ ghost use Rattle.std.specs.Prelude.{◌≡◌, ℕ, ◌+◌, ◌^◌, ◌<◌, �
 ghost use Rattle.live_migration.specs.Frame.{message_of};
 ghost use Rattle.live_migration.specs.Stages.{stage_after};
 
+mod progress;
+
 use crate::frame::Frame;
-use crate::header::BlockEntry;
 use crate::refusal::Refusal;
+pub use progress::{Progress, Receiver, Section};
 
 /// What a receiver waits for.
 #[derive(Clone, Copy, Debug, PartialEq, Eq)]
@@ -22,17 +24,8 @@ pub enum Stage {
     Failed,
 }
 
-/// The state of a device or a queue, as it came.
-#[derive(Debug, Drop)]
-pub struct Section {
-    /// Its name: at most 255 bytes.
-    pub name: Vec<u8>,
-    /// Its bytes: at most 2^20.
-    pub bytes: Vec<u8>,
-}
-
 // The stage after a frame.
-fn stage_after(stage: Stage, frame: &Frame<'_>) -> Result<Stage, Refusal>
+pub(crate) fn stage_after(stage: Stage, frame: &Frame<'_>) -> Result<Stage, Refusal>
     ensures { result ≡ stage_after stage (message_of frame.now) }
 {
     match stage {

@@ -59,8 +59,9 @@ pub(crate) fn read_frame<R: Read>(
     longest: u32,
 ) -> Result<u32, Refusal>
     requires { longest ≤ 2 ^ 20 }
-    ensures { IfOk result (λ kind. Consumes (R.remaining reader.old) (R.remaining reader.new)
+    ensures consumed { IfOk result (λ kind. Consumes (R.remaining reader.old) (R.remaining reader.new)
         (head kind (length payload.new.items) ++ payload.new.items)) }
+    ensures short { OnOk result (length payload.new.items < 2 ^ 32) }
 {
     let (kind, len) = read_head(reader)?;
     if len > most_bytes(kind, longest)? {

@@ -1,0 +1,47 @@
+-- What a receiver took from its stream.
+use Rattle.std.specs.Prelude.{◌≡◌, ℕ, ◌+◌, List, ◌++◌, length, map, replicate, Option, Ok}
+use Rattle.std.specs.Io.KnownBytes.{Consumes}
+use Rattle.sha2.specs.Hashers.{Holds256}
+use Rattle.sha2.specs.Sha256.{sha256}
+use Rattle.vm_memory_guest.specs.Host.{Host}
+use Rattle.live_migration.specs.Frame.{Message, RoundEnd, IsMessage, spelling}
+use Rattle.live_migration.specs.Placing.{Applies}
+use Rattle.live_migration.specs.Stages.{stage_after}
+use Rattle.live_migration.specs.declared.header.BlockEntry.{BlockEntry}
+use Rattle.live_migration.specs.declared.receiver.progress.Progress.{Progress}
+
+-- the end of a round has the round's number and the digest of all that was sent before it
+abbrev pub IsRightEnd : ℕ → List ℕ → Message → Type 0
+IsRightEnd round sent (RoundEnd r digest) = (r ≡ round) × (digest ≡ sha256 sent)
+IsRightEnd round sent m = Unit {0}
+
+-- the number of the round that is next, after a message
+abbrev pub round_after : ℕ → Message → ℕ
+round_after round (RoundEnd r digest) = round + 1
+round_after round m = round
+
+-- blocks of zeros
+abbrev pub zeroed : List BlockEntry → List (List ℕ)
+zeroed entries = map (λ e. replicate e.len 0) entries
+
+-- only sections came, and took of what is allowed
+pub record IsSectionKept (old new : Progress) : Type 0 where
+  pub base : new.base ≡ old.base
+  pub entries : new.entries.items ≡ old.entries.items
+  pub stage : new.stage ≡ old.stage
+  pub round : new.round ≡ old.round
+  pub hasher : new.hasher ≡ old.hasher
+
+-- a frame was read and done
+pub record TakesFrame {B : Type 0} (before after : Option (List ℕ)) (old new : Progress) (host next : Host B) : Type 0
+  where
+    pub message : Message
+    pub fits : IsMessage message
+    pub consumed : Consumes before after (spelling message)
+    pub applied : Applies old.base old.entries.items message host next
+    pub stage : stage_after old.stage message ≡ Ok new.stage
+    pub base : new.base ≡ old.base
+    pub entries : new.entries.items ≡ old.entries.items
+    pub round : new.round ≡ round_after old.round message
+    pub right : (sent : List ℕ) → Holds256 old.hasher sent → IsRightEnd old.round sent message
+    pub hashed : (sent : List ℕ) → Holds256 old.hasher sent → Holds256 new.hasher (sent ++ spelling message)
