@@ -1,13 +1,15 @@
 -- What a receiver took from its stream.
-use Rattle.std.specs.Prelude.{◌≡◌, ℕ, ◌+◌, List, ◌++◌, length, map, replicate, Option, Ok}
+use Rattle.std.specs.Prelude.{◌≡◌, ℕ, ◌+◌, ◌<◌, List, ◌++◌, length, map, replicate, Option, Ok}
 use Rattle.std.specs.Io.KnownBytes.{Consumes}
 use Rattle.sha2.specs.Hashers.{Holds256}
 use Rattle.sha2.specs.Sha256.{sha256}
 use Rattle.vm_memory_guest.specs.Host.{Host}
 use Rattle.live_migration.specs.Frame.{Message, RoundEnd, IsMessage, spelling}
+use Rattle.live_migration.specs.Header.{IsHeader, header_bytes}
 use Rattle.live_migration.specs.Placing.{Applies}
 use Rattle.live_migration.specs.Stages.{stage_after}
 use Rattle.live_migration.specs.declared.header.BlockEntry.{BlockEntry}
+use Rattle.live_migration.specs.declared.receiver.Stage.TheVariants as stage
 use Rattle.live_migration.specs.declared.receiver.progress.Progress.{Progress}
 
 -- the end of a round has the round's number and the digest of all that was sent before it
@@ -45,3 +47,18 @@ pub record TakesFrame {B : Type 0} (before after : Option (List ℕ)) (old new :
     pub round : new.round ≡ round_after old.round message
     pub right : (sent : List ℕ) → Holds256 old.hasher sent → IsRightEnd old.round sent message
     pub hashed : (sent : List ℕ) → Holds256 old.hasher sent → Holds256 new.hasher (sent ++ spelling message)
+
+-- blocks came behind those that there were
+abbrev pub Grows : List (List ℕ) → List (List ℕ) → Type 0
+Grows old new = (more : List (List ℕ)) × (new ≡ old ++ more)
+
+-- a header was read, and its blocks were made
+pub record Begins {B : Type 0} (limit : ℕ) (before after : Option (List ℕ)) (new : Progress) (host next : Host B) : Type 0
+  where
+    pub header : IsHeader limit new.entries.items
+    pub consumed : Consumes before after (header_bytes new.entries.items)
+    pub blocks : next.blocks ≡ host.blocks ++ zeroed new.entries.items
+    pub base : 0 < length new.entries.items → new.base ≡ length host.blocks
+    pub stage : new.stage ≡ stage.Round
+    pub round : new.round ≡ 0
+    pub hashed : Holds256 new.hasher (header_bytes new.entries.items)

@@ -3,6 +3,7 @@ ghost use Rattle.std.specs.Prelude.{◌≡◌, ℕ, ◌+◌, ◌^◌, ◌<◌, �
 ghost use Rattle.live_migration.specs.Frame.{message_of};
 ghost use Rattle.live_migration.specs.Stages.{stage_after};
 
+mod begin;
 mod progress;
 
 use crate::frame::Frame;

@@ -44,7 +44,7 @@ pub struct Progress {
 #[derive(Drop)]
 pub struct Receiver {
     pub(crate) seen: Progress,
-    payload: Vec<u8>,
+    pub(crate) payload: Vec<u8>,
 }
 
 // The digest of what a hasher holds.
