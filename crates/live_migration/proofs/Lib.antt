@@ -6,4 +6,5 @@ pub mod ImageLemmas
 pub mod PlacingLemmas
 pub mod PutLemmas
 pub mod RoundsLemmas
+pub mod SenderLemmas
 pub mod StreamLemmas

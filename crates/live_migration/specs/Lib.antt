@@ -5,4 +5,5 @@ pub mod Placing
 pub mod Reading
 pub mod Receiving
 pub mod Rounds
+pub mod Sending
 pub mod Stages

@@ -8,9 +8,11 @@ pub mod laws;
 mod placing;
 mod receiver;
 mod refusal;
+mod sender;
 mod stream;
 
 pub use frame::{Frame, MOST_PAGE_BYTES};
 pub use header::{BlockEntry, MOST_BLOCKS, decode_header, encode_header};
 pub use receiver::{Progress, Receiver, Section, Stage};
 pub use refusal::Refusal;
+pub use sender::{Rounds, SendError, Target};

@@ -1,0 +1,43 @@
+-- What a sender's calls do, in the words of the rounds.
+use Rattle.std.specs.Prelude.{◌≡◌, ℕ, ◌<◌, List, Some}
+use Rattle.vm_memory_base.specs.Pages.{PageSet, Pages, cleaned, dirty_pages}
+use Rattle.vm_memory_base.specs.declared.bitmap.BitmapId.TheVariants.{Block}
+use Rattle.vm_memory_guest.specs.Host.{Host, block_at}
+use Rattle.vm_memory_guest.specs.Window.{bitmap_of, with_bitmap}
+use Rattle.live_migration.specs.Rounds.{Source, taken}
+use Rattle.live_migration.specs.declared.sender.rounds.Target.{Target}
+
+-- the source that a block of a host is, with these pages of its bitmap
+abbrev pub source_of : {B : Type 0} → Target → Pages → Host B → Source
+source_of t pages host = record { bytes = block_at host.blocks t.block.0; pages = pages }
+
+-- a block's bitmap tracks pages of the size that the header says
+pub record IsTracked {B : Type 0} (pages_of : B → PageSet) (t : Target) (host : Host B) : Type 0 where
+  pub bitmap : B
+  pub tracked : Pages
+  pub was : bitmap_of host (Block t.block.0) ≡ Some bitmap
+  pub dirty : pages_of bitmap ≡ Some tracked
+  pub size : tracked.page_size ≡ t.entry.page_size
+  pub some : 0 < t.entry.page_size
+
+-- the dirty pages of a block were taken, and none of it is dirty then. Nothing else changed
+pub record Harvests {B : Type 0} (pages_of : B → PageSet) (block : ℕ) (pages : List ℕ) (old new : Host B) : Type 0 where
+  pub before : B
+  pub after : B
+  pub was : bitmap_of old (Block block) ≡ Some before
+  pub pages_are : pages ≡ dirty_pages (pages_of before)
+  pub clean : pages_of after ≡ cleaned (pages_of before)
+  pub is : new ≡ with_bitmap old (Block block) after
+
+-- the pages of a block were taken, and none of it is dirty then. Nothing else changed
+pub record TakesPages {B : Type 0} (pages_of : B → PageSet) (t : Target) (round : ℕ) (pages : List ℕ) (old new : Host B)
+    : Type 0 where
+  pub before : B
+  pub after : B
+  pub tracked : Pages
+  pub was : bitmap_of old (Block t.block.0) ≡ Some before
+  pub dirty : pages_of before ≡ Some tracked
+  pub size : tracked.page_size ≡ t.entry.page_size
+  pub pages_are : pages ≡ taken round (source_of t tracked old)
+  pub clean : pages_of after ≡ cleaned (Some tracked)
+  pub is : new ≡ with_bitmap old (Block t.block.0) after

@@ -1,0 +1,5 @@
+//! The sending end.
+
+mod rounds;
+
+pub use rounds::{Rounds, SendError, Target};
