@@ -13,7 +13,7 @@ use Rattle.vm_memory_base.specs.declared.bitmap.BitmapId.TheVariants.{Block}
 use Rattle.vm_memory_guest.specs.Host.{Host, block_at, bytes_at}
 use Rattle.vm_memory_guest.specs.Window.{bitmap_of, block_window, cells_of, with_bitmap}
 use Rattle.live_migration.specs.Sending.{Harvests, IsTracked, TakesPages}
-use Rattle.live_migration.specs.declared.sender.rounds.Target.{Target}
+use Rattle.live_migration.specs.declared.sender.pages.Target.{Target}
 use Rattle.live_migration.specs.Frame.{Message, spelling}
 
 -- all bytes of a block are a window of it

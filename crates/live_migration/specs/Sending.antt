@@ -1,11 +1,14 @@
 -- What a sender's calls do, in the words of the rounds.
-use Rattle.std.specs.Prelude.{◌≡◌, ℕ, ◌<◌, List, Some}
+use Rattle.std.specs.Prelude.{◌≡◌, ℕ, ◌+◌, ◌<◌, ◌≤◌, List, ◌++◌, length, take, drop, flat_map, slice_get, Some}
 use Rattle.vm_memory_base.specs.Pages.{PageSet, Pages, cleaned, dirty_pages}
 use Rattle.vm_memory_base.specs.declared.bitmap.BitmapId.TheVariants.{Block}
 use Rattle.vm_memory_guest.specs.Host.{Host, block_at}
 use Rattle.vm_memory_guest.specs.Window.{bitmap_of, with_bitmap}
+use Rattle.live_migration.specs.Frame.{spelling}
+use Rattle.live_migration.specs.Image.{copied}
 use Rattle.live_migration.specs.Rounds.{Source, taken}
-use Rattle.live_migration.specs.declared.sender.rounds.Target.{Target}
+use Rattle.live_migration.specs.declared.sender.pages.Target.{Target}
+use Rattle.live_migration.specs.declared.sender.rounds.Rounds.{Rounds}
 
 -- the source that a block of a host is, with these pages of its bitmap
 abbrev pub source_of : {B : Type 0} → Target → Pages → Host B → Source
@@ -41,3 +44,26 @@ pub record TakesPages {B : Type 0} (pages_of : B → PageSet) (t : Target) (roun
   pub pages_are : pages ≡ taken round (source_of t tracked old)
   pub clean : pages_of after ≡ cleaned (Some tracked)
   pub is : new ≡ with_bitmap old (Block t.block.0) after
+
+-- the pages of the next block of the round were taken, and wait to be copied
+pub record HarvestsNext {B : Type 0} (pages_of : B → PageSet) (old new : Rounds) (host next : Host B) : Type 0 where
+  pub target : Target
+  pub there : slice_get old.targets.items old.turn ≡ Some target
+  pub idle : length old.waiting.items ≤ old.next
+  pub takes : TakesPages pages_of target old.round new.waiting.items host next
+  pub start : new.next ≡ 0
+  pub turn : new.turn ≡ old.turn + 1
+  pub last : new.last ≡ old.turn
+  pub same : (new.targets ≡ old.targets) × (new.round ≡ old.round) × (new.batch ≡ old.batch)
+
+-- so many pages that waited were copied behind what waits to be sent
+pub record CopiesPages {B : Type 0} (count : ℕ) (old new : Rounds) (host : Host B) : Type 0 where
+  pub target : Target
+  pub there : slice_get old.targets.items old.last ≡ Some target
+  pub inside : old.next + count ≤ length old.waiting.items
+  pub next : new.next ≡ old.next + count
+  pub batch : new.batch.items ≡ old.batch.items ++ flat_map spelling
+      (flat_map (copied target.entry.page_size old.last (block_at host.blocks target.block.0))
+      (take count (drop old.next old.waiting.items)))
+  pub same : (new.targets ≡ old.targets) × (new.round ≡ old.round) × (new.waiting ≡ old.waiting)
+      × (new.turn ≡ old.turn) × (new.last ≡ old.last)

@@ -1,5 +1,7 @@
 //! The sending end.
 
+mod pages;
 mod rounds;
 
-pub use rounds::{Rounds, SendError, Target};
+pub use pages::{SendError, Target};
+pub use rounds::Rounds;

@@ -2,7 +2,7 @@ use Rattle.std.proofs.Common.{◌≡◌, ◌++◌, ◌∷◌, [], ℕ, List, ◌
 use Rattle.std.proofs.lemmas.Grind.{common_steps}
 use Rattle.vm_memory_base.specs.Address.{numbers}
 use Rattle.live_migration.proofs.SenderLemmas.{numbers_more}
-use Rattle.live_migration.proofs.sender.rounds.all_pages.Goals as goal
+use Rattle.live_migration.proofs.sender.pages.all_pages.Goals as goal
 
 pub loop-page-preserved : goal.loop-page-preserved
 loop-page-preserved c =

@@ -1,5 +1,5 @@
 use Rattle.live_migration.proofs.SenderLemmas.{whole_bytes}
-use Rattle.live_migration.proofs.sender.rounds.whole_block.Goals as goal
+use Rattle.live_migration.proofs.sender.pages.whole_block.Goals as goal
 
 pub returns : goal.returns
 returns g c =

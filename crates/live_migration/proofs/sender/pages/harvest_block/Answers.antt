@@ -1,5 +1,5 @@
 use Rattle.live_migration.proofs.SenderLemmas.{refused_same}
-use Rattle.live_migration.proofs.sender.rounds.harvest_block.Goals as goal
+use Rattle.live_migration.proofs.sender.pages.harvest_block.Goals as goal
 
 pub returns-clause-err : goal.returns-clause-err
 returns-clause-err g c =
