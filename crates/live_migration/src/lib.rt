@@ -8,6 +8,7 @@ pub mod laws;
 mod placing;
 mod receiver;
 mod refusal;
+mod reply;
 mod sender;
 mod stream;
 
@@ -15,4 +16,5 @@ pub use frame::{Frame, MOST_PAGE_BYTES};
 pub use header::{BlockEntry, MOST_BLOCKS, decode_header, encode_header};
 pub use receiver::{Progress, Receiver, Section, Stage};
 pub use refusal::Refusal;
-pub use sender::{Rounds, SendError, Target};
+pub use reply::Reply;
+pub use sender::{Rounds, SendError, SendStage, Sender, Target};

@@ -8,6 +8,7 @@ mod progress;
 
 use crate::frame::Frame;
 use crate::refusal::Refusal;
+pub(crate) use progress::digest_of;
 pub use progress::{Progress, Receiver, Section};
 
 /// What a receiver waits for.

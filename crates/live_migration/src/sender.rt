@@ -2,6 +2,8 @@
 
 mod pages;
 mod rounds;
+mod stream;
 
 pub use pages::{SendError, Target};
 pub use rounds::Rounds;
+pub use stream::{SendStage, Sender};

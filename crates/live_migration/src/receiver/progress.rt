@@ -48,7 +48,7 @@ pub struct Receiver {
 }
 
 // The digest of what a hasher holds.
-fn digest_of(hasher: &Sha256) -> Result<[u8; 32], AllocError>
+pub(crate) fn digest_of(hasher: &Sha256) -> Result<[u8; 32], AllocError>
     ensures { (sent : List ℕ) → Holds256 hasher.now sent → IfOk result (λ digest. digest ≡ sha256 sent) }
 {
     Ok(hasher.clone()?.finalize())
