@@ -1,5 +1,5 @@
 -- What a sender's calls do, in the words of the rounds.
-use Rattle.std.specs.Prelude.{◌≡◌, ℕ, ◌+◌, ◌<◌, ◌≤◌, List, ◌++◌, length, take, drop, flat_map, slice_get, Some}
+use Rattle.std.specs.Prelude.{◌≡◌, ℕ, ◌+◌, ◌<◌, ◌≤◌, List, [], ◌++◌, length, take, drop, flat_map, slice_get, Some}
 use Rattle.vm_memory_base.specs.Pages.{PageSet, Pages, cleaned, dirty_pages}
 use Rattle.vm_memory_base.specs.declared.bitmap.BitmapId.TheVariants.{Block}
 use Rattle.vm_memory_guest.specs.Host.{Host, block_at}
@@ -67,3 +67,7 @@ pub record CopiesPages {B : Type 0} (count : ℕ) (old new : Rounds) (host : Hos
       (take count (drop old.next old.waiting.items)))
   pub same : (new.targets ≡ old.targets) × (new.round ≡ old.round) × (new.waiting ≡ old.waiting)
       × (new.turn ≡ old.turn) × (new.last ≡ old.last)
+
+-- nothing waits to be copied or sent
+abbrev pub IsIdle : Rounds → Type 0
+IsIdle r = (length r.waiting.items ≤ r.next) × (r.batch.items ≡ [])

@@ -21,7 +21,7 @@ const SECTION: u32 = 4;
 
 const DONE: u32 = 5;
 
-const GO: u32 = 6;
+pub(crate) const GO: u32 = 6;
 
 // The greatest length of the payload of a frame of this kind, where pages have at most `longest` bytes in one frame.
 pub(crate) fn most_bytes(kind: u32, longest: u32) -> Result<u32, Refusal>
