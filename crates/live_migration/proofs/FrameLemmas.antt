@@ -1,16 +1,16 @@
 -- What is read of a payload is spelled so, and what is spelled so is read.
-use Rattle.std.proofs.Common.{◌≡◌, ℕ, ◌+◌, ◌^◌, ◌<◌, ◌≤◌, Bool, true, false, cond, ltb, eqb, List, [], ◌∷◌, ◌++◌, length, take, drop, Result, Ok, Err, refl, sym, ap, subst, ◌∙◌, append_assoc, arith}
+use Rattle.std.proofs.Common.{◌≡◌, ℕ, ◌^◌, ◌<◌, ◌≤◌, Bool, true, false, cond, ltb, eqb, List, [], ◌∷◌, ◌++◌, length, take, drop, Result, Ok, Err, refl, sym, ap, subst, ◌∙◌, arith}
 use Rattle.std.specs.Prelude.{IfOk}
 use Rattle.std.specs.Int.{w32, w64, from_le_bytes, to_le_bytes}
 use Rattle.live_migration.specs.declared.frame.Frame.{Frame}
-use Rattle.std.proofs.lemmas.Bool.{eqb-true, eqb-false, ltb-false, le-ltb}
+use Rattle.std.proofs.lemmas.Bool.{eqb-true, ltb-false, le-ltb}
 use Rattle.std.proofs.lemmas.List.{append-nil, take_at, drop_at, take-append-drop, length-append, length-take, nil_from_length}
 use Rattle.std.proofs.lemmas.Nat.{from_le_bytes-to_le_bytes_4, from_le_bytes-to_le_bytes_8}
 use Rattle.live_migration.specs.declared.refusal.Refusal.{Refusal}
 use Rattle.live_migration.specs.declared.refusal.Refusal.TheVariants.{FrameKind, FrameLength}
 use Rattle.live_migration.specs.Frame.{Message, message_of, Pages, ZeroPage, RoundEnd, Section, Done, Go, IsMessage, kind_of, payload_of}
 use Rattle.live_migration.specs.Reading.{◌>>=◌, Gives, number_at, pages_in, zero_page_in, round_end_in, section_in, empty_in, message_in}
-use Rattle.live_migration.proofs.FieldLemmas.{IsBytes, bind_ok, guard_ok, guard_true, ok_is, Takes, Takes-then, wide32, wide64, number_takes, number_again}
+use Rattle.live_migration.proofs.FieldLemmas.{IsBytes, bind_ok, guard_ok, guard_true, wide32, wide64, number_takes, number_again}
 
 -- this payload is that of this message, whose kind it is
 pub record Spells (kind : ℕ) (payload : List ℕ) (m : Message) : Type 0 where

@@ -1,6 +1,6 @@
 -- What messages leave of an image.
-use Rattle.std.proofs.Common.{◌≡◌, ℕ, zero, suc, ◌+◌, ◌-◌, ◌*◌, ◌/◌, ◌%◌, ◌<◌, ◌≤◌, ◌==◌, ◌&&◌, Bool, true, false, cond, ltb, leb, eqb, List, [], ◌∷◌, ◌++◌, map, take, drop, length, get_or, min, replicate, refl, sym, ap, subst, ◌∙◌, inl, inr, arith, eq-eqb, length-append, length-drop, zero-add, le_refl, add-mul, ◌||◌}
-use Rattle.std.proofs.lemmas.Bool.{cases_lt, cases_eq, cases_Bool, leb-false, or_parts, true≢false, cond-true, cond-false, lt-ltb, le-ltb, le-leb, lt-leb, leb-true, ltb-true, ltb-false, eqb-true, eqb-false, ne_eqb, and_parts, and_from, and_cases, and_left, and_right}
+use Rattle.std.proofs.Common.{◌≡◌, ℕ, zero, suc, ◌+◌, ◌-◌, ◌*◌, ◌/◌, ◌<◌, ◌≤◌, ◌==◌, ◌&&◌, Bool, true, false, cond, ltb, leb, eqb, List, [], ◌∷◌, ◌++◌, drop, length, get_or, min, replicate, refl, sym, ap, subst, ◌∙◌, inl, inr, arith, eq-eqb, length-drop, zero-add, le_refl, add-mul, ◌||◌}
+use Rattle.std.proofs.lemmas.Bool.{cases_lt, cases_eq, cases_Bool, leb-false, or_parts, true≢false, cond-true, cond-false, lt-ltb, le-ltb, le-leb, lt-leb, ltb-false, eqb-true, eqb-false, ne_eqb, and_from, and_cases, and_left, and_right}
 use Rattle.std.proofs.lemmas.Grind.{div_ceil_times}
 use Rattle.std.proofs.lemmas.List.{length-map, length-take, length-replicate, get_or-map, get_or-take, get_or-drop, get_or-replicate}
 use Rattle.std.proofs.lemmas.List.FromFn.{length-range_with_len, get_or-range_with_len}

@@ -1,19 +1,19 @@
 -- No page is lost: what each event keeps.
-use Rattle.std.proofs.Common.{◌≡◌, ℕ, zero, suc, ◌+◌, ◌-◌, ◌*◌, ◌/◌, ◌%◌, ◌<◌, ◌≤◌, ◌==◌, ◌&&◌, ◌||◌, ◌↔◌, ◌⊎◌, Bool, true, false, cond, ltb, leb, eqb, List, [], ◌∷◌, ◌++◌, take, drop, length, get_or, replicate, Some, Contains, refl, sym, ap, subst, ◌∙◌, inl, inr, arith, zero-add}
-use Rattle.std.proofs.lemmas.Bool.{cases_lt, cases_eq, cases_Bool, cond-true, cond-false, cond_both, lt-ltb, leb-true, leb-false, lt-leb, le-leb, ltb-true, eqb-true, eqb-false, eq-eqb, ne_eqb, and_parts, and_cases, and_left, and_right, or_parts, or_from, and_from, true≢false, false_from_ne_true, true_from_ne_false}
+use Rattle.std.proofs.Common.{◌≡◌, ℕ, ◌+◌, ◌*◌, ◌/◌, ◌<◌, ◌≤◌, ◌==◌, ◌↔◌, Bool, true, false, leb, eqb, List, [], ◌∷◌, ◌++◌, take, drop, length, get_or, replicate, Some, Contains, refl, sym, ap, subst, ◌∙◌, inl, inr, arith, zero-add}
+use Rattle.std.proofs.lemmas.Bool.{cases_lt, cases_Bool, cond-true, cond-false, cond_both, leb-false, lt-leb, le-leb, eqb-true, eqb-false, eq-eqb, and_parts, and_cases, and_left, and_right, or_parts, or_from, and_from, true≢false, false_from_ne_true}
 use Rattle.std.proofs.lemmas.Cmp.{nat_eq_equiv}
 use Rattle.std.proofs.lemmas.Grind.{div_ceil_times}
 use Rattle.std.proofs.lemmas.List.{ext_get_or, get_or-replicate, get_or_past, nil_from_length, take-append-drop, length-replicate}
 use Rattle.std.proofs.lemmas.List.Folds.{list_any-append, list_any_at}
-use Rattle.std.proofs.lemmas.Map.Views.{list_any-from_Contains, Contains-from_any}
-use Rattle.std.proofs.lemmas.Nat.{div_below, le-div, mul-le}
+use Rattle.std.proofs.lemmas.Map.Views.{list_any-from_Contains}
+use Rattle.std.proofs.lemmas.Nat.{div_below}
 use Rattle.std.specs.Int.{div_ceil}
 use Rattle.std.specs.List.{list_any, flat_map}
 use Rattle.vm_memory_base.specs.Address.{numbers}
 use Rattle.vm_memory_base.specs.Pages.{Pages, is_dirty_at, dirty_pages}
 use Rattle.live_migration.specs.Frame.{Message}
-use Rattle.live_migration.specs.Image.{arrived, carries, copied}
-use Rattle.live_migration.specs.Rounds.{Source, Ends, Event, Write, Harvest, Copy, Send, EndRound, size_of, with_at, taken, clean, may_harvest, after_harvest, after_copy, after_send, is_round_over, after_round, after, IsWritten, May, IsStill, story, AllMay, AllStill, IsBeginning, is_fresh, is_due, waits, is_batched, IsEqual, IsKept, IsThrough}
+use Rattle.live_migration.specs.Image.{arrived, copied}
+use Rattle.live_migration.specs.Rounds.{Source, Ends, Event, Write, Harvest, Copy, Send, EndRound, size_of, taken, clean, may_harvest, after_harvest, after_copy, after_send, is_round_over, after_round, after, IsWritten, May, IsStill, story, AllMay, AllStill, IsBeginning, is_fresh, is_due, waits, is_batched, IsEqual, IsKept, IsThrough}
 use Rattle.live_migration.proofs.ImageLemmas.{length-numbers, get_or-numbers, length-arrived, arrived-append, stays_arrived, pages_arrive, others_arrive}
 
 -- the dirty pages are listed

@@ -1,20 +1,17 @@
 -- What a sender copies.
-use Rattle.std.proofs.Common.{◌≡◌, ℕ, zero, suc, ◌+◌, ◌-◌, ◌<◌, ◌≤◌, List, [], ◌∷◌, ◌++◌, length, take, drop, get_or, set, Some, Result, Ok, Err, OnErr, refl, sym, ap, ◌∙◌, append_assoc, arith, add-zero, zero-add}
-use Rattle.std.proofs.lemmas.List.{append-nil, set-get_or, take_all, take_more, drop_more}
+use Rattle.std.proofs.Common.{◌≡◌, ℕ, zero, suc, ◌+◌, List, [], ◌∷◌, ◌++◌, length, set, Some, Result, Ok, Err, OnErr, refl, sym, ap, subst, ◌∙◌, arith, add-zero, zero-add}
+use Rattle.std.proofs.lemmas.List.{set-get_or, take_all}
 use Rattle.std.specs.Int.{div_ceil}
-use Rattle.std.specs.Prelude.{flat_map}
 use Rattle.std.proofs.lemmas.Bool.{cond-false, ne_eqb}
 use Rattle.std.proofs.lemmas.Option.{get_or_from_slice_get, same_Some}
-use Rattle.std.proofs.lemmas.List.Concat.{flat_map-cons}
 use Rattle.vm_memory_base.specs.Address.{numbers}
 use Rattle.vm_memory_guest.proofs.WrittenLaws.{bytes_at-block}
 use Rattle.vm_memory_base.specs.Pages.{PageSet, cleaned, dirty_pages}
 use Rattle.vm_memory_base.specs.declared.bitmap.BitmapId.TheVariants.{Block}
 use Rattle.vm_memory_guest.specs.Host.{Host, block_at, bytes_at}
 use Rattle.vm_memory_guest.specs.Window.{bitmap_of, block_window, cells_of, with_bitmap}
-use Rattle.live_migration.specs.Sending.{Harvests, IsTracked, TakesPages}
+use Rattle.live_migration.specs.Sending.{AreMarkedAgain, Harvests, IsMarkedAgain, IsTracked, TakesPages}
 use Rattle.live_migration.specs.declared.sender.pages.Target.{Target}
-use Rattle.live_migration.specs.Frame.{Message, spelling}
 
 -- all bytes of a block are a window of it
 pub whole_bytes : (blocks : List (List ℕ)) (block n : ℕ) → n ≡ length (block_at blocks block)
@@ -88,3 +85,12 @@ pub refused_same : {B X E : Type 0} (r : Result X E) (Q : Type 0) (host : Host B
 refused_same (Ok x) Q host block b after there h = tt
 refused_same (Err e) Q host block b after there h =
     ap (λ (c : _). with_bitmap host (Block block) c) h.0 ∙ with_bitmap-same host block b there
+
+-- one target more
+pub marked_more : {B : Type 0} (pages_of : B → PageSet) (ts : List Target) (t : Target) (old mid new : Host B)
+    → AreMarkedAgain pages_of ts old mid → IsMarkedAgain pages_of t mid new
+    → AreMarkedAgain pages_of (ts ++ t ∷ []) old new
+marked_more pages_of [] t old mid new are is =
+    (new, subst (λ (h : Host _). IsMarkedAgain pages_of t h new) are is, refl)
+marked_more pages_of (x ∷ xs) t old mid new are is =
+    (are.0, are.1, marked_more pages_of xs t are.0 mid new are.2 is)

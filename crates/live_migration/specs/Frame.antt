@@ -1,5 +1,5 @@
 -- What goes over the stream, and the one spelling of it. All numbers have their lowest byte first.
-use Rattle.std.specs.Prelude.{◌≡◌, ℕ, ◌+◌, ◌^◌, ◌<◌, ◌≤◌, List, [], ◌∷◌, ◌++◌, length}
+use Rattle.std.specs.Prelude.{◌≡◌, ℕ, ◌^◌, ◌<◌, ◌≤◌, List, [], ◌∷◌, ◌++◌, length}
 use Rattle.std.specs.Int.{w32, w64, to_le_bytes}
 use Rattle.live_migration.specs.declared.frame.Frame.{Frame}
 use Rattle.live_migration.specs.declared.frame.Frame.TheVariants as frame

@@ -1,6 +1,6 @@
 -- The header: a magic word, a version, and the blocks, each with its length, its page size and its place in guest
 -- memory, ascending. All numbers have their lowest byte first.
-use Rattle.std.specs.Prelude.{◌≡◌, ℕ, zero, suc, ◌+◌, ◌-◌, ◌^◌, ◌<◌, ◌≤◌, Bool, ◌&&◌, ◌==◌, if◌then◌else◌, nat_lt, nat_le, List, [], ◌∷◌, ◌++◌, length, flat_map, Result, Ok, Err}
+use Rattle.std.specs.Prelude.{◌≡◌, ℕ, zero, suc, ◌+◌, ◌-◌, ◌^◌, ◌<◌, ◌≤◌, ◌&&◌, ◌==◌, if◌then◌else◌, nat_lt, nat_le, List, [], ◌∷◌, ◌++◌, length, flat_map, Result, Ok, Err}
 use Rattle.std.specs.Int.{w32, w64, to_le_bytes}
 use Rattle.live_migration.specs.Reading.{◌>>=◌, number_at}
 use Rattle.live_migration.specs.declared.header.BlockEntry.{BlockEntry}

@@ -1,6 +1,6 @@
 -- What a sender's calls do, in the words of the rounds.
-use Rattle.std.specs.Prelude.{◌≡◌, ℕ, ◌+◌, ◌<◌, ◌≤◌, List, [], ◌++◌, length, take, drop, flat_map, slice_get, Some}
-use Rattle.vm_memory_base.specs.Pages.{PageSet, Pages, cleaned, dirty_pages}
+use Rattle.std.specs.Prelude.{◌≡◌, ℕ, ◌+◌, ◌<◌, ◌≤◌, ◌⊎◌, ◌==◌, if◌then◌else◌, List, [], ◌∷◌, ◌++◌, length, take, drop, flat_map, slice_get, Some}
+use Rattle.vm_memory_base.specs.Pages.{PageSet, Pages, cleaned, dirty_pages, marked}
 use Rattle.vm_memory_base.specs.declared.bitmap.BitmapId.TheVariants.{Block}
 use Rattle.vm_memory_guest.specs.Host.{Host, block_at}
 use Rattle.vm_memory_guest.specs.Window.{bitmap_of, with_bitmap}
@@ -71,3 +71,30 @@ pub record CopiesPages {B : Type 0} (count : ℕ) (old new : Rounds) (host : Hos
 -- nothing waits to be copied or sent
 abbrev pub IsIdle : Rounds → Type 0
 IsIdle r = (length r.waiting.items ≤ r.next) × (r.batch.items ≡ [])
+
+-- the host has a target's block, as long as at the beginning
+abbrev pub IsAsItWas : {B : Type 0} → Target → Host B → Type 0
+IsAsItWas t host = (t.block.0 < length host.blocks) × (length (block_at host.blocks t.block.0) ≡ t.entry.len)
+
+-- len bytes of a block were marked, from the first on. Nothing else changed
+pub record MarksBlock {B : Type 0} (pages_of : B → PageSet) (block len : ℕ) (old new : Host B) : Type 0 where
+  pub before : B
+  pub after : B
+  pub was : bitmap_of old (Block block) ≡ Some before
+  pub dirty : pages_of after ≡ marked 0 len (pages_of before)
+  pub is : new ≡ with_bitmap old (Block block) after
+
+-- all pages of a target are dirty again, if the host has it as it was
+abbrev pub IsMarkedAgain : {B : Type 0} → (B → PageSet) → Target → Host B → Host B → Type 0
+IsMarkedAgain pages_of t old new =
+    MarksBlock pages_of t.block.0 t.entry.len old new ⊎ ((new ≡ old) × (IsAsItWas t old → ⊥))
+
+-- and so of targets, one after the other
+abbrev pub AreMarkedAgain : {B : Type 0} → (B → PageSet) → List Target → Host B → Host B → Type 0
+AreMarkedAgain pages_of [] old new = new ≡ old
+AreMarkedAgain {B} pages_of (t ∷ ts) old new =
+    (mid : Host B) × IsMarkedAgain pages_of t old mid × AreMarkedAgain pages_of ts mid new
+
+-- the targets of which pages were harvested
+abbrev pub harvested : Rounds → List Target
+harvested r = if r.round == 0 then take r.turn r.targets.items else r.targets.items

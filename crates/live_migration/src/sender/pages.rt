@@ -1,5 +1,5 @@
 //! Pages of a block that are taken and copied.
-ghost use Rattle.std.specs.Prelude.{◌≡◌, ◌≢◌, true, ℕ, ◌+◌, ◌-◌, ◌*◌, ◌^◌, ◌<◌, ◌≤◌, List, [], ◌∷◌, ◌++◌, length, take, drop, flat_map, min, Some, IfOk, OnOk, OnErr, IfSome, ◌==◌, if◌then◌else◌};
+ghost use Rattle.std.specs.Prelude.{◌≡◌, ◌≢◌, true, false, ℕ, ◌+◌, ◌-◌, ◌*◌, ◌^◌, ◌<◌, ◌≤◌, List, [], ◌∷◌, ◌++◌, length, take, drop, flat_map, min, Some, IfOk, OnOk, OnErr, IfSome, ◌==◌, if◌then◌else◌};
 ghost use Rattle.std.specs.Int.{div_ceil};
 ghost use Rattle.vm_memory_base.specs.Address.{numbers};
 ghost use Rattle.vm_memory_guest.specs.Host as names;
@@ -7,7 +7,7 @@ ghost use Rattle.vm_memory_guest.specs.Host.{Holds, block_at, shape_of};
 ghost use Rattle.live_migration.specs.Frame.{Pages, ZeroPage, spelling};
 ghost use Rattle.std.specs.List.{list_all};
 ghost use Rattle.live_migration.specs.Image.{copied, page_bytes};
-ghost use Rattle.live_migration.specs.Sending.{Harvests, IsTracked, TakesPages};
+ghost use Rattle.live_migration.specs.Sending.{AreMarkedAgain, Harvests, IsAsItWas, IsMarkedAgain, IsTracked, MarksBlock, TakesPages};
 
 use crate::frame::{Frame, MOST_PAGE_BYTES};
 use crate::header::BlockEntry;
@@ -30,6 +30,9 @@ pub enum SendError {
     /// The host has no such block, or it has another length or page size than at the beginning.
     #[error("another block than at the beginning")]
     Changed,
+    /// A block comes twice.
+    #[error("block comes twice")]
+    Twice,
     /// The call does not come here: pages or bytes still wait, or the round has no more blocks, or has some.
     #[error("call out of order")]
     Order,
@@ -132,6 +135,7 @@ fn all_pages(alloc: Global, len: usize, page_size: usize) -> Result<Vec<usize>, 
 pub(super) fn has_target<B: ExactBitmap>(host: &HostMemory<B>, target: &Target) -> bool
     ensures held { result ≡ true → Holds (shape_of host.now) (names.Block target.now.block.0 ∷ []) }
     ensures len { result ≡ true → length (block_at host.now.blocks target.now.block.0) ≡ target.now.entry.len }
+    ensures other { result ≡ false → IsAsItWas target.now host.now → ⊥ }
 {
     match host.shape().block_len(target.block) {
         Some(len) => len as u64 == target.entry.len,
@@ -241,4 +245,55 @@ pub(super) fn copy_pages(
 // Whether a page of this size fits behind so many bytes.
 fn has_room(len: usize, page_size: usize) -> bool {
     len == 0 || len.saturating_add(page_size) <= MOST_PAGE_BYTES
+}
+
+// Makes all pages of a block dirty, if the host has it as it was at the beginning.
+fn mark_again<B: ExactBitmap>(host: &mut HostMemory<B>, target: &Target)
+    ensures { IsMarkedAgain B.pages target.now host.old host.new }
+{
+    if has_target(host, target) {
+        let len = host.block_len(target.block);
+        mark_block(host, target.block, len);
+    }
+}
+
+fn mark_block<B: ExactBitmap>(host: &mut HostMemory<B>, block: BlockId, len: usize)
+    requires { Holds (shape_of host.old) (names.Block block.0 ∷ []) }
+    ensures { MarksBlock B.pages block.0 len host.old host.new }
+{
+    host.bitmap_mut(BitmapId::Block(block.0)).mark_dirty(0, len);
+}
+
+// A block as the header says it, with the page size of its bitmap.
+pub(super) fn target_of<B: ExactBitmap>(
+    host: &HostMemory<B>,
+    block: BlockId,
+    address: u64,
+) -> Result<Target, SendError>
+    ensures block { IfOk result (λ t. (t.block ≡ block) × (t.entry.address ≡ address)) }
+    ensures there { IfOk result (λ t. IsAsItWas t host.now) }
+{
+    let Some(len) = host.shape().block_len(block) else {
+        return Err(SendError::Changed);
+    };
+    let Some((page_size, _)) = host.bitmap(BitmapId::Block(block.0)).shape() else {
+        return Err(SendError::Untracked);
+    };
+    Ok(Target {
+        block,
+        entry: BlockEntry {
+            len: len as u64,
+            page_size: page_size as u64,
+            address,
+        },
+    })
+}
+
+// Makes all pages of blocks dirty, one block after the other.
+pub(super) fn mark_targets<B: ExactBitmap>(host: &mut HostMemory<B>, targets: &[Target])
+    ensures { AreMarkedAgain B.pages targets.now host.old host.new }
+{
+    for target in targets {
+        mark_again(host, target);
+    }
 }

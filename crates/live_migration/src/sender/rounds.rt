@@ -1,7 +1,9 @@
 //! The rounds of a sender: which pages wait to be copied, and what was copied and waits to be sent.
 ghost use Rattle.std.specs.Prelude.{◌≡◌, ◌+◌, ◌<◌, ◌≤◌, length, IfOk, OnOk, OnErr};
 
-use super::pages::{SendError, Target, copy_pages, has_target, take_pages, whole_block};
+use super::pages::{
+    SendError, Target, copy_pages, has_target, mark_targets, take_pages, whole_block,
+};
 use crate::frame::MOST_PAGE_BYTES;
 use std::alloc::Global;
 use vm_memory_base::ExactBitmap;
@@ -21,7 +23,7 @@ pub struct Rounds {
 }
 
 impl Rounds {
-    ghost use Rattle.live_migration.specs.Sending.{CopiesPages, HarvestsNext};
+    ghost use Rattle.live_migration.specs.Sending.{AreMarkedAgain, CopiesPages, HarvestsNext, harvested};
 
     /// Takes the pages of the next block of the round, so that they wait to be copied and none of the block is dirty,
     /// and answers how many. In the first round these are all pages of the block, whoever harvested before.
@@ -92,5 +94,18 @@ impl Rounds {
         }
         self.next += count;
         Ok(count)
+    }
+
+    /// Makes each page dirty again of the blocks of which pages were harvested: in the first round all pages of a block
+    /// are, so that none of it is known to be accepted. A block that the host has no more as it was is left.
+    pub fn mark_again<B: ExactBitmap>(&self, host: &mut HostMemory<B>)
+        ensures { AreMarkedAgain B.pages (harvested self.now) host.old host.new }
+    {
+        let count = if self.round == 0 {
+            self.turn.min(self.targets.len())
+        } else {
+            self.targets.len()
+        };
+        mark_targets(host, &self.targets.as_slice()[..count]);
     }
 }

@@ -1,21 +1,24 @@
 //! A sender with its stream: what was copied is sent, rounds end, and the guest is given up.
-ghost use Rattle.std.specs.Prelude.{◌≡◌, ◌≢◌, ℕ, ◌+◌, ◌^◌, ◌<◌, ◌≤◌, List, [], ◌++◌, length, IfOk, IsOk, OnOk, OnErr, IsErr, IsTrue, ◌↔◌, ◌⊎◌};
+ghost use Rattle.std.specs.Prelude.{◌≡◌, ◌≢◌, true, ℕ, ◌+◌, ◌-◌, ◌^◌, ◌<◌, ◌≤◌, List, [], ◌++◌, length, map, IfOk, IsOk, OnOk, OnErr, IsErr, IsTrue, ◌↔◌, ◌⊎◌};
 ghost use Rattle.std.specs.Io.KnownBytes.{Appends, Keeps};
 ghost use Rattle.sha2.specs.Hashers.{Holds256};
 ghost use Rattle.sha2.specs.Sha256.{sha256};
 ghost use Rattle.live_migration.specs.Frame.{Done, Go, IsMessage, RoundEnd, message_of, spelling};
-ghost use Rattle.live_migration.specs.Leave.{Sends};
+ghost use Rattle.live_migration.specs.Header.{IsHeader, header_bytes};
+ghost use Rattle.live_migration.specs.Leave.{Sends, IsFirst, BeginsToSend};
 
-use super::pages::SendError;
+use super::pages::{SendError, Target, target_of};
 use super::rounds::Rounds;
 use crate::frame::{Frame, GO, head_bytes};
+use crate::header::{BlockEntry, MOST_BLOCKS, decode_header, encode_header};
 use crate::receiver::digest_of;
+use crate::refusal::Refusal;
 use crate::reply::Reply;
 use sha2::{Digest, Sha256};
-use std::alloc::Global;
+use std::alloc::{AllocError, Global};
 use std::io::{Read, Write};
-use vm_memory_base::ExactBitmap;
-use vm_memory_guest::HostMemory;
+use vm_memory_base::{ExactBitmap, GuestAddress};
+use vm_memory_guest::{BlockId, HostMemory};
 
 /// How far a sender has come.
 #[derive(Clone, Copy, Debug, PartialEq, Eq)]
@@ -102,6 +105,98 @@ fn send_round_end<W: Write>(
     send_frame(alloc, writer, hasher, &frame)
 }
 
+// Blocks of a host as a header says them, each once.
+fn targets_of<B: ExactBitmap>(
+    alloc: Global,
+    host: &HostMemory<B>,
+    blocks: &[(BlockId, GuestAddress)],
+) -> Result<Vec<Target>, SendError> {
+    let mut targets: Vec<Target> = Vec::new(alloc);
+    for (block, address) in blocks {
+        let target = target_of(host, *block, address.0)?;
+        if targets.iter().any(|t| t.block.0 == block.0) {
+            return Err(SendError::Twice);
+        }
+        if targets.push(target).is_err() {
+            return Err(SendError::Memory);
+        }
+    }
+    Ok(targets)
+}
+
+// The header of blocks, which a receiver accepts.
+fn header_of(alloc: Global, targets: &[Target]) -> Result<Vec<u8>, SendError>
+    ensures { IfOk result (λ v. IsHeader (2 ^ 64 - 1) (map (λ t. t.entry) targets.now)
+        × (v.items ≡ header_bytes (map (λ t. t.entry) targets.now))) }
+{
+    let Ok(entries) = entries_of(alloc, targets) else {
+        return Err(SendError::Memory);
+    };
+    if entries.len() > MOST_BLOCKS as usize {
+        return Err(SendError::Header(Refusal::BlockCount));
+    }
+    let Ok(header) = encode_header(alloc, entries.as_slice()) else {
+        return Err(SendError::Memory);
+    };
+    match decode_header(alloc, u64::MAX, header.as_slice()) {
+        Ok(read) => {
+            // What is read is what was written: the comparison makes it known.
+            if are_equal(read.as_slice(), entries.as_slice()) {
+                Ok(header)
+            } else {
+                Err(SendError::Header(Refusal::FrameLength))
+            }
+        }
+        Err(refusal) => Err(SendError::Header(refusal)),
+    }
+}
+
+fn are_equal(read: &[BlockEntry], entries: &[BlockEntry]) -> bool
+    ensures { result ≡ true → read.now ≡ entries.now }
+{
+    if read.len() != entries.len() {
+        return false;
+    }
+    for (i, entry) in read.iter().enumerate() {
+        if !is_entry(entry, &entries[i]) {
+            return false;
+        }
+    }
+    true
+}
+
+fn is_entry(a: &BlockEntry, b: &BlockEntry) -> bool
+    ensures { result ≡ true → a.now ≡ b.now }
+{
+    a.len == b.len && a.page_size == b.page_size && a.address == b.address
+}
+
+fn entries_of(alloc: Global, targets: &[Target]) -> Result<Vec<BlockEntry>, AllocError>
+    ensures { IfOk result (λ v. v.items ≡ map (λ t. t.entry) targets.now) }
+{
+    targets.iter().map(|t| t.entry).collect(alloc)
+}
+
+fn first_sender(alloc: Global, targets: Vec<Target>, hasher: Sha256) -> Sender
+    ensures targets { result.rounds.targets.items ≡ targets.items }
+    ensures hasher { result.hasher ≡ hasher }
+    ensures first { IsFirst result }
+{
+    Sender {
+        rounds: Rounds {
+            targets,
+            round: 0,
+            turn: 0,
+            last: 0,
+            waiting: Vec::new(alloc),
+            next: 0,
+            batch: Vec::new(alloc),
+        },
+        hasher,
+        stage: SendStage::Sending,
+    }
+}
+
 impl Rounds {
     ghost use Rattle.live_migration.specs.Sending.{IsIdle};
 
@@ -114,8 +209,34 @@ impl Rounds {
 }
 
 impl Sender {
-    ghost use Rattle.live_migration.specs.Sending.{HarvestsNext, CopiesPages, IsIdle};
+    ghost use Rattle.live_migration.specs.Sending.{AreMarkedAgain, HarvestsNext, CopiesPages, IsIdle, harvested};
     ghost use Rattle.live_migration.specs.declared.sender.stream.SendStage.TheVariants as stage;
+
+    /// Writes the header of these blocks of a host, each with its address, and begins with the first round. The blocks
+    /// ascend by their addresses and do not meet, each is tracked by a bitmap whose pages have at most 2^20 bytes, and
+    /// none comes twice: else `Header`, `Untracked` or `Twice`, and `Changed` where the host has no such block.
+    pub fn begin<B: ExactBitmap, W: Write>(
+        alloc: Global,
+        host: &HostMemory<B>,
+        blocks: &[(BlockId, GuestAddress)],
+        writer: &mut W,
+    ) -> Result<Sender, SendError>
+        ensures { IfOk result (λ s. BeginsToSend (W.contents writer.old) (W.contents writer.new) s) }
+    {
+        let targets = targets_of(alloc, host, blocks)?;
+        let header = header_of(alloc, targets.as_slice())?;
+        let mut hasher = Sha256::new();
+        send(writer, &mut hasher, header.as_slice())?;
+        Ok(first_sender(alloc, targets, hasher))
+    }
+
+    /// Ends a migration before the guest was given up: marks each page again that was harvested, so that another may
+    /// begin anew.
+    pub fn abort<B: ExactBitmap>(self, host: &mut HostMemory<B>)
+        ensures { AreMarkedAgain B.pages (harvested self.rounds) host.old host.new }
+    {
+        self.rounds.mark_again(host);
+    }
 
     /// As `Rounds::harvest`.
     pub fn harvest<B: ExactBitmap>(

@@ -1,7 +1,6 @@
-use Rattle.std.proofs.Common.{◌≡◌, ◌++◌, ◌∙◌, ap, length, List, ℕ, arith, refl}
+use Rattle.std.proofs.Common.{◌≡◌, ◌++◌, ◌∙◌, ap, length, List, ℕ, arith}
 use Rattle.std.proofs.lemmas.Grind.{common_steps}
 use Rattle.std.specs.Int.{w32, w64, to_le_bytes}
-use Rattle.live_migration.specs.Header.{entry_bytes}
 use Rattle.live_migration.proofs.HeaderLemmas.{entry_behind}
 use Rattle.live_migration.proofs.header.encode_header.Goals as goal
 

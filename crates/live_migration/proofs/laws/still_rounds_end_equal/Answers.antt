@@ -1,4 +1,4 @@
-use Rattle.std.proofs.Common.{ℕ, ◌<◌, ◌∙◌, subst, arith}
+use Rattle.std.proofs.Common.{ℕ, ◌<◌, subst, arith}
 use Rattle.live_migration.proofs.RoundsLemmas.{all_still_may, beginning_follows, still_story_clears, story_count, story_follows, through_equal}
 use Rattle.live_migration.specs.Rounds.{story}
 use Rattle.live_migration.proofs.laws.still_rounds_end_equal.Goals as goal

@@ -1,6 +1,5 @@
-use Rattle.std.proofs.Common.{◌≡◌, ◌-◌, ◌*◌, ◌+◌, ℕ, ap, min, replicate, refl, sym, subst}
-use Rattle.live_migration.specs.Frame.{Message, ZeroPage}
-use Rattle.live_migration.specs.Placing.{Applies, HasPlaced}
+use Rattle.std.proofs.Common.{◌-◌, ◌*◌, ◌+◌, ℕ, ap, min, replicate, sym, subst}
+use Rattle.live_migration.specs.Placing.{HasPlaced}
 use Rattle.live_migration.proofs.PlacingLemmas.{zeros_apply}
 use Rattle.live_migration.proofs.placing.apply.Goals as goal
 

@@ -1,6 +1,5 @@
 use Rattle.std.proofs.Common.{◌≡◌, ◌++◌, ◌∷◌, [], ℕ, List, ◌∙◌, ap, sym, arith}
 use Rattle.std.proofs.lemmas.Grind.{common_steps}
-use Rattle.vm_memory_base.specs.Address.{numbers}
 use Rattle.live_migration.proofs.SenderLemmas.{numbers_more}
 use Rattle.live_migration.proofs.sender.pages.all_pages.Goals as goal
 

@@ -2,7 +2,7 @@ use Rattle.std.proofs.Common.{◌≡◌, ◌++◌, ◌∙◌, List, ℕ, Ok, ap,
 use Rattle.std.specs.Io.KnownBytes.{Consumes}
 use Rattle.sha2.specs.Hashers.{Holds256}
 use Rattle.sha2.specs.declared.Sha256.{Sha256}
-use Rattle.live_migration.specs.Frame.{message_of, payload_of, spelling}
+use Rattle.live_migration.specs.Frame.{message_of, payload_of}
 use Rattle.live_migration.specs.declared.receiver.progress.Progress.{Progress}
 use Rattle.live_migration.proofs.StreamLemmas.{spelled}
 use Rattle.live_migration.proofs.receiver.progress.Receiver.take_next.Goals as goal
