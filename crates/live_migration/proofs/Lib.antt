@@ -5,6 +5,7 @@ pub mod HeaderLoop
 pub mod ImageLemmas
 pub mod PlacingLemmas
 pub mod PutLemmas
+pub mod ReceivingLemmas
 pub mod RoundsLemmas
 pub mod SenderLemmas
 pub mod StreamLemmas

@@ -1,15 +1,18 @@
 -- What a receiver took from its stream.
-use Rattle.std.specs.Prelude.{◌≡◌, ℕ, ◌+◌, ◌<◌, List, ◌++◌, length, map, replicate, Option, Ok}
+use Rattle.std.specs.Prelude.{◌≡◌, ℕ, ◌+◌, ◌<◌, ◌≤◌, ◌⊎◌, List, ◌++◌, length, map, flat_map, replicate, slice_get, Option, Some, Ok}
+use Rattle.std.specs.List.{AllByRecursion}
 use Rattle.std.specs.Io.KnownBytes.{Consumes}
 use Rattle.sha2.specs.Hashers.{Holds256}
 use Rattle.sha2.specs.Sha256.{sha256}
-use Rattle.vm_memory_guest.specs.Host.{Host}
+use Rattle.vm_memory_guest.specs.Host.{Host, block_at, shape_of}
 use Rattle.live_migration.specs.Frame.{Message, RoundEnd, IsMessage, spelling}
 use Rattle.live_migration.specs.Header.{IsHeader, header_bytes}
+use Rattle.live_migration.specs.Image.{arrived}
 use Rattle.live_migration.specs.Placing.{Applies}
 use Rattle.live_migration.specs.Stages.{stage_after}
 use Rattle.live_migration.specs.declared.header.BlockEntry.{BlockEntry}
 use Rattle.live_migration.specs.declared.receiver.Stage.TheVariants as stage
+use Rattle.live_migration.specs.declared.receiver.end.Guest.{Guest}
 use Rattle.live_migration.specs.declared.receiver.progress.Progress.{Progress}
 
 -- the end of a round has the round's number and the digest of all that was sent before it
@@ -62,3 +65,22 @@ pub record Begins {B : Type 0} (limit : ℕ) (before after : Option (List ℕ)) 
     pub stage : new.stage ≡ stage.Round
     pub round : new.round ≡ 0
     pub hashed : Holds256 new.hasher (header_bytes new.entries.items)
+
+-- Messages came, one after the other: each block is the image that they leave, no other block changed, and no block its
+-- length
+pub record ReceivesAll {B : Type 0} (before after : Option (List ℕ)) (base : ℕ) (entries : List BlockEntry)
+    (host next : Host B) : Type 0 where
+  pub messages : List Message
+  pub fit : AllByRecursion IsMessage messages
+  pub consumed : Consumes before after (flat_map spelling messages)
+  pub images : (j : ℕ) (e : BlockEntry) → slice_get entries j ≡ Some e
+      → block_at next.blocks (base + j) ≡ arrived e.page_size j messages (block_at host.blocks (base + j))
+  pub others : (c : ℕ) → (c < base) ⊎ (base + length entries ≤ c) → block_at next.blocks c ≡ block_at host.blocks c
+  pub shape : shape_of next ≡ shape_of host
+
+-- what a receiver gives out
+pub record GivesOut (old : Progress) (new : Guest) : Type 0 where
+  pub stage : old.stage ≡ stage.Gone
+  pub base : new.base ≡ old.base
+  pub entries : new.entries ≡ old.entries
+  pub sections : new.sections ≡ old.sections

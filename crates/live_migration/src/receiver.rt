@@ -4,10 +4,12 @@ ghost use Rattle.live_migration.specs.Frame.{message_of};
 ghost use Rattle.live_migration.specs.Stages.{stage_after};
 
 mod begin;
+mod end;
 mod progress;
 
 use crate::frame::Frame;
 use crate::refusal::Refusal;
+pub use end::Guest;
 pub(crate) use progress::digest_of;
 pub use progress::{Progress, Receiver, Section};
 
