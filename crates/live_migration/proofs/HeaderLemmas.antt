@@ -244,3 +244,9 @@ entry_behind front out new es i d l e f =
     f ∙ ap (λ (x : List ℕ). x ++ entry_bytes (get_or es i d)) e
     ∙ flat_map_more entry_bytes front (take i es) (get_or es i d)
     ∙ ap (λ (x : List BlockEntry). front ++ flat_map entry_bytes x) (sym (take_more es i d l))
+
+abbrev read : List BlockEntry → Result (List BlockEntry) Refusal
+read es = Ok es
+
+pub same_entries : (es fs : List BlockEntry) → read es ≡ read fs → es ≡ fs
+same_entries es fs e = cc

@@ -3,6 +3,7 @@ pub mod FrameLemmas
 pub mod HeaderLemmas
 pub mod HeaderLoop
 pub mod ImageLemmas
+pub mod OneWayLemmas
 pub mod PlacingLemmas
 pub mod PutLemmas
 pub mod ReceivingLemmas

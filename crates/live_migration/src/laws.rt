@@ -1,5 +1,11 @@
 //! What becomes of the pages of a migration: each function here is a theorem, and does nothing.
-ghost use Rattle.std.specs.Prelude.{◌≡◌, ◌<◌, ℕ, List};
+ghost use Rattle.std.specs.Prelude.{◌≡◌, ◌<◌, ℕ, List, length, flat_map};
+ghost use Rattle.std.specs.List.{AllByRecursion};
+ghost use Rattle.live_migration.specs.Frame.{IsMessage, Message, spelling};
+ghost use Rattle.live_migration.specs.Header.{IsHeader, header_bytes};
+ghost use Rattle.live_migration.specs.Image.{arrived, copied};
+ghost use Rattle.live_migration.specs.declared.header.BlockEntry.{BlockEntry};
+ghost use Rattle.vm_memory.specs.Rounds.{patched};
 ghost use Rattle.live_migration.specs.Rounds.{Ends, Event, AllMay, AllStill, IsBeginning, IsKept, IsThrough, story};
 
 use vm_memory_base::laws::pages::dirty_pages_are_listed;
@@ -24,3 +30,18 @@ pub fn still_rounds_end_equal()
 {
     dirty_pages_are_listed();
 }
+
+/// A stream means one thing: the frames of a stream are decided by its bytes, and so are the blocks of a header.
+pub fn streams_mean_one_thing()
+    ensures frames { (ms ns : List Message) → AllByRecursion IsMessage ms → AllByRecursion IsMessage ns
+        → flat_map spelling ms ≡ flat_map spelling ns → ms ≡ ns }
+    ensures header { (limit : ℕ) (es fs : List BlockEntry) → IsHeader limit es → IsHeader limit fs
+        → header_bytes es ≡ header_bytes fs → es ≡ fs }
+{}
+
+/// What is sent of pages of a block leaves its image patched with these pages, as `Machine::sync` patches one: a page
+/// of zeros, and the last one, which may be cut, too.
+pub fn copied_pages_patch_an_image()
+    ensures { (size block : ℕ) (bytes pages image : List ℕ) → 0 < size → length image ≡ length bytes
+        → arrived size block (flat_map (copied size block bytes) pages) image ≡ patched size pages bytes image }
+{}
