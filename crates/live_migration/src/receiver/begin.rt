@@ -61,6 +61,26 @@ fn total(entries: &[BlockEntry]) -> u64 {
     sum
 }
 
+// The greatest page size.
+fn largest_page(entries: &[BlockEntry]) -> usize {
+    let mut largest: u64 = 0;
+    for entry in entries {
+        largest = largest.max(entry.page_size);
+    }
+    largest as usize
+}
+
+// The greatest number of bytes of pages in one frame.
+fn longest_frame(entries: &[BlockEntry]) -> u32
+    ensures { result ≤ 2 ^ 20 }
+{
+    let mut longest: u64 = 0;
+    for entry in entries {
+        longest = longest.max(entry.len);
+    }
+    longest.min(MOST_PAGE_BYTES as u64) as u32
+}
+
 // Some zeros.
 fn zeros_of(alloc: Global, count: usize) -> Result<Vec<u8>, AllocError>
     ensures { IfOk result (λ zeros. zeros.items ≡ replicate (length zeros.items) 0) }
@@ -81,9 +101,10 @@ fn first_progress(
     let mut hasher = Sha256::new();
     hasher.update(header);
     let left = limit.saturating_sub(total(entries.as_slice()));
-    let Ok(zeros) = zeros_of(alloc, MOST_PAGE_BYTES) else {
+    let Ok(zeros) = zeros_of(alloc, largest_page(entries.as_slice())) else {
         return Err(Refusal::Memory);
     };
+    let longest = longest_frame(entries.as_slice());
     Ok(Progress {
         base: 0,
         entries,
@@ -91,7 +112,7 @@ fn first_progress(
         round: 0,
         hasher,
         left,
-        longest: MOST_PAGE_BYTES as u32,
+        longest,
         zeros,
         sections: Vec::new(alloc),
     })

@@ -33,6 +33,9 @@ pub enum SendError {
     /// A block comes twice.
     #[error("block comes twice")]
     Twice,
+    /// The name or the state of a section is too long.
+    #[error("section is too long")]
+    Section,
     /// The call does not come here: pages or bytes still wait, or the round has no more blocks, or has some.
     #[error("call out of order")]
     Order,

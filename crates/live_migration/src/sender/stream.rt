@@ -3,13 +3,14 @@ ghost use Rattle.std.specs.Prelude.{◌≡◌, ◌≢◌, true, ℕ, ◌+◌, �
 ghost use Rattle.std.specs.Io.KnownBytes.{Appends, Keeps};
 ghost use Rattle.sha2.specs.Hashers.{Holds256};
 ghost use Rattle.sha2.specs.Sha256.{sha256};
-ghost use Rattle.live_migration.specs.Frame.{Done, Go, IsMessage, RoundEnd, message_of, spelling};
+ghost use Rattle.live_migration.specs.Frame.{Done, Go, IsMessage, RoundEnd, Section, message_of, spelling};
 ghost use Rattle.live_migration.specs.Header.{IsHeader, header_bytes};
+ghost use Rattle.live_migration.specs.declared.sender.stream.SendStage.TheVariants as stages;
 ghost use Rattle.live_migration.specs.Leave.{Sends, IsFirst, BeginsToSend};
 
 use super::pages::{SendError, Target, target_of};
 use super::rounds::Rounds;
-use crate::frame::{Frame, GO, head_bytes};
+use crate::frame::{Frame, GO, MOST_PAGE_BYTES, head_bytes};
 use crate::header::{BlockEntry, MOST_BLOCKS, decode_header, encode_header};
 use crate::receiver::digest_of;
 use crate::refusal::Refusal;
@@ -23,8 +24,10 @@ use vm_memory_guest::{BlockId, HostMemory};
 /// How far a sender has come.
 #[derive(Clone, Copy, Debug, PartialEq, Eq)]
 pub enum SendStage {
-    /// Rounds are sent.
+    /// A round is sent.
     Sending,
+    /// A round has ended, and nothing was sent since.
+    RoundEnded,
     /// All was sent, and the reply is awaited.
     Done,
     /// The receiver has it all. The guest is given up with `go`, or kept by ending the connection.
@@ -41,6 +44,13 @@ pub struct Sender {
     pub(crate) rounds: Rounds,
     pub(crate) hasher: Sha256,
     pub(crate) stage: SendStage,
+}
+
+// Whether rounds are sent.
+fn in_rounds(stage: SendStage) -> bool
+    ensures { IsTrue result ↔ ((stage ≡ stages.Sending) ⊎ (stage ≡ stages.RoundEnded)) }
+{
+    matches!(&stage, SendStage::Sending | SendStage::RoundEnded)
 }
 
 // Writes bytes, and notes them for the digest.
@@ -210,7 +220,6 @@ impl Rounds {
 
 impl Sender {
     ghost use Rattle.live_migration.specs.Sending.{AreMarkedAgain, HarvestsNext, CopiesPages, IsIdle, harvested};
-    ghost use Rattle.live_migration.specs.declared.sender.stream.SendStage.TheVariants as stage;
 
     /// Writes the header of these blocks of a host, each with its address, and begins with the first round. The blocks
     /// ascend by their addresses and do not meet, each is tracked by a bitmap whose pages have at most 2^20 bytes, and
@@ -265,19 +274,53 @@ impl Sender {
     pub fn send_batch<W: Write>(&mut self, writer: &mut W) -> Result<(), SendError>
         ensures sent { OnOk result (Sends self.old.rounds.batch.items (W.contents writer.old) (W.contents writer.new)
             self.old.hasher self.new.hasher) }
-        ensures ok { OnOk result ((self.new.rounds.batch.items ≡ []) × (self.new.stage ≡ self.old.stage)) }
+        ensures ok { OnOk result (self.new.rounds.batch.items ≡ []) }
         ensures err { OnErr result (self.new.rounds.batch ≡ self.old.rounds.batch) }
         ensures same { (self.new.rounds.targets ≡ self.old.rounds.targets) × (self.new.rounds.round ≡ self.old.rounds.round)
             × (self.new.rounds.waiting ≡ self.old.rounds.waiting) × (self.new.rounds.next ≡ self.old.rounds.next)
             × (self.new.rounds.turn ≡ self.old.rounds.turn) × (self.new.rounds.last ≡ self.old.rounds.last) }
     {
-        if self.stage != SendStage::Sending {
+        if !in_rounds(self.stage) {
             return Err(SendError::Order);
         }
         let sent = send(writer, &mut self.hasher, self.rounds.batch.as_slice());
         match sent {
             Ok(()) => {
                 self.rounds.batch.clear();
+                self.stage = SendStage::Sending;
+                Ok(())
+            }
+            Err(error) => {
+                self.stage = SendStage::Failed;
+                Err(error)
+            }
+        }
+    }
+
+    /// Sends the state of a device or a queue, in a round: its name has at most 255 bytes, and the state at most 2^20,
+    /// else `Section`. `Order` after the rounds, and `Memory` where an allocation fails.
+    pub fn send_section<W: Write>(
+        &mut self,
+        alloc: Global,
+        writer: &mut W,
+        name: &[u8],
+        bytes: &[u8],
+    ) -> Result<(), SendError>
+        ensures sent { OnOk result (Sends (spelling (Section name.now bytes.now)) (W.contents writer.old)
+            (W.contents writer.new) self.old.hasher self.new.hasher) }
+        ensures fits { OnOk result ((length name.now < 256) × (length bytes.now ≤ 2 ^ 20)) }
+        ensures same { self.new.rounds ≡ self.old.rounds }
+    {
+        if name.len() > 255 || bytes.len() > MOST_PAGE_BYTES {
+            return Err(SendError::Section);
+        }
+        if !in_rounds(self.stage) {
+            return Err(SendError::Order);
+        }
+        let frame = Frame::Section { name, bytes };
+        match send_frame(alloc, writer, &mut self.hasher, &frame) {
+            Ok(()) => {
+                self.stage = SendStage::Sending;
                 Ok(())
             }
             Err(error) => {
@@ -300,7 +343,7 @@ impl Sender {
             × (self.new.rounds.waiting ≡ self.old.rounds.waiting) × (self.new.rounds.next ≡ self.old.rounds.next)
             × (self.new.rounds.batch ≡ self.old.rounds.batch) × (self.new.rounds.last ≡ self.old.rounds.last) }
     {
-        if self.stage != SendStage::Sending
+        if !in_rounds(self.stage)
             || !self.rounds.is_idle()
             || self.rounds.turn != self.rounds.targets.len()
         {
@@ -313,6 +356,7 @@ impl Sender {
             Ok(()) => {
                 self.rounds.round = next;
                 self.rounds.turn = 0;
+                self.stage = SendStage::RoundEnded;
                 Ok(())
             }
             Err(error) => {
@@ -322,15 +366,15 @@ impl Sender {
         }
     }
 
-    /// Says that all was sent, after the end of a round: else `Order`.
+    /// Says that all was sent, right after the end of a round: else `Order`.
     pub fn done<W: Write>(&mut self, alloc: Global, writer: &mut W) -> Result<(), SendError>
         ensures sent { OnOk result (Sends (spelling Done) (W.contents writer.old) (W.contents writer.new)
             self.old.hasher self.new.hasher) }
-        ensures ok { OnOk result ((self.new.stage ≡ stage.Done) × (self.old.stage ≡ stage.Sending)
-            × (self.old.rounds.turn ≡ 0) × (0 < self.old.rounds.round)) }
+        ensures ok { OnOk result ((self.new.stage ≡ stages.Done) × (self.old.stage ≡ stages.RoundEnded)
+            × (self.old.rounds.turn ≡ 0)) }
         ensures same { self.new.rounds ≡ self.old.rounds }
     {
-        if self.stage != SendStage::Sending || self.rounds.turn != 0 || self.rounds.round == 0 {
+        if self.stage != SendStage::RoundEnded || self.rounds.turn != 0 {
             return Err(SendError::Order);
         }
         match send_frame(alloc, writer, &mut self.hasher, &Frame::Done) {
@@ -347,8 +391,8 @@ impl Sender {
 
     /// Waits for the receiver's word that it has all.
     pub fn accepted<R: Read>(&mut self, reader: &mut R) -> Result<(), SendError>
-        ensures ok { OnOk result ((self.new.stage ≡ stage.Accepted) × (self.old.stage ≡ stage.Done)) }
-        ensures err { OnErr result ((self.new.stage ≡ stage.Failed) ⊎ (self.new.stage ≡ self.old.stage)) }
+        ensures ok { OnOk result ((self.new.stage ≡ stages.Accepted) × (self.old.stage ≡ stages.Done)) }
+        ensures err { OnErr result ((self.new.stage ≡ stages.Failed) ⊎ (self.new.stage ≡ self.old.stage)) }
         ensures same { self.new.rounds ≡ self.old.rounds }
     {
         if self.stage != SendStage::Done {
@@ -370,9 +414,9 @@ impl Sender {
     #[tactic(auto, unfolding(crate::specs::Frame::spelling))]
     pub fn go<W: Write>(&mut self, writer: &mut W) -> Result<(), SendError>
         ensures sent { OnOk result (Appends (W.contents writer.old) (W.contents writer.new) (spelling Go)) }
-        ensures early { self.old.stage ≢ stage.Accepted
+        ensures early { self.old.stage ≢ stages.Accepted
             → IsErr result × (writer.new ≡ writer.old) × (self.new ≡ self.old) }
-        ensures gone { self.old.stage ≡ stage.Accepted → self.new.stage ≡ stage.Gone }
+        ensures gone { self.old.stage ≡ stages.Accepted → self.new.stage ≡ stages.Gone }
     {
         if self.stage != SendStage::Accepted {
             return Err(SendError::Order);
