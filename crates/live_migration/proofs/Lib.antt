@@ -1,4 +1,5 @@
 pub mod FieldLemmas
+pub mod FollowingLemmas
 pub mod FrameLemmas
 pub mod HeaderLemmas
 pub mod HeaderLoop

@@ -61,7 +61,7 @@ same_frame m n x y fm fn e =
     ap (λ (k : ℕ). message_in k (payload_of m)) kind.0 ∙ ap (message_in (kind_of n)) payload in
     (ok_is m n (sym (message_again m fm) ∙ read ∙ message_again n fn), rest)
 
-some_bytes : (m : Message) (x : List ℕ) → [] ≡ spelling m ++ x → ⊥
+pub some_bytes : (m : Message) (x : List ℕ) → [] ≡ spelling m ++ x → ⊥
 some_bytes m x e = omega (arith, ap length (e ∙ in_parts m x))
 
 pub same_stream : (ms ns : List Message) → AllByRecursion IsMessage ms → AllByRecursion IsMessage ns

@@ -1,3 +1,4 @@
+pub mod Following
 pub mod Frame
 pub mod Header
 pub mod Image

@@ -1,13 +1,18 @@
 //! What becomes of the pages of a migration: each function here is a theorem, and does nothing.
-ghost use Rattle.std.specs.Prelude.{◌≡◌, ◌<◌, ℕ, List, length, flat_map};
+ghost use Rattle.std.specs.Prelude.{◌≡◌, ◌+◌, ◌<◌, ℕ, List, [], length, flat_map};
 ghost use Rattle.std.specs.List.{AllByRecursion};
 ghost use Rattle.live_migration.specs.Frame.{IsMessage, Message, spelling};
 ghost use Rattle.live_migration.specs.Header.{IsHeader, header_bytes};
 ghost use Rattle.live_migration.specs.Image.{arrived, copied};
 ghost use Rattle.live_migration.specs.declared.header.BlockEntry.{BlockEntry};
+ghost use Rattle.live_migration.specs.Following.{Follows, KeepsRounds};
+ghost use Rattle.live_migration.specs.Sending.{CopiesPages, HarvestsNext, IsIdle};
+ghost use Rattle.live_migration.specs.declared.sender.rounds.Rounds.{Rounds};
+ghost use Rattle.vm_memory_guest.specs.Host.{Host};
 ghost use Rattle.vm_memory.specs.Rounds.{patched};
-ghost use Rattle.live_migration.specs.Rounds.{Ends, Event, AllMay, AllStill, IsBeginning, IsKept, IsThrough, story};
+ghost use Rattle.live_migration.specs.Rounds.{Ends, Event, Harvest, Copy, Send, EndRound, after, AllMay, AllStill, IsBeginning, IsKept, IsThrough, story};
 
+use vm_memory_base::ExactBitmap;
 use vm_memory_base::laws::pages::dirty_pages_are_listed;
 
 /// After any harvests, copies, sends, round ends and writes that mark what they change, in any order, no page of a
@@ -44,4 +49,19 @@ pub fn streams_mean_one_thing()
 pub fn copied_pages_patch_an_image()
     ensures { (size block : ℕ) (bytes pages image : List ℕ) → 0 < size → length image ≡ length bytes
         → arrived size block (flat_map (copied size block bytes) pages) image ≡ patched size pages bytes image }
+{}
+
+/// A sender that has what a state of the rounds says has what the next state says after a harvest, a copy, a send and
+/// the end of a round: so its calls are the events of the theorems above.
+pub fn senders_do_as_the_rounds_say<B: ExactBitmap>()
+    ensures harvest { (old new : Rounds) (host next : Host B) (s : Ends) → Follows B.pages old host s
+        → HarvestsNext B.pages old new host next → Follows B.pages new next (after Harvest s) }
+    ensures copy { (n : ℕ) (old new : Rounds) (host : Host B) (s : Ends) → Follows B.pages old host s
+        → CopiesPages n old new host → Follows B.pages new host (after (Copy n) s) }
+    ensures send { (old new : Rounds) (host : Host B) (s : Ends) → Follows B.pages old host s → KeepsRounds old new
+        → new.turn ≡ old.turn → new.round ≡ old.round → new.batch.items ≡ []
+        → Follows B.pages new host (after Send s) }
+    ensures round { (old new : Rounds) (host : Host B) (s : Ends) → Follows B.pages old host s → KeepsRounds old new
+        → IsIdle old → old.turn ≡ length old.targets.items → new.turn ≡ 0 → new.round ≡ old.round + 1
+        → new.batch ≡ old.batch → Follows B.pages new host (after EndRound s) }
 {}
