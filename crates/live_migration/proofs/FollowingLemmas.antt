@@ -1,5 +1,5 @@
 -- What a sender does is what the rounds say.
-use Rattle.std.proofs.Common.{◌≡◌, ℕ, zero, suc, ◌+◌, ◌<◌, ◌≤◌, Bool, true, false, cond, eqb, ltb, ◌&&◌, List, [], ◌∷◌, ◌++◌, length, take, drop, set, Some, refl, sym, ap, subst, ◌∙◌, inl, inr, arith}
+use Rattle.std.proofs.Common.{◌≡◌, ℕ, zero, suc, ◌+◌, ◌<◌, true, cond, eqb, List, [], ◌∷◌, ◌++◌, length, take, drop, set, Some, refl, sym, ap, subst, ◌∙◌, arith}
 use Rattle.std.specs.Global.{Vec}
 use Rattle.std.specs.Prelude.{flat_map, slice_get}
 use Rattle.std.proofs.lemmas.Bool.{cond-true, cond_both, and_from, eq-eqb, eqb-true, eqb-false, lt-ltb}
@@ -9,11 +9,14 @@ use Rattle.std.proofs.lemmas.Option.{same_Some, slice_get_within}
 use Rattle.vm_memory_base.specs.Pages.{PageSet, Pages, cleaned}
 use Rattle.vm_memory_base.specs.declared.bitmap.BitmapId.TheVariants.{Block}
 use Rattle.vm_memory_guest.specs.Host.{Host, block_at}
-use Rattle.vm_memory_guest.specs.Window.{bitmap_of, with_bitmap}
+use Rattle.vm_memory_guest.specs.Window.{bitmap_of}
 use Rattle.live_migration.specs.Following.{Follows, IsSource, KeepsRounds}
 use Rattle.live_migration.specs.Frame.{Message, spelling}
+use Rattle.live_migration.specs.Leave.{IsFirst}
+use Rattle.live_migration.specs.Targets.{AreTargets}
+use Rattle.live_migration.specs.declared.sender.stream.Sender.{Sender}
 use Rattle.live_migration.specs.Image.{copied}
-use Rattle.live_migration.specs.Rounds.{Ends, Source, Event, Harvest, Copy, Send, EndRound, after, is_round_over, after_harvest, clean, may_harvest, size_of, taken, with_at}
+use Rattle.live_migration.specs.Rounds.{Ends, IsBeginning, Source, Harvest, Copy, Send, EndRound, after, is_round_over, clean, may_harvest, size_of, taken}
 use Rattle.live_migration.specs.Sending.{CopiesPages, HarvestsNext, IsIdle, source_of}
 use Rattle.live_migration.specs.declared.sender.pages.Target.{Target}
 use Rattle.live_migration.specs.declared.sender.rounds.Rounds.{Rounds}
@@ -205,3 +208,18 @@ module _ {B : Type 0} (pages_of : B → PageSet) where
         once = λ i j t u a b e. f.once i j t u (ap (λ (v : Vec Target). slice_get v.items i) (sym k.targets) ∙ a)
             (ap (λ (v : Vec Target). slice_get v.items j) (sym k.targets) ∙ b) e;
       })
+
+  pub begin_follows : (x : Sender) (host : Host B) (s : Ends) → IsFirst x → AreTargets pages_of host x.rounds.targets.items
+      → IsBeginning s → s.last ≡ x.rounds.last → s.count ≡ length x.rounds.targets.items
+      → ((j : ℕ) (t : Target) → slice_get x.rounds.targets.items j ≡ Some t → IsSource pages_of t host (s.sources j))
+      → Follows pages_of x.rounds host s
+  begin_follows x host s first are b last count sources = record {
+    count = count;
+    round = b.round ∙ sym first.round;
+    turn = b.turn ∙ sym first.turn;
+    last = last;
+    waiting = b.waiting ∙ sym (ap (λ (n : ℕ). drop n x.rounds.waiting.items) first.next ∙ first.waiting);
+    batch = first.batch ∙ ap (flat_map spelling) (sym b.batch);
+    sources = sources;
+    once = are.once;
+  }

@@ -1,7 +1,8 @@
 -- What a sender copies.
-use Rattle.std.proofs.Common.{◌≡◌, ℕ, zero, suc, ◌+◌, List, [], ◌∷◌, ◌++◌, length, set, Some, Result, Ok, Err, OnErr, refl, sym, ap, subst, ◌∙◌, arith, add-zero, zero-add}
+use Rattle.std.proofs.Common.{◌≡◌, ℕ, zero, suc, ◌+◌, List, [], ◌∷◌, ◌++◌, length, set, Some, Result, Ok, Err, OnErr, refl, sym, ap, subst, ◌∙◌, arith, add-zero, zero-add, ◌⊎◌, inl, inr}
 use Rattle.std.proofs.lemmas.List.{set-get_or, take_all}
 use Rattle.std.specs.Int.{div_ceil}
+use Rattle.std.specs.Prelude.{slice_get}
 use Rattle.std.proofs.lemmas.Bool.{cond-false, ne_eqb}
 use Rattle.std.proofs.lemmas.Option.{get_or_from_slice_get, same_Some}
 use Rattle.vm_memory_base.specs.Address.{numbers}
@@ -11,6 +12,7 @@ use Rattle.vm_memory_base.specs.declared.bitmap.BitmapId.TheVariants.{Block}
 use Rattle.vm_memory_guest.specs.Host.{Host, block_at, bytes_at}
 use Rattle.vm_memory_guest.specs.Window.{bitmap_of, block_window, cells_of, with_bitmap}
 use Rattle.live_migration.specs.Sending.{AreMarkedAgain, Harvests, IsMarkedAgain, IsTracked, TakesPages}
+use Rattle.live_migration.specs.Targets.{AreTargets, IsOther}
 use Rattle.live_migration.specs.declared.sender.pages.Target.{Target}
 
 -- all bytes of a block are a window of it
@@ -94,3 +96,40 @@ marked_more pages_of [] t old mid new are is =
     (new, subst (λ (h : Host _). IsMarkedAgain pages_of t h new) are is, refl)
 marked_more pages_of (x ∷ xs) t old mid new are is =
     (are.0, are.1, marked_more pages_of xs t are.0 mid new are.2 is)
+
+-- ---- targets
+
+-- what a list has with one more
+sliced_more : (ts : List Target) (t u : Target) (j : ℕ) → slice_get (ts ++ t ∷ []) j ≡ Some u
+    → (slice_get ts j ≡ Some u) ⊎ ((j ≡ length ts) × (t ≡ u))
+sliced_more [] t u zero e = inr (refl, same_Some t u e)
+sliced_more [] t u (suc j) e = absurd cc
+sliced_more (x ∷ xs) t u zero e = inl e
+sliced_more (x ∷ xs) t u (suc j) e =
+    elim (sliced_more xs t u j e) [ inl old ↦ inl old | inr new ↦ inr (ap suc new.0, new.1) ]
+
+pub none_targets : {B : Type 0} (pages_of : B → PageSet) (host : Host B) → AreTargets pages_of host []
+none_targets pages_of host = record {
+  each = λ j t e. absurd cc;
+  once = λ i j t u a b e. absurd cc;
+}
+
+pub targets_more : {B : Type 0} (pages_of : B → PageSet) (host : Host B) (ts : List Target) (t : Target)
+    → AreTargets pages_of host ts → IsTracked pages_of t host → IsOther ts t
+    → AreTargets pages_of host (ts ++ t ∷ [])
+targets_more pages_of host ts t are is other = record {
+  each = λ j u e. elim (sliced_more ts t u j e) [
+    | inl old ↦ are.each j u old
+    | inr new ↦ subst (λ (x : Target). IsTracked pages_of x host) new.1 is
+  ];
+  once = λ i j u v a b e. elim (sliced_more ts t u i a) [
+    | inl old ↦ elim (sliced_more ts t v j b) [
+      | inl old' ↦ are.once i j u v old old' e
+      | inr new' ↦ absurd (other i u old (e ∙ ap (λ (x : Target). x.block.0) (sym new'.1)))
+    ]
+    | inr new ↦ elim (sliced_more ts t v j b) [
+      | inl old' ↦ absurd (other j v old' (sym e ∙ ap (λ (x : Target). x.block.0) (sym new.1)))
+      | inr new' ↦ new.0 ∙ sym new'.0
+    ]
+  ];
+}

@@ -1,5 +1,5 @@
 -- A sender with its host, as the state of the rounds.
-use Rattle.std.specs.Prelude.{◌≡◌, ℕ, List, length, drop, flat_map, slice_get, Some}
+use Rattle.std.specs.Prelude.{◌≡◌, ℕ, length, drop, flat_map, slice_get, Some}
 use Rattle.vm_memory_base.specs.Pages.{PageSet}
 use Rattle.vm_memory_base.specs.declared.bitmap.BitmapId.TheVariants.{Block}
 use Rattle.vm_memory_guest.specs.Host.{Host, block_at}

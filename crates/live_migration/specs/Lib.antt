@@ -10,3 +10,4 @@ pub mod Replies
 pub mod Rounds
 pub mod Sending
 pub mod Stages
+pub mod Targets

@@ -1,11 +1,15 @@
 //! What becomes of the pages of a migration: each function here is a theorem, and does nothing.
-ghost use Rattle.std.specs.Prelude.{◌≡◌, ◌+◌, ◌<◌, ℕ, List, [], length, flat_map};
+ghost use Rattle.std.specs.Prelude.{◌≡◌, ◌+◌, ◌<◌, ℕ, List, [], Some, length, flat_map, slice_get};
 ghost use Rattle.std.specs.List.{AllByRecursion};
 ghost use Rattle.live_migration.specs.Frame.{IsMessage, Message, spelling};
 ghost use Rattle.live_migration.specs.Header.{IsHeader, header_bytes};
 ghost use Rattle.live_migration.specs.Image.{arrived, copied};
 ghost use Rattle.live_migration.specs.declared.header.BlockEntry.{BlockEntry};
-ghost use Rattle.live_migration.specs.Following.{Follows, KeepsRounds};
+ghost use Rattle.live_migration.specs.Following.{Follows, IsSource, KeepsRounds};
+ghost use Rattle.live_migration.specs.Leave.{IsFirst};
+ghost use Rattle.live_migration.specs.Targets.{AreTargets};
+ghost use Rattle.live_migration.specs.declared.sender.pages.Target.{Target};
+ghost use Rattle.live_migration.specs.declared.sender.stream.Sender.{Sender};
 ghost use Rattle.live_migration.specs.Sending.{CopiesPages, HarvestsNext, IsIdle};
 ghost use Rattle.live_migration.specs.declared.sender.rounds.Rounds.{Rounds};
 ghost use Rattle.vm_memory_guest.specs.Host.{Host};
@@ -51,9 +55,15 @@ pub fn copied_pages_patch_an_image()
         → arrived size block (flat_map (copied size block bytes) pages) image ≡ patched size pages bytes image }
 {}
 
-/// A sender that has what a state of the rounds says has what the next state says after a harvest, a copy, a send and
-/// the end of a round: so its calls are the events of the theorems above.
+/// A sender that has just begun has what a state before the first round says. One that has what a state of the rounds
+/// says has what the next state says after a harvest, a copy, a send and the end of a round. So its calls are the events
+/// of the theorems above.
 pub fn senders_do_as_the_rounds_say<B: ExactBitmap>()
+    ensures begin { (sender : Sender) (host : Host B) (s : Ends) → IsFirst sender
+        → AreTargets B.pages host sender.rounds.targets.items → IsBeginning s → s.last ≡ sender.rounds.last
+        → s.count ≡ length sender.rounds.targets.items
+        → ((j : ℕ) (t : Target) → slice_get sender.rounds.targets.items j ≡ Some t
+        → IsSource B.pages t host (s.sources j)) → Follows B.pages sender.rounds host s }
     ensures harvest { (old new : Rounds) (host next : Host B) (s : Ends) → Follows B.pages old host s
         → HarvestsNext B.pages old new host next → Follows B.pages new next (after Harvest s) }
     ensures copy { (n : ℕ) (old new : Rounds) (host : Host B) (s : Ends) → Follows B.pages old host s

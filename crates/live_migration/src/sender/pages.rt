@@ -275,6 +275,7 @@ pub(super) fn target_of<B: ExactBitmap>(
 ) -> Result<Target, SendError>
     ensures block { IfOk result (λ t. (t.block ≡ block) × (t.entry.address ≡ address)) }
     ensures there { IfOk result (λ t. IsAsItWas t host.now) }
+    ensures tracked { IfOk result (λ t. IsTracked B.pages t host.now) }
 {
     let Some(len) = host.shape().block_len(block) else {
         return Err(SendError::Changed);
@@ -282,6 +283,9 @@ pub(super) fn target_of<B: ExactBitmap>(
     let Some((page_size, _)) = host.bitmap(BitmapId::Block(block.0)).shape() else {
         return Err(SendError::Untracked);
     };
+    if page_size == 0 {
+        return Err(SendError::Untracked);
+    }
     Ok(Target {
         block,
         entry: BlockEntry {

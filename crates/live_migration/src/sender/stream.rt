@@ -6,6 +6,7 @@ ghost use Rattle.sha2.specs.Sha256.{sha256};
 ghost use Rattle.live_migration.specs.Frame.{Done, Go, IsMessage, RoundEnd, Section, message_of, spelling};
 ghost use Rattle.live_migration.specs.Header.{IsHeader, header_bytes};
 ghost use Rattle.live_migration.specs.declared.sender.stream.SendStage.TheVariants as stages;
+ghost use Rattle.live_migration.specs.Targets.{AreTargets, IsOther};
 ghost use Rattle.live_migration.specs.Leave.{Sends, IsFirst, BeginsToSend};
 
 use super::pages::{SendError, Target, target_of};
@@ -120,11 +121,13 @@ fn targets_of<B: ExactBitmap>(
     alloc: Global,
     host: &HostMemory<B>,
     blocks: &[(BlockId, GuestAddress)],
-) -> Result<Vec<Target>, SendError> {
-    let mut targets: Vec<Target> = Vec::new(alloc);
+) -> Result<Vec<Target>, SendError>
+    ensures { IfOk result (λ targets. AreTargets B.pages host.now targets.items) }
+{
+    let mut targets = Vec::new(alloc);
     for (block, address) in blocks {
         let target = target_of(host, *block, address.0)?;
-        if targets.iter().any(|t| t.block.0 == block.0) {
+        if !is_new(targets.as_slice(), &target) {
             return Err(SendError::Twice);
         }
         if targets.push(target).is_err() {
@@ -132,6 +135,18 @@ fn targets_of<B: ExactBitmap>(
         }
     }
     Ok(targets)
+}
+
+// Whether a target's block is none of those of others.
+fn is_new(targets: &[Target], target: &Target) -> bool
+    ensures { result ≡ true → IsOther targets.now target.now }
+{
+    for other in targets {
+        if other.block.0 == target.block.0 {
+            return false;
+        }
+    }
+    true
 }
 
 // The header of blocks, which a receiver accepts.
@@ -230,7 +245,8 @@ impl Sender {
         blocks: &[(BlockId, GuestAddress)],
         writer: &mut W,
     ) -> Result<Sender, SendError>
-        ensures { IfOk result (λ s. BeginsToSend (W.contents writer.old) (W.contents writer.new) s) }
+        ensures begun { IfOk result (λ s. BeginsToSend (W.contents writer.old) (W.contents writer.new) s) }
+        ensures targets { IfOk result (λ s. AreTargets B.pages host.now s.rounds.targets.items) }
     {
         let targets = targets_of(alloc, host, blocks)?;
         let header = header_of(alloc, targets.as_slice())?;

@@ -1,4 +1,4 @@
-use Rattle.live_migration.proofs.FollowingLemmas.{copy_follows, harvest_follows, round_follows, send_follows}
+use Rattle.live_migration.proofs.FollowingLemmas.{begin_follows, copy_follows, harvest_follows, round_follows, send_follows}
 use Rattle.live_migration.proofs.laws.senders_do_as_the_rounds_say.Goals as goal
 
 pub returns-clause-harvest : goal.returns-clause-harvest
@@ -12,3 +12,6 @@ returns-clause-send g c = send_follows g.B.ExactBitmap.pages
 
 pub returns-clause-round : goal.returns-clause-round
 returns-clause-round g c = round_follows g.B.ExactBitmap.pages
+
+pub returns-clause-begin : goal.returns-clause-begin
+returns-clause-begin g c = begin_follows g.B.ExactBitmap.pages
