@@ -87,7 +87,8 @@ number_takes w limit wide bytes n rest fits e =
     let n-is : from_le_bytes w (take size bytes) ≡ n = ap (λ (p : ℕ × List ℕ). p.0) g.1 in
     let rest-is : drop size bytes ≡ rest = ap (λ (p : ℕ × List ℕ). p.1) g.1 in
     let front : to_le_bytes w n ≡ take size bytes =
-    rw (← n-is) (wide.back (take size bytes) (omega (arith, length-take size bytes)) (IsBytes-take size bytes fits)) in (
+    rw (← n-is) (wide.back (take size bytes) (omega (arith, length-take size bytes))
+    (IsBytes-take size bytes fits)) in (
       record {
         parts = rw (front, ← rest-is) (sym (take-append-drop size bytes));
         rest_fits = rw (← rest-is) (IsBytes-drop size bytes fits);

@@ -62,7 +62,8 @@ module _ {B : Type 0} (pages_of : B → PageSet) where
       may : may_harvest s ≡ true
       may =
           let none : s.waiting ≡ [] = f.waiting ∙ drop_all old.next old.waiting.items h.idle in
-          let inside : s.turn < s.count = omega (arith, f.count, slice_get_within old.targets.items s.turn h.target there) in
+          let inside : s.turn < s.count =
+          omega (arith, f.count, slice_get_within old.targets.items s.turn h.target there) in
           and_from _ _ (eq-eqb _ _ (ap length none)) (lt-ltb _ _ inside)
 
       source_is : source_of h.target h.takes.tracked host ≡ s.sources s.turn
@@ -209,7 +210,8 @@ module _ {B : Type 0} (pages_of : B → PageSet) where
             (ap (λ (v : Vec Target). slice_get v.items j) (sym k.targets) ∙ b) e;
       })
 
-  pub begin_follows : (x : Sender) (host : Host B) (s : Ends) → IsFirst x → AreTargets pages_of host x.rounds.targets.items
+  pub begin_follows : (x : Sender) (host : Host B) (s : Ends) → IsFirst x
+      → AreTargets pages_of host x.rounds.targets.items
       → IsBeginning s → s.last ≡ x.rounds.last → s.count ≡ length x.rounds.targets.items
       → ((j : ℕ) (t : Target) → slice_get x.rounds.targets.items j ≡ Some t → IsSource pages_of t host (s.sources j))
       → Follows pages_of x.rounds host s

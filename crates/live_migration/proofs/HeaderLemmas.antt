@@ -61,7 +61,8 @@ unfolding front_in
 front_again n rest few =
     let count : ltb 256 n ≡ false = le-ltb _ _ few in
     rw (
-      number_again w64 (2 ^ 64) wide64 0x5441_5247_494d_4d56 (to_le_bytes w32 1 ++ (to_le_bytes w32 n ++ rest)) (lit< tt),
+      number_again w64 (2 ^ 64) wide64 0x5441_5247_494d_4d56
+          (to_le_bytes w32 1 ++ (to_le_bytes w32 n ++ rest)) (lit< tt),
       number_again w32 (2 ^ 32) wide32 1 (to_le_bytes w32 n ++ rest) (lit< tt),
       number_again w32 (2 ^ 32) wide32 n rest (omega arith),
       count,

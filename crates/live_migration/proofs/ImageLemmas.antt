@@ -116,7 +116,8 @@ module _ (size block page k : ℕ) (some : 0 < size) (here : k / size ≡ page) 
       late more =
           let whole = div_ceil (length bytes) size in
           let times : length bytes ≤ whole * size = (div_ceil_times (length bytes) size some).0 in
-          let below : (first + whole) * size ≤ page * size = mul-le (first + whole) size page size more (le_refl size) in
+          let below : (first + whole) * size ≤ page * size =
+          mul-le (first + whole) size page size more (le_refl size) in
           let split : (first + whole) * size ≡ first * size + whole * size = add-mul first whole size in
           let start : page * size ≤ k = low in
           omega arith

@@ -191,7 +191,8 @@ module _ {B : Type 0} (base : ℕ) (entries : List BlockEntry) (old new : Host B
   }
 
   pub pages_apply : (i first : ℕ) (entry : BlockEntry) (bytes : List ℕ) → slice_get entries i ≡ Some entry
-      → HasPlaced old new (base + i) (first * entry.page_size) bytes → Applies base entries (Pages i first bytes) old new
+      → HasPlaced old new (base + i) (first * entry.page_size) bytes
+      → Applies base entries (Pages i first bytes) old new
   pages_apply i first entry bytes there has =
       placed_applies (Pages i first bytes) i (first * entry.page_size) entry bytes there has
       (λ e is image len. cond-true _ _ _ (eq-eqb i i refl)
@@ -217,8 +218,10 @@ module _ {B : Type 0} (base : ℕ) (entries : List BlockEntry) (old new : Host B
       ]
 
       byte : (k : ℕ) → k < length image
-          → cond (is_within at (length (replicate {A = ℕ} size 0)) k) (get_or (replicate size 0) (k - at) 0) (get_or image k 0)
-          ≡ cond (is_within at (length (replicate {A = ℕ} n 0)) k) (get_or (replicate n 0) (k - at) 0) (get_or image k 0)
+          → cond (is_within at (length (replicate {A = ℕ} size 0)) k) (get_or (replicate size 0) (k - at) 0)
+          (get_or image k 0)
+          ≡ cond (is_within at (length (replicate {A = ℕ} n 0)) k) (get_or (replicate n 0) (k - at) 0)
+          (get_or image k 0)
       byte k l = elim (cases_lt k at) [
         | inl low ↦ cond-false _ _ _ (is_before at _ k low) ∙ sym (cond-false _ _ _ (is_before at _ k low))
         | inr high ↦ elim (cases_lt k (at + n)) [

@@ -330,7 +330,8 @@ still_clears Harvest s still cleared =
 still_clears (Copy n) s still cleared = cleared
 still_clears Send s still cleared = cleared
 still_clears EndRound s still cleared =
-    cond_both (is_round_over s) (after_round s) s (λ t. IsCleared t) (λ e block page l. absurd (omega arith)) (λ e. cleared)
+    cond_both (is_round_over s) (after_round s) s (λ t. IsCleared t)
+    (λ e block page l. absurd (omega arith)) (λ e. cleared)
 
 pub still_story_clears : (es : List Event) (s : Ends) → AllStill es → IsCleared s → IsCleared (story es s)
 unfolding story AllStill

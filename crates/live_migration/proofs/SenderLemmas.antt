@@ -42,43 +42,45 @@ with_bitmap-same host block b there =
     (ap (λ (y : _). set host.bitmaps block y) (sym (get_or_from_slice_get host.bitmaps block b b there))
     ∙ set-get_or host.bitmaps block b)
 
-module _ {B : Type 0} (pages_of : B → PageSet) (t : Target) (old new : Host B) (tracked : IsTracked pages_of t old) where
-  -- the bitmap that was harvested is the one that was looked at
-  same_bitmap : (pages : List ℕ) (h : Harvests pages_of t.block.0 pages old new) → h.before ≡ tracked.bitmap
-  same_bitmap pages h = same_Some h.before tracked.bitmap (sym h.was ∙ tracked.was)
+module _ {B : Type 0} (pages_of : B → PageSet) (t : Target) (old new : Host B)
+    (tracked : IsTracked pages_of t old)
+  where
+    -- the bitmap that was harvested is the one that was looked at
+    same_bitmap : (pages : List ℕ) (h : Harvests pages_of t.block.0 pages old new) → h.before ≡ tracked.bitmap
+    same_bitmap pages h = same_Some h.before tracked.bitmap (sym h.was ∙ tracked.was)
 
-  dirty_of : (pages : List ℕ) (h : Harvests pages_of t.block.0 pages old new) → pages_of h.before ≡ Some tracked.tracked
-  dirty_of pages h = ap pages_of (same_bitmap pages h) ∙ tracked.dirty
+    dirty_of : (pages : List ℕ) (h : Harvests pages_of t.block.0 pages old new) → pages_of h.before ≡ Some tracked.tracked
+    dirty_of pages h = ap pages_of (same_bitmap pages h) ∙ tracked.dirty
 
-  pub takes_dirty : (round : ℕ) (pages : List ℕ) → (round ≡ 0 → ⊥) → Harvests pages_of t.block.0 pages old new
-      → TakesPages pages_of t round pages old new
-  takes_dirty round pages later h = record {
-    before = h.before;
-    after = h.after;
-    tracked = tracked.tracked;
-    was = h.was;
-    dirty = dirty_of pages h;
-    size = tracked.size;
-    pages_are = h.pages_are ∙ ap dirty_pages (dirty_of pages h) ∙ sym (cond-false _ _ _ (ne_eqb round 0 later));
-    clean = h.clean ∙ ap cleaned (dirty_of pages h);
-    is = h.is;
-  }
+    pub takes_dirty : (round : ℕ) (pages : List ℕ) → (round ≡ 0 → ⊥) → Harvests pages_of t.block.0 pages old new
+        → TakesPages pages_of t round pages old new
+    takes_dirty round pages later h = record {
+      before = h.before;
+      after = h.after;
+      tracked = tracked.tracked;
+      was = h.was;
+      dirty = dirty_of pages h;
+      size = tracked.size;
+      pages_are = h.pages_are ∙ ap dirty_pages (dirty_of pages h) ∙ sym (cond-false _ _ _ (ne_eqb round 0 later));
+      clean = h.clean ∙ ap cleaned (dirty_of pages h);
+      is = h.is;
+    }
 
-  pub takes_all : (len : ℕ) (all pages : List ℕ) → len ≡ length (block_at old.blocks t.block.0)
-      → all ≡ numbers 0 (div_ceil len t.entry.page_size) → Harvests pages_of t.block.0 pages old new
-      → TakesPages pages_of t 0 all old new
-  takes_all len all pages size is h = record {
-    before = h.before;
-    after = h.after;
-    tracked = tracked.tracked;
-    was = h.was;
-    dirty = dirty_of pages h;
-    size = tracked.size;
-    pages_are = is ∙ ap (λ (n : ℕ). numbers 0 (div_ceil n t.entry.page_size)) size
-        ∙ ap (λ (n : ℕ). numbers 0 (div_ceil (length (block_at old.blocks t.block.0)) n)) (sym tracked.size);
-    clean = h.clean ∙ ap cleaned (dirty_of pages h);
-    is = h.is;
-  }
+    pub takes_all : (len : ℕ) (all pages : List ℕ) → len ≡ length (block_at old.blocks t.block.0)
+        → all ≡ numbers 0 (div_ceil len t.entry.page_size) → Harvests pages_of t.block.0 pages old new
+        → TakesPages pages_of t 0 all old new
+    takes_all len all pages size is h = record {
+      before = h.before;
+      after = h.after;
+      tracked = tracked.tracked;
+      was = h.was;
+      dirty = dirty_of pages h;
+      size = tracked.size;
+      pages_are = is ∙ ap (λ (n : ℕ). numbers 0 (div_ceil n t.entry.page_size)) size
+          ∙ ap (λ (n : ℕ). numbers 0 (div_ceil (length (block_at old.blocks t.block.0)) n)) (sym tracked.size);
+      clean = h.clean ∙ ap cleaned (dirty_of pages h);
+      is = h.is;
+    }
 
 -- a harvest that was refused
 pub refused_same : {B X E : Type 0} (r : Result X E) (Q : Type 0) (host : Host B) (block : ℕ) (b after : B)

@@ -56,7 +56,8 @@ abbrev pub Grows : List (List ℕ) → List (List ℕ) → Type 0
 Grows old new = (more : List (List ℕ)) × (new ≡ old ++ more)
 
 -- a header was read, and its blocks were made
-pub record Begins {B : Type 0} (limit : ℕ) (before after : Option (List ℕ)) (new : Progress) (host next : Host B) : Type 0
+pub record Begins {B : Type 0} (limit : ℕ) (before after : Option (List ℕ)) (new : Progress) (host next : Host B)
+    : Type 0
   where
     pub header : IsHeader limit new.entries.items
     pub consumed : Consumes before after (header_bytes new.entries.items)

@@ -56,8 +56,8 @@ pub fn copied_pages_patch_an_image()
 {}
 
 /// A sender that has just begun has what a state before the first round says. One that has what a state of the rounds
-/// says has what the next state says after a harvest, a copy, a send and the end of a round. So its calls are the events
-/// of the theorems above.
+/// says has what the next state says after a harvest, a copy, a send and the end of a round. So its calls are the
+/// events of the theorems above.
 pub fn senders_do_as_the_rounds_say<B: ExactBitmap>()
     ensures begin { (sender : Sender) (host : Host B) (s : Ends) → IsFirst sender
         → AreTargets B.pages host sender.rounds.targets.items → IsBeginning s → s.last ≡ sender.rounds.last

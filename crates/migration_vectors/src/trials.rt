@@ -126,11 +126,11 @@ fn counted(
     Ok(())
 }
 
-// A fifth of the trials. Each outcome comes.
+// A tenth of the trials. Each outcome comes.
 fn tried(rt: &(impl Print + Abort), alloc: Global, seed: u64) -> Result<(), Fail> {
     let mut counts = [0; 16];
     let mut state = seed;
-    counted(alloc, 20_000, &mut state, &mut counts)?;
+    counted(alloc, 10_000, &mut state, &mut counts)?;
     for (name, count) in OUTCOMES.iter().zip(&counts) {
         println!(rt; "{name} {count}")?;
         assert!(rt; *count > 0, "{name} never came");
@@ -161,4 +161,29 @@ fn changed_streams_4(rt: HostRuntime) -> Result<(), Fail> {
 #[test]
 fn changed_streams_5(rt: HostRuntime) -> Result<(), Fail> {
     tried(&rt, rt.alloc(), 65)
+}
+
+#[test]
+fn changed_streams_6(rt: HostRuntime) -> Result<(), Fail> {
+    tried(&rt, rt.alloc(), 66)
+}
+
+#[test]
+fn changed_streams_7(rt: HostRuntime) -> Result<(), Fail> {
+    tried(&rt, rt.alloc(), 67)
+}
+
+#[test]
+fn changed_streams_8(rt: HostRuntime) -> Result<(), Fail> {
+    tried(&rt, rt.alloc(), 68)
+}
+
+#[test]
+fn changed_streams_9(rt: HostRuntime) -> Result<(), Fail> {
+    tried(&rt, rt.alloc(), 69)
+}
+
+#[test]
+fn changed_streams_10(rt: HostRuntime) -> Result<(), Fail> {
+    tried(&rt, rt.alloc(), 70)
 }

@@ -128,7 +128,8 @@ impl Receiver {
         host: &mut HostMemory<B>,
         limit: u64,
     ) -> Result<Receiver, Refusal>
-        ensures begun { IfOk result (λ r. Begins limit (R.remaining reader.old) (R.remaining reader.new) r.seen host.old host.new) }
+        ensures begun { IfOk result (λ r. Begins limit (R.remaining reader.old) (R.remaining reader.new) r.seen host.old
+            host.new) }
         ensures refused { OnErr result (Grows host.old.blocks host.new.blocks) }
     {
         let header = read_header(alloc, reader)?;

@@ -108,7 +108,8 @@ impl Progress {
         host: &mut HostMemory<B>,
         frame: &Frame<'_>,
     ) -> Result<(), Refusal>
-        ensures applied { OnOk result (Applies self.old.base self.old.entries.items (message_of frame.now) host.old host.new) }
+        ensures applied { OnOk result (Applies self.old.base self.old.entries.items (message_of frame.now) host.old
+            host.new) }
         ensures stage { OnOk result (stage_after self.old.stage (message_of frame.now) ≡ Ok self.new.stage) }
         ensures round { OnOk result (self.new.round ≡ round_after self.old.round (message_of frame.now)) }
         ensures right { OnOk result ((sent : List ℕ) → Holds256 self.old.hasher sent
@@ -157,7 +158,8 @@ impl Receiver {
         host: &mut HostMemory<B>,
     ) -> Result<Stage, Refusal>
         ensures taken { IfOk result (λ stage. (stage ≡ self.new.seen.stage)
-            × TakesFrame (R.remaining reader.old) (R.remaining reader.new) self.old.seen self.new.seen host.old host.new) }
+            × TakesFrame (R.remaining reader.old) (R.remaining reader.new) self.old.seen self.new.seen host.old
+            host.new) }
         ensures refused { OnErr result (host.new ≡ host.old) }
     {
         let kind = read_frame(reader, &mut self.payload, self.seen.longest)?;
@@ -175,7 +177,8 @@ impl Receiver {
         host: &mut HostMemory<B>,
     ) -> Result<Stage, Refusal>
         ensures taken { IfOk result (λ stage. (stage ≡ self.new.seen.stage)
-            × TakesFrame (R.remaining reader.old) (R.remaining reader.new) self.old.seen self.new.seen host.old host.new) }
+            × TakesFrame (R.remaining reader.old) (R.remaining reader.new) self.old.seen self.new.seen host.old
+            host.new) }
         ensures refused { OnErr result ((host.new ≡ host.old) × (self.new.seen.stage ≡ Stage.Failed)) }
     {
         let taken = self.take_next(reader, host);

@@ -292,7 +292,8 @@ impl Sender {
             self.old.hasher self.new.hasher) }
         ensures ok { OnOk result (self.new.rounds.batch.items ≡ []) }
         ensures err { OnErr result (self.new.rounds.batch ≡ self.old.rounds.batch) }
-        ensures same { (self.new.rounds.targets ≡ self.old.rounds.targets) × (self.new.rounds.round ≡ self.old.rounds.round)
+        ensures same { (self.new.rounds.targets ≡ self.old.rounds.targets)
+            × (self.new.rounds.round ≡ self.old.rounds.round)
             × (self.new.rounds.waiting ≡ self.old.rounds.waiting) × (self.new.rounds.next ≡ self.old.rounds.next)
             × (self.new.rounds.turn ≡ self.old.rounds.turn) × (self.new.rounds.last ≡ self.old.rounds.last) }
     {

@@ -7,7 +7,8 @@ use Rattle.live_migration.proofs.frame.Frame.decode.Goals as goal
 
 pub returns-clause-found : goal.returns-clause-found
 returns-clause-found c =
-    is_found c.args.kind c.args.payload.now c.frame_in.result (λ i. omega (arith, c.type_inv.payload i)) c.frame_in.ensures
+    is_found c.args.kind c.args.payload.now c.frame_in.result (λ i. omega (arith, c.type_inv.payload i))
+    c.frame_in.ensures
 
 pub returns-clause-only : goal.returns-clause-only
 returns-clause-only c = λ m is k p.
