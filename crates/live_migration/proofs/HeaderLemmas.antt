@@ -1,0 +1,253 @@
+-- What is read of a header is spelled so, and what is spelled so is read.
+use Rattle.std.proofs.Common.{◌≡◌, ℕ, zero, suc, ◌+◌, ◌-◌, ◌^◌, ◌<◌, ◌≤◌, Bool, true, false, cond, ltb, leb, eqb, ◌&&◌, List, [], ◌∷◌, ◌++◌, length, take, get_or, Result, Ok, Err, refl, sym, ap, subst, ◌∙◌, append_assoc, arith, lit<}
+use Rattle.std.specs.Prelude.{IfOk, flat_map}
+use Rattle.std.specs.Int.{w32, w64, to_le_bytes}
+use Rattle.std.specs.Borrow.{Bor}
+use Rattle.std.specs.Global.{Vec}
+use Rattle.std.proofs.lemmas.Bool.{eqb-true, ltb-true, ltb-false, le-ltb, lt-ltb, leb-true, le-leb, and_parts, and_from}
+use Rattle.std.proofs.lemmas.List.{append-nil, nil_from_length, flat_map_more, take_more}
+use Rattle.std.proofs.lemmas.List.Concat.{flat_map-cons}
+use Rattle.live_migration.specs.Header.{entry_bytes, header_bytes, IsEntry, AreEntries, IsHeader, GivesUnlessMemory, front_in, checked, entry_in, entries_in, header_in}
+use Rattle.live_migration.specs.Reading.{◌>>=◌, Gives, number_at}
+use Rattle.live_migration.specs.declared.header.BlockEntry.{BlockEntry}
+use Rattle.live_migration.specs.declared.refusal.Refusal.{Refusal}
+use Rattle.live_migration.specs.declared.refusal.Refusal.TheVariants as refusal
+use Rattle.live_migration.specs.declared.refusal.Refusal.TheVariants.{Magic, Version, BlockCount, BlockLength, PageSize, Place, TooMuchMemory, FrameLength, Memory}
+use Rattle.live_migration.proofs.FieldLemmas.{IsBytes, bind_ok, guard_ok, guard_true, ok_is, Takes, Takes-then, wide32, wide64, number_takes, number_again}
+
+-- ---- the front
+
+front_bytes : ℕ → List ℕ
+front_bytes n = to_le_bytes w64 0x5441_5247_494d_4d56 ++ (to_le_bytes w32 1 ++ to_le_bytes w32 n)
+
+-- a test that was passed, and what came behind it
+passed : {A : Type 0} (b : Bool) (r : Result A Refusal) (e : Refusal) (x : A) → cond b r (Err e) ≡ Ok x
+    → (b ≡ true) × (r ≡ Ok x)
+passed true r e x h = (refl, h)
+passed false r e x h = absurd cc
+
+front_takes : (bytes : List ℕ) (x : ℕ × List ℕ) → IsBytes bytes → front_in bytes ≡ Ok x
+    → Takes bytes (front_bytes x.0) x.1 × (x.0 ≤ 256)
+unfolding front_in front_bytes
+front_takes bytes x fits e =
+    let a = bind_ok (number_at w64 bytes) (λ word.
+    cond (eqb word.0 0x5441_5247_494d_4d56) (number_at w32 word.1) (Err Magic) >>= λ version.
+    cond (eqb version.0 1) (number_at w32 version.1) (Err Version) >>= λ count.
+    cond (ltb 256 count.0) (Err BlockCount) (Ok count)) x e in
+    let b = bind_ok (cond (eqb a.0.0 0x5441_5247_494d_4d56) (number_at w32 a.0.1) (Err Magic)) (λ version.
+    cond (eqb version.0 1) (number_at w32 version.1) (Err Version) >>= λ count.
+    cond (ltb 256 count.0) (Err BlockCount) (Ok count)) x a.2 in
+    let c = bind_ok (cond (eqb b.0.0 1) (number_at w32 b.0.1) (Err Version)) (λ count.
+    cond (ltb 256 count.0) (Err BlockCount) (Ok count)) x b.2 in
+    let g = guard_ok (ltb 256 c.0.0) BlockCount c.0 x c.2 in
+    let p = passed (eqb a.0.0 0x5441_5247_494d_4d56) (number_at w32 a.0.1) Magic b.0 b.1 in
+    let q = passed (eqb b.0.0 1) (number_at w32 b.0.1) Version c.0 c.1 in
+    let t = number_takes w64 (2 ^ 64) wide64 bytes a.0.0 a.0.1 fits a.1 in
+    let u = number_takes w32 (2 ^ 32) wide32 a.0.1 b.0.0 b.0.1 t.0.rest_fits p.1 in
+    let v = number_takes w32 (2 ^ 32) wide32 b.0.1 c.0.0 c.0.1 u.0.rest_fits q.1 in
+    let t' : Takes bytes (to_le_bytes w64 0x5441_5247_494d_4d56) a.0.1 =
+    subst (λ (n : ℕ). Takes bytes (to_le_bytes w64 n) a.0.1) (eqb-true _ _ p.0) t.0 in
+    let u' : Takes a.0.1 (to_le_bytes w32 1) b.0.1 =
+    subst (λ (n : ℕ). Takes a.0.1 (to_le_bytes w32 n) b.0.1) (eqb-true _ _ q.0) u.0 in
+    let uv = Takes-then a.0.1 (to_le_bytes w32 1) b.0.1 (to_le_bytes w32 c.0.0) c.0.1 u' v.0 in
+    let all = Takes-then bytes (to_le_bytes w64 0x5441_5247_494d_4d56) a.0.1
+    (to_le_bytes w32 1 ++ to_le_bytes w32 c.0.0) c.0.1 t' uv in
+    subst (λ (y : ℕ × List ℕ). Takes bytes (front_bytes y.0) y.1 × (y.0 ≤ 256)) g.1 (all, ltb-false _ _ g.0)
+
+front_again : (n : ℕ) (rest : List ℕ) → n ≤ 256
+    → front_in (to_le_bytes w64 0x5441_5247_494d_4d56 ++ (to_le_bytes w32 1 ++ (to_le_bytes w32 n ++ rest)))
+    ≡ Ok (n, rest)
+unfolding front_in
+front_again n rest few =
+    let count : ltb 256 n ≡ false = le-ltb _ _ few in
+    rw (
+      number_again w64 (2 ^ 64) wide64 0x5441_5247_494d_4d56
+          (to_le_bytes w32 1 ++ (to_le_bytes w32 n ++ rest)) (lit< tt),
+      number_again w32 (2 ^ 32) wide32 1 (to_le_bytes w32 n ++ rest) (lit< tt),
+      number_again w32 (2 ^ 32) wide32 n rest (omega arith),
+      count,
+    ) refl
+
+-- ---- an entry
+
+checked_is : (from left : ℕ) (e : BlockEntry) (rest : List ℕ) (x : BlockEntry × List ℕ)
+    → checked from left e rest ≡ Ok x → IsEntry from left e × ((e, rest) ≡ x)
+checked_is from left e rest x h =
+    let a = passed (ltb 0 e.len && ltb e.len (2 ^ 63)) _ BlockLength x h in
+    let b = passed (ltb 0 e.page_size && leb e.page_size (2 ^ 20)) _ PageSize x a.1 in
+    let c = passed (leb from e.address && ltb (e.address + e.len) (2 ^ 64)) _ Place x b.1 in
+    let d = guard_true (leb e.len left) TooMuchMemory (e, rest) x c.1 in
+    let pa = and_parts _ _ a.0 in
+    let pb = and_parts _ _ b.0 in
+    let pc = and_parts _ _ c.0 in (
+      record {
+        some = ltb-true _ _ pa.0;
+        short = ltb-true _ _ pa.1;
+        paged = ltb-true _ _ pb.0;
+        small = leb-true _ _ pb.1;
+        behind = leb-true _ _ pc.0;
+        addressed = ltb-true _ _ pc.1;
+        allowed = leb-true _ _ d.0;
+      },
+      d.1,
+    )
+
+checked_again : (from left : ℕ) (e : BlockEntry) (rest : List ℕ) → IsEntry from left e
+    → checked from left e rest ≡ Ok (e, rest)
+checked_again from left e rest is =
+    let a : (ltb 0 e.len && ltb e.len (2 ^ 63)) ≡ true = and_from _ _ (lt-ltb _ _ is.some) (lt-ltb _ _ is.short) in
+    let b : (ltb 0 e.page_size && leb e.page_size (2 ^ 20)) ≡ true =
+    and_from _ _ (lt-ltb _ _ is.paged) (le-leb _ _ is.small) in
+    let c : (leb from e.address && ltb (e.address + e.len) (2 ^ 64)) ≡ true =
+    and_from _ _ (le-leb _ _ is.behind) (lt-ltb _ _ is.addressed) in
+    let d : leb e.len left ≡ true = le-leb _ _ is.allowed in
+    rw (a, b, c, d) refl
+
+pub entry_takes : (from left : ℕ) (bytes : List ℕ) (x : BlockEntry × List ℕ) → IsBytes bytes
+    → entry_in from left bytes ≡ Ok x → Takes bytes (entry_bytes x.0) x.1 × IsEntry from left x.0
+unfolding entry_in
+entry_takes from left bytes x fits e =
+    let a = bind_ok (number_at w64 bytes) (λ len. number_at w64 len.1 >>= λ size. number_at w64 size.1 >>= λ address.
+    checked from left (record { len = len.0; page_size = size.0; address = address.0 }) address.1) x e in
+    let b = bind_ok (number_at w64 a.0.1) (λ size. number_at w64 size.1 >>= λ address.
+    checked from left (record { len = a.0.0; page_size = size.0; address = address.0 }) address.1) x a.2 in
+    let c = bind_ok (number_at w64 b.0.1) (λ address.
+    checked from left (record { len = a.0.0; page_size = b.0.0; address = address.0 }) address.1) x b.2 in
+    let made : BlockEntry = record { len = a.0.0; page_size = b.0.0; address = c.0.0 } in
+    let d = checked_is from left made c.0.1 x c.2 in
+    let t = number_takes w64 (2 ^ 64) wide64 bytes a.0.0 a.0.1 fits a.1 in
+    let u = number_takes w64 (2 ^ 64) wide64 a.0.1 b.0.0 b.0.1 t.0.rest_fits b.1 in
+    let v = number_takes w64 (2 ^ 64) wide64 b.0.1 c.0.0 c.0.1 u.0.rest_fits c.1 in
+    let uv = Takes-then a.0.1 (to_le_bytes w64 b.0.0) b.0.1 (to_le_bytes w64 c.0.0) c.0.1 u.0 v.0 in
+    let all = Takes-then bytes (to_le_bytes w64 a.0.0) a.0.1 (to_le_bytes w64 b.0.0 ++ to_le_bytes w64 c.0.0) c.0.1
+    t.0 uv in
+    subst (λ (y : BlockEntry × List ℕ). Takes bytes (entry_bytes y.0) y.1 × IsEntry from left y.0) d.1 (all, d.0)
+
+entry_again : (from left : ℕ) (e : BlockEntry) (rest : List ℕ) → IsEntry from left e
+    → entry_in from left (to_le_bytes w64 e.len ++ (to_le_bytes w64 e.page_size ++ (to_le_bytes w64 e.address ++ rest)))
+    ≡ Ok (e, rest)
+unfolding entry_in
+entry_again from left e rest is =
+    rw (
+      number_again w64 (2 ^ 64) wide64 e.len (to_le_bytes w64 e.page_size ++ (to_le_bytes w64 e.address ++ rest))
+          (omega (arith, is.short)),
+      number_again w64 (2 ^ 64) wide64 e.page_size (to_le_bytes w64 e.address ++ rest) (omega (arith, is.small)),
+      number_again w64 (2 ^ 64) wide64 e.address rest (omega (arith, is.addressed)),
+    )
+    (checked_again from left e rest is)
+
+entries_take : (n from left : ℕ) (bytes : List ℕ) (x : List BlockEntry × List ℕ) → IsBytes bytes
+    → entries_in n from left bytes ≡ Ok x
+    → Takes bytes (flat_map entry_bytes x.0) x.1 × (length x.0 ≡ n) × AreEntries from left x.0
+unfolding entries_in
+entries_take zero from left bytes x fits e =
+    subst (λ (y : List BlockEntry × List ℕ).
+    Takes bytes (flat_map entry_bytes y.0) y.1 × (length y.0 ≡ 0) × AreEntries from left y.0)
+    (ok_is ([], bytes) x e) (record { parts = refl; rest_fits = fits }, refl, tt)
+entries_take (suc n) from left bytes x fits e =
+    let a = bind_ok (entry_in from left bytes) (λ first.
+    entries_in n (first.0.address + first.0.len) (left - first.0.len) first.1 >>= λ others.
+    Ok (first.0 ∷ others.0, others.1)) x e in
+    let from' = a.0.0.address + a.0.0.len in
+    let left' = left - a.0.0.len in
+    let b = bind_ok (entries_in n from' left' a.0.1) (λ others. Ok (a.0.0 ∷ others.0, others.1)) x a.2 in
+    let first = entry_takes from left bytes a.0 fits a.1 in
+    let second = entries_take n from' left' a.0.1 b.0 first.0.rest_fits b.1 in
+    let both = Takes-then bytes (entry_bytes a.0.0) a.0.1 (flat_map entry_bytes b.0.0) b.0.1 first.0 second.0 in
+    let made : List BlockEntry × List ℕ = (a.0.0 ∷ b.0.0, b.0.1) in
+    subst (λ (y : List BlockEntry × List ℕ).
+    Takes bytes (flat_map entry_bytes y.0) y.1 × (length y.0 ≡ suc n) × AreEntries from left y.0)
+    (ok_is made x b.2) (rw flat_map-cons both, ap suc second.1, (first.1, second.2))
+
+entries_again : (es : List BlockEntry) (from left : ℕ) (rest : List ℕ) → AreEntries from left es
+    → entries_in (length es) from left (flat_map entry_bytes es ++ rest) ≡ Ok (es, rest)
+unfolding entries_in
+entries_again [] from left rest are = refl
+entries_again (e ∷ es) from left rest are =
+    let tail = flat_map entry_bytes es ++ rest in
+    let regrouped : flat_map entry_bytes (e ∷ es) ++ rest
+    ≡ to_le_bytes w64 e.len ++ (to_le_bytes w64 e.page_size ++ (to_le_bytes w64 e.address ++ tail)) =
+    ap (λ (x : List ℕ). x ++ rest) (flat_map-cons entry_bytes e es)
+    ∙ append_assoc (entry_bytes e) (flat_map entry_bytes es) rest in
+    ap (entries_in (suc (length es)) from left) regrouped
+    ∙ rw (entry_again from left e tail are.0, entries_again es (e.address + e.len) (left - e.len) rest are.1) refl
+
+-- ---- all of it
+
+pub header_takes : (limit : ℕ) (bytes : List ℕ) (es : List BlockEntry) → IsBytes bytes → header_in limit bytes ≡ Ok es
+    → IsHeader limit es × (bytes ≡ header_bytes es)
+unfolding header_in header_bytes front_bytes
+header_takes limit bytes es fits e =
+    let a = bind_ok (front_in bytes) (λ count. entries_in count.0 0 limit count.1 >>= λ x.
+    cond (eqb (length x.1) 0) (Ok x.0) (Err FrameLength)) es e in
+    let b = bind_ok (entries_in a.0.0 0 limit a.0.1) (λ x.
+    cond (eqb (length x.1) 0) (Ok x.0) (Err FrameLength)) es a.2 in
+    let g = guard_true (eqb (length b.0.1) 0) FrameLength b.0.0 es b.2 in
+    let first = front_takes bytes a.0 fits a.1 in
+    let second = entries_take a.0.0 0 limit a.0.1 b.0 first.0.rest_fits b.1 in
+    let nothing : b.0.1 ≡ [] = nil_from_length b.0.1 (eqb-true _ _ g.0) in
+    let tail : a.0.1 ≡ flat_map entry_bytes b.0.0 =
+    second.0.parts ∙ ap (λ (r : List ℕ). flat_map entry_bytes b.0.0 ++ r) nothing ∙ append-nil _ in
+    let whole : bytes ≡ header_bytes b.0.0 =
+    first.0.parts ∙ ap (λ (r : List ℕ). front_bytes a.0.0 ++ r) tail
+    ∙ ap (λ (n : ℕ). front_bytes n ++ flat_map entry_bytes b.0.0) (sym second.1) in
+    subst (λ (v : List BlockEntry). IsHeader limit v × (bytes ≡ header_bytes v)) g.1
+    ((omega (arith, second.1, first.1), second.2), whole)
+
+pub header_again : (limit : ℕ) (es : List BlockEntry) → IsHeader limit es → header_in limit (header_bytes es) ≡ Ok es
+unfolding header_in header_bytes
+header_again limit es is =
+    let last : entries_in (length es) 0 limit (flat_map entry_bytes es) ≡ Ok (es, []) =
+    ap (entries_in (length es) 0 limit) (sym (append-nil (flat_map entry_bytes es)))
+    ∙ entries_again es 0 limit [] is.1 in
+    rw (front_again (length es) (flat_map entry_bytes es) is.0, last) refl
+
+pub header_found : (limit : ℕ) (bytes : List ℕ) (r : Result (Vec BlockEntry) Refusal) → IsBytes bytes
+    → GivesUnlessMemory (λ v. v.items) r (header_in limit bytes)
+    → IfOk r (λ v. IsHeader limit v.items × (bytes ≡ header_bytes v.items))
+header_found limit bytes (Ok v) fits given = header_takes limit bytes v.items fits given
+header_found limit bytes (Err e) fits given = tt
+
+-- an entry that was read has room behind it
+pub room_behind : (from left : ℕ) (bytes : List ℕ) (r : Result (BlockEntry × Bor (List ℕ)) Refusal) → IsBytes bytes
+    → Gives (λ x. (x.0, x.1.now)) r (entry_in from left bytes)
+    → IfOk r (λ x. x.0.address + x.0.len < 2 ^ 64) × IfOk r (λ x. x.0.len ≤ left)
+room_behind from left bytes (Ok x) fits given =
+    let t = entry_takes from left bytes (x.0, x.1.now) fits given in (t.1.addressed, t.1.allowed)
+room_behind from left bytes (Err e) fits given = (tt, tt)
+
+-- an error that reading gives
+pub unless_memory : (e : Refusal) (read : Result (List BlockEntry × List ℕ) Refusal) → read ≡ Err e
+    → GivesUnlessMemory {X = Vec BlockEntry × Bor (List ℕ)} (λ x. (x.0.items, x.1.now)) (Err e) read
+unless_memory refusal.Memory read h = tt
+unless_memory refusal.Magic read h = h
+unless_memory refusal.Version read h = h
+unless_memory refusal.BlockCount read h = h
+unless_memory refusal.BlockLength read h = h
+unless_memory refusal.PageSize read h = h
+unless_memory refusal.Place read h = h
+unless_memory refusal.TooMuchMemory read h = h
+unless_memory refusal.FrameKind read h = h
+unless_memory refusal.FrameLength read h = h
+unless_memory refusal.Block read h = h
+unless_memory refusal.Page read h = h
+unless_memory refusal.CutPage read h = h
+unless_memory refusal.Order read h = h
+unless_memory refusal.Digest read h = h
+unless_memory refusal.Ended read h = h
+unless_memory refusal.Failed read h = h
+
+-- one entry more is written
+pub entry_behind : (front out new : List ℕ) (es : List BlockEntry) (i : ℕ) (d : BlockEntry) → i < length es
+    → out ≡ front ++ flat_map entry_bytes (take i es) → new ≡ out ++ entry_bytes (get_or es i d)
+    → new ≡ front ++ flat_map entry_bytes (take (i + 1) es)
+entry_behind front out new es i d l e f =
+    f ∙ ap (λ (x : List ℕ). x ++ entry_bytes (get_or es i d)) e
+    ∙ flat_map_more entry_bytes front (take i es) (get_or es i d)
+    ∙ ap (λ (x : List BlockEntry). front ++ flat_map entry_bytes x) (sym (take_more es i d l))
+
+abbrev read : List BlockEntry → Result (List BlockEntry) Refusal
+read es = Ok es
+
+pub same_entries : (es fs : List BlockEntry) → read es ≡ read fs → es ≡ fs
+same_entries es fs e = cc

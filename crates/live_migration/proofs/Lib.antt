@@ -1,0 +1,13 @@
+pub mod FieldLemmas
+pub mod FollowingLemmas
+pub mod FrameLemmas
+pub mod HeaderLemmas
+pub mod HeaderLoop
+pub mod ImageLemmas
+pub mod OneWayLemmas
+pub mod PlacingLemmas
+pub mod PutLemmas
+pub mod ReceivingLemmas
+pub mod RoundsLemmas
+pub mod SenderLemmas
+pub mod StreamLemmas

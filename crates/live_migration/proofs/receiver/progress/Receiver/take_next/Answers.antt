@@ -1,0 +1,38 @@
+use Rattle.std.proofs.Common.{◌≡◌, ◌++◌, ◌∙◌, List, ℕ, Ok, ap, refl, sym, subst}
+use Rattle.std.specs.Io.KnownBytes.{Consumes}
+use Rattle.sha2.specs.Hashers.{Holds256}
+use Rattle.sha2.specs.declared.Sha256.{Sha256}
+use Rattle.live_migration.specs.Frame.{message_of, payload_of}
+use Rattle.live_migration.specs.declared.receiver.progress.Progress.{Progress}
+use Rattle.live_migration.proofs.StreamLemmas.{spelled}
+use Rattle.live_migration.proofs.receiver.progress.Receiver.take_next.Goals as goal
+
+pub returns-clause-taken : goal.returns-clause-taken
+returns-clause-taken g c =
+    let m = message_of c.in_ok-frame.frame in
+    let found = c.in_ok-frame.ensures.found in
+    let items = c.read_frame.new.payload.items in
+    let payload : items ≡ payload_of m = sym c.as_slice.ensures.value ∙ found.2 in
+    let again : c.as_slice-2.result.now ≡ payload_of m = c.as_slice-2.ensures.value ∙ payload in
+    let before = g.R.Read.remaining c.args.reader.now in
+    let after = g.R.Read.remaining c.read_frame.new.reader in
+    let kept = c.in_ok-accept.ensures.kept in
+    let same = c.note.ensures.same in (
+      refl,
+      record {
+        message = m;
+        fits = found.0;
+        consumed = subst (λ (t : List ℕ). Consumes before after t) (spelled c.in_ok-kind.kind items m found.1 payload)
+            c.in_ok-kind.ensures.consumed;
+        applied = c.in_ok-accept.ensures.applied;
+        stage = c.in_ok-accept.ensures.stage ∙ ap (λ (p : Progress). Ok p.stage) (sym same);
+        base = ap (λ (p : Progress). p.base) same ∙ kept.base;
+        entries = ap (λ (p : Progress). p.entries.items) same ∙ kept.entries;
+        round = ap (λ (p : Progress). p.round) same ∙ c.in_ok-accept.ensures.round;
+        right = c.in_ok-accept.ensures.right;
+        hashed = λ sent h.
+            subst (λ (t : List ℕ). Holds256 c.note.new.self.hasher (sent ++ t))
+            (spelled c.in_ok-kind.kind c.as_slice-2.result.now m found.1 again)
+            (c.note.ensures.hashed sent (subst (λ (s : Sha256). Holds256 s sent) (sym kept.hasher) h));
+      },
+    )

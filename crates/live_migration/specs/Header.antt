@@ -1,0 +1,79 @@
+-- The header: a magic word, a version, and the blocks, each with its length, its page size and its place in guest
+-- memory, ascending. All numbers have their lowest byte first.
+use Rattle.std.specs.Prelude.{◌≡◌, ℕ, zero, suc, ◌+◌, ◌-◌, ◌^◌, ◌<◌, ◌≤◌, ◌&&◌, ◌==◌, if◌then◌else◌, nat_lt, nat_le, List, [], ◌∷◌, ◌++◌, length, flat_map, Result, Ok, Err}
+use Rattle.std.specs.Int.{w32, w64, to_le_bytes}
+use Rattle.live_migration.specs.Reading.{◌>>=◌, number_at}
+use Rattle.live_migration.specs.declared.header.BlockEntry.{BlockEntry}
+use Rattle.live_migration.specs.declared.refusal.Refusal.{Refusal}
+use Rattle.live_migration.specs.declared.refusal.Refusal.TheVariants.{Magic, Version, BlockCount, BlockLength, PageSize, Place, TooMuchMemory, FrameLength, Memory}
+
+abbrev pub entry_bytes : BlockEntry → List ℕ
+entry_bytes e = to_le_bytes w64 e.len ++ (to_le_bytes w64 e.page_size ++ to_le_bytes w64 e.address)
+
+-- the magic word reads "VMMIGRAT"
+unfoldable pub header_bytes : List BlockEntry → List ℕ
+header_bytes es = to_le_bytes w64 0x5441_5247_494d_4d56
+    ++ (to_le_bytes w32 1 ++ (to_le_bytes w32 (length es) ++ flat_map entry_bytes es))
+
+-- a block that begins no earlier than this address, where so many bytes are left of what is allowed
+pub record IsEntry (from left : ℕ) (e : BlockEntry) : Type 0 where
+  pub some : 0 < e.len
+  pub short : e.len < 2 ^ 63
+  pub paged : 0 < e.page_size
+  pub small : e.page_size ≤ 2 ^ 20
+  pub behind : from ≤ e.address
+  pub addressed : e.address + e.len < 2 ^ 64
+  pub allowed : e.len ≤ left
+
+abbrev pub AreEntries : ℕ → ℕ → List BlockEntry → Type 0
+AreEntries from left [] = Unit {0}
+AreEntries from left (e ∷ es) = IsEntry from left e × AreEntries (e.address + e.len) (left - e.len) es
+
+-- a header whose blocks have at most so many bytes in all
+abbrev pub IsHeader : ℕ → List BlockEntry → Type 0
+IsHeader limit es = (length es ≤ 256) × AreEntries 0 limit es
+
+-- ---- reading
+
+-- what a function returned is what reading gives, unless memory ran out
+abbrev pub GivesUnlessMemory : {X Y : Type 0} → (X → Y) → Result X Refusal → Result Y Refusal → Type 0
+GivesUnlessMemory view (Ok x) read = read ≡ Ok (view x)
+GivesUnlessMemory view (Err Memory) read = Unit {0}
+GivesUnlessMemory view (Err e) read = read ≡ Err e
+
+-- the number of blocks
+unfoldable pub front_in : List ℕ → Result (ℕ × List ℕ) Refusal
+front_in bytes = do
+  word ← number_at w64 bytes
+  version ← if word.0 == 0x5441_5247_494d_4d56 then number_at w32 word.1 else Err Magic
+  count ← if version.0 == 1 then number_at w32 version.1 else Err Version
+  if nat_lt 256 count.0 then Err BlockCount else Ok count
+
+-- an entry that is one
+abbrev pub checked : ℕ → ℕ → BlockEntry → List ℕ → Result (BlockEntry × List ℕ) Refusal
+checked from left e rest = if nat_lt 0 e.len && nat_lt e.len (2 ^ 63)
+    then (if nat_lt 0 e.page_size && nat_le e.page_size (2 ^ 20)
+    then (if nat_le from e.address && nat_lt (e.address + e.len) (2 ^ 64)
+    then (if nat_le e.len left then Ok (e, rest) else Err TooMuchMemory)
+    else Err Place) else Err PageSize) else Err BlockLength
+
+unfoldable pub entry_in : ℕ → ℕ → List ℕ → Result (BlockEntry × List ℕ) Refusal
+entry_in from left bytes = do
+  len ← number_at w64 bytes
+  size ← number_at w64 len.1
+  address ← number_at w64 size.1
+  checked from left (record { len = len.0; page_size = size.0; address = address.0 }) address.1
+
+unfoldable pub entries_in : ℕ → ℕ → ℕ → List ℕ → Result (List BlockEntry × List ℕ) Refusal
+entries_in zero from left bytes = Ok ([], bytes)
+entries_in (suc n) from left bytes = do
+  first ← entry_in from left bytes
+  others ← entries_in n (first.0.address + first.0.len) (left - first.0.len) first.1
+  Ok (first.0 ∷ others.0, others.1)
+
+-- the blocks of a header, which is all of the bytes
+unfoldable pub header_in : ℕ → List ℕ → Result (List BlockEntry) Refusal
+header_in limit bytes = do
+  count ← front_in bytes
+  es ← entries_in count.0 0 limit count.1
+  if length es.1 == 0 then Ok es.0 else Err FrameLength

@@ -1,0 +1,13 @@
+pub mod Following
+pub mod Frame
+pub mod Header
+pub mod Image
+pub mod Leave
+pub mod Placing
+pub mod Reading
+pub mod Receiving
+pub mod Replies
+pub mod Rounds
+pub mod Sending
+pub mod Stages
+pub mod Targets

@@ -1,0 +1,20 @@
+-- What a message leaves of the host that receives it.
+use Rattle.std.specs.Prelude.{◌≡◌, ℕ, ◌+◌, ◌<◌, ◌≤◌, ◌⊎◌, List, length, slice_get, Some}
+use Rattle.vm_memory_guest.specs.Host.{Host, block_at, shape_of}
+use Rattle.live_migration.specs.Frame.{Message}
+use Rattle.live_migration.specs.Image.{placed, received}
+use Rattle.live_migration.specs.declared.header.BlockEntry.{BlockEntry}
+
+-- these bytes came into a block, from a place on, and nothing else changed but bitmaps
+pub record HasPlaced {B : Type 0} (old new : Host B) (block at : ℕ) (bytes : List ℕ) : Type 0 where
+  pub block_is : block_at new.blocks block ≡ placed at bytes (block_at old.blocks block)
+  pub others : (c : ℕ) → (c ≡ block → ⊥) → block_at new.blocks c ≡ block_at old.blocks c
+  pub shape : shape_of new ≡ shape_of old
+
+-- A message to a receiver whose blocks are those of a host from base on: each block is the image that the message
+-- leaves, no other block changed, and no block its length
+pub record Applies {B : Type 0} (base : ℕ) (entries : List BlockEntry) (m : Message) (old new : Host B) : Type 0 where
+  pub images : (j : ℕ) (e : BlockEntry) → slice_get entries j ≡ Some e
+      → block_at new.blocks (base + j) ≡ received e.page_size j m (block_at old.blocks (base + j))
+  pub others : (c : ℕ) → (c < base) ⊎ (base + length entries ≤ c) → block_at new.blocks c ≡ block_at old.blocks c
+  pub shape : shape_of new ≡ shape_of old

@@ -1,0 +1,87 @@
+-- What a receiver took from its stream.
+use Rattle.std.specs.Prelude.{◌≡◌, ℕ, ◌+◌, ◌<◌, ◌≤◌, ◌⊎◌, List, ◌++◌, length, map, flat_map, replicate, slice_get, Option, Some, Ok}
+use Rattle.std.specs.List.{AllByRecursion}
+use Rattle.std.specs.Io.KnownBytes.{Consumes}
+use Rattle.sha2.specs.Hashers.{Holds256}
+use Rattle.sha2.specs.Sha256.{sha256}
+use Rattle.vm_memory_guest.specs.Host.{Host, block_at, shape_of}
+use Rattle.live_migration.specs.Frame.{Message, RoundEnd, IsMessage, spelling}
+use Rattle.live_migration.specs.Header.{IsHeader, header_bytes}
+use Rattle.live_migration.specs.Image.{arrived}
+use Rattle.live_migration.specs.Placing.{Applies}
+use Rattle.live_migration.specs.Stages.{stage_after}
+use Rattle.live_migration.specs.declared.header.BlockEntry.{BlockEntry}
+use Rattle.live_migration.specs.declared.receiver.Stage.TheVariants as stage
+use Rattle.live_migration.specs.declared.receiver.end.Guest.{Guest}
+use Rattle.live_migration.specs.declared.receiver.progress.Progress.{Progress}
+
+-- the end of a round has the round's number and the digest of all that was sent before it
+abbrev pub IsRightEnd : ℕ → List ℕ → Message → Type 0
+IsRightEnd round sent (RoundEnd r digest) = (r ≡ round) × (digest ≡ sha256 sent)
+IsRightEnd round sent m = Unit {0}
+
+-- the number of the round that is next, after a message
+abbrev pub round_after : ℕ → Message → ℕ
+round_after round (RoundEnd r digest) = round + 1
+round_after round m = round
+
+-- blocks of zeros
+abbrev pub zeroed : List BlockEntry → List (List ℕ)
+zeroed entries = map (λ e. replicate e.len 0) entries
+
+-- only sections came, and took of what is allowed
+pub record IsSectionKept (old new : Progress) : Type 0 where
+  pub base : new.base ≡ old.base
+  pub entries : new.entries.items ≡ old.entries.items
+  pub stage : new.stage ≡ old.stage
+  pub round : new.round ≡ old.round
+  pub hasher : new.hasher ≡ old.hasher
+
+-- a frame was read and done
+pub record TakesFrame {B : Type 0} (before after : Option (List ℕ)) (old new : Progress) (host next : Host B) : Type 0
+  where
+    pub message : Message
+    pub fits : IsMessage message
+    pub consumed : Consumes before after (spelling message)
+    pub applied : Applies old.base old.entries.items message host next
+    pub stage : stage_after old.stage message ≡ Ok new.stage
+    pub base : new.base ≡ old.base
+    pub entries : new.entries.items ≡ old.entries.items
+    pub round : new.round ≡ round_after old.round message
+    pub right : (sent : List ℕ) → Holds256 old.hasher sent → IsRightEnd old.round sent message
+    pub hashed : (sent : List ℕ) → Holds256 old.hasher sent → Holds256 new.hasher (sent ++ spelling message)
+
+-- blocks came behind those that there were
+abbrev pub Grows : List (List ℕ) → List (List ℕ) → Type 0
+Grows old new = (more : List (List ℕ)) × (new ≡ old ++ more)
+
+-- a header was read, and its blocks were made
+pub record Begins {B : Type 0} (limit : ℕ) (before after : Option (List ℕ)) (new : Progress) (host next : Host B)
+    : Type 0
+  where
+    pub header : IsHeader limit new.entries.items
+    pub consumed : Consumes before after (header_bytes new.entries.items)
+    pub blocks : next.blocks ≡ host.blocks ++ zeroed new.entries.items
+    pub base : 0 < length new.entries.items → new.base ≡ length host.blocks
+    pub stage : new.stage ≡ stage.Round
+    pub round : new.round ≡ 0
+    pub hashed : Holds256 new.hasher (header_bytes new.entries.items)
+
+-- Messages came, one after the other: each block is the image that they leave, no other block changed, and no block its
+-- length
+pub record ReceivesAll {B : Type 0} (before after : Option (List ℕ)) (base : ℕ) (entries : List BlockEntry)
+    (host next : Host B) : Type 0 where
+  pub messages : List Message
+  pub fit : AllByRecursion IsMessage messages
+  pub consumed : Consumes before after (flat_map spelling messages)
+  pub images : (j : ℕ) (e : BlockEntry) → slice_get entries j ≡ Some e
+      → block_at next.blocks (base + j) ≡ arrived e.page_size j messages (block_at host.blocks (base + j))
+  pub others : (c : ℕ) → (c < base) ⊎ (base + length entries ≤ c) → block_at next.blocks c ≡ block_at host.blocks c
+  pub shape : shape_of next ≡ shape_of host
+
+-- what a receiver gives out
+pub record GivesOut (old : Progress) (new : Guest) : Type 0 where
+  pub stage : old.stage ≡ stage.Gone
+  pub base : new.base ≡ old.base
+  pub entries : new.entries ≡ old.entries
+  pub sections : new.sections ≡ old.sections

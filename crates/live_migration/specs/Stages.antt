@@ -1,0 +1,34 @@
+-- In which order frames come: rounds of pages and sections, each with its end, then done, and then go.
+use Rattle.std.specs.Prelude.{Result, Ok, Err}
+use Rattle.live_migration.specs.Frame.{Message, Pages, ZeroPage, RoundEnd, Section, Done, Go}
+use Rattle.live_migration.specs.declared.receiver.Stage.{Stage}
+use Rattle.live_migration.specs.declared.receiver.Stage.TheVariants as stage
+use Rattle.live_migration.specs.declared.refusal.Refusal.{Refusal}
+use Rattle.live_migration.specs.declared.refusal.Refusal.TheVariants.{Order}
+
+-- in a round
+abbrev pub in_round : Message → Result Stage Refusal
+in_round (Pages block first bytes) = Ok stage.Round
+in_round (ZeroPage block page) = Ok stage.Round
+in_round (RoundEnd round digest) = Ok stage.RoundEnded
+in_round (Section name bytes) = Ok stage.Round
+in_round Done = Err Order
+in_round Go = Err Order
+
+-- after the end of a round
+abbrev pub behind_round : Message → Result Stage Refusal
+behind_round Done = Ok stage.Done
+behind_round m = in_round m
+
+-- after done
+abbrev pub behind_done : Message → Result Stage Refusal
+behind_done Go = Ok stage.Gone
+behind_done m = Err Order
+
+-- the stage after a message
+abbrev pub stage_after : Stage → Message → Result Stage Refusal
+stage_after stage.Round m = in_round m
+stage_after stage.RoundEnded m = behind_round m
+stage_after stage.Done m = behind_done m
+stage_after stage.Gone m = Err Order
+stage_after stage.Failed m = Err Order

@@ -1,0 +1,195 @@
+//! The header of the stream: which blocks there are.
+ghost use Rattle.std.specs.Prelude.{◌≡◌, ◌+◌, ◌^◌, ◌<◌, ◌≤◌, ◌++◌, List, length, IfOk, Ok};
+ghost use Rattle.std.specs.Int.{w32, w64, to_le_bytes};
+ghost use Rattle.live_migration.specs.Header.{GivesUnlessMemory, entry_bytes, IsHeader, checked, entries_in, entry_in, front_in, header_bytes, header_in};
+ghost use Rattle.live_migration.specs.Reading.{Gives};
+ghost use Rattle.live_migration.specs.declared.header.BlockEntry.{BlockEntry};
+
+use crate::fields::{u32_at, u64_at};
+use crate::refusal::Refusal;
+use std::alloc::{AllocError, Global};
+
+const MAGIC: u64 = 0x5441_5247_494d_4d56;
+
+const VERSION: u32 = 1;
+
+/// The greatest number of blocks.
+pub const MOST_BLOCKS: u32 = 256;
+
+/// The number of bytes in front of the blocks.
+pub(crate) const FRONT: usize = 16;
+
+/// The number of bytes of a block in the header.
+pub(crate) const ENTRY: usize = 24;
+
+const MOST_LEN: u64 = 0x7fff_ffff_ffff_ffff;
+
+const MOST_PAGE_SIZE: u64 = 0x10_0000;
+
+/// A block of a guest's memory.
+#[derive(Clone, Copy, Debug, PartialEq, Eq)]
+pub struct BlockEntry {
+    /// Its length in bytes: 1 to 2^63 - 1.
+    pub len: u64,
+    /// The number of bytes of a page: 1 to 2^20. The last page may be cut.
+    pub page_size: u64,
+    /// Where it lies in guest memory. The first address behind it is no address past 2^64 - 1.
+    pub address: u64,
+}
+
+#[tactic(auto, unfolding(crate::specs::Header::front_in))]
+pub(crate) fn front_in(bytes: &[u8]) -> Result<(u32, &[u8]), Refusal>
+    ensures { Gives (λ x. (x.0, x.1.now)) result (front_in bytes.now) }
+{
+    let (word, rest) = u64_at(bytes)?;
+    if word != MAGIC {
+        return Err(Refusal::Magic);
+    }
+    let (version, rest) = u32_at(rest)?;
+    if version != VERSION {
+        return Err(Refusal::Version);
+    }
+    let (count, rest) = u32_at(rest)?;
+    if count > MOST_BLOCKS {
+        return Err(Refusal::BlockCount);
+    }
+    Ok((count, rest))
+}
+
+fn checked(
+    from: u64,
+    left: u64,
+    entry: BlockEntry,
+    rest: &[u8],
+) -> Result<(BlockEntry, &[u8]), Refusal>
+    ensures { Gives (λ x. (x.0, x.1.now)) result (checked from left entry rest.now) }
+{
+    if !(entry.len > 0 && entry.len <= MOST_LEN) {
+        return Err(Refusal::BlockLength);
+    }
+    if !(entry.page_size > 0 && entry.page_size <= MOST_PAGE_SIZE) {
+        return Err(Refusal::PageSize);
+    }
+    if !(from <= entry.address && entry.address <= u64::MAX - entry.len) {
+        return Err(Refusal::Place);
+    }
+    if entry.len > left {
+        return Err(Refusal::TooMuchMemory);
+    }
+    Ok((entry, rest))
+}
+
+#[tactic(auto, unfolding(crate::specs::Header::entry_in))]
+fn entry_in(from: u64, left: u64, bytes: &[u8]) -> Result<(BlockEntry, &[u8]), Refusal>
+    ensures { Gives (λ x. (x.0, x.1.now)) result (entry_in from left bytes.now) }
+{
+    let (len, rest) = u64_at(bytes)?;
+    let (page_size, rest) = u64_at(rest)?;
+    let (address, rest) = u64_at(rest)?;
+    checked(
+        from,
+        left,
+        BlockEntry {
+            len,
+            page_size,
+            address,
+        },
+        rest,
+    )
+}
+
+// An entry has room for the next behind it.
+fn next_entry(from: u64, left: u64, bytes: &[u8]) -> Result<(BlockEntry, &[u8]), Refusal>
+    ensures gives { Gives (λ x. (x.0, x.1.now)) result (entry_in from left bytes.now) }
+    ensures addressed { IfOk result (λ x. x.0.address + x.0.len < 2 ^ 64) }
+    ensures allowed { IfOk result (λ x. x.0.len ≤ left) }
+{
+    entry_in(from, left, bytes)
+}
+
+fn entries_in(
+    alloc: Global,
+    count: u32,
+    limit: u64,
+    bytes: &[u8],
+) -> Result<(Vec<BlockEntry>, &[u8]), Refusal>
+    ensures { GivesUnlessMemory (λ x. (x.0.items, x.1.now)) result (entries_in count 0 limit bytes.now) }
+{
+    let mut entries = Vec::new(alloc);
+    let mut from = 0;
+    let mut left = limit;
+    let mut rest = bytes;
+    for _ in 0..count {
+        let (entry, after) = next_entry(from, left, rest)?;
+        if entries.push(entry).is_err() {
+            return Err(Refusal::Memory);
+        }
+        from = entry.address + entry.len;
+        left -= entry.len;
+        rest = after;
+    }
+    Ok((entries, rest))
+}
+
+#[tactic(auto, unfolding(crate::specs::Header::header_in))]
+fn header_in(alloc: Global, limit: u64, bytes: &[u8]) -> Result<Vec<BlockEntry>, Refusal>
+    ensures { GivesUnlessMemory (λ v. v.items) result (header_in limit bytes.now) }
+{
+    let (count, rest) = front_in(bytes)?;
+    let (entries, rest) = entries_in(alloc, count, limit, rest)?;
+    if rest.len() != 0 {
+        return Err(Refusal::FrameLength);
+    }
+    Ok(entries)
+}
+
+/// The blocks of the header that these bytes are, all of them: no other blocks have this header. The first fault from
+/// the left decides which error it is. `TooMuchMemory` where the blocks have more than `limit` bytes in all, and
+/// `Memory` where the allocation of the list fails.
+pub fn decode_header(alloc: Global, limit: u64, bytes: &[u8]) -> Result<Vec<BlockEntry>, Refusal>
+    // What is read is spelled so.
+    ensures found { IfOk result (λ v. IsHeader limit v.items × (bytes.now ≡ header_bytes v.items)) }
+    // What is spelled so is read, unless memory runs out.
+    ensures only { (es : List BlockEntry) → IsHeader limit es → bytes.now ≡ header_bytes es
+        → GivesUnlessMemory (λ v. v.items) result (Ok es) }
+    // Which fault it is.
+    ensures exact { GivesUnlessMemory (λ v. v.items) result (header_in limit bytes.now) }
+{
+    header_in(alloc, limit, bytes)
+}
+
+// The bytes of a block in the header.
+fn entry_bytes(entry: &BlockEntry) -> [u8; ENTRY]
+    ensures { result ≡ entry_bytes entry.now }
+{
+    let [a, b, c, d, e, f, g, h] = entry.len.to_le_bytes();
+    let [i, j, k, l, m, n, o, p] = entry.page_size.to_le_bytes();
+    let [q, r, s, t, u, v, w, x] = entry.address.to_le_bytes();
+    [
+        a, b, c, d, e, f, g, h, i, j, k, l, m, n, o, p, q, r, s, t, u, v, w, x,
+    ]
+}
+
+// The bytes in front of the blocks.
+fn front_bytes(count: u32) -> [u8; FRONT]
+    ensures { result ≡ to_le_bytes w64 0x5441_5247_494d_4d56 ++ (to_le_bytes w32 1 ++ to_le_bytes w32 count) }
+{
+    let [a, b, c, d, e, f, g, h] = MAGIC.to_le_bytes();
+    let [i, j, k, l] = VERSION.to_le_bytes();
+    let [m, n, o, p] = count.to_le_bytes();
+    [a, b, c, d, e, f, g, h, i, j, k, l, m, n, o, p]
+}
+
+/// The header of these blocks, as it goes over the stream. `AllocError` where its allocation fails.
+#[tactic(auto, unfolding(crate::specs::Header::header_bytes))]
+pub fn encode_header(alloc: Global, entries: &[BlockEntry]) -> Result<Vec<u8>, AllocError>
+    requires { length entries.now ≤ 256 }
+    ensures { IfOk result (λ v. v.items ≡ header_bytes entries.now) }
+{
+    let mut out = Vec::new(alloc);
+    out.extend_from_slice(&front_bytes(entries.len() as u32))?;
+    for entry in entries {
+        out.extend_from_slice(&entry_bytes(entry))?;
+    }
+    Ok(out)
+}

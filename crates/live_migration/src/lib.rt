@@ -1,0 +1,20 @@
+//! Live migration: a guest's memory moves over a stream in rounds while it is written.
+#![tactic(auto)]
+
+mod fields;
+mod frame;
+mod header;
+pub mod laws;
+mod placing;
+mod receiver;
+mod refusal;
+mod reply;
+mod sender;
+mod stream;
+
+pub use frame::{Frame, MOST_PAGE_BYTES};
+pub use header::{BlockEntry, MOST_BLOCKS, decode_header, encode_header};
+pub use receiver::{Guest, Progress, Receiver, Section, Stage};
+pub use refusal::Refusal;
+pub use reply::Reply;
+pub use sender::{Rounds, SendError, SendStage, Sender, Target};

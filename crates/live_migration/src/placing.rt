@@ -1,0 +1,150 @@
+//! Pages that come into the blocks of a host.
+ghost use Rattle.std.specs.Prelude.{◌≡◌, ◌+◌, ◌-◌, ◌*◌, ◌<◌, ◌≤◌, ◌⊎◌, ◌%◌, length, replicate, min, IsTrue, ◌↔◌, Some, IfSome, IfNone, IfOk, OnOk, OnErr, slice_get};
+ghost use Rattle.live_migration.specs.Image.{placed};
+ghost use Rattle.live_migration.specs.Placing.{HasPlaced, Applies};
+ghost use Rattle.live_migration.specs.Frame.{message_of};
+ghost use Rattle.vm_memory_guest.specs.Host.{block_at};
+
+use crate::frame::Frame;
+use crate::header::BlockEntry;
+use crate::refusal::Refusal;
+use vm_memory_base::Bitmap;
+use vm_memory_guest::{BlockId, HostMemory};
+
+// The offset of a page of a block, if the block has such a page.
+pub(crate) fn start_of(entry: &BlockEntry, page: u64) -> Option<u64>
+    ensures some { IfSome result (λ start. (start ≡ page * entry.now.page_size) × (start < entry.now.len)) }
+    ensures none { IfNone result (entry.now.len ≤ page * entry.now.page_size) }
+{
+    let len = entry.len;
+    match page.checked_mul(entry.page_size) {
+        Some(start) if start < len => Some(start),
+        _ => None,
+    }
+}
+
+// Puts bytes into a block, if the host has the place.
+pub(crate) fn put_bytes<B: Bitmap>(
+    host: &mut HostMemory<B>,
+    block: BlockId,
+    start: usize,
+    bytes: &[u8],
+) -> Result<(), Refusal>
+    ensures ok { OnOk result (HasPlaced host.old host.new block.0 start bytes.now) }
+    ensures err { OnErr result (host.new ≡ host.old) }
+{
+    if !host.shape().has_place(block, start, bytes.len()) {
+        return Err(Refusal::Block);
+    }
+    let window = host.window(block, start, bytes.len());
+    host.write(&window, bytes);
+    Ok(())
+}
+
+// Puts pages into a block that begins with the page `first`.
+fn put_pages<B: Bitmap>(
+    host: &mut HostMemory<B>,
+    block: BlockId,
+    entry: &BlockEntry,
+    first: u64,
+    bytes: &[u8],
+) -> Result<(), Refusal>
+    ensures ok { OnOk result (HasPlaced host.old host.new block.0 (first * entry.now.page_size) bytes.now) }
+    ensures inside { OnOk result (first * entry.now.page_size + length bytes.now ≤ entry.now.len) }
+    ensures err { OnErr result (host.new ≡ host.old) }
+{
+    let Some(start) = start_of(entry, first) else {
+        return Err(Refusal::Page);
+    };
+    let count = bytes.len() as u64;
+    if count > entry.len - start {
+        return Err(Refusal::Page);
+    }
+    if count == 0 || (count != entry.len - start && !is_whole(count, entry.page_size)) {
+        return Err(Refusal::CutPage);
+    }
+    put_bytes(host, block, start as usize, bytes)
+}
+
+// Whether so many bytes are whole pages of this size.
+fn is_whole(count: u64, page_size: u64) -> bool {
+    page_size != 0 && count % page_size == 0
+}
+
+// Puts zeros into a page of a block.
+fn put_zeros<B: Bitmap>(
+    host: &mut HostMemory<B>,
+    block: BlockId,
+    entry: &BlockEntry,
+    page: u64,
+    zeros: &[u8],
+) -> Result<(), Refusal>
+    requires { zeros.now ≡ replicate (length zeros.now) 0 }
+    ensures ok { OnOk result (HasPlaced host.old host.new block.0 (page * entry.now.page_size)
+        (replicate (min entry.now.page_size (entry.now.len - page * entry.now.page_size)) 0)) }
+    ensures inside { OnOk result (page * entry.now.page_size < entry.now.len) }
+    ensures err { OnErr result (host.new ≡ host.old) }
+{
+    let Some(start) = start_of(entry, page) else {
+        return Err(Refusal::Page);
+    };
+    let count = entry.page_size.min(entry.len - start) as usize;
+    if count > zeros.len() {
+        return Err(Refusal::PageSize);
+    }
+    put_bytes(host, block, start as usize, &zeros[..count])
+}
+
+// The block of this number, with its entry, if the host has it as the header says.
+fn find<B>(
+    host: &HostMemory<B>,
+    base: usize,
+    entries: &[BlockEntry],
+    block: u32,
+) -> Result<(BlockId, BlockEntry), Refusal>
+    ensures entry { IfOk result (λ x. slice_get entries.now block ≡ Some x.1) }
+    ensures number { IfOk result (λ x. x.0.0 ≡ base + block) }
+    ensures len { IfOk result (λ x. length (block_at host.now.blocks (base + block)) ≡ x.1.len) }
+{
+    let Some(entry) = entries.get(block as usize).copied() else {
+        return Err(Refusal::Block);
+    };
+    let Some(number) = base.checked_add(block as usize) else {
+        return Err(Refusal::Block);
+    };
+    match host.shape().block_len(BlockId(number)) {
+        Some(len) if len as u64 == entry.len => Ok((BlockId(number), entry)),
+        _ => Err(Refusal::Block),
+    }
+}
+
+// Does with a host what a frame says of its pages: the frame's block is that of this number from `base` on.
+pub(crate) fn apply<B: Bitmap>(
+    host: &mut HostMemory<B>,
+    base: usize,
+    entries: &[BlockEntry],
+    zeros: &[u8],
+    frame: &Frame<'_>,
+) -> Result<(), Refusal>
+    requires { zeros.now ≡ replicate (length zeros.now) 0 }
+    ensures ok { OnOk result (Applies base entries.now (message_of frame.now) host.old host.new) }
+    ensures err { OnErr result (host.new ≡ host.old) }
+{
+    match *frame {
+        Frame::Pages {
+            block,
+            first,
+            bytes,
+        } => {
+            let (id, entry) = find(host, base, entries, block)?;
+            put_pages(host, id, &entry, first, bytes)?;
+            Ok(())
+        }
+        Frame::ZeroPage { block, page } => {
+            let (id, entry) = find(host, base, entries, block)?;
+            put_zeros(host, id, &entry, page, zeros)?;
+            Ok(())
+        }
+        Frame::RoundEnd { .. } | Frame::Section { .. } | Frame::Done | Frame::Go => Ok(()),
+    }
+}

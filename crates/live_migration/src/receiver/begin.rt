@@ -1,0 +1,144 @@
+//! The beginning of a receiver: the header, and the blocks that it asks for.
+ghost use Rattle.std.specs.Prelude.{◌≡◌, ℕ, ◌+◌, ◌*◌, ◌^◌, ◌<◌, ◌≤◌, List, [], ◌++◌, length, replicate, IfOk, OnOk, OnErr};
+ghost use Rattle.std.specs.Io.KnownBytes.{Consumes};
+ghost use Rattle.sha2.specs.Hashers.{Holds256};
+ghost use Rattle.live_migration.specs.declared.receiver.Stage.TheVariants as stages;
+ghost use Rattle.live_migration.specs.Receiving.{Begins, Grows, zeroed};
+
+use super::{Progress, Receiver, Stage};
+use crate::frame::MOST_PAGE_BYTES;
+use crate::header::{BlockEntry, ENTRY, FRONT, decode_header, front_in};
+use crate::refusal::Refusal;
+use crate::stream::read_bytes;
+use sha2::{Digest, Sha256};
+use std::alloc::{AllocError, Global};
+use std::io::Read;
+use vm_memory_base::NewBitmap;
+use vm_memory_guest::HostMemory;
+
+// Reads a header, as long as it says to be.
+#[tactic(auto, using(crate::proofs::StreamLemmas::consumes_consumes))]
+fn read_header<R: Read>(alloc: Global, reader: &mut R) -> Result<Vec<u8>, Refusal>
+    ensures { IfOk result (λ bytes. Consumes (R.remaining reader.old) (R.remaining reader.new) bytes.items) }
+{
+    let mut bytes = Vec::new(alloc);
+    read_bytes(reader, &mut bytes, FRONT)?;
+    let (count, _rest) = front_in(bytes.as_slice())?;
+    let mut blocks = Vec::new(alloc);
+    read_bytes(reader, &mut blocks, count as usize * ENTRY)?;
+    if bytes.extend_from_slice(blocks.as_slice()).is_err() {
+        return Err(Refusal::Memory);
+    }
+    Ok(bytes)
+}
+
+// Makes the blocks of a header, of zeros, and answers the number of the first.
+fn make_blocks<B: NewBitmap + Drop>(
+    host: &mut HostMemory<B>,
+    entries: &[BlockEntry],
+) -> Result<usize, Refusal>
+    ensures ok { OnOk result (host.new.blocks ≡ host.old.blocks ++ zeroed entries.now) }
+    ensures base { IfOk result (λ base. 0 < length entries.now → base ≡ length host.old.blocks) }
+    ensures err { OnErr result (Grows host.old.blocks host.new.blocks) }
+{
+    let mut base = 0;
+    for (i, entry) in entries.iter().enumerate() {
+        let Ok(block) = host.new_block(entry.len as usize) else {
+            return Err(Refusal::Memory);
+        };
+        if i == 0 {
+            base = block.0;
+        }
+    }
+    Ok(base)
+}
+
+fn total(entries: &[BlockEntry]) -> u64 {
+    let mut sum: u64 = 0;
+    for entry in entries {
+        sum = sum.saturating_add(entry.len);
+    }
+    sum
+}
+
+// The greatest page size.
+fn largest_page(entries: &[BlockEntry]) -> usize {
+    let mut largest: u64 = 0;
+    for entry in entries {
+        largest = largest.max(entry.page_size);
+    }
+    largest as usize
+}
+
+// The greatest number of bytes of pages in one frame.
+fn longest_frame(entries: &[BlockEntry]) -> u32
+    ensures { result ≤ 2 ^ 20 }
+{
+    let mut longest: u64 = 0;
+    for entry in entries {
+        longest = longest.max(entry.len);
+    }
+    longest.min(MOST_PAGE_BYTES as u64) as u32
+}
+
+// Some zeros.
+fn zeros_of(alloc: Global, count: usize) -> Result<Vec<u8>, AllocError>
+    ensures { IfOk result (λ zeros. zeros.items ≡ replicate (length zeros.items) 0) }
+{
+    Ok(vec![in alloc; 0u8; count]?)
+}
+
+// What a receiver has after this header.
+fn first_progress(
+    alloc: Global,
+    header: &[u8],
+    entries: Vec<BlockEntry>,
+    limit: u64,
+) -> Result<Progress, Refusal>
+    ensures { IfOk result (λ p. (p.entries.items ≡ entries.items) × (p.stage ≡ stages.Round) × (p.round ≡ 0)
+        × Holds256 p.hasher header.now) }
+{
+    let mut hasher = Sha256::new();
+    hasher.update(header);
+    let left = limit.saturating_sub(total(entries.as_slice()));
+    let Ok(zeros) = zeros_of(alloc, largest_page(entries.as_slice())) else {
+        return Err(Refusal::Memory);
+    };
+    let longest = longest_frame(entries.as_slice());
+    Ok(Progress {
+        base: 0,
+        entries,
+        stage: Stage::Round,
+        round: 0,
+        hasher,
+        left,
+        longest,
+        zeros,
+        sections: Vec::new(alloc),
+    })
+}
+
+impl Receiver {
+    /// Reads the header and makes its blocks in a host, of zeros, behind those that the host has. The header and the
+    /// stream's sections may ask for `limit` bytes in all: `TooMuchMemory` where the header asks for more, and then
+    /// nothing is made. Where an allocation fails, blocks that were made stay, and no other changes.
+    pub fn begin<R: Read, B: NewBitmap + Drop>(
+        alloc: Global,
+        reader: &mut R,
+        host: &mut HostMemory<B>,
+        limit: u64,
+    ) -> Result<Receiver, Refusal>
+        ensures begun { IfOk result (λ r. Begins limit (R.remaining reader.old) (R.remaining reader.new) r.seen host.old
+            host.new) }
+        ensures refused { OnErr result (Grows host.old.blocks host.new.blocks) }
+    {
+        let header = read_header(alloc, reader)?;
+        let entries = decode_header(alloc, limit, header.as_slice())?;
+        let mut seen = first_progress(alloc, header.as_slice(), entries, limit)?;
+        seen.base = make_blocks(host, seen.entries.as_slice())?;
+        Ok(Receiver {
+            seen,
+            payload: Vec::new(alloc),
+        })
+    }
+}

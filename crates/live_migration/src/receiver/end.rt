@@ -1,0 +1,74 @@
+//! A receiver to its end.
+ghost use Rattle.std.specs.Prelude.{◌≡◌, OnOk, MatchResult};
+
+use super::{Progress, Receiver, Section, Stage};
+use crate::header::BlockEntry;
+use crate::refusal::Refusal;
+use crate::reply::Reply;
+use std::io::{Read, Write};
+use vm_memory_base::Bitmap;
+use vm_memory_guest::HostMemory;
+
+/// A guest that a receiver gives out: its blocks are those of the host from `base` on.
+#[derive(Drop)]
+pub struct Guest {
+    /// The number of its first block in the host.
+    pub base: usize,
+    /// Its blocks, with their places.
+    pub entries: Vec<BlockEntry>,
+    /// The states of its devices and queues, in the order in which they came.
+    pub sections: Vec<Section>,
+}
+
+impl Receiver {
+    ghost use Rattle.live_migration.specs.Receiving.{GivesOut, ReceivesAll};
+    ghost use Rattle.live_migration.specs.declared.receiver.Stage.TheVariants as stage;
+
+    /// Takes all frames up to leave to run the guest. After done it says that it has all. What is refused is for the
+    /// caller to send back.
+    pub fn receive<R: Read, W: Write, B: Bitmap>(
+        &mut self,
+        reader: &mut R,
+        writer: &mut W,
+        host: &mut HostMemory<B>,
+    ) -> Result<(), Refusal>
+        ensures received { OnOk result (ReceivesAll (R.remaining reader.old) (R.remaining reader.new) self.old.seen.base
+            self.old.seen.entries.items host.old host.new) }
+        ensures gone { OnOk result (self.new.seen.stage ≡ stage.Gone) }
+    {
+        for _ in 0..u64::MAX {
+            let stage = self.take(reader, host)?;
+            if stage == Stage::Gone {
+                return Ok(());
+            }
+            if stage == Stage::Done && writer.write_all(&Reply::Accepted.encode()).is_err() {
+                return Err(Refusal::Failed);
+            }
+        }
+        Err(Refusal::Order)
+    }
+
+    /// Gives the guest out, where the sender has given leave to run it, and else the receiver back.
+    pub fn into_guest(self) -> Result<Guest, Receiver>
+        ensures { MatchResult result (λ guest. GivesOut self.seen guest)
+            (λ receiver. (receiver ≡ self) × (self.seen.stage ≡ stage.Gone → ⊥)) }
+    {
+        if self.seen.stage != Stage::Gone {
+            return Err(self);
+        }
+        let Receiver { seen, payload: _ } = self;
+        Ok(guest_of(seen))
+    }
+}
+
+fn guest_of(seen: Progress) -> Guest
+    ensures base { result.base ≡ seen.base }
+    ensures entries { result.entries ≡ seen.entries }
+    ensures sections { result.sections ≡ seen.sections }
+{
+    Guest {
+        base: seen.base,
+        entries: seen.entries,
+        sections: seen.sections,
+    }
+}

@@ -1,0 +1,59 @@
+//! Why what came was refused.
+
+use thiserror::Error;
+
+/// Why a receiver refused what came. It goes back to the sender as a number of 32 bits, the place in this list from 1.
+#[derive(Clone, Copy, Debug, PartialEq, Eq, Error)]
+pub enum Refusal {
+    /// The stream does not begin with the magic word.
+    #[error("no migration stream")]
+    Magic,
+    /// The version is another.
+    #[error("unknown version")]
+    Version,
+    /// There are more blocks than a header may list.
+    #[error("too many blocks")]
+    BlockCount,
+    /// A block has 1 to 2^63 - 1 bytes.
+    #[error("invalid length of a block")]
+    BlockLength,
+    /// A page has 1 to 2^20 bytes.
+    #[error("invalid page size")]
+    PageSize,
+    /// A block begins before the end of the block before it, or ends past the last address.
+    #[error("invalid place of a block")]
+    Place,
+    /// The blocks have more bytes than the receiver may take.
+    #[error("more memory than is allowed")]
+    TooMuchMemory,
+    /// No kind of frames has this number.
+    #[error("unknown kind of frame")]
+    FrameKind,
+    /// A frame is longer or shorter than its kind and the header let it be.
+    #[error("invalid length of a frame")]
+    FrameLength,
+    /// The header lists no such block.
+    #[error("no such block")]
+    Block,
+    /// A page lies past the end of its block.
+    #[error("no such page")]
+    Page,
+    /// The bytes of a frame are no whole pages, and do not end where their block does.
+    #[error("cut page")]
+    CutPage,
+    /// The frame does not come here.
+    #[error("frame out of order")]
+    Order,
+    /// The digest is not that of the stream so far.
+    #[error("wrong digest")]
+    Digest,
+    /// The stream ended too early.
+    #[error("stream ended")]
+    Ended,
+    /// Reading the stream failed.
+    #[error("stream failed")]
+    Failed,
+    /// An allocation failed.
+    #[error("out of memory")]
+    Memory,
+}

@@ -1,0 +1,9 @@
+//! The sending end.
+
+mod pages;
+mod rounds;
+mod stream;
+
+pub use pages::{SendError, Target};
+pub use rounds::Rounds;
+pub use stream::{SendStage, Sender};

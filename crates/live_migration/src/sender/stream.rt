@@ -1,0 +1,447 @@
+//! A sender with its stream: what was copied is sent, rounds end, and the guest is given up.
+ghost use Rattle.std.specs.Prelude.{◌≡◌, ◌≢◌, true, ℕ, ◌+◌, ◌-◌, ◌^◌, ◌<◌, ◌≤◌, List, [], ◌++◌, length, map, IfOk, IsOk, OnOk, OnErr, IsErr, IsTrue, ◌↔◌, ◌⊎◌};
+ghost use Rattle.std.specs.Io.KnownBytes.{Appends, Keeps};
+ghost use Rattle.sha2.specs.Hashers.{Holds256};
+ghost use Rattle.sha2.specs.Sha256.{sha256};
+ghost use Rattle.live_migration.specs.Frame.{Done, Go, IsMessage, RoundEnd, Section, message_of, spelling};
+ghost use Rattle.live_migration.specs.Header.{IsHeader, header_bytes};
+ghost use Rattle.live_migration.specs.declared.sender.stream.SendStage.TheVariants as stages;
+ghost use Rattle.live_migration.specs.Targets.{AreTargets, IsOther};
+ghost use Rattle.live_migration.specs.Leave.{Sends, IsFirst, BeginsToSend};
+
+use super::pages::{SendError, Target, target_of};
+use super::rounds::Rounds;
+use crate::frame::{Frame, GO, MOST_PAGE_BYTES, head_bytes};
+use crate::header::{BlockEntry, MOST_BLOCKS, decode_header, encode_header};
+use crate::receiver::digest_of;
+use crate::refusal::Refusal;
+use crate::reply::Reply;
+use sha2::{Digest, Sha256};
+use std::alloc::{AllocError, Global};
+use std::io::{Read, Write};
+use vm_memory_base::{ExactBitmap, GuestAddress};
+use vm_memory_guest::{BlockId, HostMemory};
+
+/// How far a sender has come.
+#[derive(Clone, Copy, Debug, PartialEq, Eq)]
+pub enum SendStage {
+    /// A round is sent.
+    Sending,
+    /// A round has ended, and nothing was sent since.
+    RoundEnded,
+    /// All was sent, and the reply is awaited.
+    Done,
+    /// The receiver has it all. The guest is given up with `go`, or kept by ending the connection.
+    Accepted,
+    /// The guest was given up.
+    Gone,
+    /// The stream failed, or the receiver refused.
+    Failed,
+}
+
+/// The sending end of a migration.
+#[derive(Drop)]
+pub struct Sender {
+    pub(crate) rounds: Rounds,
+    pub(crate) hasher: Sha256,
+    pub(crate) stage: SendStage,
+}
+
+// Whether rounds are sent.
+fn in_rounds(stage: SendStage) -> bool
+    ensures { IsTrue result ↔ ((stage ≡ stages.Sending) ⊎ (stage ≡ stages.RoundEnded)) }
+{
+    matches!(&stage, SendStage::Sending | SendStage::RoundEnded)
+}
+
+// Writes bytes, and notes them for the digest.
+fn send<W: Write>(writer: &mut W, hasher: &mut Sha256, bytes: &[u8]) -> Result<(), SendError>
+    ensures { OnOk result (Sends bytes.now (W.contents writer.old) (W.contents writer.new) hasher.old hasher.new) }
+{
+    if writer.write_all(bytes).is_err() {
+        return Err(SendError::Failed);
+    }
+    hasher.update(bytes);
+    Ok(())
+}
+
+// Writes a frame.
+fn send_frame<W: Write>(
+    alloc: Global,
+    writer: &mut W,
+    hasher: &mut Sha256,
+    frame: &Frame<'_>,
+) -> Result<(), SendError>
+    requires { IsMessage (message_of frame.now) }
+    ensures { OnOk result (Sends (spelling (message_of frame.now)) (W.contents writer.old) (W.contents writer.new)
+        hasher.old hasher.new) }
+{
+    let mut bytes = Vec::new(alloc);
+    if frame.encode(&mut bytes).is_err() {
+        return Err(SendError::Memory);
+    }
+    send(writer, hasher, bytes.as_slice())
+}
+
+// Reads a reply.
+fn read_reply<R: Read>(reader: &mut R) -> Result<Reply, SendError> {
+    let mut bytes = [0; 8];
+    if reader.read_exact(&mut bytes).is_err() {
+        return Err(SendError::Failed);
+    }
+    match Reply::decode(bytes) {
+        Some(reply) => Ok(reply),
+        None => Err(SendError::Reply),
+    }
+}
+
+// The digest of what was sent, in a frame that ends a round.
+fn send_round_end<W: Write>(
+    alloc: Global,
+    writer: &mut W,
+    hasher: &mut Sha256,
+    round: u32,
+) -> Result<(), SendError>
+    ensures { (sent : List ℕ) → Holds256 hasher.old sent
+        → OnOk result (Sends (spelling (RoundEnd round (sha256 sent))) (W.contents writer.old) (W.contents writer.new)
+        hasher.old hasher.new) }
+{
+    let Ok(digest) = digest_of(hasher) else {
+        return Err(SendError::Memory);
+    };
+    let frame = Frame::RoundEnd {
+        round,
+        digest: &digest,
+    };
+    send_frame(alloc, writer, hasher, &frame)
+}
+
+// Blocks of a host as a header says them, each once.
+fn targets_of<B: ExactBitmap>(
+    alloc: Global,
+    host: &HostMemory<B>,
+    blocks: &[(BlockId, GuestAddress)],
+) -> Result<Vec<Target>, SendError>
+    ensures { IfOk result (λ targets. AreTargets B.pages host.now targets.items) }
+{
+    let mut targets = Vec::new(alloc);
+    for (block, address) in blocks {
+        let target = target_of(host, *block, address.0)?;
+        if !is_new(targets.as_slice(), &target) {
+            return Err(SendError::Twice);
+        }
+        if targets.push(target).is_err() {
+            return Err(SendError::Memory);
+        }
+    }
+    Ok(targets)
+}
+
+// Whether a target's block is none of those of others.
+fn is_new(targets: &[Target], target: &Target) -> bool
+    ensures { result ≡ true → IsOther targets.now target.now }
+{
+    for other in targets {
+        if other.block.0 == target.block.0 {
+            return false;
+        }
+    }
+    true
+}
+
+// The header of blocks, which a receiver accepts.
+fn header_of(alloc: Global, targets: &[Target]) -> Result<Vec<u8>, SendError>
+    ensures { IfOk result (λ v. IsHeader (2 ^ 64 - 1) (map (λ t. t.entry) targets.now)
+        × (v.items ≡ header_bytes (map (λ t. t.entry) targets.now))) }
+{
+    let Ok(entries) = entries_of(alloc, targets) else {
+        return Err(SendError::Memory);
+    };
+    if entries.len() > MOST_BLOCKS as usize {
+        return Err(SendError::Header(Refusal::BlockCount));
+    }
+    let Ok(header) = encode_header(alloc, entries.as_slice()) else {
+        return Err(SendError::Memory);
+    };
+    match decode_header(alloc, u64::MAX, header.as_slice()) {
+        Ok(read) => {
+            // What is read is what was written: the comparison makes it known.
+            if are_equal(read.as_slice(), entries.as_slice()) {
+                Ok(header)
+            } else {
+                Err(SendError::Header(Refusal::FrameLength))
+            }
+        }
+        Err(refusal) => Err(SendError::Header(refusal)),
+    }
+}
+
+fn are_equal(read: &[BlockEntry], entries: &[BlockEntry]) -> bool
+    ensures { result ≡ true → read.now ≡ entries.now }
+{
+    if read.len() != entries.len() {
+        return false;
+    }
+    for (i, entry) in read.iter().enumerate() {
+        if !is_entry(entry, &entries[i]) {
+            return false;
+        }
+    }
+    true
+}
+
+fn is_entry(a: &BlockEntry, b: &BlockEntry) -> bool
+    ensures { result ≡ true → a.now ≡ b.now }
+{
+    a.len == b.len && a.page_size == b.page_size && a.address == b.address
+}
+
+fn entries_of(alloc: Global, targets: &[Target]) -> Result<Vec<BlockEntry>, AllocError>
+    ensures { IfOk result (λ v. v.items ≡ map (λ t. t.entry) targets.now) }
+{
+    targets.iter().map(|t| t.entry).collect(alloc)
+}
+
+fn first_sender(alloc: Global, targets: Vec<Target>, hasher: Sha256) -> Sender
+    ensures targets { result.rounds.targets.items ≡ targets.items }
+    ensures hasher { result.hasher ≡ hasher }
+    ensures first { IsFirst result }
+{
+    Sender {
+        rounds: Rounds {
+            targets,
+            round: 0,
+            turn: 0,
+            last: 0,
+            waiting: Vec::new(alloc),
+            next: 0,
+            batch: Vec::new(alloc),
+        },
+        hasher,
+        stage: SendStage::Sending,
+    }
+}
+
+impl Rounds {
+    ghost use Rattle.live_migration.specs.Sending.{IsIdle};
+
+    // Whether nothing waits.
+    fn is_idle(&self) -> bool
+        ensures { IsTrue result ↔ IsIdle self.now }
+    {
+        self.next >= self.waiting.len() && self.batch.is_empty()
+    }
+}
+
+impl Sender {
+    ghost use Rattle.live_migration.specs.Sending.{AreMarkedAgain, HarvestsNext, CopiesPages, IsIdle, harvested};
+
+    /// Writes the header of these blocks of a host, each with its address, and begins with the first round. The blocks
+    /// ascend by their addresses and do not meet, each is tracked by a bitmap whose pages have at most 2^20 bytes, and
+    /// none comes twice: else `Header`, `Untracked` or `Twice`, and `Changed` where the host has no such block.
+    pub fn begin<B: ExactBitmap, W: Write>(
+        alloc: Global,
+        host: &HostMemory<B>,
+        blocks: &[(BlockId, GuestAddress)],
+        writer: &mut W,
+    ) -> Result<Sender, SendError>
+        ensures begun { IfOk result (λ s. BeginsToSend (W.contents writer.old) (W.contents writer.new) s) }
+        ensures targets { IfOk result (λ s. AreTargets B.pages host.now s.rounds.targets.items) }
+    {
+        let targets = targets_of(alloc, host, blocks)?;
+        let header = header_of(alloc, targets.as_slice())?;
+        let mut hasher = Sha256::new();
+        send(writer, &mut hasher, header.as_slice())?;
+        Ok(first_sender(alloc, targets, hasher))
+    }
+
+    /// Ends a migration before the guest was given up: marks each page again that was harvested, so that another may
+    /// begin anew.
+    pub fn abort<B: ExactBitmap>(self, host: &mut HostMemory<B>)
+        ensures { AreMarkedAgain B.pages (harvested self.rounds) host.old host.new }
+    {
+        self.rounds.mark_again(host);
+    }
+
+    /// As `Rounds::harvest`.
+    pub fn harvest<B: ExactBitmap>(
+        &mut self,
+        alloc: Global,
+        host: &mut HostMemory<B>,
+    ) -> Result<usize, SendError>
+        ensures taken { OnOk result (HarvestsNext B.pages self.old.rounds self.new.rounds host.old host.new) }
+        ensures err { OnErr result ((self.new ≡ self.old) × (host.new ≡ host.old)) }
+        ensures same { (self.new.hasher ≡ self.old.hasher) × (self.new.stage ≡ self.old.stage) }
+    {
+        self.rounds.harvest(alloc, host)
+    }
+
+    /// As `Rounds::copy_batch`.
+    pub fn copy_batch<B: ExactBitmap>(&mut self, host: &HostMemory<B>) -> Result<usize, SendError>
+        ensures copied { IfOk result (λ count. CopiesPages count self.old.rounds self.new.rounds host.now) }
+        ensures err { OnErr result (self.new.rounds.next ≡ self.old.rounds.next) }
+        ensures same { (self.new.hasher ≡ self.old.hasher) × (self.new.stage ≡ self.old.stage) }
+    {
+        self.rounds.copy_batch(host)
+    }
+
+    /// Sends what was copied. `Order` after the rounds, and `Failed` where the stream fails: then nothing more is sent,
+    /// and what waited still waits.
+    pub fn send_batch<W: Write>(&mut self, writer: &mut W) -> Result<(), SendError>
+        ensures sent { OnOk result (Sends self.old.rounds.batch.items (W.contents writer.old) (W.contents writer.new)
+            self.old.hasher self.new.hasher) }
+        ensures ok { OnOk result (self.new.rounds.batch.items ≡ []) }
+        ensures err { OnErr result (self.new.rounds.batch ≡ self.old.rounds.batch) }
+        ensures same { (self.new.rounds.targets ≡ self.old.rounds.targets)
+            × (self.new.rounds.round ≡ self.old.rounds.round)
+            × (self.new.rounds.waiting ≡ self.old.rounds.waiting) × (self.new.rounds.next ≡ self.old.rounds.next)
+            × (self.new.rounds.turn ≡ self.old.rounds.turn) × (self.new.rounds.last ≡ self.old.rounds.last) }
+    {
+        if !in_rounds(self.stage) {
+            return Err(SendError::Order);
+        }
+        let sent = send(writer, &mut self.hasher, self.rounds.batch.as_slice());
+        match sent {
+            Ok(()) => {
+                self.rounds.batch.clear();
+                self.stage = SendStage::Sending;
+                Ok(())
+            }
+            Err(error) => {
+                self.stage = SendStage::Failed;
+                Err(error)
+            }
+        }
+    }
+
+    /// Sends the state of a device or a queue, in a round: its name has at most 255 bytes, and the state at most 2^20,
+    /// else `Section`. `Order` after the rounds, and `Memory` where an allocation fails.
+    pub fn send_section<W: Write>(
+        &mut self,
+        alloc: Global,
+        writer: &mut W,
+        name: &[u8],
+        bytes: &[u8],
+    ) -> Result<(), SendError>
+        ensures sent { OnOk result (Sends (spelling (Section name.now bytes.now)) (W.contents writer.old)
+            (W.contents writer.new) self.old.hasher self.new.hasher) }
+        ensures fits { OnOk result ((length name.now < 256) × (length bytes.now ≤ 2 ^ 20)) }
+        ensures same { self.new.rounds ≡ self.old.rounds }
+    {
+        if name.len() > 255 || bytes.len() > MOST_PAGE_BYTES {
+            return Err(SendError::Section);
+        }
+        if !in_rounds(self.stage) {
+            return Err(SendError::Order);
+        }
+        let frame = Frame::Section { name, bytes };
+        match send_frame(alloc, writer, &mut self.hasher, &frame) {
+            Ok(()) => {
+                self.stage = SendStage::Sending;
+                Ok(())
+            }
+            Err(error) => {
+                self.stage = SendStage::Failed;
+                Err(error)
+            }
+        }
+    }
+
+    /// Ends a round, in which each block was harvested and nothing waits: else `Order`. `Memory` where an allocation
+    /// fails.
+    pub fn end_round<W: Write>(&mut self, alloc: Global, writer: &mut W) -> Result<(), SendError>
+        ensures sent { (sent : List ℕ) → Holds256 self.old.hasher sent
+            → OnOk result (Sends (spelling (RoundEnd self.old.rounds.round (sha256 sent)))
+            (W.contents writer.old) (W.contents writer.new) self.old.hasher self.new.hasher) }
+        ensures through { OnOk result (IsIdle self.old.rounds
+            × (self.old.rounds.turn ≡ length self.old.rounds.targets.items)) }
+        ensures next { OnOk result ((self.new.rounds.round ≡ self.old.rounds.round + 1) × (self.new.rounds.turn ≡ 0)) }
+        ensures same { (self.new.rounds.targets ≡ self.old.rounds.targets)
+            × (self.new.rounds.waiting ≡ self.old.rounds.waiting) × (self.new.rounds.next ≡ self.old.rounds.next)
+            × (self.new.rounds.batch ≡ self.old.rounds.batch) × (self.new.rounds.last ≡ self.old.rounds.last) }
+    {
+        if !in_rounds(self.stage)
+            || !self.rounds.is_idle()
+            || self.rounds.turn != self.rounds.targets.len()
+        {
+            return Err(SendError::Order);
+        }
+        let Some(next) = self.rounds.round.checked_add(1) else {
+            return Err(SendError::Order);
+        };
+        match send_round_end(alloc, writer, &mut self.hasher, self.rounds.round) {
+            Ok(()) => {
+                self.rounds.round = next;
+                self.rounds.turn = 0;
+                self.stage = SendStage::RoundEnded;
+                Ok(())
+            }
+            Err(error) => {
+                self.stage = SendStage::Failed;
+                Err(error)
+            }
+        }
+    }
+
+    /// Says that all was sent, right after the end of a round: else `Order`.
+    pub fn done<W: Write>(&mut self, alloc: Global, writer: &mut W) -> Result<(), SendError>
+        ensures sent { OnOk result (Sends (spelling Done) (W.contents writer.old) (W.contents writer.new)
+            self.old.hasher self.new.hasher) }
+        ensures ok { OnOk result ((self.new.stage ≡ stages.Done) × (self.old.stage ≡ stages.RoundEnded)
+            × (self.old.rounds.turn ≡ 0)) }
+        ensures same { self.new.rounds ≡ self.old.rounds }
+    {
+        if self.stage != SendStage::RoundEnded || self.rounds.turn != 0 {
+            return Err(SendError::Order);
+        }
+        match send_frame(alloc, writer, &mut self.hasher, &Frame::Done) {
+            Ok(()) => {
+                self.stage = SendStage::Done;
+                Ok(())
+            }
+            Err(error) => {
+                self.stage = SendStage::Failed;
+                Err(error)
+            }
+        }
+    }
+
+    /// Waits for the receiver's word that it has all.
+    pub fn accepted<R: Read>(&mut self, reader: &mut R) -> Result<(), SendError>
+        ensures ok { OnOk result ((self.new.stage ≡ stages.Accepted) × (self.old.stage ≡ stages.Done)) }
+        ensures err { OnErr result ((self.new.stage ≡ stages.Failed) ⊎ (self.new.stage ≡ self.old.stage)) }
+        ensures same { self.new.rounds ≡ self.old.rounds }
+    {
+        if self.stage != SendStage::Done {
+            return Err(SendError::Order);
+        }
+        self.stage = SendStage::Failed;
+        match read_reply(reader)? {
+            Reply::Accepted => {
+                self.stage = SendStage::Accepted;
+                Ok(())
+            }
+            Reply::Refused(refusal) => Err(SendError::Refused(refusal)),
+            Reply::Ready => Err(SendError::Reply),
+        }
+    }
+
+    /// Gives the guest up: the receiver may run it. Only after the receiver has said that it has all, else `Order`, and
+    /// then nothing is sent. From then on the guest never runs here, even where the stream fails.
+    #[tactic(auto, unfolding(crate::specs::Frame::spelling))]
+    pub fn go<W: Write>(&mut self, writer: &mut W) -> Result<(), SendError>
+        ensures sent { OnOk result (Appends (W.contents writer.old) (W.contents writer.new) (spelling Go)) }
+        ensures early { self.old.stage ≢ stages.Accepted
+            → IsErr result × (writer.new ≡ writer.old) × (self.new ≡ self.old) }
+        ensures gone { self.old.stage ≡ stages.Accepted → self.new.stage ≡ stages.Gone }
+    {
+        if self.stage != SendStage::Accepted {
+            return Err(SendError::Order);
+        }
+        self.stage = SendStage::Gone;
+        if writer.write_all(&head_bytes(GO, 0)).is_err() {
+            return Err(SendError::Failed);
+        }
+        Ok(())
+    }
+}

@@ -1,0 +1,100 @@
+//! Connections that are cut at any byte of a small migration, and the next try.
+
+use crate::guests::{Host, are_equal, dirty_count, guest_of, put, send_pages, take_until};
+use live_migration::{Receiver, Reply, SendError, Sender, Stage};
+use std::alloc::Global;
+use std::io::{self, ErrorKind, Write};
+use std::test::Fail;
+use vm_memory_base::GuestAddress;
+use vm_memory_guest::BlockId;
+
+// Takes so many bytes, and then fails.
+#[derive(Drop)]
+struct Cut {
+    bytes: Vec<u8>,
+    left: usize,
+}
+
+impl Write for Cut {
+    fn write(&mut self, buf: &[u8]) -> io::Result<usize> {
+        let count = buf.len().min(self.left);
+        if count == 0 && !buf.is_empty() {
+            return Err(io::Error::from(ErrorKind::BrokenPipe));
+        }
+        self.bytes.extend_from_slice(&buf[..count])?;
+        self.left -= count;
+        Ok(count)
+    }
+
+    fn flush(&mut self) -> io::Result<()> {
+        Ok(())
+    }
+}
+
+// Two rounds, with a write between them, up to done.
+fn send_all(
+    alloc: Global,
+    sender: &mut Sender,
+    host: &mut Host,
+    writer: &mut Cut,
+) -> Result<(), SendError> {
+    send_pages(alloc, sender, host, 2, writer)?;
+    sender.end_round(alloc, writer)?;
+    put(host, BlockId(1), 0x1001, 8);
+    send_pages(alloc, sender, host, 2, writer)?;
+    sender.send_section(alloc, writer, b"q", &[5])?;
+    sender.end_round(alloc, writer)?;
+    sender.done(alloc, writer)
+}
+
+// Moves a guest over a connection that is cut after so many bytes. Where it is cut, all pages that were harvested are
+// dirty again. Answers whether it was not cut and the blocks are equal.
+fn tried(
+    alloc: Global,
+    host: &mut Host,
+    places: &[(BlockId, GuestAddress)],
+    left: usize,
+) -> Result<bool, Fail> {
+    let mut cut = Cut {
+        bytes: Vec::new(alloc),
+        left,
+    };
+    let Ok(mut sender) = Sender::begin(alloc, host, places, &mut cut) else {
+        return Ok(false);
+    };
+    if send_all(alloc, &mut sender, host, &mut cut).is_err() {
+        sender.abort(host);
+        return Ok(false);
+    }
+    let mut other = Host::new(alloc);
+    let mut input = cut.bytes.as_slice();
+    let mut receiver = Receiver::begin(alloc, &mut input, &mut other, 0x10_0000)?;
+    take_until(&mut receiver, input, &mut other, Stage::Done)?;
+    sender.accepted(&mut Reply::Accepted.encode().as_slice())?;
+    Ok(are_equal(host, places, &other, 0))
+}
+
+#[test]
+fn cut_connections_and_the_next_try(rt: HostRuntime) -> Result<(), Fail> {
+    let alloc = rt.alloc();
+    let mut cuts: usize = 0;
+    for step in 0..400 {
+        let (mut host, places) = guest_of(alloc, &[(0x21, 0x10), (0x1800, 0x1000)])?;
+        put(&mut host, BlockId(0), 0x20, 3);
+        put(&mut host, BlockId(1), 0x17ff, 4);
+        let left = step * 41;
+        if tried(alloc, &mut host, &places, left)? {
+            break;
+        }
+        cuts = cuts.saturating_add(1);
+        // What was harvested is dirty again, also what no one had written.
+        let first = dirty_count(&mut host, alloc, BlockId(0))?;
+        let second = dirty_count(&mut host, alloc, BlockId(1))?;
+        assert!(rt; first == 3 || first == 1, "{left}: {first} pages");
+        assert!(rt; second == 2 || second == 1, "{left}: {second} pages");
+        let is_equal = tried(alloc, &mut host, &places, usize::MAX)?;
+        assert!(rt; is_equal, "{left}");
+    }
+    assert!(rt; cuts > 100 && cuts < 400, "{cuts} cuts");
+    Ok(())
+}

@@ -1,0 +1,13 @@
+//! Tests of live migrations: streams that a receiver takes or refuses, and whole migrations in rounds.
+#![tactic(auto)]
+
+#[cfg(test)]
+mod cuts;
+#[cfg(test)]
+mod guests;
+#[cfg(test)]
+mod moves;
+#[cfg(test)]
+mod streams;
+#[cfg(test)]
+mod trials;
