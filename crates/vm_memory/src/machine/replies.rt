@@ -112,7 +112,9 @@ impl<R: GuestMemoryRegion, I: Iommu, B: ExactBitmap> Machine<R, I, B> {
         }
     }
 
-    fn load_word(&self, memory: usize, width: Width, addr: GuestAddress) -> Result<u64, Refusal>
+    /// Loads an integer of this width of a memory, as a number. It is refused as `load` is.
+    #[inline]
+    pub fn load_word(&self, memory: usize, width: Width, addr: GuestAddress) -> Result<u64, Refusal>
         ensures { let now = state_of R.region I.number B.pages self.now in
             Step now (command.Load memory width addr) (replied reply.Value result) now }
     {

@@ -18,11 +18,11 @@ use vm_memory_guest::{
 };
 
 /// The machine that a script commands.
-pub(super) type ScriptMachine = Machine<GuestRegionMmap, TableIommu, ExclusiveBitmap>;
+pub type ScriptMachine = Machine<GuestRegionMmap, TableIommu, ExclusiveBitmap>;
 
 /// A host, and regions of its blocks and translators of its tables, which it holds.
 #[derive(Drop)]
-pub(super) struct Pools {
+pub struct Pools {
     alloc: Global,
     host: HostMemory<ExclusiveBitmap>,
     regions: Vec<Arc<GuestRegionMmap>>,
@@ -54,7 +54,7 @@ impl Model for Pools {
 
 impl Pools {
     /// Pools of nothing.
-    pub(super) fn new(alloc: Global) -> Pools
+    pub fn new(alloc: Global) -> Pools
         ensures { result ≡ no_parts }
     {
         Pools {
@@ -66,7 +66,7 @@ impl Pools {
     }
 
     /// Makes what a setup line asks for, or changes nothing and says why.
-    pub(super) fn make(&mut self, setup: Setup) -> SetupReply
+    pub fn make(&mut self, setup: Setup) -> SetupReply
         ensures { SetsUp (state_made self.old) setup result (state_made self.new) }
     {
         match setup {
@@ -79,7 +79,7 @@ impl Pools {
     }
 
     /// A machine of the host, the regions and the translators.
-    pub(super) fn into_machine(self) -> ScriptMachine
+    pub fn into_machine(self) -> ScriptMachine
         ensures { result ≡ self }
     {
         Machine::new(self.alloc, self.host, self.regions, self.translators)

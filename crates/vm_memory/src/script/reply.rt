@@ -10,7 +10,7 @@ use vm_memory_base::{IommuError, IovaRange, IovaRangeList, MappedRange, Reason};
 
 /// What a setup line answers. All but the numbers changed nothing.
 #[derive(Drop)]
-pub(super) enum SetupReply {
+pub enum SetupReply {
     /// The number of the block that was made.
     BlockMade(usize),
     /// The number of the space that was made.

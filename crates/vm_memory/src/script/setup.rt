@@ -11,7 +11,7 @@ use vm_memory_guest::{BlockId, TlbId};
 
 /// What is made before the machine.
 #[derive(Drop)]
-pub(super) enum Setup {
+pub enum Setup {
     /// A block of `size` bytes, tracked in pages of `page_size`.
     Block {
         size: usize,
