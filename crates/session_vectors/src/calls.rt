@@ -5,8 +5,8 @@ use std::test::Fail;
 use test_text::expect_text;
 use vm_session::{Call, Session};
 
-// A call: its kind; what is named; an address and another; a length and another; a width, an access and a value. Then its
-// input, the bytes of its output, which are 0xee before, and its answer: code, count, value, address and output.
+// A call: its kind; what is named; an address and another; a length and another; a width, an access and a value. Then
+// its input, the bytes of its output, which are 0xee before, and its answer: code, count, value, address and output.
 type Case = (
     u32,
     [usize; 3],
