@@ -86,6 +86,11 @@ Stores old call width a new =
     (r : replies.Reply) × Step old (command.Store call.first width (address call.address) call.value) r new
     × (a ≡ answer_of r)
 
+-- and to a load
+abbrev pub Loads : State → Call → Width → Answer → Type 0
+Loads now call width a =
+    (r : replies.Reply) × Step now (command.Load call.first width (address call.address)) r now × (a ≡ answer_of r)
+
 -- what is answered to a setup call before the first command
 abbrev pub IsSetUp : State → Kind → Call → Answer → State → Type 0
 IsSetUp old kind call a new =

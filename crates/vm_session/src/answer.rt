@@ -65,6 +65,7 @@ impl Answer {
 }
 
 // The answer to a call that was refused.
+#[inline(never)]
 pub(crate) fn refused(refusal: Refusal) -> Answer
     ensures { result ≡ answer_of (reply_of_refusal refusal) }
 {

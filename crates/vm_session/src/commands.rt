@@ -5,7 +5,7 @@ ghost use Rattle.vm_memory.specs.Typed.{fits_width, integer_of};
 ghost use Rattle.vm_memory.specs.declared.machine.command.Command.TheVariants as command;
 ghost use Rattle.vm_session.specs.Kinds.{is_listing, is_making, is_moving};
 ghost use Rattle.vm_session.specs.Requests.{command_at};
-ghost use Rattle.vm_session.specs.Session.{Does, DoesListed, Served, Stores};
+ghost use Rattle.vm_session.specs.Session.{Does, DoesListed, Loads, Served, Stores};
 ghost use Rattle.vm_session.specs.Words.{numbers_in};
 
 use crate::answer::{checked, done, loaded, made, moved, refused};
@@ -19,7 +19,8 @@ use vm_memory::script::ScriptMachine;
 use vm_memory::{BlockRange, Width};
 use vm_memory_base::{BitmapId, GuestAddress, Permissions};
 
-// Serves a call of a kind that is none of setup: those that read and write first.
+// Serves a call of a kind that is none of setup. Each kind of call has a function of its own, so that a short one pays
+// for its own values alone.
 #[inline]
 pub(crate) fn serve(
     alloc: Global,
@@ -32,18 +33,17 @@ pub(crate) fn serve(
     ensures { Served (state_made machine.old) kind call.now input.now output.old result output.new
         (state_made machine.new) }
 {
-    let addr = GuestAddress(call.address);
     match kind {
         Kind::Read => read(machine, call, output),
-        Kind::Write => moved(machine.write(call.first, addr, input)),
+        Kind::Write => write(machine, call, input),
         Kind::ReadSlice => read_slice(machine, call, output),
-        Kind::WriteSlice => done(machine.write_slice(call.first, addr, input)),
+        Kind::WriteSlice => write_slice(machine, call, input),
         Kind::Store => match width_of(call.width) {
             Some(width) => store(machine, call, width),
             None => Answer::of_code(code::BAD_CALL),
         },
         Kind::Load => match width_of(call.width) {
-            Some(width) => loaded(machine.load_word(call.first, width, addr)),
+            Some(width) => load(machine, call, width),
             None => Answer::of_code(code::BAD_CALL),
         },
         Kind::Layout
@@ -205,7 +205,7 @@ fn copy(machine: &mut ScriptMachine, call: &Call) -> Answer
 }
 
 // Reads at most so many bytes of a memory into the front of the output.
-#[inline]
+#[inline(never)]
 fn read(machine: &ScriptMachine, call: &Call, output: &mut [u8]) -> Answer
     ensures { let now = state_made machine.now in
         Does now (command_at Kind.Read call.now []) output.old result output.new now }
@@ -218,7 +218,7 @@ fn read(machine: &ScriptMachine, call: &Call, output: &mut [u8]) -> Answer
 }
 
 // Reads just so many bytes of a memory into the front of the output.
-#[inline]
+#[inline(never)]
 fn read_slice(machine: &ScriptMachine, call: &Call, output: &mut [u8]) -> Answer
     ensures { let now = state_made machine.now in
         Does now (command_at Kind.ReadSlice call.now []) output.old result output.new now }
@@ -233,8 +233,34 @@ fn read_slice(machine: &ScriptMachine, call: &Call, output: &mut [u8]) -> Answer
     }
 }
 
+// Writes the bytes of the input that fit.
+#[inline(never)]
+fn write(machine: &mut ScriptMachine, call: &Call, input: &[u8]) -> Answer
+    ensures { (out : List ℕ) → Does (state_made machine.old) (command_at Kind.Write call.now input.now) out result out
+        (state_made machine.new) }
+{
+    moved(machine.write(call.first, GuestAddress(call.address), input))
+}
+
+// Writes all bytes of the input.
+#[inline(never)]
+fn write_slice(machine: &mut ScriptMachine, call: &Call, input: &[u8]) -> Answer
+    ensures { (out : List ℕ) → Does (state_made machine.old) (command_at Kind.WriteSlice call.now input.now) out result
+        out (state_made machine.new) }
+{
+    done(machine.write_slice(call.first, GuestAddress(call.address), input))
+}
+
+// Loads an integer of this width.
+#[inline(never)]
+fn load(machine: &ScriptMachine, call: &Call, width: Width) -> Answer
+    ensures { Loads (state_made machine.now) call.now width result }
+{
+    loaded(machine.load_word(call.first, width, GuestAddress(call.address)))
+}
+
 // Stores a number as an integer of this width, if it is one.
-#[inline]
+#[inline(never)]
 fn store(machine: &mut ScriptMachine, call: &Call, width: Width) -> Answer
     ensures { Stores (state_made machine.old) call.now width result (state_made machine.new) }
 {
@@ -251,6 +277,7 @@ fn store(machine: &mut ScriptMachine, call: &Call, width: Width) -> Answer
 }
 
 // Refuses a value that has too many bytes, where the memory is there.
+#[inline(never)]
 fn too_wide(machine: &ScriptMachine, call: &Call, width: Width) -> Answer
     requires { fits_width (integer_of width) call.now.value ≡ false }
     ensures { let now = state_made machine.now in Stores now call.now width result now }

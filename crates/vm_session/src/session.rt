@@ -65,6 +65,7 @@ impl Session {
         }
     }
 
+    #[inline(never)]
     fn set_up(&mut self, kind: Kind, call: &Call) -> Answer
         requires { IsTrue (sets_up kind) }
         ensures { SetsUpBy self.old kind call.now result self.new }
@@ -90,6 +91,7 @@ impl Session {
 }
 
 // Makes the machine of what was set up.
+#[inline(never)]
 fn begin(alloc: Global, pools: &mut Pools, machine: &mut Option<ScriptMachine>)
     requires { machine.old ≡ None }
     ensures begun { stage_of machine.new pools.new ≡ commanding (state_at (stage_of machine.old pools.old)) }
