@@ -1,0 +1,320 @@
+/*
+ * The proved machine, for C11 and C++17.
+ *
+ * A session is a machine that is set up, and runs from its first command on. Each function below is one call of it, with
+ * the name and the order of a script's line (docs/SCRIPT.md); docs/BINDINGS.md has the rules.
+ *
+ * The caller opens a session before it calls it, and closes it once. It makes one call at a time of a session, from any
+ * thread, keeps no pointer into it, copies its handle nowhere, and gives lengths that are true. A program links the
+ * static library and then the allocator that it wants (`liblibc_c.a`).
+ */
+#ifndef VM_MEMORY_H
+#define VM_MEMORY_H
+
+#include <stddef.h>
+#include <stdint.h>
+
+#ifdef __cplusplus
+extern "C" {
+#endif
+
+/* The handle of a session. One that is zero is closed. */
+typedef struct vmm_session {
+    unsigned char *at;
+} vmm_session;
+
+/* What is called, in the order of the lines of a script. */
+enum vmm_kind {
+    VMM_BLOCK, VMM_SPACE, VMM_TABLE, VMM_LIMITED_TABLE, VMM_REGION, VMM_TRANSLATOR,
+    VMM_LAYOUT, VMM_INSERT, VMM_REMOVE, VMM_PLAIN, VMM_MEMORY, VMM_REPLACE, VMM_ENABLE,
+    VMM_READ, VMM_WRITE, VMM_READX, VMM_WRITEX, VMM_STORE, VMM_LOAD,
+    VMM_FROM, VMM_FROMX, VMM_TO, VMM_TOX, VMM_CHECK, VMM_COPY,
+    VMM_SET, VMM_INVALIDATE, VMM_CLEAR, VMM_LOOKUP,
+    VMM_DIRTY_BLOCK, VMM_DIRTY_SPACE, VMM_HARVEST_BLOCK, VMM_HARVEST_SPACE
+};
+
+/* An access. */
+enum vmm_access { VMM_NO, VMM_R, VMM_W, VMM_RW };
+
+/* Why a call was refused, or 0. docs/BINDINGS.md says what the other fields of an answer tell of each. */
+enum vmm_code {
+    VMM_DONE = 0, VMM_NO_SUCH = 1, VMM_BAD_RANGE = 2, VMM_OUT_OF_MEMORY = 3, VMM_FAILS = 4,
+    VMM_INVALID_SIZE = 5, VMM_INVALID_REGION = 6,
+    VMM_BAD_CALL = 16, VMM_LATE = 17, VMM_SHORT = 18,
+    VMM_INVALID_GUEST_ADDRESS = 32,
+    VMM_IO_INTERRUPTED = 33, VMM_IO_WRITE_ZERO = 34, VMM_IO_UNEXPECTED_EOF = 35, VMM_IO_OTHER = 36,
+    VMM_PARTIAL_BUFFER = 37, VMM_INVALID_BACKEND_ADDRESS = 38, VMM_HOST_ADDRESS_NOT_AVAILABLE = 39,
+    VMM_CALLBACK_OUT_OF_RANGE = 40, VMM_GUEST_ADDRESS_OVERFLOW = 41,
+    VMM_IOMMU_MISSING = 42, VMM_IOMMU_NOT_ALLOWED = 43, VMM_IOMMU_NOT_CONFIGURED = 44, VMM_IOMMU_FRAGMENTED = 45,
+    VMM_MISCONFIGURED_MISSING = 46, VMM_MISCONFIGURED_NOT_ALLOWED = 47, VMM_MISCONFIGURED_NOT_CONFIGURED = 48,
+    VMM_IOMMU_MEMORY = 49,
+    VMM_NO_MEMORY_REGION = 50, VMM_MEMORY_REGION_OVERLAP = 51, VMM_UNSORTED_MEMORY_REGIONS = 52
+};
+
+/* The numbers that close a step of a source, behind the numbers of its bytes, and those of the steps of a sink:
+ * behind VMM_TAKES stands how many bytes it takes at most. */
+enum vmm_step {
+    VMM_TAKES = 0, VMM_SINK_INTERRUPTED = 1, VMM_SINK_FAILS = 2,
+    VMM_GIVES = 256, VMM_INTERRUPTED = 257, VMM_SOURCE_FAILS = 258
+};
+
+/* A call: its kind, and the fields that its kind names. */
+typedef struct vmm_request {
+    uint32_t kind, width, access;
+    size_t first, second, third;
+    uint64_t address, target;
+    size_t length, other_length;
+    uint64_t value;
+} vmm_request;
+
+/* An answer. */
+typedef struct vmm_answer {
+    uint32_t code;
+    size_t count;
+    uint64_t value, address;
+} vmm_answer;
+
+/* The three functions of the library. `vmm_open` answers VMM_DONE or VMM_OUT_OF_MEMORY. */
+uint32_t vmm_open(vmm_session *session);
+void vmm_call(vmm_session *session, const vmm_request *call, const uint8_t *input, size_t input_size,
+              uint8_t *output, size_t output_size, vmm_answer *answer);
+void vmm_close(vmm_session *session);
+
+/* A call with an input and an output, either of which may be of no bytes and null. */
+static inline vmm_answer vmm_asked(vmm_session *session, const vmm_request *call, const void *input,
+                                   size_t input_size, void *output, size_t output_size) {
+    vmm_answer answer = {0, 0, 0, 0};
+    uint8_t none[1] = {0};
+    vmm_call(session, call, input ? (const uint8_t *)input : none, input ? input_size : 0,
+             output ? (uint8_t *)output : none, output ? output_size : 0, &answer);
+    return answer;
+}
+
+static inline vmm_request vmm_of_kind(enum vmm_kind kind) {
+    vmm_request call = {0, 0, 0, 0, 0, 0, 0, 0, 0, 0, 0};
+    call.kind = (uint32_t)kind;
+    return call;
+}
+
+static inline vmm_request vmm_at(enum vmm_kind kind, size_t first, uint64_t address, size_t length) {
+    vmm_request call = vmm_of_kind(kind);
+    call.first = first;
+    call.address = address;
+    call.length = length;
+    return call;
+}
+
+/* Setup: each answers the number of what was made in `value`. */
+
+static inline vmm_answer vmm_block(vmm_session *s, size_t size, size_t page) {
+    vmm_request call = vmm_at(VMM_BLOCK, 0, 0, size);
+    call.other_length = page;
+    return vmm_asked(s, &call, NULL, 0, NULL, 0);
+}
+
+static inline vmm_answer vmm_space(vmm_session *s, size_t size, size_t page) {
+    vmm_request call = vmm_at(VMM_SPACE, 0, 0, size);
+    call.other_length = page;
+    return vmm_asked(s, &call, NULL, 0, NULL, 0);
+}
+
+static inline vmm_answer vmm_table(vmm_session *s) {
+    vmm_request call = vmm_of_kind(VMM_TABLE);
+    return vmm_asked(s, &call, NULL, 0, NULL, 0);
+}
+
+static inline vmm_answer vmm_limited_table(vmm_session *s, size_t limit) {
+    vmm_request call = vmm_at(VMM_LIMITED_TABLE, 0, 0, limit);
+    return vmm_asked(s, &call, NULL, 0, NULL, 0);
+}
+
+static inline vmm_answer vmm_region(vmm_session *s, size_t block, uint64_t address) {
+    vmm_request call = vmm_at(VMM_REGION, block, address, 0);
+    return vmm_asked(s, &call, NULL, 0, NULL, 0);
+}
+
+static inline vmm_answer vmm_translator(vmm_session *s, size_t table) {
+    vmm_request call = vmm_at(VMM_TRANSLATOR, table, 0, 0);
+    return vmm_asked(s, &call, NULL, 0, NULL, 0);
+}
+
+/* Commands. A list of numbers has eight bytes for each, the lowest first. */
+
+static inline vmm_answer vmm_layout(vmm_session *s, const void *regions, size_t regions_size) {
+    vmm_request call = vmm_of_kind(VMM_LAYOUT);
+    return vmm_asked(s, &call, regions, regions_size, NULL, 0);
+}
+
+static inline vmm_answer vmm_insert(vmm_session *s, size_t layout, size_t region) {
+    vmm_request call = vmm_at(VMM_INSERT, layout, 0, 0);
+    call.second = region;
+    return vmm_asked(s, &call, NULL, 0, NULL, 0);
+}
+
+static inline vmm_answer vmm_remove(vmm_session *s, size_t layout, uint64_t address, size_t size) {
+    vmm_request call = vmm_at(VMM_REMOVE, layout, address, size);
+    return vmm_asked(s, &call, NULL, 0, NULL, 0);
+}
+
+static inline vmm_answer vmm_plain(vmm_session *s, size_t layout) {
+    vmm_request call = vmm_at(VMM_PLAIN, layout, 0, 0);
+    return vmm_asked(s, &call, NULL, 0, NULL, 0);
+}
+
+static inline vmm_answer vmm_memory(vmm_session *s, size_t layout, size_t translator, size_t space, int on) {
+    vmm_request call = vmm_at(VMM_MEMORY, layout, 0, 0);
+    call.second = translator;
+    call.third = space;
+    call.value = on ? 1 : 0;
+    return vmm_asked(s, &call, NULL, 0, NULL, 0);
+}
+
+static inline vmm_answer vmm_replace(vmm_session *s, size_t memory, size_t layout) {
+    vmm_request call = vmm_at(VMM_REPLACE, memory, 0, 0);
+    call.second = layout;
+    return vmm_asked(s, &call, NULL, 0, NULL, 0);
+}
+
+static inline vmm_answer vmm_enable(vmm_session *s, size_t memory, int on) {
+    vmm_request call = vmm_at(VMM_ENABLE, memory, 0, 0);
+    call.value = on ? 1 : 0;
+    return vmm_asked(s, &call, NULL, 0, NULL, 0);
+}
+
+static inline vmm_answer vmm_read(vmm_session *s, size_t memory, uint64_t address, void *bytes, size_t size) {
+    vmm_request call = vmm_at(VMM_READ, memory, address, size);
+    return vmm_asked(s, &call, NULL, 0, bytes, size);
+}
+
+static inline vmm_answer vmm_write(vmm_session *s, size_t memory, uint64_t address, const void *bytes, size_t size) {
+    vmm_request call = vmm_at(VMM_WRITE, memory, address, 0);
+    return vmm_asked(s, &call, bytes, size, NULL, 0);
+}
+
+static inline vmm_answer vmm_readx(vmm_session *s, size_t memory, uint64_t address, void *bytes, size_t size) {
+    vmm_request call = vmm_at(VMM_READX, memory, address, size);
+    return vmm_asked(s, &call, NULL, 0, bytes, size);
+}
+
+static inline vmm_answer vmm_writex(vmm_session *s, size_t memory, uint64_t address, const void *bytes, size_t size) {
+    vmm_request call = vmm_at(VMM_WRITEX, memory, address, 0);
+    return vmm_asked(s, &call, bytes, size, NULL, 0);
+}
+
+static inline vmm_answer vmm_store(vmm_session *s, size_t memory, uint32_t width, uint64_t address, uint64_t value) {
+    vmm_request call = vmm_at(VMM_STORE, memory, address, 0);
+    call.width = width;
+    call.value = value;
+    return vmm_asked(s, &call, NULL, 0, NULL, 0);
+}
+
+static inline vmm_answer vmm_load(vmm_session *s, size_t memory, uint32_t width, uint64_t address) {
+    vmm_request call = vmm_at(VMM_LOAD, memory, address, 0);
+    call.width = width;
+    return vmm_asked(s, &call, NULL, 0, NULL, 0);
+}
+
+static inline vmm_answer vmm_from(vmm_session *s, size_t memory, uint64_t address, size_t size, const void *steps,
+                                  size_t steps_size) {
+    vmm_request call = vmm_at(VMM_FROM, memory, address, size);
+    return vmm_asked(s, &call, steps, steps_size, NULL, 0);
+}
+
+static inline vmm_answer vmm_fromx(vmm_session *s, size_t memory, uint64_t address, size_t size, const void *steps,
+                                   size_t steps_size) {
+    vmm_request call = vmm_at(VMM_FROMX, memory, address, size);
+    return vmm_asked(s, &call, steps, steps_size, NULL, 0);
+}
+
+/* What the sink takes goes to `taken`, which has `size` bytes. */
+static inline vmm_answer vmm_to(vmm_session *s, size_t memory, uint64_t address, size_t size, const void *steps,
+                                size_t steps_size, void *taken) {
+    vmm_request call = vmm_at(VMM_TO, memory, address, size);
+    return vmm_asked(s, &call, steps, steps_size, taken, size);
+}
+
+static inline vmm_answer vmm_tox(vmm_session *s, size_t memory, uint64_t address, size_t size, const void *steps,
+                                 size_t steps_size, void *taken) {
+    vmm_request call = vmm_at(VMM_TOX, memory, address, size);
+    return vmm_asked(s, &call, steps, steps_size, taken, size);
+}
+
+/* `value` is 1 where all bytes may be accessed so, else 0. */
+static inline vmm_answer vmm_check(vmm_session *s, size_t memory, uint64_t address, size_t size,
+                                   enum vmm_access access) {
+    vmm_request call = vmm_at(VMM_CHECK, memory, address, size);
+    call.access = (uint32_t)access;
+    return vmm_asked(s, &call, NULL, 0, NULL, 0);
+}
+
+static inline vmm_answer vmm_copy(vmm_session *s, size_t block, size_t offset, size_t size, size_t to_block,
+                                  size_t to_offset, size_t to_size) {
+    vmm_request call = vmm_at(VMM_COPY, block, offset, size);
+    call.second = to_block;
+    call.target = to_offset;
+    call.other_length = to_size;
+    return vmm_asked(s, &call, NULL, 0, NULL, 0);
+}
+
+static inline vmm_answer vmm_set(vmm_session *s, size_t table, uint64_t address, uint64_t target, size_t size,
+                                 enum vmm_access access) {
+    vmm_request call = vmm_at(VMM_SET, table, address, size);
+    call.target = target;
+    call.access = (uint32_t)access;
+    return vmm_asked(s, &call, NULL, 0, NULL, 0);
+}
+
+static inline vmm_answer vmm_invalidate(vmm_session *s, size_t table, uint64_t address, size_t size) {
+    vmm_request call = vmm_at(VMM_INVALIDATE, table, address, size);
+    return vmm_asked(s, &call, NULL, 0, NULL, 0);
+}
+
+static inline vmm_answer vmm_clear(vmm_session *s, size_t table) {
+    vmm_request call = vmm_at(VMM_CLEAR, table, 0, 0);
+    return vmm_asked(s, &call, NULL, 0, NULL, 0);
+}
+
+/* Ranges go to `list`, sixteen bytes each: where one begins, and how long it is. */
+static inline vmm_answer vmm_lookup(vmm_session *s, size_t table, uint64_t address, size_t size,
+                                    enum vmm_access access, void *list, size_t list_size) {
+    vmm_request call = vmm_at(VMM_LOOKUP, table, address, size);
+    call.access = (uint32_t)access;
+    return vmm_asked(s, &call, NULL, 0, list, list_size);
+}
+
+/* Pages go to `list`, eight bytes each. */
+static inline vmm_answer vmm_dirty_block(vmm_session *s, size_t block, void *list, size_t list_size) {
+    vmm_request call = vmm_at(VMM_DIRTY_BLOCK, block, 0, 0);
+    return vmm_asked(s, &call, NULL, 0, list, list_size);
+}
+
+static inline vmm_answer vmm_dirty_space(vmm_session *s, size_t space, void *list, size_t list_size) {
+    vmm_request call = vmm_at(VMM_DIRTY_SPACE, space, 0, 0);
+    return vmm_asked(s, &call, NULL, 0, list, list_size);
+}
+
+static inline vmm_answer vmm_harvest_block(vmm_session *s, size_t block, void *list, size_t list_size) {
+    vmm_request call = vmm_at(VMM_HARVEST_BLOCK, block, 0, 0);
+    return vmm_asked(s, &call, NULL, 0, list, list_size);
+}
+
+static inline vmm_answer vmm_harvest_space(vmm_session *s, size_t space, void *list, size_t list_size) {
+    vmm_request call = vmm_at(VMM_HARVEST_SPACE, space, 0, 0);
+    return vmm_asked(s, &call, NULL, 0, list, list_size);
+}
+
+/* A number of a list, from 0. */
+static inline uint64_t vmm_number(const void *list, size_t place) {
+    const uint8_t *bytes = (const uint8_t *)list + 8 * place;
+    uint64_t number = 0;
+    for (int i = 7; i >= 0; i--) {
+        number = number << 8 | bytes[i];
+    }
+    return number;
+}
+
+#ifdef __cplusplus
+}
+#endif
+
+#endif

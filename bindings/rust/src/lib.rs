@@ -1,0 +1,37 @@
+//! Guest memory for virtual machine monitors, by a machine that is proved in Rattle.
+//!
+//! A [`Machine`] is set up with blocks of host memory, regions, I/O tables and translators, and then makes layouts and
+//! memories and accesses them. Its calls are a run of the machine's model, whatever they are: docs/BINDINGS.md of the
+//! repository says what is proved, and what is trusted.
+//!
+//! ```
+//! use vm_memory_proved::{GuestAddress, Machine};
+//!
+//! let machine = Machine::new()?;
+//! let block = machine.block(0x2000, 0x1000)?;
+//! let region = machine.region(block, GuestAddress(0x1000))?;
+//! let layout = machine.layout(&[region])?;
+//! let number = machine.plain(layout)?;
+//! let memory = machine.memory(number).unwrap();
+//! memory.write_slice(&[1, 2, 3], GuestAddress(0x1ffe))?;
+//! assert_eq!(memory.read_obj::<u16>(GuestAddress(0x1ffe))?, 0x0201);
+//! assert_eq!(machine.harvest_block(block)?, [0, 1]);
+//! # Ok::<(), Box<dyn std::error::Error>>(())
+//! ```
+#![deny(unsafe_code)]
+#![warn(missing_docs)]
+
+mod error;
+#[allow(unsafe_code)]
+mod ffi;
+mod machine;
+mod memory;
+pub mod raw;
+pub mod script;
+mod stream;
+mod value;
+
+pub use error::{GuestMemoryError, GuestRegionCollectionError, IommuError, MachineError, Reason};
+pub use machine::{IotlbFails, IovaRange, Machine, MappedRange, Permissions};
+pub use memory::{GuestAddress, GuestMemory};
+pub use value::{AtomicAccess, ByteValued};

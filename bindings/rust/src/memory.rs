@@ -1,0 +1,133 @@
+//! Guest memory of a machine.
+
+use crate::error::GuestMemoryError;
+use crate::machine::{answered, Machine, Permissions};
+use crate::raw::{code, kind, Call};
+use crate::value::{AtomicAccess, ByteValued};
+use std::sync::atomic::Ordering;
+
+/// An address of a guest: physical, or an I/O address behind an IOMMU.
+#[derive(Clone, Copy, Debug, Default, PartialEq, Eq, PartialOrd, Ord, Hash)]
+pub struct GuestAddress(pub u64);
+
+/// A memory of a machine, which it lends. Its calls are those of `Bytes<GuestAddress>` of the Rust crate vm-memory, with
+/// the same names and signatures.
+#[derive(Clone, Copy, Debug)]
+pub struct GuestMemory<'a> {
+    machine: &'a Machine,
+    number: usize,
+}
+
+impl<'a> GuestMemory<'a> {
+    pub(crate) fn new(machine: &'a Machine, number: usize) -> GuestMemory<'a> {
+        GuestMemory { machine, number }
+    }
+
+    /// The machine that has it.
+    pub fn machine(&self) -> &'a Machine {
+        self.machine
+    }
+
+    /// Its number.
+    pub fn number(&self) -> usize {
+        self.number
+    }
+
+    #[inline]
+    pub(crate) fn at(&self, kind: u32, addr: GuestAddress, length: usize) -> Call {
+        Call {
+            kind,
+            first: self.number,
+            address: addr.0,
+            length,
+            ..Call::default()
+        }
+    }
+
+    /// Writes the beginning of the buffer that fits, and answers how many bytes that is.
+    #[inline]
+    pub fn write(&self, buf: &[u8], addr: GuestAddress) -> Result<usize, GuestMemoryError> {
+        let answer = self.machine.call(&self.at(kind::WRITE, addr, 0), buf, &mut []);
+        if answer.code == code::DONE {
+            return Ok(answer.count);
+        }
+        Ok(answered(answer)?.count)
+    }
+
+    /// Reads into the beginning of the buffer, and answers how many bytes that is.
+    #[inline]
+    pub fn read(&self, buf: &mut [u8], addr: GuestAddress) -> Result<usize, GuestMemoryError> {
+        let answer = self.machine.call(&self.at(kind::READ, addr, buf.len()), &[], buf);
+        if answer.code == code::DONE {
+            return Ok(answer.count);
+        }
+        Ok(answered(answer)?.count)
+    }
+
+    /// Writes the whole buffer. Where only its beginning fits, it writes that, and the error says how long it is.
+    #[inline]
+    pub fn write_slice(&self, buf: &[u8], addr: GuestAddress) -> Result<(), GuestMemoryError> {
+        let answer = self.machine.call(&self.at(kind::WRITE_SLICE, addr, 0), buf, &mut []);
+        if answer.code == code::DONE {
+            return Ok(());
+        }
+        answered(answer)?;
+        Ok(())
+    }
+
+    /// Fills the whole buffer. Where only its beginning can be filled, it fills that, and the error says how long it is.
+    #[inline]
+    pub fn read_slice(&self, buf: &mut [u8], addr: GuestAddress) -> Result<(), GuestMemoryError> {
+        let answer = self.machine.call(&self.at(kind::READ_SLICE, addr, buf.len()), &[], buf);
+        if answer.code == code::DONE {
+            return Ok(());
+        }
+        answered(answer)?;
+        Ok(())
+    }
+
+    /// Writes the bytes of a value.
+    pub fn write_obj<T: ByteValued>(&self, val: T, addr: GuestAddress) -> Result<(), GuestMemoryError> {
+        self.write_slice(val.to_bytes().as_ref(), addr)
+    }
+
+    /// Reads the bytes of a value.
+    pub fn read_obj<T: ByteValued>(&self, addr: GuestAddress) -> Result<T, GuestMemoryError> {
+        let mut bytes = T::zeroed();
+        self.read_slice(bytes.as_mut(), addr)?;
+        Ok(T::from_bytes(bytes))
+    }
+
+    /// Stores a value as one integer. The machine is not shared, so each order is the same.
+    #[inline]
+    pub fn store<T: AtomicAccess>(&self, val: T, addr: GuestAddress, _order: Ordering) -> Result<(), GuestMemoryError> {
+        let mut call = self.at(kind::STORE, addr, 0);
+        call.width = T::WIDTH;
+        call.value = val.to_number();
+        let answer = self.machine.call(&call, &[], &mut []);
+        if answer.code == code::DONE {
+            return Ok(());
+        }
+        answered(answer)?;
+        Ok(())
+    }
+
+    /// Loads a value as one integer.
+    #[inline]
+    pub fn load<T: AtomicAccess>(&self, addr: GuestAddress, _order: Ordering) -> Result<T, GuestMemoryError> {
+        let mut call = self.at(kind::LOAD, addr, 0);
+        call.width = T::WIDTH;
+        let answer = self.machine.call(&call, &[], &mut []);
+        if answer.code == code::DONE {
+            return Ok(T::from_number(answer.value));
+        }
+        Ok(T::from_number(answered(answer)?.value))
+    }
+
+    /// Whether each of `count` bytes exists and may be accessed so.
+    pub fn check_range(&self, addr: GuestAddress, count: usize, access: Permissions) -> bool {
+        let mut call = self.at(kind::CHECK_RANGE, addr, count);
+        call.access = access as u32;
+        matches!(self.machine.ask(call), Ok(answer) if answer.value == 1)
+    }
+}

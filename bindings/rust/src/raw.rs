@@ -1,0 +1,104 @@
+//! Calls and answers as plain numbers, as they cross to the library. [`Machine::call`](crate::Machine::call) makes them.
+
+/// A call: its kind, and the fields that its kind names.
+#[repr(C)]
+#[derive(Clone, Copy, Debug, Default, PartialEq, Eq)]
+#[allow(missing_docs)]
+pub struct Call {
+    pub kind: u32,
+    pub width: u32,
+    pub access: u32,
+    pub first: usize,
+    pub second: usize,
+    pub third: usize,
+    pub address: u64,
+    pub target: u64,
+    pub length: usize,
+    pub other_length: usize,
+    pub value: u64,
+}
+
+/// An answer: 0 or why the call was refused, and up to three numbers.
+#[repr(C)]
+#[derive(Clone, Copy, Debug, Default, PartialEq, Eq)]
+#[allow(missing_docs)]
+pub struct Answer {
+    pub code: u32,
+    pub count: usize,
+    pub value: u64,
+    pub address: u64,
+}
+
+/// What is called, in the order of the lines of a script.
+#[allow(missing_docs)]
+pub mod kind {
+    pub const BLOCK: u32 = 0;
+    pub const SPACE: u32 = 1;
+    pub const TABLE: u32 = 2;
+    pub const LIMITED_TABLE: u32 = 3;
+    pub const REGION: u32 = 4;
+    pub const TRANSLATOR: u32 = 5;
+    pub const LAYOUT: u32 = 6;
+    pub const INSERT: u32 = 7;
+    pub const REMOVE: u32 = 8;
+    pub const PLAIN: u32 = 9;
+    pub const MEMORY: u32 = 10;
+    pub const REPLACE: u32 = 11;
+    pub const ENABLE: u32 = 12;
+    pub const READ: u32 = 13;
+    pub const WRITE: u32 = 14;
+    pub const READ_SLICE: u32 = 15;
+    pub const WRITE_SLICE: u32 = 16;
+    pub const STORE: u32 = 17;
+    pub const LOAD: u32 = 18;
+    pub const READ_FROM: u32 = 19;
+    pub const READ_EXACT_FROM: u32 = 20;
+    pub const WRITE_TO: u32 = 21;
+    pub const WRITE_ALL_TO: u32 = 22;
+    pub const CHECK_RANGE: u32 = 23;
+    pub const COPY: u32 = 24;
+    pub const SET: u32 = 25;
+    pub const INVALIDATE: u32 = 26;
+    pub const INVALIDATE_ALL: u32 = 27;
+    pub const LOOKUP: u32 = 28;
+    pub const DIRTY_BLOCK: u32 = 29;
+    pub const DIRTY_SPACE: u32 = 30;
+    pub const HARVEST_BLOCK: u32 = 31;
+    pub const HARVEST_SPACE: u32 = 32;
+}
+
+/// Why a call was refused, or `DONE`.
+#[allow(missing_docs)]
+pub mod code {
+    pub const DONE: u32 = 0;
+    pub const NO_SUCH: u32 = 1;
+    pub const BAD_RANGE: u32 = 2;
+    pub const MEMORY: u32 = 3;
+    pub const FAILS: u32 = 4;
+    pub const INVALID_SIZE: u32 = 5;
+    pub const INVALID_REGION: u32 = 6;
+    pub const BAD_CALL: u32 = 16;
+    pub const LATE: u32 = 17;
+    pub const SHORT: u32 = 18;
+    pub const INVALID_GUEST_ADDRESS: u32 = 32;
+    pub const IO_INTERRUPTED: u32 = 33;
+    pub const IO_WRITE_ZERO: u32 = 34;
+    pub const IO_UNEXPECTED_EOF: u32 = 35;
+    pub const IO_OTHER: u32 = 36;
+    pub const PARTIAL_BUFFER: u32 = 37;
+    pub const INVALID_BACKEND_ADDRESS: u32 = 38;
+    pub const HOST_ADDRESS_NOT_AVAILABLE: u32 = 39;
+    pub const CALLBACK_OUT_OF_RANGE: u32 = 40;
+    pub const GUEST_ADDRESS_OVERFLOW: u32 = 41;
+    pub const IOMMU_MISSING: u32 = 42;
+    pub const IOMMU_NOT_ALLOWED: u32 = 43;
+    pub const IOMMU_NOT_CONFIGURED: u32 = 44;
+    pub const IOMMU_FRAGMENTED: u32 = 45;
+    pub const MISCONFIGURED_MISSING: u32 = 46;
+    pub const MISCONFIGURED_NOT_ALLOWED: u32 = 47;
+    pub const MISCONFIGURED_NOT_CONFIGURED: u32 = 48;
+    pub const IOMMU_MEMORY: u32 = 49;
+    pub const NO_MEMORY_REGION: u32 = 50;
+    pub const MEMORY_REGION_OVERLAP: u32 = 51;
+    pub const UNSORTED_MEMORY_REGIONS: u32 = 52;
+}

@@ -1,0 +1,58 @@
+//! The handle of a session: where it lies.
+ghost use Rattle.std.specs.Prelude.{◌≡◌, Option, Some, None, IsSome};
+ghost use Rattle.vm_memory.specs.Script.{Stage};
+ghost use Rattle.vm_memory_c.specs.Handle.{handle_owns};
+
+use crate::loose::Loose;
+use std::alloc::Global;
+use std::marker::Model;
+use std::ptr::null_mut;
+use vm_session::Session;
+
+/// Where a session lies, if it is open.
+#[repr(C)]
+#[derive(Drop)]
+pub struct Handle {
+    at: *mut u8,
+    alloc: Global,
+    pub ghost stage: { Option Stage },
+}
+
+impl Model for Handle {
+    ghost also_owns = { λ h. handle_owns h.at h.stage };
+}
+
+impl Handle {
+    // A handle of no session.
+    pub(crate) fn closed(alloc: Global) -> Handle
+        ensures { result.stage ≡ None }
+    {
+        Handle {
+            at: null_mut(),
+            alloc,
+        }
+    }
+
+    // The handle of a session.
+    pub(crate) fn of(session: Loose<Session, Global>) -> Handle
+        ensures { result.stage ≡ Some session.value }
+    {
+        let Loose { at, alloc } = session;
+        Handle {
+            at: at as *mut u8,
+            alloc,
+        }
+    }
+
+    // The session of a handle.
+    pub(crate) fn loosen(self) -> Loose<Session, Global>
+        requires { IsSome self.stage }
+        ensures { Some result.value ≡ self.stage }
+    {
+        let Handle { at, alloc } = self;
+        Loose {
+            at: at as *mut Session,
+            alloc,
+        }
+    }
+}

@@ -1,0 +1,58 @@
+//! Sessions for C: opens one, calls it, and closes it.
+#![tactic(auto)]
+
+ghost use Rattle.std.specs.Prelude.{◌≡◌, None, IsSome};
+ghost use Rattle.vm_memory_c.specs.Calls.{CallsAt, Opens};
+
+mod handle;
+mod loose;
+
+use handle::Handle;
+use loose::Loose;
+use std::alloc::Global;
+use std::mem;
+use vm_session::{Answer, Call, Session};
+
+/// Opens a session, and puts its handle into `session`, which has to be closed or new. Answers 0, or 3 where the
+/// allocation fails, and then the handle stays.
+#[unsafe(no_mangle)]
+pub extern "C" fn vmm_open(alloc: Global, session: &mut Handle) -> u32
+    ensures { Opens session.old.stage result session.new.stage }
+{
+    match Box::new(alloc, Session::new(alloc)) {
+        Ok(open) => {
+            *session = Handle::of(Loose::of(open));
+            0
+        }
+        Err(_) => 3,
+    }
+}
+
+/// Answers a call of an open session.
+#[unsafe(no_mangle)]
+pub extern "C" fn vmm_call(
+    alloc: Global,
+    session: &mut Handle,
+    call: &Call,
+    input: &[u8],
+    output: &mut [u8],
+    answer: &mut Answer,
+)
+    requires { IsSome session.old.stage }
+    ensures { CallsAt session.old.stage call.now input.now output.old answer.new output.new session.new.stage }
+{
+    let handle = mem::replace(session, Handle::closed(alloc));
+    let mut open = handle.loosen().into_box();
+    *answer = open.call(call, input, output);
+    *session = Handle::of(Loose::of(open));
+}
+
+/// Closes an open session, and frees all that it has.
+#[unsafe(no_mangle)]
+pub extern "C" fn vmm_close(alloc: Global, session: &mut Handle)
+    requires { IsSome session.old.stage }
+    ensures { session.new.stage ≡ None }
+{
+    let handle = mem::replace(session, Handle::closed(alloc));
+    drop(handle.loosen().into_box());
+}

@@ -1,0 +1,6 @@
+mod WordLemmas
+mod StepLemmas
+mod ListLemmas
+mod HarvestLemmas
+mod ReadLemmas
+mod RunLaws

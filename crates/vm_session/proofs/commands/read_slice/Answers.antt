@@ -1,0 +1,11 @@
+use Rattle.vm_memory.specs.Pools.{state_made}
+use Rattle.vm_session.specs.Requests.{address}
+use Rattle.vm_session.proofs.ReadLemmas.{fill_does}
+use Rattle.vm_session.proofs.commands.read_slice.Goals as goal
+
+pub returns-in-Ok : goal.returns-in-Ok
+returns-in-Ok c =
+    let call = c.args.call.now in
+    fill_does (state_made c.args.machine.now) call.first (address call.address) call.length c.args.output.now
+    c.read_slice.new.buf c.in-Ok.field-0 c.of_count.result c.if-output-call.false c.read_slice.auto.buf c.in-Ok.ensures
+    c.of_count.ensures

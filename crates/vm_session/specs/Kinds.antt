@@ -1,0 +1,89 @@
+-- What the numbers of a call stand for.
+use Rattle.std.specs.Prelude.{◌==◌, ℕ, Bool, true, false, if◌then◌else◌, List, [], ◌∷◌, Option, Some, None}
+use Rattle.vm_memory_base.specs.declared.iotlb.Permissions.{Permissions}
+use Rattle.vm_memory_base.specs.declared.iotlb.Permissions.TheVariants as permissions
+use Rattle.vm_memory.specs.declared.machine.command.Width.{Width}
+use Rattle.vm_memory.specs.declared.machine.command.Width.TheVariants as widths
+use Rattle.vm_session.specs.declared.call.Kind.{Kind}
+use Rattle.vm_session.specs.declared.call.Kind.TheVariants as kind
+
+-- the kinds of calls, by number
+abbrev pub kinds : List Kind
+kinds = kind.Block ∷ kind.Space ∷ kind.Table ∷ kind.LimitedTable ∷ kind.Region ∷ kind.Translator
+    ∷ kind.Layout ∷ kind.Insert ∷ kind.Remove ∷ kind.Plain ∷ kind.Memory ∷ kind.Replace ∷ kind.Enable
+    ∷ kind.Read ∷ kind.Write ∷ kind.ReadSlice ∷ kind.WriteSlice ∷ kind.Store ∷ kind.Load
+    ∷ kind.ReadFrom ∷ kind.ReadExactFrom ∷ kind.WriteTo ∷ kind.WriteAllTo ∷ kind.CheckRange ∷ kind.Copy
+    ∷ kind.Set ∷ kind.Invalidate ∷ kind.InvalidateAll ∷ kind.Lookup
+    ∷ kind.DirtyBlock ∷ kind.DirtySpace ∷ kind.HarvestBlock ∷ kind.HarvestSpace ∷ []
+
+-- an access by its number
+abbrev pub access_at : ℕ → Option Permissions
+access_at n =
+    if n == 0 then Some permissions.No
+    else if n == 1 then Some permissions.Read
+    else if n == 2 then Some permissions.Write
+    else if n == 3 then Some permissions.ReadWrite
+    else None
+
+-- a switch by its number
+abbrev pub switch_at : ℕ → Option Bool
+switch_at n = if n == 0 then Some false else if n == 1 then Some true else None
+
+-- a width by its number of bytes
+abbrev pub width_at : ℕ → Option Width
+width_at n =
+    if n == 1 then Some widths.One
+    else if n == 2 then Some widths.Two
+    else if n == 4 then Some widths.Four
+    else if n == 8 then Some widths.Eight
+    else None
+
+-- whether a call of a kind sets up
+abbrev pub sets_up : Kind → Bool
+sets_up kind.Block = true
+sets_up kind.Space = true
+sets_up kind.Table = true
+sets_up kind.LimitedTable = true
+sets_up kind.Region = true
+sets_up kind.Translator = true
+sets_up k = false
+
+-- whether the input of a call of a kind is a list
+abbrev pub takes_list : Kind → Bool
+takes_list kind.Layout = true
+takes_list kind.ReadFrom = true
+takes_list kind.ReadExactFrom = true
+takes_list kind.WriteTo = true
+takes_list kind.WriteAllTo = true
+takes_list k = false
+
+-- the kinds of calls that make layouts and memories, that move bytes or change tables, and whose replies are listed
+abbrev pub is_making : Kind → Bool
+is_making kind.Layout = true
+is_making kind.Insert = true
+is_making kind.Remove = true
+is_making kind.Plain = true
+is_making kind.Memory = true
+is_making kind.Replace = true
+is_making kind.Enable = true
+is_making k = false
+
+abbrev pub is_moving : Kind → Bool
+is_moving kind.ReadFrom = true
+is_moving kind.ReadExactFrom = true
+is_moving kind.CheckRange = true
+is_moving kind.Copy = true
+is_moving kind.Set = true
+is_moving kind.Invalidate = true
+is_moving kind.InvalidateAll = true
+is_moving k = false
+
+abbrev pub is_listing : Kind → Bool
+is_listing kind.WriteTo = true
+is_listing kind.WriteAllTo = true
+is_listing kind.Lookup = true
+is_listing kind.DirtyBlock = true
+is_listing kind.DirtySpace = true
+is_listing kind.HarvestBlock = true
+is_listing kind.HarvestSpace = true
+is_listing k = false

@@ -1,0 +1,117 @@
+-- What a session answers to calls, and where it stands then.
+use Rattle.std.specs.Prelude.{◌≡◌, ◌⊎◌, ◌<◌, ◌≤◌, ◌++◌, ℕ, Bool, true, false, IsTrue, List, length, take, drop, Option, Some, None, slice_get}
+use Rattle.vm_memory.specs.Calls.{buffer_after}
+use Rattle.vm_memory.specs.Machine.{Step, outcome}
+use Rattle.vm_memory.specs.Script.{Stage, setting, commanding, state_at}
+use Rattle.vm_memory.specs.Setup.{SetsUp}
+use Rattle.vm_memory.specs.State.{State}
+use Rattle.vm_memory.specs.declared.machine.command.Command as commands
+use Rattle.vm_memory.specs.declared.machine.command.Command.TheVariants as command
+use Rattle.vm_memory.specs.declared.machine.command.Reply as replies
+use Rattle.vm_memory.specs.declared.machine.command.Reply.TheVariants as reply
+use Rattle.vm_memory.specs.declared.machine.command.Width.{Width}
+use Rattle.vm_memory.specs.declared.script.setup.Setup as setups
+use Rattle.vm_memory.specs.declared.script.reply.SetupReply.{SetupReply}
+use Rattle.vm_session.specs.Answers.{answer_of, answer_of_setup, bytes_of}
+use Rattle.vm_session.specs.Codes.{bad_call, late, no_memory, short_of}
+use Rattle.vm_session.specs.Kinds.{kinds, sets_up, takes_list}
+use Rattle.vm_session.specs.Requests.{IsSetup, address, command_at, is_without_size}
+use Rattle.vm_session.specs.declared.call.Answer.{Answer}
+use Rattle.vm_session.specs.declared.call.Call.{Call}
+use Rattle.vm_session.specs.declared.call.Kind.{Kind}
+
+-- how many bytes of output a command wants: as many as are asked for, or those of the list that it replies
+abbrev pub room_for : State → commands.Command → ℕ
+room_for old (command.Read memory addr n) = n
+room_for old (command.ReadSlice memory addr n) = n
+room_for old (command.WriteTo memory addr n sink) = n
+room_for old (command.WriteAllTo memory addr n sink) = n
+room_for old (command.Dirty id) = length (bytes_of (outcome old (command.Dirty id)).0)
+room_for old (command.Harvest id) = length (bytes_of (outcome old (command.Harvest id)).0)
+room_for old (command.Lookup table iova n access) =
+    length (bytes_of (outcome old (command.Lookup table iova n access)).0)
+room_for old c = 0
+
+-- a read fills a buffer as the call of a machine does, unless it wants memory
+abbrev pub FillsFrom : State → ℕ → ℕ → ℕ → replies.Reply → List ℕ → List ℕ → Type 0
+FillsFrom old memory a n r out out' =
+    (out' ≡ buffer_after old memory a (take n out) ++ drop n out) ⊎ ((r ≡ reply.Memory) × (out' ≡ out))
+
+-- the output has bytes at its front, as many of them as it has room for
+abbrev pub begins_with : List ℕ → List ℕ → List ℕ
+begins_with bytes out = take (length out) bytes ++ drop (length bytes) out
+
+-- an output after a command that replies so: the bytes of the reply are its front, and the others stay
+abbrev pub Fills : State → commands.Command → replies.Reply → List ℕ → List ℕ → Type 0
+Fills old (command.Read memory addr n) r out out' = FillsFrom old memory addr.0 n r out out'
+Fills old (command.ReadSlice memory addr n) r out out' = FillsFrom old memory addr.0 n r out out'
+Fills old (command.WriteTo memory addr n sink) r out out' = out' ≡ begins_with (bytes_of r) out
+Fills old (command.WriteAllTo memory addr n sink) r out out' = out' ≡ begins_with (bytes_of r) out
+Fills old (command.Dirty id) r out out' = out' ≡ begins_with (bytes_of r) out
+Fills old (command.Harvest id) r out out' = out' ≡ begins_with (bytes_of r) out
+Fills old (command.Lookup table iova n access) r out out' = out' ≡ begins_with (bytes_of r) out
+Fills old c r out out' = out' ≡ out
+
+-- the command runs, and its reply is answered, where the output has room. Or it wants memory, and changes nothing
+abbrev pub Runs : State → commands.Command → List ℕ → Answer → List ℕ → State → Type 0
+Runs old c out a out' new = (r : replies.Reply) × Step old c r new × (a ≡ answer_of r) × Fills old c r out out'
+    × ((room_for old c ≤ length out) ⊎ (r ≡ reply.Memory))
+
+-- a command is refused before it runs, since its output is too short
+abbrev pub IsShort : State → commands.Command → List ℕ → Answer → List ℕ → State → Type 0
+IsShort old c out a out' new = (length out < room_for old c) × (a ≡ short_of (room_for old c)) × (out' ≡ out)
+    × (new ≡ old)
+
+-- what is answered to a command that a call may mean
+abbrev pub Does : State → Option commands.Command → List ℕ → Answer → List ℕ → State → Type 0
+Does old None out a out' new = (a ≡ bad_call) × (out' ≡ out) × (new ≡ old)
+Does old (Some c) out a out' new = Runs old c out a out' new ⊎ IsShort old c out a out' new
+
+-- where the input is a list, memory may be wanting for it, and then nothing changes
+abbrev pub DoesListed : State → Option commands.Command → List ℕ → Answer → List ℕ → State → Type 0
+DoesListed old o out a out' new = Does old o out a out' new ⊎ ((a ≡ no_memory) × (out' ≡ out) × (new ≡ old))
+
+abbrev pub DoesIf : Bool → State → Option commands.Command → List ℕ → Answer → List ℕ → State → Type 0
+DoesIf true old o out a out' new = DoesListed old o out a out' new
+DoesIf false old o out a out' new = Does old o out a out' new
+
+-- what is answered to a call of a kind that is none of setup
+abbrev pub Served : State → Kind → Call → List ℕ → List ℕ → Answer → List ℕ → State → Type 0
+Served old kind call input out a out' new =
+    DoesIf (takes_list kind) old (command_at kind call input) out a out' new
+
+-- what is answered to a store of a value of this width
+abbrev pub Stores : State → Call → Width → Answer → State → Type 0
+Stores old call width a new =
+    (r : replies.Reply) × Step old (command.Store call.first width (address call.address) call.value) r new
+    × (a ≡ answer_of r)
+
+-- and to a load
+abbrev pub Loads : State → Call → Width → Answer → Type 0
+Loads now call width a =
+    (r : replies.Reply) × Step now (command.Load call.first width (address call.address)) r now × (a ≡ answer_of r)
+
+-- what is answered to a setup call before the first command
+abbrev pub IsSetUp : State → Kind → Call → Answer → State → Type 0
+IsSetUp old kind call a new =
+    ((s : setups.Setup) × (r : SetupReply) × IsSetup kind call s × SetsUp old s r new × (a ≡ answer_of_setup r))
+    ⊎ ((a ≡ bad_call) × IsTrue (is_without_size kind call) × (new ≡ old))
+
+-- and behind one
+abbrev pub SetsUpBy : Stage → Kind → Call → Answer → Stage → Type 0
+SetsUpBy (setting s) kind call a new = (after : State) × IsSetUp s kind call a after × (new ≡ setting after)
+SetsUpBy (commanding s) kind call a new = (a ≡ late) × (new ≡ commanding s)
+
+-- what is answered to a call of a kind. The first that does not set up ends the setup, whatever it is answered
+abbrev pub AnswersKind : Bool → Kind → Stage → Call → List ℕ → List ℕ → Answer → List ℕ → Stage → Type 0
+AnswersKind true kind old call input out a out' new = SetsUpBy old kind call a new × (out' ≡ out)
+AnswersKind false kind old call input out a out' new =
+    (after : State) × Served (state_at old) kind call input out a out' after × (new ≡ commanding after)
+
+abbrev pub AnswersIf : Option Kind → Stage → Call → List ℕ → List ℕ → Answer → List ℕ → Stage → Type 0
+AnswersIf None old call input out a out' new = (a ≡ bad_call) × (out' ≡ out) × (new ≡ old)
+AnswersIf (Some kind) old call input out a out' new = AnswersKind (sets_up kind) kind old call input out a out' new
+
+-- what a session answers to a call with an input and an output, and leaves of the output
+abbrev pub Answers : Stage → Call → List ℕ → List ℕ → Answer → List ℕ → Stage → Type 0
+Answers old call input out a out' new = AnswersIf (slice_get kinds call.kind) old call input out a out' new

@@ -1,0 +1,228 @@
+//! Calls and answers as plain numbers, as they cross to C.
+ghost use Rattle.std.specs.Prelude.{◌≡◌, slice_get};
+ghost use Rattle.vm_session.specs.Kinds.{access_at, kinds, sets_up, switch_at, width_at};
+
+use vm_memory::Width;
+use vm_memory_base::Permissions;
+
+/// A call of a session. Fields that its kind does not name are not read.
+#[repr(C)]
+#[derive(Clone, Copy, Debug, PartialEq, Eq)]
+pub struct Call {
+    /// What is called: the number of a `Kind`, from 0.
+    pub kind: u32,
+    /// How many bytes a value has: 1, 2, 4 or 8.
+    pub width: u32,
+    /// An access: 0 for none, 1 to read, 2 to write, 3 for both.
+    pub access: u32,
+    /// The numbers of what is named: blocks, spaces, tables, regions, translators, layouts and memories.
+    pub first: usize,
+    pub second: usize,
+    pub third: usize,
+    /// An address, or an offset in a block.
+    pub address: u64,
+    /// Where a mapping leads, or the offset that a copy goes to.
+    pub target: u64,
+    /// A number of bytes or of addresses, or a limit.
+    pub length: usize,
+    /// The bytes of a page, or those that a copy goes to.
+    pub other_length: usize,
+    /// A value that is stored; or of a switch 0 for off, 1 for on.
+    pub value: u64,
+}
+
+/// What a session answers.
+#[repr(C)]
+#[derive(Clone, Copy, Debug, PartialEq, Eq)]
+pub struct Answer {
+    /// 0, or why the call was refused.
+    pub code: u32,
+    /// How many bytes moved, or how many items the output lists.
+    pub count: usize,
+    /// The number of what was made, the value that was loaded, or a second number of a refusal.
+    pub value: u64,
+    /// The address that a refusal names.
+    pub address: u64,
+}
+
+/// What is called, in the order of the lines of a script.
+#[derive(Clone, Copy, Debug, PartialEq, Eq)]
+pub enum Kind {
+    /// Makes a block of `length` bytes, with pages of `other_length`.
+    Block,
+    /// Makes a space of `length` addresses, with pages of `other_length`.
+    Space,
+    /// Makes a table without a limit.
+    Table,
+    /// Makes a table that keeps at most `length` ranges.
+    LimitedTable,
+    /// Makes a region of the whole block `first` at `address`.
+    Region,
+    /// Makes a translator over the table `first`.
+    Translator,
+    /// Makes the layout of the regions whose numbers the input lists.
+    Layout,
+    /// Makes a layout of the layout `first` with the region `second` more.
+    Insert,
+    /// Makes a layout of the layout `first` without its region of `length` bytes at `address`.
+    Remove,
+    /// Makes a memory of the layout `first`, without an IOMMU.
+    Plain,
+    /// Makes a memory of the layout `first` behind the translator `second`, whose writes mark the space `third`.
+    /// `value` is its switch.
+    Memory,
+    /// Makes a memory of the layout `second` with the translator, the space and the switch of the memory `first`.
+    Replace,
+    /// Turns the IOMMU of the memory `first` as `value` says.
+    Enable,
+    /// Reads at most `length` bytes of the memory `first` at `address` into the output.
+    Read,
+    /// Writes the bytes of the input that fit to the memory `first` at `address`.
+    Write,
+    /// Reads just `length` bytes.
+    ReadSlice,
+    /// Writes all bytes of the input.
+    WriteSlice,
+    /// Stores `value` in the memory `first` at `address`, as an integer of `width` bytes.
+    Store,
+    /// Loads an integer of `width` bytes.
+    Load,
+    /// Receives at most `length` bytes of the memory `first` at `address` from the source whose steps the input lists.
+    ReadFrom,
+    /// Receives just so many.
+    ReadExactFrom,
+    /// Sends at most `length` bytes of the memory `first` at `address` to the sink whose steps the input lists. What it
+    /// takes is the output.
+    WriteTo,
+    /// Sends just so many.
+    WriteAllTo,
+    /// Whether `length` bytes of the memory `first` at `address` may be accessed so.
+    CheckRange,
+    /// Copies `length` bytes at offset `address` of the block `first` to `other_length` at offset `target` of the block
+    /// `second`, as many as both have.
+    Copy,
+    /// Maps `length` addresses of the table `first` from `address` on to those from `target` on, for this access.
+    Set,
+    /// Takes back the mappings of `length` addresses of the table `first` from `address` on.
+    Invalidate,
+    /// Takes back all mappings of the table `first`.
+    InvalidateAll,
+    /// Where `length` addresses of the table `first` lead, from `address` on, for this access.
+    Lookup,
+    /// The dirty pages of the block `first`.
+    DirtyBlock,
+    /// The dirty pages of the space `first`.
+    DirtySpace,
+    /// Takes the dirty pages of the block `first`.
+    HarvestBlock,
+    /// Takes the dirty pages of the space `first`.
+    HarvestSpace,
+}
+
+impl Kind {
+    // Whether a call of this kind sets up.
+    pub(crate) fn sets_up(self) -> bool
+        ensures { result ≡ sets_up self }
+    {
+        match self {
+            Kind::Block
+            | Kind::Space
+            | Kind::Table
+            | Kind::LimitedTable
+            | Kind::Region
+            | Kind::Translator => true,
+            _ => false,
+        }
+    }
+}
+
+const KINDS: [Kind; 33] = [
+    Kind::Block,
+    Kind::Space,
+    Kind::Table,
+    Kind::LimitedTable,
+    Kind::Region,
+    Kind::Translator,
+    Kind::Layout,
+    Kind::Insert,
+    Kind::Remove,
+    Kind::Plain,
+    Kind::Memory,
+    Kind::Replace,
+    Kind::Enable,
+    Kind::Read,
+    Kind::Write,
+    Kind::ReadSlice,
+    Kind::WriteSlice,
+    Kind::Store,
+    Kind::Load,
+    Kind::ReadFrom,
+    Kind::ReadExactFrom,
+    Kind::WriteTo,
+    Kind::WriteAllTo,
+    Kind::CheckRange,
+    Kind::Copy,
+    Kind::Set,
+    Kind::Invalidate,
+    Kind::InvalidateAll,
+    Kind::Lookup,
+    Kind::DirtyBlock,
+    Kind::DirtySpace,
+    Kind::HarvestBlock,
+    Kind::HarvestSpace,
+];
+
+// The kind of a number, if it is one.
+pub(crate) fn kind_of(number: u32) -> Option<Kind>
+    ensures { result ≡ slice_get kinds number }
+{
+    nth(&KINDS, number as usize)
+}
+
+fn nth(kinds: &[Kind], number: usize) -> Option<Kind>
+    ensures { result ≡ slice_get kinds.now number }
+{
+    if number < kinds.len() {
+        Some(kinds[number])
+    } else {
+        None
+    }
+}
+
+// An access by its number, if it is one.
+pub(crate) fn access_of(number: u32) -> Option<Permissions>
+    ensures { result ≡ access_at number }
+{
+    match number {
+        0 => Some(Permissions::No),
+        1 => Some(Permissions::Read),
+        2 => Some(Permissions::Write),
+        3 => Some(Permissions::ReadWrite),
+        _ => None,
+    }
+}
+
+// A switch by its number, if it is one.
+pub(crate) fn switch_of(number: u64) -> Option<bool>
+    ensures { result ≡ switch_at number }
+{
+    match number {
+        0 => Some(false),
+        1 => Some(true),
+        _ => None,
+    }
+}
+
+// A width by its number of bytes, if it is one.
+#[inline]
+pub(crate) fn width_of(number: u32) -> Option<Width>
+    ensures { result ≡ width_at number }
+{
+    match number {
+        1 => Some(Width::One),
+        2 => Some(Width::Two),
+        4 => Some(Width::Four),
+        8 => Some(Width::Eight),
+        _ => None,
+    }
+}

@@ -1,0 +1,84 @@
+//! The codes of answers.
+
+/// The call did what it asks for.
+pub const DONE: u32 = 0;
+
+/// A number of the call names nothing.
+pub const NO_SUCH: u32 = 1;
+
+/// A range passes its block, or the greatest address; or a value has too many bytes.
+pub const BAD_RANGE: u32 = 2;
+
+/// An allocation failed.
+pub const MEMORY: u32 = 3;
+
+/// A look-up failed. The output lists what is missed, `count` ranges, and then what is not allowed, `value` ranges.
+pub const FAILS: u32 = 4;
+
+/// A block has 1 to 2^63 - 1 bytes.
+pub const INVALID_SIZE: u32 = 5;
+
+/// A region ends past the greatest address.
+pub const INVALID_REGION: u32 = 6;
+
+/// The call means nothing: its kind, its width, its access or its switch is none, a page or a limit is 0, or the input
+/// is no list of the call.
+pub const BAD_CALL: u32 = 16;
+
+/// A setup call behind a command.
+pub const LATE: u32 = 17;
+
+/// The output is too short. It has to have `count` bytes.
+pub const SHORT: u32 = 18;
+
+/// No region holds `address`.
+pub const INVALID_GUEST_ADDRESS: u32 = 32;
+
+/// A source or a sink failed: it was interrupted, took nothing, ended, or failed in another way.
+pub const IO_INTERRUPTED: u32 = 33;
+
+pub const IO_WRITE_ZERO: u32 = 34;
+
+pub const IO_UNEXPECTED_EOF: u32 = 35;
+
+pub const IO_OTHER: u32 = 36;
+
+/// `count` bytes were moved, and not `value`.
+pub const PARTIAL_BUFFER: u32 = 37;
+
+/// The access does not fit the window.
+pub const INVALID_BACKEND_ADDRESS: u32 = 38;
+
+/// The region has no host bytes.
+pub const HOST_ADDRESS_NOT_AVAILABLE: u32 = 39;
+
+pub const CALLBACK_OUT_OF_RANGE: u32 = 40;
+
+pub const GUEST_ADDRESS_OVERFLOW: u32 = 41;
+
+/// The IOMMU refused the `value` addresses from `address` on: one is not mapped, the access is not allowed, or the
+/// IOMMU is not configured.
+pub const IOMMU_MISSING: u32 = 42;
+
+pub const IOMMU_NOT_ALLOWED: u32 = 43;
+
+pub const IOMMU_NOT_CONFIGURED: u32 = 44;
+
+/// Of these addresses only `count` lie in a row.
+pub const IOMMU_FRAGMENTED: u32 = 45;
+
+/// The IOMMU is misconfigured, for one of these reasons.
+pub const MISCONFIGURED_MISSING: u32 = 46;
+
+pub const MISCONFIGURED_NOT_ALLOWED: u32 = 47;
+
+pub const MISCONFIGURED_NOT_CONFIGURED: u32 = 48;
+
+pub const IOMMU_MEMORY: u32 = 49;
+
+/// A layout of no region, of regions that overlap, or of regions that do not ascend.
+pub const NO_MEMORY_REGION: u32 = 50;
+
+pub const MEMORY_REGION_OVERLAP: u32 = 51;
+
+pub const UNSORTED_MEMORY_REGIONS: u32 = 52;

@@ -1,0 +1,299 @@
+//! The calls of a machine, by their kinds.
+ghost use Rattle.std.specs.Prelude.{◌≡◌, List, [], ℕ, false, IsTrue, is_some, option_map, slice_get};
+ghost use Rattle.vm_memory.specs.Pools.{state_made};
+ghost use Rattle.vm_memory.specs.Typed.{fits_width, integer_of};
+ghost use Rattle.vm_memory.specs.declared.machine.command.Command.TheVariants as command;
+ghost use Rattle.vm_session.specs.Kinds.{is_listing, is_making, is_moving};
+ghost use Rattle.vm_session.specs.Requests.{command_at};
+ghost use Rattle.vm_session.specs.Session.{Does, DoesListed, Loads, Served, Stores};
+ghost use Rattle.vm_session.specs.Words.{numbers_in};
+
+use crate::answer::{checked, done, loaded, made, moved, refused};
+use crate::call::{Answer, Call, Kind, access_of, switch_of, width_of};
+use crate::code;
+use crate::lists::{dirty, harvest, lookup};
+use crate::transfers::{receive, receive_whole, send, send_whole};
+use crate::words::numbers_of;
+use std::alloc::Global;
+use vm_memory::script::ScriptMachine;
+use vm_memory::{BlockRange, Width};
+use vm_memory_base::{BitmapId, GuestAddress, Permissions};
+
+// Serves a call of a kind that is none of setup. Each kind of call has a function of its own, so that a short one pays
+// for its own values alone.
+#[inline]
+pub(crate) fn serve(
+    alloc: Global,
+    machine: &mut ScriptMachine,
+    kind: Kind,
+    call: &Call,
+    input: &[u8],
+    output: &mut [u8],
+) -> Answer
+    ensures { Served (state_made machine.old) kind call.now input.now output.old result output.new
+        (state_made machine.new) }
+{
+    match kind {
+        Kind::Read => read(machine, call, output),
+        Kind::Write => write(machine, call, input),
+        Kind::ReadSlice => read_slice(machine, call, output),
+        Kind::WriteSlice => write_slice(machine, call, input),
+        Kind::Store => match width_of(call.width) {
+            Some(width) => store(machine, call, width),
+            None => Answer::of_code(code::BAD_CALL),
+        },
+        Kind::Load => match width_of(call.width) {
+            Some(width) => load(machine, call, width),
+            None => Answer::of_code(code::BAD_CALL),
+        },
+        Kind::Layout
+        | Kind::Insert
+        | Kind::Remove
+        | Kind::Plain
+        | Kind::Memory
+        | Kind::Replace
+        | Kind::Enable => serve_making(alloc, machine, kind, call, input),
+        Kind::ReadFrom
+        | Kind::ReadExactFrom
+        | Kind::CheckRange
+        | Kind::Copy
+        | Kind::Set
+        | Kind::Invalidate
+        | Kind::InvalidateAll => serve_moving(alloc, machine, kind, call, input),
+        Kind::WriteTo
+        | Kind::WriteAllTo
+        | Kind::Lookup
+        | Kind::DirtyBlock
+        | Kind::DirtySpace
+        | Kind::HarvestBlock
+        | Kind::HarvestSpace => serve_listing(alloc, machine, kind, call, input, output),
+        Kind::Block
+        | Kind::Space
+        | Kind::Table
+        | Kind::LimitedTable
+        | Kind::Region
+        | Kind::Translator => Answer::of_code(code::BAD_CALL),
+    }
+}
+
+// The calls whose replies go to the output.
+#[inline(never)]
+fn serve_listing(
+    alloc: Global,
+    machine: &mut ScriptMachine,
+    kind: Kind,
+    call: &Call,
+    input: &[u8],
+    output: &mut [u8],
+) -> Answer
+    requires { IsTrue (is_listing kind) }
+    ensures { Served (state_made machine.old) kind call.now input.now output.old result output.new
+        (state_made machine.new) }
+{
+    match kind {
+        Kind::WriteTo => send(alloc, machine, call, input, output),
+        Kind::WriteAllTo => send_whole(alloc, machine, call, input, output),
+        Kind::Lookup => match access_of(call.access) {
+            Some(access) => lookup(machine, call, access, output),
+            None => Answer::of_code(code::BAD_CALL),
+        },
+        Kind::DirtyBlock => dirty(alloc, machine, BitmapId::Block(call.first), output),
+        Kind::DirtySpace => dirty(alloc, machine, BitmapId::Space(call.first), output),
+        Kind::HarvestBlock => harvest(alloc, machine, BitmapId::Block(call.first), output),
+        Kind::HarvestSpace => harvest(alloc, machine, BitmapId::Space(call.first), output),
+        _ => unreachable!(),
+    }
+}
+
+// The calls that make layouts and memories.
+#[inline(never)]
+fn serve_making(
+    alloc: Global,
+    machine: &mut ScriptMachine,
+    kind: Kind,
+    call: &Call,
+    input: &[u8],
+) -> Answer
+    requires { IsTrue (is_making kind) }
+    ensures { (out : List ℕ) → Served (state_made machine.old) kind call.now input.now out result out
+        (state_made machine.new) }
+{
+    match kind {
+        Kind::Layout => make_layout(alloc, machine, input),
+        Kind::Insert => made(machine.insert(call.first, call.second)),
+        Kind::Remove => {
+            let base = GuestAddress(call.address);
+            made(machine.remove(call.first, base, call.length as u64))
+        }
+        Kind::Plain => made(machine.plain(call.first)),
+        Kind::Memory => match switch_of(call.value) {
+            Some(on) => made(machine.new_memory(call.first, call.second, call.third, on)),
+            None => Answer::of_code(code::BAD_CALL),
+        },
+        Kind::Replace => made(machine.replace_backend(call.first, call.second)),
+        Kind::Enable => match switch_of(call.value) {
+            Some(on) => done(machine.enable(call.first, on)),
+            None => Answer::of_code(code::BAD_CALL),
+        },
+        _ => unreachable!(),
+    }
+}
+
+// The calls that receive, ask and copy, and those on tables.
+#[inline(never)]
+fn serve_moving(
+    alloc: Global,
+    machine: &mut ScriptMachine,
+    kind: Kind,
+    call: &Call,
+    input: &[u8],
+) -> Answer
+    requires { IsTrue (is_moving kind) }
+    ensures { (out : List ℕ) → Served (state_made machine.old) kind call.now input.now out result out
+        (state_made machine.new) }
+{
+    let addr = GuestAddress(call.address);
+    match kind {
+        Kind::ReadFrom => receive(alloc, machine, call, input),
+        Kind::ReadExactFrom => receive_whole(alloc, machine, call, input),
+        Kind::CheckRange => match access_of(call.access) {
+            Some(access) => checked(machine.check_range(call.first, addr, call.length, access)),
+            None => Answer::of_code(code::BAD_CALL),
+        },
+        Kind::Copy => copy(machine, call),
+        Kind::Set => match access_of(call.access) {
+            Some(access) => {
+                let target = GuestAddress(call.target);
+                done(machine.set_mapping(call.first, addr, target, call.length, access))
+            }
+            None => Answer::of_code(code::BAD_CALL),
+        },
+        Kind::Invalidate => done(machine.invalidate_mapping(call.first, addr, call.length)),
+        Kind::InvalidateAll => done(machine.invalidate_all(call.first)),
+        _ => unreachable!(),
+    }
+}
+
+// Makes the layout of the regions that the input lists.
+fn make_layout(alloc: Global, machine: &mut ScriptMachine, input: &[u8]) -> Answer
+    ensures { (out : List ℕ) → DoesListed (state_made machine.old)
+        (option_map command.FromRegions (numbers_in input.now)) out result out (state_made machine.new) }
+{
+    match numbers_of(alloc, input) {
+        Ok(Some(numbers)) => made(machine.from_regions(numbers.as_slice())),
+        Ok(None) => Answer::of_code(code::BAD_CALL),
+        Err(_) => Answer::of_code(code::MEMORY),
+    }
+}
+
+// Copies between blocks.
+fn copy(machine: &mut ScriptMachine, call: &Call) -> Answer
+    ensures { (out : List ℕ) → Does (state_made machine.old) (command_at Kind.Copy call.now []) out result out
+        (state_made machine.new) }
+{
+    let from = BlockRange {
+        block: call.first,
+        offset: call.address as usize,
+        len: call.length,
+    };
+    let to = BlockRange {
+        block: call.second,
+        offset: call.target as usize,
+        len: call.other_length,
+    };
+    done(machine.copy(from, to))
+}
+
+// Reads at most so many bytes of a memory into the front of the output.
+#[inline(never)]
+fn read(machine: &ScriptMachine, call: &Call, output: &mut [u8]) -> Answer
+    ensures { let now = state_made machine.now in
+        Does now (command_at Kind.Read call.now []) output.old result output.new now }
+{
+    if output.len() < call.length {
+        return Answer::short(call.length);
+    }
+    let addr = GuestAddress(call.address);
+    moved(machine.read(call.first, addr, &mut output[..call.length]))
+}
+
+// Reads just so many bytes of a memory into the front of the output.
+#[inline(never)]
+fn read_slice(machine: &ScriptMachine, call: &Call, output: &mut [u8]) -> Answer
+    ensures { let now = state_made machine.now in
+        Does now (command_at Kind.ReadSlice call.now []) output.old result output.new now }
+{
+    if output.len() < call.length {
+        return Answer::short(call.length);
+    }
+    let addr = GuestAddress(call.address);
+    match machine.read_slice(call.first, addr, &mut output[..call.length]) {
+        Ok(()) => Answer::of_count(call.length),
+        Err(refusal) => refused(refusal),
+    }
+}
+
+// Writes the bytes of the input that fit.
+#[inline(never)]
+fn write(machine: &mut ScriptMachine, call: &Call, input: &[u8]) -> Answer
+    ensures { (out : List ℕ) → Does (state_made machine.old) (command_at Kind.Write call.now input.now) out result out
+        (state_made machine.new) }
+{
+    moved(machine.write(call.first, GuestAddress(call.address), input))
+}
+
+// Writes all bytes of the input.
+#[inline(never)]
+fn write_slice(machine: &mut ScriptMachine, call: &Call, input: &[u8]) -> Answer
+    ensures { (out : List ℕ) → Does (state_made machine.old) (command_at Kind.WriteSlice call.now input.now) out result
+        out (state_made machine.new) }
+{
+    done(machine.write_slice(call.first, GuestAddress(call.address), input))
+}
+
+// Loads an integer of this width.
+#[inline(never)]
+fn load(machine: &ScriptMachine, call: &Call, width: Width) -> Answer
+    ensures { Loads (state_made machine.now) call.now width result }
+{
+    loaded(machine.load_word(call.first, width, GuestAddress(call.address)))
+}
+
+// Stores a number as an integer of this width, if it is one.
+#[inline(never)]
+fn store(machine: &mut ScriptMachine, call: &Call, width: Width) -> Answer
+    ensures { Stores (state_made machine.old) call.now width result (state_made machine.new) }
+{
+    if !width.fits(call.value) {
+        return too_wide(machine, call, width);
+    }
+    let addr = GuestAddress(call.address);
+    match width {
+        Width::One => done(machine.store(call.first, addr, call.value as u8)),
+        Width::Two => done(machine.store(call.first, addr, call.value as u16)),
+        Width::Four => done(machine.store(call.first, addr, call.value as u32)),
+        Width::Eight => done(machine.store(call.first, addr, call.value)),
+    }
+}
+
+// Refuses a value that has too many bytes, where the memory is there.
+#[inline(never)]
+fn too_wide(machine: &ScriptMachine, call: &Call, width: Width) -> Answer
+    requires { fits_width (integer_of width) call.now.value ≡ false }
+    ensures { let now = state_made machine.now in Stores now call.now width result now }
+{
+    if has_memory(machine, call.first) {
+        Answer::of_code(code::BAD_RANGE)
+    } else {
+        Answer::of_code(code::NO_SUCH)
+    }
+}
+
+// Whether there is a memory of this number: a check of no bytes is refused only where there is none.
+fn has_memory(machine: &ScriptMachine, memory: usize) -> bool
+    ensures { result ≡ is_some (slice_get (state_made machine.now).memories memory) }
+{
+    machine
+        .check_range(memory, GuestAddress(0), 0, Permissions::No)
+        .is_ok()
+}

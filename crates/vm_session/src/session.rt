@@ -1,0 +1,102 @@
+//! A session, from the first setup call on.
+ghost use Rattle.std.specs.Prelude.{◌≡◌, None, IsSome, IsTrue, false};
+ghost use Rattle.vm_memory.specs.Script.{beginning, commanding, state_at};
+ghost use Rattle.vm_session.specs.Inside.{stage_of};
+ghost use Rattle.vm_session.specs.Kinds.{sets_up};
+ghost use Rattle.vm_session.specs.Session.{Answers, AnswersKind, SetsUpBy};
+
+use crate::call::{Answer, Call, Kind, kind_of};
+use crate::code;
+use crate::commands::serve;
+use crate::setup::set_up;
+use std::alloc::Global;
+use std::marker::Model;
+use std::mem;
+use vm_memory::script::{Pools, ScriptMachine};
+
+/// A machine that is being set up, and runs from its first command on.
+///
+/// Its calls are a run of the model: docs/BINDINGS.md, "What is proved".
+#[derive(Drop)]
+pub struct Session {
+    alloc: Global,
+    pools: Pools,
+    machine: Option<ScriptMachine>,
+}
+
+impl Model for Session {
+    ghost use Rattle.vm_memory.specs.Script.{Stage};
+    ghost use Rattle.vm_session.specs.Inside.{stage_of};
+
+    ghost Value = { Stage };
+
+    ghost view = { λ s. stage_of s.machine s.pools };
+}
+
+impl Session {
+    /// A session that made nothing. It allocates nothing.
+    pub fn new(alloc: Global) -> Session
+        ensures { result ≡ beginning }
+    {
+        Session {
+            alloc,
+            pools: Pools::new(alloc),
+            machine: None,
+        }
+    }
+
+    /// Answers a call. `Kind` says what each call takes and does, and docs/BINDINGS.md lists the codes of answers.
+    ///
+    /// Bytes that are written and lists come by the input; bytes that are read and lists go to the front of the output,
+    /// whose other bytes stay. Where the output is too short, the answer says how many bytes it has to have, and
+    /// nothing changed. The first call that is none of setup ends the setup, whatever it is answered.
+    pub fn call(&mut self, call: &Call, input: &[u8], output: &mut [u8]) -> Answer
+        ensures { Answers self.old call.now input.now output.old result output.new self.new }
+    {
+        match kind_of(call.kind) {
+            None => Answer::of_code(code::BAD_CALL),
+            Some(kind) => {
+                if kind.sets_up() {
+                    self.set_up(kind, call)
+                } else {
+                    self.run(kind, call, input, output)
+                }
+            }
+        }
+    }
+
+    #[inline(never)]
+    fn set_up(&mut self, kind: Kind, call: &Call) -> Answer
+        requires { IsTrue (sets_up kind) }
+        ensures { SetsUpBy self.old kind call.now result self.new }
+    {
+        if self.machine.is_some() {
+            return Answer::of_code(code::LATE);
+        }
+        set_up(&mut self.pools, kind, call)
+    }
+
+    #[inline]
+    fn run(&mut self, kind: Kind, call: &Call, input: &[u8], output: &mut [u8]) -> Answer
+        ensures { AnswersKind false kind self.old call.now input.now output.old result output.new self.new }
+    {
+        if self.machine.is_none() {
+            begin(self.alloc, &mut self.pools, &mut self.machine);
+        }
+        let Some(machine) = &mut self.machine else {
+            unreachable!();
+        };
+        serve(self.alloc, machine, kind, call, input, output)
+    }
+}
+
+// Makes the machine of what was set up.
+#[inline(never)]
+fn begin(alloc: Global, pools: &mut Pools, machine: &mut Option<ScriptMachine>)
+    requires { machine.old ≡ None }
+    ensures begun { stage_of machine.new pools.new ≡ commanding (state_at (stage_of machine.old pools.old)) }
+    ensures there { IsSome machine.new }
+{
+    let made = mem::replace(pools, Pools::new(alloc));
+    *machine = Some(made.into_machine());
+}

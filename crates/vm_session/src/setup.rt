@@ -1,0 +1,76 @@
+//! The setup calls: what they ask for, and what they are answered.
+ghost use Rattle.std.specs.Prelude.{◌≡◌, IsTrue, MatchOption};
+ghost use Rattle.vm_memory.specs.Pools.{state_made};
+ghost use Rattle.vm_session.specs.Answers.{answer_of_setup};
+ghost use Rattle.vm_session.specs.Kinds.{sets_up};
+ghost use Rattle.vm_session.specs.Requests.{IsSetup, is_without_size};
+ghost use Rattle.vm_session.specs.Session.{IsSetUp};
+
+use crate::call::{Answer, Call, Kind};
+use crate::code;
+use std::num::NonZeroUsize;
+use vm_memory::script::{Pools, Setup, SetupReply};
+use vm_memory_base::GuestAddress;
+use vm_memory_guest::{BlockId, TlbId};
+
+// Makes what a setup call asks for, or changes nothing and says why.
+pub(crate) fn set_up(pools: &mut Pools, kind: Kind, call: &Call) -> Answer
+    requires { IsTrue (sets_up kind) }
+    ensures { IsSetUp (state_made pools.old) kind call.now result (state_made pools.new) }
+{
+    match setup_of(kind, call) {
+        Some(setup) => told(pools.make(setup)),
+        None => Answer::of_code(code::BAD_CALL),
+    }
+}
+
+// What a call asks for, unless a page or a limit is 0.
+fn setup_of(kind: Kind, call: &Call) -> Option<Setup>
+    requires { IsTrue (sets_up kind) }
+    ensures { MatchOption result (IsTrue (is_without_size kind call.now)) (IsSetup kind call.now) }
+{
+    match kind {
+        Kind::Block => {
+            let page_size = NonZeroUsize::new(call.other_length)?;
+            Some(Setup::Block {
+                size: call.length,
+                page_size,
+            })
+        }
+        Kind::Space => {
+            let page_size = NonZeroUsize::new(call.other_length)?;
+            Some(Setup::Space {
+                size: call.length,
+                page_size,
+            })
+        }
+        Kind::Table => Some(Setup::Table(None)),
+        Kind::LimitedTable => {
+            let limit = NonZeroUsize::new(call.length)?;
+            Some(Setup::Table(Some(limit)))
+        }
+        Kind::Region => Some(Setup::Region {
+            block: BlockId(call.first),
+            addr: GuestAddress(call.address),
+        }),
+        Kind::Translator => Some(Setup::Translator(TlbId(call.first))),
+        _ => unreachable!(),
+    }
+}
+
+// The answer to a setup line.
+fn told(reply: SetupReply) -> Answer
+    ensures { result ≡ answer_of_setup reply }
+{
+    match reply {
+        SetupReply::BlockMade(number)
+        | SetupReply::SpaceMade(number)
+        | SetupReply::TableMade(number)
+        | SetupReply::RegionMade(number)
+        | SetupReply::TranslatorMade(number) => Answer::of_value(number as u64),
+        SetupReply::InvalidSize => Answer::of_code(code::INVALID_SIZE),
+        SetupReply::InvalidRegion => Answer::of_code(code::INVALID_REGION),
+        SetupReply::NoSuch => Answer::of_code(code::NO_SUCH),
+        SetupReply::Memory => Answer::of_code(code::MEMORY),
+    }
+}
