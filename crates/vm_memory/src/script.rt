@@ -18,10 +18,6 @@ mod session;
 mod setup;
 mod words;
 
-pub use pools::{Pools, ScriptMachine};
-pub use reply::SetupReply;
-pub use setup::Setup;
-
 use lines::Lines;
 use output::{ROOM, write_all};
 pub use pools::{Pools, ScriptMachine};
