@@ -178,9 +178,6 @@ module _ {B : Type 0} (marks : B → ℕ → ℕ → B → Type 0) (m : Memory) 
       → new.blocks ≡ written (cells (rest_windows m old s)) (replicate (s.size - s.file_size) 0) old.blocks
   clears_gives s old new h = go (s.size - s.file_size == 0) refl h
     where
-      n : ℕ
-      n = s.size - s.file_size
-
       inside : (b : Bool) → MatchBool b (Clears marks m (s.addr.0 + s.file_size) (s.size - s.file_size) old (Ok tt) new)
           ((◌≡◌ {A = Result (Unit {0}) LoaderError} (Ok tt) (Err errors.MemoryOverflow)) × (new ≡ old))
           → new.blocks ≡ written (cells (rest_windows m old s)) (replicate (s.size - s.file_size) 0) old.blocks

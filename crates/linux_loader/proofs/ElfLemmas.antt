@@ -31,13 +31,6 @@ module _ (size offset : ℕ) (all : List ProgramHeader) where
   pub record Comes (done : List Segment) (rest : List ProgramHeader) : Type 0 where
     pub is : segments_of size offset all ≡ and_then (segments_of size offset rest) (λ more. Ok (done ++ more))
 
-  front : (r : Result (List Segment) LoaderError) → r ≡ and_then r (λ more. Ok ([] ++ more))
-  front (Ok x) = refl
-  front (Err e) = refl
-
-  pub comes_first : Comes [] all
-  comes_first = record { is = front (segments_of size offset all) }
-
   more_of : (r : Result (List Segment) LoaderError) (done : List Segment) (s : Segment)
       → and_then (and_then r (λ rest. Ok (s ∷ rest))) (λ more. Ok (done ++ more))
       ≡ and_then r (λ more. Ok ((done ++ s ∷ []) ++ more))

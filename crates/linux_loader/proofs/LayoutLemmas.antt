@@ -1,30 +1,15 @@
 -- Segments by their addresses: where they end, and whether they lie apart.
-use Rattle.std.proofs.Common.{◌≡◌, ◌≢◌, ◌∙◌, ℕ, zero, suc, ◌+◌, ◌<◌, ◌≤◌, List, [], ◌∷◌, add-one, arith, drop, false, is_lt, length, get_or, max, nat_lt, set, true, All, AllPairs, ap, inl, inr, refl}
-use Rattle.std.proofs.Math.Seq.{drop-cons}
+use Rattle.std.proofs.Common.{◌≡◌, ◌≢◌, ◌∙◌, ℕ, zero, suc, ◌+◌, ◌<◌, ◌≤◌, List, [], ◌∷◌, add-one, arith, false, is_lt, length, get_or, nat_lt, set, true, All, AllPairs, inl, inr, refl}
 use Rattle.std.proofs.lemmas.Bool.{cases_eq, cases_lt}
-use Rattle.std.proofs.lemmas.List.{drop_all, get_or-set_other, get_or-set_same, length-set}
+use Rattle.std.proofs.lemmas.List.{get_or-set_other, get_or-set_same, length-set}
 use Rattle.std.proofs.lemmas.List.Edits.{length-swap}
 use Rattle.std.proofs.lemmas.Bool.Decides.{nat_tests}
 use Rattle.std.proofs.lemmas.List.Sorted.{IsPermutation-keeps}
 use Rattle.std.specs.List.{swap}
 use Rattle.std.specs.List.Sorted.{IsPermutation, IsSortedByKey}
 use Rattle.std.specs.Ordering.{nat_cmp}
-use Rattle.linux_loader.specs.Plan.{Apart, HasBytes, end_of, highest_end}
+use Rattle.linux_loader.specs.Plan.{Apart, HasBytes, end_of}
 use Rattle.linux_loader.specs.declared.plan.Segment.{Segment}
-
--- ---- the highest end
-
-pub highest_more : (xs : List Segment) (i : ℕ) (d : Segment) (e : ℕ) → i < length xs
-    → max e (highest_end (drop i xs)) ≡ highest_end xs
-    → max (max e (end_of (get_or xs i d))) (highest_end (drop (i + 1) xs)) ≡ highest_end xs
-highest_more xs i d e l h =
-    let rest : highest_end (drop i xs) ≡ max (end_of (get_or xs i d)) (highest_end (drop (i + 1) xs)) =
-    rw add-one (ap highest_end (drop-cons xs i d l)) in omega arith
-
-pub highest_last : (xs : List Segment) (i e : ℕ) → length xs ≤ i
-    → max e (highest_end (drop i xs)) ≡ highest_end xs → e ≡ highest_end xs
-highest_last xs i e past h =
-    let none : highest_end (drop i xs) ≡ 0 = ap highest_end (drop_all i xs past) in omega arith
 
 -- ---- segments that stand by their addresses
 
@@ -47,36 +32,6 @@ pub record Scanned (xs : List Segment) (i end : ℕ) : Type 0 where
   pub ends : (k : ℕ) (d : Segment) → k < i → end_of (get_or xs k d) ≤ end
   pub first : i ≡ 0 → end ≡ 0
   pub last : (p : ℕ) (d : Segment) → i ≡ suc p → end ≡ end_of (get_or xs p d)
-
-pub scanned_none : (xs : List Segment) → Scanned xs 0 0
-scanned_none xs = record {
-  pairs = λ j k d l m. absurd (omega arith);
-  ends = λ k d l. absurd (omega arith);
-  first = λ e. refl;
-  last = λ p d e. absurd (omega arith);
-}
-
-pub scanned_more : (xs : List Segment) (i end : ℕ) (d : Segment) → Scanned xs i end → i < length xs
-    → end ≤ (get_or xs i d).addr.0 → Scanned xs (i + 1) (end_of (get_or xs i d))
-scanned_more xs i end d s l above = record {
-  pairs = λ j k e m n. elim (cases_eq k i) [
-    | inl is ↦ (let here : get_or xs k e ≡ get_or xs i d = ap (λ (x : ℕ). get_or xs x e) is ∙ irrelevant xs i e d l in
-        let start = ap (λ (x : Segment). x.addr.0) here in
-        let before = s.ends j e (omega arith) in omega arith)
-    | inr other ↦ s.pairs j k e m (omega arith)
-  ];
-  ends = λ k e m. elim (cases_eq k i) [
-    | inl is ↦ (let here : get_or xs k e ≡ get_or xs i d = ap (λ (x : ℕ). get_or xs x e) is ∙ irrelevant xs i e d l in
-        let same = ap end_of here in omega arith)
-    | inr other ↦ (let before = s.ends k e (omega arith) in omega arith)
-  ];
-  first = λ e. absurd (omega arith);
-  last = λ p e is. ap end_of (irrelevant xs i d e l
-      ∙ ap (λ (x : ℕ). get_or xs x e) (let same : i ≡ p = omega arith in same));
-}
-
-pub scanned_all : (xs : List Segment) (i end : ℕ) → Scanned xs i end → length xs ≤ i → AllPairs Apart xs
-scanned_all xs i end s past j k d l m = inl (s.pairs j k d l (omega arith))
 
 pub scanned_meets : (xs : List Segment) (i end : ℕ) (d : Segment) → All HasBytes xs
     → IsSortedByKey (λ s. s.addr.0) nat_cmp xs → Scanned xs i end → i < length xs → (get_or xs i d).addr.0 < end

@@ -31,9 +31,6 @@ module _ {S B : Type 0} (bytes : S → Option (List ℕ)) (source : S → Option
         → LoadsAll bytes source reads known marks m (drop i all) now answer new
         → LoadsAll bytes source reads known marks m all old answer new
 
-  pub loaded_none : Loaded 0 old
-  loaded_none = record { rest = λ answer new h. h }
-
   here : (i : ℕ) (d : Segment) → i < length all → drop i all ≡ get_or all i d ∷ drop (suc i) all
   here i d l = drop-cons all i d l
 

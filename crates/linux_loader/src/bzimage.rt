@@ -241,7 +241,9 @@ fn plan_of(
 }
 
 impl BzImage {
-    /// What is to be loaded of an image, and where.
+    /// What is to be loaded of an image, and where: the protected mode kernel, at `kernel_offset`, or else at
+    /// `code32_start`, which may not lie below `highmem_start`. The first thing that is wrong is refused, in the order
+    /// of docs/LOADER.md, "bzImages". `Image` where the source fails, and `Memory` where an allocation does.
     pub fn plan<F: KernelImage>(
         alloc: Global,
         kernel_offset: Option<GuestAddress>,
@@ -259,7 +261,7 @@ impl BzImage {
         apart(alloc, plan)
     }
 
-    /// Loads an image.
+    /// Loads an image as `plan` says. Where there is no plan, memory is as it was.
     pub fn load<M: GuestMemory, F: KernelImage, B: Bitmap>(
         alloc: Global,
         mem: &M,

@@ -129,7 +129,8 @@ fn line_of(alloc: Global, text: &[u8], more: &[u8]) -> Result<Vec<u8>, AllocErro
 }
 
 impl Cmdline {
-    /// An empty line that has room for so many bytes, of which the last is the terminating zero.
+    /// An empty line that has room for so many bytes, of which the last is the terminating zero. `InvalidCapacity` where
+    /// that is 0, and `Memory` where the allocation fails.
     pub fn new(alloc: Global, capacity: usize) -> Result<Cmdline, CmdlineError>
         ensures { MatchResult result
             (λ line. (line ≡ record { bytes = 0 ∷ []; capacity = capacity }) × (0 < capacity))
@@ -194,7 +195,9 @@ impl Cmdline {
     }
 }
 
-/// Writes a command line with its terminating zero to an address.
+/// Writes a command line with its terminating zero to an address. `CommandLineOverflow` where it passes the greatest
+/// address: then nothing changes. Otherwise it is written as far as there is memory, and `GuestMemory` says why no
+/// further.
 pub fn load_cmdline<M: GuestMemory, B: Bitmap>(
     mem: &M,
     host: &mut HostMemory<B>,

@@ -63,7 +63,8 @@ fn most_of(kernel: &KernelLoaderResult, limit: u64) -> u64
 }
 
 /// Where an initrd of so many bytes lies: at the highest page from which on it passes no limit, behind the kernel. Of
-/// a bzImage `initrd_addr_max` is a limit, too, and the kernel ends at `init_size`, if not above.
+/// a bzImage `initrd_addr_max` is a limit, too, and the kernel ends at `init_size`, if not above. The limit is the
+/// greatest address that it may have. `EmptyInitrd`, or `NoRoomForInitrd` where there is no such page.
 pub fn initrd_address(
     kernel: &KernelLoaderResult,
     size: u64,
@@ -92,7 +93,8 @@ fn highest_page(end: u64, most: u64, size: u64) -> Result<GuestAddress, LoaderEr
     Ok(GuestAddress(start))
 }
 
-/// Loads an initrd to where it lies, and answers that place.
+/// Loads an initrd to where `initrd_address` says, and answers that as a segment. Its errors are those of
+/// `initrd_address` and of the load of a segment.
 pub fn load_initrd<M: GuestMemory, F: KernelImage, B: Bitmap>(
     mem: &M,
     host: &mut HostMemory<B>,

@@ -181,7 +181,9 @@ pub(crate) fn load_segment<M: GuestMemory, F: KernelImage, B: Bitmap>(
 }
 
 impl KernelPlan {
-    /// Loads each segment, one after the other, up to the first that is refused.
+    /// Loads each segment, one after the other, up to the first that is refused: its bytes from the image, and zeros
+    /// behind them. `Image` where the image cannot be read from a place on, `GuestMemory` where an access is refused or
+    /// the image fails in it, and `Memory` where an allocation fails. What was loaded before stays.
     pub fn load<M: GuestMemory, F: KernelImage, B: Bitmap>(
         self,
         mem: &M,

@@ -11,3 +11,5 @@ mod images;
 mod lines;
 #[cfg(test)]
 mod slow;
+#[cfg(test)]
+mod small;
