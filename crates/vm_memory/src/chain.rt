@@ -7,7 +7,7 @@
 //! Behind an IOMMU that is on, each access allocates for its translation. Where this fails behind the first access
 //! of a call, the call ends with a short count. Nothing tells that count from one that ends at an address with no
 //! byte.
-ghost use Rattle.std.specs.Prelude.{◌≡◌, length, None, Some, MatchResult};
+ghost use Rattle.std.specs.Prelude.{◌≡◌, ◌<◌, ◌^◌, length, min, drop, None, Some, MatchResult};
 ghost use Rattle.vm_memory_guest.specs.Host.{shape_of, Holds};
 ghost use Rattle.vm_memory.specs.Chain.{ReadsText, WritesText, chain_fault, readable, text, writable};
 
@@ -85,24 +85,26 @@ impl Chain {
     /// A reader of the readable segments, from their first byte on.
     #[inline(always)]
     pub fn reader(&self) -> ChainReader<'_>
-        ensures { result ≡ text (readable self.now) }
+        ensures text { result ≡ text (readable self.now) }
+        ensures short { length result < 2 ^ 32 }
     {
         let segments = &self.segments.as_slice()[..self.division.readable];
-        let len = self.division.readable_len as usize;
+        let len = self.division.readable_len;
         ChainReader {
-            text: Text::new(segments, len),
+            text: Text::new(segments, len as usize),
         }
     }
 
     /// A writer of the writable segments, from their first byte on.
     #[inline(always)]
     pub fn writer(&self) -> ChainWriter<'_>
-        ensures { result ≡ text (writable self.now) }
+        ensures text { result ≡ text (writable self.now) }
+        ensures short { length result < 2 ^ 32 }
     {
         let segments = &self.segments.as_slice()[self.division.readable..];
-        let len = self.division.writable_len as usize;
+        let len = self.division.writable_len;
         ChainWriter {
-            text: Text::new(segments, len),
+            text: Text::new(segments, len as usize),
         }
     }
 }
@@ -130,6 +132,16 @@ impl<'c> ChainReader<'c> {
         ensures { result ≡ length self.now }
     {
         self.text.left()
+    }
+
+    /// Passes so many bytes and reads none of them, or all that are left where these are fewer. It answers how many it
+    /// passed. No access is made, so bytes are passed that do not lie in guest memory.
+    #[inline]
+    pub fn skip(&mut self, count: usize) -> usize
+        ensures passed { result ≡ min count (length self.old) }
+        ensures place { self.new ≡ drop result self.old }
+    {
+        self.text.skip(count)
     }
 
     /// Reads into the beginning of the buffer, and answers how many bytes that is. Its place moves by as many. It
@@ -173,6 +185,16 @@ impl<'c> ChainWriter<'c> {
         ensures { result ≡ length self.now }
     {
         self.text.left()
+    }
+
+    /// Passes so many bytes and writes none of them, or all that are left where these are fewer. It answers how many it
+    /// passed. No access is made, so bytes are passed that do not lie in guest memory.
+    #[inline]
+    pub fn skip(&mut self, count: usize) -> usize
+        ensures passed { result ≡ min count (length self.old) }
+        ensures place { self.new ≡ drop result self.old }
+    {
+        self.text.skip(count)
     }
 
     /// Writes the beginning of the buffer, and answers how many bytes that is. Its place moves by as many, and

@@ -1,5 +1,5 @@
 //! The text of segments, and calls over it.
-ghost use Rattle.std.specs.Prelude.{◌≡◌, ◌+◌, ◌<◌, ◌≤◌, ◌^◌, [], length, take, drop, None, Some, All, IfOk, MatchOption, MatchResult};
+ghost use Rattle.std.specs.Prelude.{◌≡◌, ◌+◌, ◌<◌, ◌≤◌, ◌^◌, [], length, min, take, drop, None, Some, All, IfOk, MatchOption, MatchResult};
 ghost use Rattle.vm_memory_guest.specs.Host.{shape_of, Holds};
 ghost use Rattle.vm_memory.specs.Chain.{ReadsText, WritesText, access_len, chain_fault, fault_behind, text};
 ghost use Rattle.vm_memory.specs.ChainText.{Divides, Fits, GoesOn, IsNext, IsPlace, entries};
@@ -136,6 +136,20 @@ impl<'c> Text<'c> {
         self.addr = addr;
         self.rest = rest;
         self.behind = behind;
+    }
+
+    // Passes so many bytes, or all that are left where these are fewer. It answers how many it passed.
+    pub(super) fn skip(&mut self, count: usize) -> usize
+        ensures passed { result ≡ min count (length self.old) }
+        ensures place { self.new ≡ drop result self.old }
+    {
+        let total = count.min(self.left);
+        let mut passed = 0;
+        while let Some((_, most)) = self.next_access(total - passed) {
+            self.pass(most);
+            passed += most;
+        }
+        passed
     }
 
     // Goes on behind an access that was to move `most` bytes, in a call that moved `total` bytes before it. Where
