@@ -1,0 +1,197 @@
+//! Disks that fail, and disks in files.
+ghost use Rattle.std.specs.Prelude.{◌≡◌, ℕ, List, Option, Some};
+
+use crate::bench::{Bench, DATA, HEADER, STATUS, header_of, make_bench};
+use crate::requests::numbered;
+use std::alloc::Global;
+use std::fs::{self, File};
+use std::io::Write;
+use std::test::Fail;
+use test_text::expect_text;
+use virtio_blk::{Disk, DiskError, FileDisk, MemoryDisk};
+
+// A disk that refuses what comes after so many calls.
+#[derive(Drop)]
+struct FailingDisk<D> {
+    disk: D,
+    left: u64,
+}
+
+impl<D: Disk> FailingDisk<D> {
+    fn take_turn(&mut self) -> Result<(), DiskError>
+        ensures { self.new.disk ≡ self.old.disk }
+    {
+        if self.left == 0 {
+            return Err(DiskError::Refused);
+        }
+        self.left -= 1;
+        Ok(())
+    }
+}
+
+impl<D: Disk> Disk for FailingDisk<D> {
+    ghost bytes = { λ d. D.bytes d.disk };
+
+    ghost sectors = { λ d. D.sectors d.disk };
+
+    ghost may_fail = { Unit {0} };
+
+    fn sectors(&self) -> u64 {
+        self.disk.sectors()
+    }
+
+    fn read(&mut self, sector: u64, buf: &mut [u8]) -> Result<(), DiskError> {
+        self.take_turn()?;
+        self.disk.read(sector, buf)
+    }
+
+    fn write(&mut self, sector: u64, data: &[u8]) -> Result<(), DiskError> {
+        self.take_turn()?;
+        self.disk.write(sector, data)
+    }
+
+    fn flush(&mut self) -> Result<(), DiskError> {
+        self.take_turn()?;
+        self.disk.flush()
+    }
+
+    ghost whole = { λ d all e. D.whole d.disk all e };
+}
+
+// How many bytes of a slice from its start on are this one.
+fn run_of(bytes: &[u8], byte: u8) -> usize {
+    bytes.iter().take_while(|b| **b == byte).count()
+}
+
+const LEN: u32 = 4 * 65536;
+
+// A disk that fails at its third piece: two were moved. A flush that fails.
+#[test]
+fn failures_in_the_middle(rt: HostRuntime) -> Result<(), Fail> {
+    for scattered in [false, true] {
+        let bytes = vec![in rt.alloc(); 7u8; LEN as usize]?;
+        let disk = FailingDisk {
+            disk: MemoryDisk::new(bytes),
+            left: 2,
+        };
+        let mut bench = make_bench(rt.alloc(), scattered, disk, false)?;
+        bench.put(DATA, vec![in rt.alloc(); 9u8; LEN as usize]?.as_slice())?;
+        let parts = [(HEADER, 16, false), (DATA, LEN, false), (STATUS, 1, true)];
+        let wrote = bench.ask(header_of(1, 0), &parts)?;
+        let status = bench.get(rt.alloc(), STATUS, 1)?;
+        let moved = run_of(bench.device.disk().disk.bytes(), 9);
+        let all = run_of(
+            bench.device.disk().disk.bytes().get(moved..).unwrap_or(&[]),
+            7,
+        );
+        let text = format!(in rt.alloc(); "{wrote} {:?} {moved} {all}", status.as_slice())?;
+        expect_text(0, text.as_str(), "1 [1] 131072 131072")?;
+    }
+    Ok(())
+}
+
+#[test]
+fn failures_in_the_middle_of_reads(rt: HostRuntime) -> Result<(), Fail> {
+    for scattered in [false, true] {
+        let bytes = vec![in rt.alloc(); 7u8; LEN as usize]?;
+        let disk = FailingDisk {
+            disk: MemoryDisk::new(bytes),
+            left: 2,
+        };
+        let mut bench = make_bench(rt.alloc(), scattered, disk, false)?;
+        bench.put(DATA, vec![in rt.alloc(); 9u8; LEN as usize]?.as_slice())?;
+        let parts = [(HEADER, 16, false), (DATA, LEN, true), (STATUS, 1, true)];
+        let read = bench.ask(header_of(0, 0), &parts)?;
+        let status = bench.get(rt.alloc(), STATUS, 1)?;
+        let back = bench.get(rt.alloc(), DATA, LEN as usize)?;
+        let moved = run_of(back.as_slice(), 7);
+        let flushed = bench.ask(header_of(4, 0), &[(HEADER, 16, false), (STATUS, 1, true)])?;
+        let after = bench.get(rt.alloc(), STATUS, 1)?;
+        let (status, after) = (status.as_slice(), after.as_slice());
+        let text = format!(in rt.alloc(); "{read} {status:?} {moved} {flushed} {after:?}")?;
+        expect_text(0, text.as_str(), "131072 [1] 131072 1 [1]")?;
+    }
+    Ok(())
+}
+
+// Asks for a sector of 170 to be written, and for the same to be read to where 170 lay, and for a flush. Tells each
+// status, and the byte that was read.
+fn told<D: Disk>(alloc: Global, bench: &mut Bench<D>, sector: u64) -> Result<String, Fail> {
+    let mut told = String::new(alloc);
+    for (kind, writable, len) in [(1, false, 512), (0, true, 512), (4, true, 0)] {
+        let parts = [
+            (HEADER, 16, false),
+            (DATA, len, writable),
+            (STATUS, 1, true),
+        ];
+        bench.ask(header_of(kind, sector), &parts)?;
+        let status = bench.get(alloc, STATUS, 1)?;
+        write!(told, "{:?} ", status.as_slice())?;
+        bench.put(STATUS, &[255])?;
+    }
+    let data = bench.get(alloc, DATA, 1)?;
+    write!(told, "{:?}", data.as_slice())?;
+    Ok(told)
+}
+
+// A file of two sectors of 5 and some bytes more, which are no sector: the capacity is two.
+#[test]
+fn disks_in_files(rt: HostRuntime) -> Result<(), Fail> {
+    fs::write(&rt, "blk-disk", [5u8; 1100].as_slice())?;
+    let file = File::options()
+        .read(true)
+        .write(true)
+        .open(&rt, "blk-disk")?;
+    let mut bench = make_bench(rt.alloc(), false, FileDisk::new(file)?, false)?;
+    if bench.device.config() != [2, 0, 0, 0, 0, 0, 0, 0] {
+        return Err(Fail::new("the capacity is two"));
+    }
+    let text = told(rt.alloc(), &mut bench, 1)?;
+    expect_text(0, text.as_str(), "[0] [0] [0] [170]")?;
+    let text = told(rt.alloc(), &mut bench, 2)?;
+    expect_text(1, text.as_str(), "[1] [1] [0] [170]")?;
+    let bytes = fs::read(&rt, "blk-disk")?;
+    let (front, back) = (bytes.get(..512), bytes.get(1024..));
+    if front != Some([5; 512].as_slice()) || back != Some([5; 76].as_slice()) {
+        return Err(Fail::new("other bytes stay"));
+    }
+    if bytes.get(512..1024) != Some([170; 512].as_slice()) {
+        return Err(Fail::new("the sector is in the file"));
+    }
+    Ok(())
+}
+
+// The last sector of a file goes missing while it is served: it is not there to be read, and can be written.
+#[test]
+fn disks_in_files_that_shrink(rt: HostRuntime) -> Result<(), Fail> {
+    fs::write(&rt, "blk-short", [5u8; 1024].as_slice())?;
+    let file = File::options()
+        .read(true)
+        .write(true)
+        .open(&rt, "blk-short")?;
+    let shared = file.try_clone()?;
+    let mut bench = make_bench(rt.alloc(), false, FileDisk::new(file)?, false)?;
+    shared.set_len(700)?;
+    let parts = [(HEADER, 16, false), (DATA, 1024, true), (STATUS, 1, true)];
+    let len = bench.ask(header_of(0, 0), &parts)?;
+    let status = bench.get(rt.alloc(), STATUS, 1)?;
+    let text = format!(in rt.alloc(); "{len} {:?}", status.as_slice())?;
+    expect_text(0, text.as_str(), "0 [1]")?;
+    let text = told(rt.alloc(), &mut bench, 1)?;
+    expect_text(1, text.as_str(), "[0] [0] [0] [170]")
+}
+
+// A file that was opened for reading alone.
+#[test]
+fn disks_in_files_to_be_read(rt: HostRuntime) -> Result<(), Fail> {
+    fs::write(&rt, "blk-read", [5u8; 1024].as_slice())?;
+    let file = File::open(&rt, "blk-read")?;
+    let mut bench = make_bench(rt.alloc(), false, FileDisk::new(file)?, false)?;
+    let text = told(rt.alloc(), &mut bench, 1)?;
+    expect_text(0, text.as_str(), "[1] [0] [0] [5]")?;
+    let bytes = fs::read(&rt, "blk-read")?;
+    if bytes.as_slice() != [5; 1024].as_slice() {
+        return Err(Fail::new("the file stays"));
+    }
+    Ok(())
+}

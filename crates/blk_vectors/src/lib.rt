@@ -1,0 +1,13 @@
+//! Tests of the block device.
+#![tactic(auto)]
+
+#[cfg(test)]
+mod bench;
+#[cfg(test)]
+mod disks;
+#[cfg(test)]
+mod queues;
+#[cfg(test)]
+mod random;
+#[cfg(test)]
+mod requests;

@@ -1,0 +1,192 @@
+//! Queues of chains, interrupts, features and the configuration.
+
+use crate::bench::{Bench, DATA, HEADER, SIZE, STATUS, header_of, make_bench};
+use crate::requests::{first_bytes, numbered};
+use std::test::Fail;
+use test_text::expect_text;
+use virtio_blk::{BlockDevice, MemoryDisk};
+use virtio_queue::QueueField;
+use vm_memory::GuestAddress;
+
+fn set(bench: &mut Bench<MemoryDisk>, field: QueueField, value: u16) -> Result<(), Fail> {
+    if !bench.host.holds(&bench.memory) {
+        return Err(Fail::new("the host holds the memory"));
+    }
+    bench
+        .driver
+        .set_field(&bench.memory, &mut bench.host, field, value)?;
+    Ok(())
+}
+
+// Publishes a chain from a descriptor on.
+fn publish(bench: &mut Bench<MemoryDisk>, first: u16) -> Result<(), Fail> {
+    bench.publish(first, &[(HEADER, 16, false), (STATUS, 1, true)])
+}
+
+// Tells how many chains a call serves, and whether the driver is to be interrupted.
+fn kick(bench: &mut Bench<MemoryDisk>, told: &mut String) -> Result<(), Fail> {
+    let served = bench.kick()?;
+    write!(told, "{} {}; ", served.count, served.interrupt)?;
+    Ok(())
+}
+
+// Tells all of a call.
+fn kick_whole(bench: &mut Bench<MemoryDisk>, told: &mut String) -> Result<(), Fail> {
+    let served = bench.kick()?;
+    let (count, more, interrupt) = (served.count, served.more, served.interrupt);
+    write!(told, "{count} {more} {interrupt} {:?}; ", served.failed)?;
+    Ok(())
+}
+
+// Two chains in one call, then none, and then one with the flag NO_INTERRUPT.
+fn by_flags(bench: &mut Bench<MemoryDisk>, told: &mut String) -> Result<(), Fail> {
+    publish(bench, 0)?;
+    publish(bench, 2)?;
+    kick(bench, told)?;
+    kick(bench, told)?;
+    set(bench, QueueField::AvailFlags, 1)?;
+    publish(bench, 4)?;
+    kick(bench, told)
+}
+
+// Event indices, of which the driver waits for the second.
+fn by_events(bench: &mut Bench<MemoryDisk>, told: &mut String) -> Result<(), Fail> {
+    bench.queue.set_event_idx(true);
+    set(bench, QueueField::UsedEvent, 4)?;
+    for head in [6, 8, 10] {
+        publish(bench, head)?;
+        kick(bench, told)?;
+    }
+    Ok(())
+}
+
+// Each head comes back once, in order.
+fn all_return(bench: &mut Bench<MemoryDisk>) -> Result<(), Fail> {
+    for head in [0, 2, 4, 6, 8, 10] {
+        if bench.take()? != (head, 1) {
+            return Err(Fail::new("each head is returned once, in order"));
+        }
+    }
+    Ok(())
+}
+
+fn interrupts(bench: &mut Bench<MemoryDisk>, told: &mut String) -> Result<(), Fail> {
+    bench.put(HEADER, &header_of(4, 0))?;
+    by_flags(bench, told)?;
+    by_events(bench, told)?;
+    all_return(bench)
+}
+
+#[test]
+fn interrupts_as_the_driver_wants(rt: HostRuntime) -> Result<(), Fail> {
+    let mut bench = make_bench(rt.alloc(), false, numbered(rt.alloc(), 4)?, false)?;
+    let mut told = String::new(rt.alloc());
+    interrupts(&mut bench, &mut told)?;
+    let wanted = "2 true; 0 true; 1 false; 1 false; 1 true; 1 false; ";
+    expect_text(0, told.as_str(), wanted)
+}
+
+// As many chains as the queue has entries, which one call serves.
+fn fill(bench: &mut Bench<MemoryDisk>, told: &mut String) -> Result<(), Fail> {
+    for head in 0..SIZE {
+        bench.publish(head, &[(STATUS, 1, true)])?;
+    }
+    kick_whole(bench, told)
+}
+
+#[test]
+fn calls_serve_as_many_as_the_size(rt: HostRuntime) -> Result<(), Fail> {
+    let mut bench = make_bench(rt.alloc(), false, numbered(rt.alloc(), 4)?, false)?;
+    let mut told = String::new(rt.alloc());
+    fill(&mut bench, &mut told)?;
+    let wanted = "16 false true None; ";
+    expect_text(0, told.as_str(), wanted)
+}
+
+// A request whose answer goes over the driver's index.
+fn overwrite_index(
+    bench: &mut Bench<MemoryDisk>,
+    kind: u32,
+    len: u32,
+    told: &mut String,
+) -> Result<(), Fail> {
+    let index = bench.driver.avail_ring.wrapping_add(2);
+    bench.put(HEADER, &header_of(kind, 0))?;
+    let parts = [(HEADER, 16, false), (index, len, true), (STATUS, 1, true)];
+    bench.publish(0, &parts)?;
+    kick_whole(bench, told)
+}
+
+// The name goes over the index: "th" is 0x6874, so the index is too far ahead.
+#[test]
+fn requests_that_write_the_index(rt: HostRuntime) -> Result<(), Fail> {
+    let mut bench = make_bench(rt.alloc(), false, numbered(rt.alloc(), 4)?, false)?;
+    let mut told = String::new(rt.alloc());
+    overwrite_index(&mut bench, 8, 2, &mut told)?;
+    let wanted = "1 false true Some(InvalidAvailRingIndex); ";
+    expect_text(0, told.as_str(), wanted)
+}
+
+// A queue that is not ready; and a head that is popped and cannot be returned, since the used ring lies nowhere.
+fn fail(bench: &mut Bench<MemoryDisk>, told: &mut String) -> Result<(), Fail> {
+    bench.queue.set_ready(false);
+    kick_whole(bench, told)?;
+    bench.queue.set_ready(true);
+    bench.queue.try_set_used_ring_address(GuestAddress(0x100))?;
+    bench.put(HEADER, &header_of(1, 0))?;
+    let parts = [(HEADER, 16, false), (DATA, 512, false), (STATUS, 1, true)];
+    bench.publish(0, &parts)?;
+    kick_whole(bench, told)
+}
+
+// The head was popped, and its request served.
+fn tell_place(bench: &Bench<MemoryDisk>, told: &mut String) -> Result<(), Fail> {
+    let first = first_bytes(bench.device.disk());
+    write!(told, "{} {first:?}", bench.queue.next_avail())?;
+    Ok(())
+}
+
+fn failures(bench: &mut Bench<MemoryDisk>, told: &mut String) -> Result<(), Fail> {
+    fail(bench, told)?;
+    tell_place(bench, told)
+}
+
+#[test]
+fn queues_that_fail(rt: HostRuntime) -> Result<(), Fail> {
+    let mut bench = make_bench(rt.alloc(), false, numbered(rt.alloc(), 4)?, false)?;
+    let mut told = String::new(rt.alloc());
+    failures(&mut bench, &mut told)?;
+    let wanted = "0 false false Some(QueueNotReady); 0 false true Some(InvalidUsedEntry); \
+        1 [170, 2, 3, 4]";
+    expect_text(0, told.as_str(), wanted)
+}
+
+// Accepts features: none with VERSION_1, one that is not offered, some, and none again.
+fn accept(device: &mut BlockDevice<MemoryDisk>, told: &mut String) -> Result<(), Fail> {
+    write!(told, "{:#x} {:?}", device.features(), device.config())?;
+    for features in [0x3000_0000, 0x1_0000_0001, 0x1_2000_0000, 0] {
+        let may = device.ack_features(features);
+        write!(
+            told,
+            ", {may} {:#x} {}",
+            device.acked_features(),
+            device.event_idx()
+        )?;
+    }
+    Ok(())
+}
+
+#[test]
+fn features_and_capacity(rt: HostRuntime) -> Result<(), Fail> {
+    for (read_only, offered) in [(false, "0x130000200"), (true, "0x130000220")] {
+        let mut bench = make_bench(rt.alloc(), false, numbered(rt.alloc(), 4)?, read_only)?;
+        let mut told = String::new(rt.alloc());
+        accept(&mut bench.device, &mut told)?;
+        let wanted = format!(in rt.alloc();
+            "{offered} [4, 0, 0, 0, 0, 0, 0, 0], false 0x0 false, \
+            false 0x0 false, true 0x120000000 true, false 0x120000000 true"
+        )?;
+        expect_text(0, told.as_str(), wanted.as_str())?;
+    }
+    Ok(())
+}

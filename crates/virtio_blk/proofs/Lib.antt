@@ -1,0 +1,4 @@
+pub mod DiskFacts
+pub mod ProcessFacts
+pub mod ServeFacts
+pub mod TextFacts

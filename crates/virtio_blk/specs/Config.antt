@@ -1,0 +1,19 @@
+-- The device as its owner sees it, and the features that it offers.
+use Rattle.std.specs.Prelude.{ℕ, ◌+◌, ◌^◌, Bool, true, false, ◌==◌, ◌&&◌, not, List, bit_and}
+
+-- a device: its disk, whether it only reads that, its name of 20 bytes, and the features that were accepted
+pub record Device (D : Type 0) : Type 0 where
+  pub disk : D
+  pub read_only : Bool
+  pub id : List ℕ
+  pub acked : ℕ
+
+-- VERSION_1, INDIRECT_DESC, EVENT_IDX and FLUSH, and RO where the device only reads
+abbrev pub offered : Bool → ℕ
+offered true = 2 ^ 32 + 2 ^ 28 + 2 ^ 29 + 2 ^ 9 + 2 ^ 5
+offered false = 2 ^ 32 + 2 ^ 28 + 2 ^ 29 + 2 ^ 9
+
+-- a driver may accept what is offered, and has to accept VERSION_1
+abbrev pub acceptable : Bool → ℕ → Bool
+acceptable read_only features =
+    bit_and features (offered read_only) == features && not (bit_and features (2 ^ 32) == 0)

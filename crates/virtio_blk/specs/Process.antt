@@ -1,0 +1,94 @@
+-- What a device does with the chains of a queue, one after the other.
+use Rattle.std.specs.Prelude.{◌≡◌, ◌⊎◌, ℕ, zero, suc, ◌<◌, Bool, true, false, nat_lt, List, Option, Some, None, Result, Ok, Err, MatchResult}
+use Rattle.std.specs.Option.{option_or}
+use Rattle.vm_memory_guest.specs.Host.{Host}
+use Rattle.vm_memory_guest.specs.Memory.{Memory, IsOn}
+use Rattle.vm_memory.specs.declared.chain.Segment.{Segment}
+use Rattle.virtio_queue.specs.Available.{MayWantChain, after_pop, popped}
+use Rattle.virtio_queue.specs.Fields.{Answers, Refuses}
+use Rattle.virtio_queue.specs.Notification.{after_asked, has_more, needs_notification}
+use Rattle.virtio_queue.specs.State.{Virtqueue, with_state}
+use Rattle.virtio_queue.specs.Used.{AddsUsed, after_used}
+use Rattle.virtio_queue.specs.declared.error.QueueError.{QueueError}
+use Rattle.virtio_blk.specs.Config.{Device}
+use Rattle.virtio_blk.specs.Served.{Serves}
+use Rattle.virtio_blk.specs.declared.device.process.Served.{Served}
+
+-- a device, its queue and the host
+pub record State (B D : Type 0) : Type 0 where
+  pub device : Device D
+  pub queue : Virtqueue
+  pub host : Host B
+
+-- the queue after a chain was popped
+abbrev pub past : Virtqueue → ℕ → List Segment → Virtqueue
+past q head chain = with_state q (after_pop {X = ℕ × List Segment} q.state (Ok (Some (head, chain))))
+
+-- the answer, or a value in place of an error
+abbrev pub or_value : Bool → Result Bool QueueError → Bool
+or_value b (Ok answer) = answer
+or_value b (Err e) = b
+
+-- the error that was answered, if one was
+abbrev pub error_in : Result Bool QueueError → Option QueueError
+error_in (Ok b) = None
+error_in (Err e) = Some e
+
+module _ {B D : Type 0} (marks : B → ℕ → ℕ → B → Type 0) (bytes : D → Option (List ℕ)) (sectors : D → ℕ)
+    (may_fail : Type 0) (m : Memory) where
+  -- one chain was popped and served, and its head was returned, or that was refused
+  pub record Turn (old : State B D) (answer : Result (Unit {0}) QueueError) (new : State B D) : Type 0 where
+    pub head : ℕ
+    pub chain : List Segment
+    pub len : ℕ
+    pub mid : Host B
+    pub popped : popped m old.host old.queue.state ≡ Ok (Some (head, chain))
+    pub served : Serves marks bytes sectors may_fail m chain old.device old.host len new.device mid
+    pub returned : AddsUsed marks m (past old.queue head chain).state head len mid answer new.host
+    pub queue : new.queue ≡ after_used (past old.queue head chain) answer
+
+  -- so many chains were popped, served and returned, one after the other
+  abbrev pub Turns : ℕ → State B D → State B D → Type 0
+  Turns zero old new = new ≡ old
+  Turns (suc n) old new = (mid : State B D) × Turns n old mid × Turn mid (Ok tt) new
+
+  -- no chain could be popped: there was none, or that was refused
+  abbrev pub Stays : State B D → Result Bool QueueError → State B D → Type 0
+  Stays old answer new = (new ≡ old) × MatchResult answer
+      (λ more. (more ≡ false) × (popped m old.host old.queue.state ≡ Ok None))
+      (Refuses (MayWantChain m old.host old.queue.state) (popped m old.host old.queue.state))
+
+  -- what comes of one try: a chain was popped, served and returned, or there was none, or the queue refused
+  abbrev pub NextTurn : State B D → Result Bool QueueError → State B D → Type 0
+  NextTurn old (Ok true) new = Turn old (Ok tt) new
+  NextTurn old (Ok false) new = Stays old (Ok false) new
+  NextTurn old (Err e) new = Stays old (Err e) new ⊎ Turn old (Err e) new
+
+  -- the last head could not be returned
+  abbrev pub Breaks : State B D → Result Bool QueueError → State B D → Type 0
+  Breaks old answer new = MatchResult answer (λ more. ⊥) (λ e. Turn old (Err e) new)
+
+  -- as many chains as the queue has entries were served, and it was asked whether there are more
+  abbrev pub Asked : State B D → Result Bool QueueError → State B D → Type 0
+  Asked old answer new = (new ≡ old) × Answers (IsOn m) (has_more m old.host old.queue.state) answer
+
+  -- chains were served, at most so many, and then there were no more, or the queue refused, or so many were served
+  pub record Runs (size : ℕ) (old : State B D) (count : ℕ) (answer : Result Bool QueueError) (new : State B D)
+      : Type 0 where
+    pub last : State B D
+    pub turns : Turns count old last
+    pub ends : (count < size) × (Stays last answer new ⊎ Breaks last answer new)
+        ⊎ ((count ≡ size) × Asked last answer new)
+
+  -- what a call answers: of the first error of the queue, and whether the driver is to be interrupted. Where the queue
+  -- cannot tell that, it is where a chain was returned
+  pub record Processes (old : State B D) (served : Served) (new : State B D) : Type 0 where
+    pub answer : Result Bool QueueError
+    pub last : State B D
+    pub needs : Result Bool QueueError
+    pub runs : Runs old.queue.state.size old served.count answer last
+    pub more : served.more ≡ or_value false answer
+    pub asked : Answers (IsOn m) (needs_notification m last.host last.queue) needs
+    pub interrupt : served.interrupt ≡ or_value (nat_lt 0 served.count) needs
+    pub failed : served.failed ≡ option_or (error_in answer) (error_in needs)
+    pub left : new ≡ record last { queue = after_asked last.queue needs }

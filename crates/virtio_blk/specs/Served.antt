@@ -1,0 +1,106 @@
+-- What serving a chain does.
+use Rattle.std.specs.Prelude.{◌≡◌, ◌⊎◌, ℕ, ◌+◌, ◌-◌, ◌*◌, ◌%◌, ◌<◌, ◌≤◌, min, ◌==◌, if◌then◌else◌, List, [], ◌∷◌, length, take, drop, Option, MatchBool, nat_lt}
+use Rattle.vm_memory_base.specs.declared.iotlb.Permissions.TheVariants as permissions
+use Rattle.vm_memory_guest.specs.Host.{Host}
+use Rattle.vm_memory_guest.specs.Memory.{Memory}
+use Rattle.vm_memory.specs.Chain.{Entry, readable, text, writable}
+use Rattle.vm_memory.specs.declared.chain.Segment.{Segment}
+use Rattle.virtio_blk.specs.Config.{Device}
+use Rattle.virtio_blk.specs.Disk.{LieAt, after_write}
+use Rattle.virtio_blk.specs.Request.{task_of}
+use Rattle.virtio_blk.specs.Texts.{Accessed, StopsAt, StopsWithin, WritesAt, reached, text_bytes}
+use Rattle.virtio_blk.specs.declared.request.Task.{Task}
+use Rattle.virtio_blk.specs.declared.request.Task.TheVariants.{Read, Write, Flush, GetId, Refuse, Unsupported}
+
+-- a piece: how many bytes are moved between the guest and the disk at once
+abbrev pub piece : ℕ
+piece = 65536
+
+-- the header cannot be read: the text has fewer bytes, or one of them cannot be read
+abbrev pub NoHeader : {B : Type 0} → Memory → Host B → List Entry → Type 0
+NoHeader m host es = (length es < 16) ⊎ StopsWithin m host.tables es 0 16
+
+-- no byte of a disk changed
+abbrev pub SameDisk : {D : Type 0} → (D → Option (List ℕ)) → (D → ℕ) → D → D → Type 0
+SameDisk bytes sectors old new = (bytes new ≡ bytes old) × (sectors new ≡ sectors old)
+
+-- the bytes of a text went to a disk, from one of its bytes on: all so many, or whole pieces, up to one that the disk
+-- did not take or where a byte could not be read
+pub record Stores {B D : Type 0} (bytes : D → Option (List ℕ)) (sectors : D → ℕ) (may_fail : Type 0) (m : Memory)
+    (host : Host B) (es : List Entry) (at len : ℕ) (old : D) (status : ℕ) (new : D) : Type 0 where
+  pub moved : ℕ
+  pub within : moved ≤ length (reached m host.tables es)
+  pub access : Accessed m host.tables permissions.Read es moved
+  pub disk : bytes new ≡ after_write at (text_bytes m host es moved) (bytes old)
+  pub size : sectors new ≡ sectors old
+  pub ended : ((status ≡ 0) × (moved ≡ len))
+      ⊎ ((status ≡ 1) × (moved < len) × (moved % piece ≡ 0)
+      × (may_fail ⊎ StopsWithin m host.tables es moved piece))
+
+-- bytes of a disk, from one on, were read for a text: all so many, or whole pieces up to one that the disk did not
+-- give, or those in front of an address that could not be written
+pub record Loads {B D : Type 0} (bytes : D → Option (List ℕ)) (sectors : D → ℕ) (may_fail : Type 0) (m : Memory)
+    (host : Host B) (es : List Entry) (at len : ℕ) (old : D) (status : ℕ) (sent : List ℕ) (new : D) : Type 0 where
+  pub lie : LieAt at sent (bytes old)
+  pub disk : SameDisk bytes sectors old new
+  pub ended : ((status ≡ 0) × (length sent ≡ len))
+      ⊎ ((status ≡ 1) × (length sent < len)
+      × ((may_fail × (length sent % piece ≡ 0)) ⊎ StopsAt m host.tables es (length sent)))
+
+-- a name was told: all of it that there is room for in front of the status, or what is in front of an address that
+-- could not be written
+abbrev pub Names : {B : Type 0} → Memory → Host B → List Entry → List ℕ → ℕ → List ℕ → Type 0
+Names m host es name status sent = (sent ≡ take (length sent) name)
+    × (((status ≡ 0) × (length sent ≡ min (length name) (length es - 1)))
+    ⊎ ((status ≡ 1) × (length sent < min (length name) (length es - 1)) × StopsAt m host.tables es (length sent)))
+
+module _ {B D : Type 0} (bytes : D → Option (List ℕ)) (sectors : D → ℕ) (may_fail : Type 0) (m : Memory)
+    (host : Host B) where
+  -- what is done for a request whose data lies at one text, or goes to another: the status, the data that goes to
+  -- that, and the disk afterwards
+  abbrev pub Does : Task → List Entry → List Entry → Device D → ℕ → List ℕ → D → Type 0
+  Does (Read sector) given room old status sent new =
+      Loads bytes sectors may_fail m host room (512 * sector) (length room - 1) old.disk status sent new
+  Does (Write sector) given room old status sent new = (sent ≡ [])
+      × Stores bytes sectors may_fail m host given (512 * sector) (length given) old.disk status new
+  Does Flush given room old status sent new =
+      (sent ≡ []) × SameDisk bytes sectors old.disk new × ((status ≡ 0) ⊎ ((status ≡ 1) × may_fail))
+  Does GetId given room old status sent new = Names m host room old.id status sent × (new ≡ old.disk)
+  Does Refuse given room old status sent new = (sent ≡ []) × (status ≡ 1) × (new ≡ old.disk)
+  Does Unsupported given room old status sent new = (sent ≡ []) × (status ≡ 2) × (new ≡ old.disk)
+
+  -- what is done for a chain with these texts: nothing where its header cannot be read, and else what that asks for
+  abbrev pub Performs : List Entry → List Entry → Device D → ℕ → List ℕ → D → Type 0
+  Performs es room old status sent new =
+      (NoHeader m host es × Does Refuse (drop 16 es) room old status sent new)
+      ⊎ ((16 ≤ length (reached m host.tables es)) × Accessed m host.tables permissions.Read es 16
+      × Does (task_of old.read_only (sectors old.disk) (text_bytes m host es 16) (length es - 16) (length room - 1))
+      (drop 16 es) room old status sent new)
+
+module _ {B : Type 0} (marks : B → ℕ → ℕ → B → Type 0) (m : Memory) where
+  -- a status went to the last byte of a text, or that cannot be written. Nothing else changed. So many of the text's
+  -- bytes are written without a gap then, where so many were before
+  abbrev pub TellsStatus : List Entry → ℕ → ℕ → Host B → ℕ → Host B → Type 0
+  TellsStatus es status sent old len new = let last = drop (length es - 1) es in
+      (WritesAt marks m last (status ∷ []) old new × (len ≡ (if sent + 1 == length es then sent + 1 else sent)))
+      ⊎ (StopsAt m old.tables last 0 × (new ≡ old) × (len ≡ sent))
+
+  -- data went to the front of a text, and behind that the status to its last byte
+  abbrev pub Tells : List Entry → ℕ → List ℕ → Host B → ℕ → Host B → Type 0
+  Tells es status sent old len new =
+      (mid : Host B) × WritesAt marks m es sent old mid × TellsStatus es status (length sent) mid len new
+
+module _ {B D : Type 0} (marks : B → ℕ → ℕ → B → Type 0) (bytes : D → Option (List ℕ)) (sectors : D → ℕ)
+    (may_fail : Type 0) (m : Memory) where
+  -- a chain with no byte for the status is not served
+  abbrev pub ServesTexts : List Entry → List Entry → Device D → Host B → ℕ → Device D → Host B → Type 0
+  ServesTexts given room old host len new after = MatchBool (nat_lt 0 (length room))
+      ((status : ℕ) × (sent : List ℕ) × (disk : D)
+      × Performs bytes sectors may_fail m host given room old status sent disk
+      × Tells marks m room status sent host len after × (new ≡ record old { disk = disk }))
+      ((len ≡ 0) × (new ≡ old) × (after ≡ host))
+
+  -- a chain was served: so many bytes from its first writable one on were written without a gap
+  abbrev pub Serves : List Segment → Device D → Host B → ℕ → Device D → Host B → Type 0
+  Serves chain old host len new after =
+      ServesTexts (text (readable chain)) (text (writable chain)) old host len new after

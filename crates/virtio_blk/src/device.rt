@@ -1,0 +1,151 @@
+//! The device: its features, its configuration, and the chains that it serves.
+ghost use Rattle.std.specs.Prelude.{◌≡◌, ◌*◌, ◌<◌, ◌^◌, length, if◌then◌else◌, IfOk, bit_and, ◌==◌, not};
+ghost use Rattle.std.specs.Int.{w64, to_le_bytes};
+ghost use Rattle.vm_memory_guest.specs.Host.{shape_of, Holds};
+ghost use Rattle.virtio_blk.specs.Config.{Device, acceptable, offered};
+ghost use Rattle.virtio_blk.specs.Served.{Serves};
+
+mod pieces;
+pub(crate) mod process;
+mod serve;
+
+use crate::disk::Disk;
+use std::alloc::{AllocError, Global};
+use std::marker::Model;
+
+/// The bit of the feature that the device follows version 1 of the specification, which every driver has to accept.
+pub const VIRTIO_F_VERSION_1: u64 = 32;
+
+/// The bit of the feature that the disk is only read.
+pub const VIRTIO_BLK_F_RO: u64 = 5;
+
+/// The bit of the feature that a request can bring what was written to where it stays.
+pub const VIRTIO_BLK_F_FLUSH: u64 = 9;
+
+/// The bit of the feature that descriptors may lead to indirect tables.
+pub const VIRTIO_RING_F_INDIRECT_DESC: u64 = 28;
+
+/// The bit of the feature that notifications go by event indices.
+pub const VIRTIO_RING_F_EVENT_IDX: u64 = 29;
+
+/// How many bytes the name of a device has.
+pub const ID_LEN: usize = 20;
+
+// How many bytes are moved between the guest and the disk at once.
+pub(crate) const PIECE: usize = 65536;
+
+/// A virtio block device on a disk: docs/VIRTIO_BLK.md.
+///
+/// ```text
+/// let mut device = BlockDevice::new(alloc, disk, false, *b"the name of the disk")?;
+/// let served = device.process(&mut queue, &memory, &mut host);
+/// ```
+#[derive(Drop)]
+pub struct BlockDevice<D> {
+    alloc: Global,
+    disk: D,
+    read_only: bool,
+    id: [u8; ID_LEN],
+    acked: u64,
+    // What is on its way between the guest and the disk.
+    buffer: Vec<u8>,
+}
+
+impl<D> Model for BlockDevice<D> {
+    ghost use Rattle.std.specs.Prelude.{◌≡◌, length};
+    ghost use Rattle.virtio_blk.specs.Config.{Device};
+
+    ghost Value = { Device D };
+
+    ghost view = { λ d. record { disk = d.disk; read_only = d.read_only; id = d.id; acked = d.acked } };
+
+    ghost invariant = { λ d. length d.buffer.items ≡ 65536 };
+}
+
+impl<D: Disk> BlockDevice<D> {
+    /// A device on a disk, with a name that drivers can ask for. One that only reads refuses to write. It allocates
+    /// what it needs to serve chains, once.
+    pub fn new(
+        alloc: Global,
+        disk: D,
+        read_only: bool,
+        id: [u8; ID_LEN],
+    ) -> Result<BlockDevice<D>, AllocError>
+        ensures { IfOk result (λ d. d ≡ record { disk = disk; read_only = read_only; id = id; acked = 0 }) }
+    {
+        let buffer = vec![in alloc; 0u8; PIECE]?;
+        Ok(BlockDevice {
+            alloc,
+            disk,
+            read_only,
+            id,
+            acked: 0,
+            buffer,
+        })
+    }
+
+    /// Its disk.
+    pub fn disk(&self) -> &D
+        ensures { result.now ≡ self.now.disk }
+    {
+        &self.disk
+    }
+
+    /// The disk of a device that is done with.
+    pub fn into_disk(self) -> D
+        ensures { result ≡ self.disk }
+    {
+        self.disk
+    }
+
+    /// The features that it offers, each as its bit: VERSION_1, INDIRECT_DESC, EVENT_IDX, FLUSH, and RO where it only
+    /// reads.
+    pub fn features(&self) -> u64
+        ensures { result ≡ offered self.now.read_only }
+    {
+        let always = 1 << VIRTIO_F_VERSION_1
+            | 1 << VIRTIO_RING_F_INDIRECT_DESC
+            | 1 << VIRTIO_RING_F_EVENT_IDX
+            | 1 << VIRTIO_BLK_F_FLUSH;
+        if self.read_only {
+            always | 1 << VIRTIO_BLK_F_RO
+        } else {
+            always
+        }
+    }
+
+    /// Accepts features for the driver, as its bits tell them, and answers whether it may have these: they are
+    /// offered, and VERSION_1 is among them. Else nothing changes.
+    pub fn ack_features(&mut self, features: u64) -> bool
+        ensures answer { result ≡ acceptable self.old.read_only features }
+        ensures acked { self.new ≡ if result then record self.old { acked = features } else self.old }
+    {
+        if features & self.features() != features || features & (1 << VIRTIO_F_VERSION_1) == 0 {
+            return false;
+        }
+        self.acked = features;
+        true
+    }
+
+    /// The features that were accepted last, and 0 where none were.
+    pub fn acked_features(&self) -> u64
+        ensures { result ≡ self.now.acked }
+    {
+        self.acked
+    }
+
+    /// Whether the driver accepted that notifications go by event indices. The owner of the device then tells the
+    /// queue so, by `set_event_idx`.
+    pub fn event_idx(&self) -> bool
+        ensures { result ≡ not (bit_and self.now.acked (2 ^ 29) == 0) }
+    {
+        self.acked & (1 << VIRTIO_RING_F_EVENT_IDX) != 0
+    }
+
+    /// The configuration space: the capacity, in sectors, as a number of 8 bytes, the lowest first.
+    pub fn config(&self) -> [u8; 8]
+        ensures { result ≡ to_le_bytes w64 (D.sectors self.now.disk) }
+    {
+        self.disk.sectors().to_le_bytes()
+    }
+}

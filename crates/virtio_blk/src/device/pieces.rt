@@ -1,0 +1,137 @@
+//! Data between guest memory and a disk, in pieces.
+ghost use Rattle.std.specs.Prelude.{◌≡◌, ◌⊎◌, ◌+◌, ◌-◌, ◌*◌, ◌%◌, ◌^◌, ◌<◌, ◌≤◌, ℕ, List, length, take, drop, MatchBool};
+ghost use Rattle.vm_memory_base.specs.declared.iotlb.Permissions.TheVariants.{Read};
+ghost use Rattle.vm_memory_guest.specs.Host.{shape_of, Holds};
+ghost use Rattle.virtio_blk.specs.Disk.{LieAt, after_write};
+ghost use Rattle.virtio_blk.specs.Served.{Loads, Stores};
+ghost use Rattle.virtio_blk.specs.Texts.{Accessed, StopsAt, StopsWithin, WritesAt, reached, text_bytes};
+
+use super::PIECE;
+use crate::disk::Disk;
+use crate::request::{VIRTIO_BLK_S_IOERR, VIRTIO_BLK_S_OK};
+use crate::text::{read_all, write_front};
+use vm_memory::{Bitmap, ChainReader, ChainWriter, GuestMemory, HostMemory};
+
+// Moves the next bytes of a text to the disk, from a sector on, through a buffer that has room for just these.
+fn store_piece<D: Disk, M: GuestMemory, B: Bitmap>(
+    disk: &mut D,
+    reader: &mut ChainReader<'_>,
+    mem: &M,
+    host: &HostMemory<B>,
+    sector: u64,
+    piece: &mut [u8],
+) -> bool
+    requires held { Holds (shape_of host.now) (M.names mem.now) }
+    requires enough { length piece.old ≤ length reader.old }
+    requires whole { length piece.old % 512 ≡ 0 }
+    requires inside { 512 * sector + length piece.old ≤ 512 * D.sectors disk.old }
+    ensures stored { let m = M.memory mem.now in let n = length piece.old in MatchBool result
+        ((n ≤ length (reached m host.now.tables reader.old)) × Accessed m host.now.tables Read reader.old n
+        × (reader.new ≡ drop n reader.old)
+        × (D.bytes disk.new ≡ after_write (512 * sector) (text_bytes m host.now reader.old n) (D.bytes disk.old)))
+        ((D.bytes disk.new ≡ D.bytes disk.old)
+        × (D.may_fail ⊎ StopsWithin m host.now.tables reader.old 0 n)) }
+    ensures sectors { D.sectors disk.new ≡ D.sectors disk.old }
+{
+    read_all(reader, mem, host, piece) && disk.write(sector, piece).is_ok()
+}
+
+// Moves a text to the disk, from a sector on, and answers the status.
+pub(super) fn store<D: Disk, M: GuestMemory, B: Bitmap>(
+    disk: &mut D,
+    reader: &mut ChainReader<'_>,
+    mem: &M,
+    host: &HostMemory<B>,
+    sector: u64,
+    buffer: &mut [u8],
+) -> u8
+    requires held { Holds (shape_of host.now) (M.names mem.now) }
+    requires whole { length reader.old % 512 ≡ 0 }
+    requires inside { 512 * sector + length reader.old ≤ 512 * D.sectors disk.old }
+    requires small { D.sectors disk.old < 2 ^ 55 }
+    requires room { length buffer.old ≡ 65536 }
+    ensures { Stores D.bytes D.sectors D.may_fail (M.memory mem.now) host.now reader.old (512 * sector)
+        (length reader.old) disk.old result disk.new }
+{
+    let len = reader.left();
+    let mut moved = 0;
+    while moved < len {
+        let count = (len - moved).min(PIECE);
+        let at = sector + (moved / 512) as u64;
+        if !store_piece(disk, reader, mem, host, at, &mut buffer[..count]) {
+            return VIRTIO_BLK_S_IOERR;
+        }
+        moved += count;
+    }
+    VIRTIO_BLK_S_OK
+}
+
+// Moves bytes of the disk, from a sector on, to the next bytes of a text, through a buffer that has room for just
+// these. It answers how many were moved.
+fn load_piece<D: Disk, M: GuestMemory, B: Bitmap>(
+    disk: &mut D,
+    writer: &mut ChainWriter<'_>,
+    mem: &M,
+    host: &mut HostMemory<B>,
+    sector: u64,
+    piece: &mut [u8],
+) -> usize
+    requires held { Holds (shape_of host.old) (M.names mem.now) }
+    requires enough { length piece.old ≤ length writer.old }
+    requires whole { length piece.old % 512 ≡ 0 }
+    requires inside { 512 * sector + length piece.old ≤ 512 * D.sectors disk.old }
+    ensures most { result ≤ length piece.old }
+    ensures lie { LieAt (512 * sector) (take result piece.new) (D.bytes disk.old) }
+    ensures written { WritesAt B.marks (M.memory mem.now) writer.old (take result piece.new) host.old host.new }
+    ensures stopped { result < length piece.old → (D.may_fail × (result ≡ 0))
+        ⊎ StopsAt (M.memory mem.now) host.old.tables writer.old result }
+    ensures place { writer.new ≡ drop result writer.old }
+    ensures bytes { D.bytes disk.new ≡ D.bytes disk.old }
+    ensures sectors { D.sectors disk.new ≡ D.sectors disk.old }
+    ensures tables { host.new.tables ≡ host.old.tables }
+    ensures shape { shape_of host.new ≡ shape_of host.old }
+{
+    if disk.read(sector, piece).is_err() {
+        return 0;
+    }
+    write_front(writer, mem, host, piece)
+}
+
+// Moves bytes of the disk, from a sector on, to the front of a text of which one byte is left over. It answers the
+// status and how many were moved.
+pub(super) fn load<D: Disk, M: GuestMemory, B: Bitmap>(
+    disk: &mut D,
+    writer: &mut ChainWriter<'_>,
+    mem: &M,
+    host: &mut HostMemory<B>,
+    sector: u64,
+    buffer: &mut [u8],
+) -> (u8, usize)
+    requires held { Holds (shape_of host.old) (M.names mem.now) }
+    requires some { 0 < length writer.old }
+    requires whole { (length writer.old - 1) % 512 ≡ 0 }
+    requires inside { 512 * sector + (length writer.old - 1) ≤ 512 * D.sectors disk.old }
+    requires small { D.sectors disk.old < 2 ^ 55 }
+    requires room { length buffer.old ≡ 65536 }
+    ensures loaded { (sent : List ℕ) × (length sent ≡ result.1)
+        × Loads D.bytes D.sectors D.may_fail (M.memory mem.now) host.old writer.old (512 * sector)
+        (length writer.old - 1) disk.old result.0 sent disk.new
+        × WritesAt B.marks (M.memory mem.now) writer.old sent host.old host.new }
+    ensures rest { result.1 < length writer.old }
+    ensures place { writer.new ≡ drop result.1 writer.old }
+    ensures tables { host.new.tables ≡ host.old.tables }
+    ensures shape { shape_of host.new ≡ shape_of host.old }
+{
+    let len = writer.left() - 1;
+    let mut moved = 0;
+    while moved < len {
+        let count = (len - moved).min(PIECE);
+        let at = sector + (moved / 512) as u64;
+        let done = load_piece(disk, writer, mem, host, at, &mut buffer[..count]);
+        moved += done;
+        if done < count {
+            return (VIRTIO_BLK_S_IOERR, moved);
+        }
+    }
+    (VIRTIO_BLK_S_OK, moved)
+}

@@ -1,0 +1,71 @@
+//! Disks of whole sectors.
+ghost use Rattle.std.specs.Prelude.{◌≡◌, ◌+◌, ◌*◌, ◌%◌, ◌^◌, ◌<◌, ◌≤◌, ℕ, List, length, Option, Some, IfErr, OnOk, MatchResult};
+ghost use Rattle.virtio_blk.specs.Disk.{LieAt, after_write};
+
+pub(crate) mod file;
+pub(crate) mod memory;
+
+use std::io;
+use thiserror::Error;
+
+/// How many bytes a sector has.
+pub const SECTOR_SIZE: usize = 512;
+
+/// Why a disk did not do what it was asked for.
+#[derive(Debug, Drop, Error)]
+pub enum DiskError {
+    /// The system refused it.
+    #[error("{0}")]
+    Io(#[from] io::Error),
+    /// The disk is of a kind that refuses it, or refuses it now.
+    #[error("the disk refused it")]
+    Refused,
+}
+
+/// A disk: so many sectors of 512 bytes. Its calls move whole sectors, all or none.
+///
+/// Ghost members say what contracts know of it. `bytes` are the bytes of its sectors, where it tells them: a disk in
+/// memory does. A file does not, since other programs may write it; then nothing is promised of bytes.
+pub trait Disk: Drop {
+    /// The bytes of its sectors, where it tells them.
+    ghost bytes: { Self → Option (List ℕ) };
+
+    /// How many sectors it has.
+    ghost sectors: { Self → ℕ };
+
+    /// Whether its calls may fail.
+    ghost may_fail: { Type 0 };
+
+    /// How many sectors it has.
+    fn sectors(&self) -> u64
+        ensures count { result ≡ sectors self.now }
+        ensures fits { result < 2 ^ 55 };
+
+    /// Reads whole sectors from one on. After an error the buffer may hold anything. The disk stays as it is.
+    fn read(&mut self, sector: u64, buf: &mut [u8]) -> Result<(), DiskError>
+        requires whole { length buf.old % 512 ≡ 0 }
+        requires inside { 512 * sector + length buf.old ≤ 512 * sectors self.old }
+        ensures lie { OnOk result (LieAt (512 * sector) buf.new (bytes self.old)) }
+        ensures fails { IfErr result (λ _. may_fail) }
+        ensures bytes { bytes self.new ≡ bytes self.old }
+        ensures sectors { sectors self.new ≡ sectors self.old };
+
+    /// Writes whole sectors from one on. After an error no byte of the disk has changed.
+    fn write(&mut self, sector: u64, data: &[u8]) -> Result<(), DiskError>
+        requires whole { length data.now % 512 ≡ 0 }
+        requires inside { 512 * sector + length data.now ≤ 512 * sectors self.old }
+        ensures bytes { MatchResult result
+            (λ _. bytes self.new ≡ after_write (512 * sector) data.now (bytes self.old))
+            (λ _. bytes self.new ≡ bytes self.old) }
+        ensures fails { IfErr result (λ _. may_fail) }
+        ensures sectors { sectors self.new ≡ sectors self.old };
+
+    /// Brings what was written to where it stays. The disk's bytes stay as they are.
+    fn flush(&mut self) -> Result<(), DiskError>
+        ensures fails { IfErr result (λ _. may_fail) }
+        ensures bytes { bytes self.new ≡ bytes self.old }
+        ensures sectors { sectors self.new ≡ sectors self.old };
+
+    /// The bytes that are told are those of all sectors.
+    ghost whole: { (d : Self) (all : List ℕ) → bytes d ≡ Some all → length all ≡ 512 * sectors d };
+}
