@@ -1,6 +1,6 @@
 //! ELF images.
 
-ghost use Rattle.std.specs.Prelude.{◌≡◌, ◌+◌, ◌*◌, ◌≤◌, length, All, AllPairs, IfOk, MatchResult, Some, Err, Ok};
+ghost use Rattle.std.specs.Prelude.{◌≡◌, ◌+◌, ◌*◌, ◌≤◌, length, All, AllPairs, IfOk, Some, Ok};
 ghost use Rattle.vm_memory_guest.specs.Host.{shape_of, Holds};
 ghost use Rattle.linux_loader.specs.Elf.{capability, elf_header, elf_named, elf_plan, elf_planned, entry_at, headers_in, some_segments};
 ghost use Rattle.linux_loader.specs.Load.{LoadsImage};

@@ -1,6 +1,5 @@
 //! Images of kernels: sources of bytes that are read from any place on.
 ghost use Rattle.std.specs.Prelude.{◌≡◌, ◌+◌, ◌≤◌, ℕ, List, length, take, drop, None, Some, Ok, Option, refl};
-ghost use Rattle.std.specs.Io.Cursor.{cursor_inner, cursor_position};
 ghost use Rattle.vm_memory_base.specs.InMemory.{giving_from};
 ghost use Rattle.vm_memory_base.specs.Transfer.{Answer};
 ghost use Rattle.linux_loader.specs.Image.{ReadsFrom, Tells, StandsAt};

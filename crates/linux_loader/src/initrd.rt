@@ -1,6 +1,6 @@
 //! The initrd of a kernel.
 
-ghost use Rattle.std.specs.Prelude.{◌≡◌, ◌+◌, ◌<◌, ◌^◌};
+ghost use Rattle.std.specs.Prelude.{◌≡◌, ◌<◌, ◌^◌};
 ghost use Rattle.vm_memory_guest.specs.Host.{shape_of, Holds};
 ghost use Rattle.linux_loader.specs.Initrd.{LoadsInitrd, field_since, greatest, highest_page, initrd_address, kernel_end};
 
