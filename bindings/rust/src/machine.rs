@@ -71,7 +71,8 @@ pub struct IotlbFails {
 /// A machine that is set up, and runs from its first command on.
 ///
 /// Blocks, spaces, tables, regions, translators, layouts and memories go by number, from 0 in the order of making, each
-/// kind by itself. The first call that is none of setup ends the setup.
+/// kind by itself. The first call that is none of setup ends the setup, unless it is refused: as one that means
+/// nothing, or for too short an output.
 pub struct Machine {
     session: Session,
 }

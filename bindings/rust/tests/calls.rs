@@ -422,7 +422,8 @@ fn session(numbers: &mut Numbers, count: usize) -> (String, Vec<Told>) {
         let call = call_of(numbers, &has, kind);
         let (input, word) = input_of(numbers, &has, kind);
         let lists = matches!(kind, kind::LOOKUP..=kind::HARVEST_SPACE);
-        let size = if lists && numbers.one_in(4) {
+        // The line that says how long a list is would end the script's setup.
+        let size = if lists && has.commanded && numbers.one_in(4) {
             numbers.below(0x20) as usize
         } else {
             output.len()
@@ -456,7 +457,7 @@ fn session(numbers: &mut Numbers, count: usize) -> (String, Vec<Told>) {
                 Wanted::Line
             }
         };
-        has.commanded |= !sets_up && kind <= kind::HARVEST_SPACE;
+        has.commanded |= !sets_up && !matches!(answer.code, code::BAD_CALL | code::SHORT);
         count_made(&mut has, kind, &answer);
         let text = if matches!(wanted, Wanted::Line) {
             text_of(kind, &answer, &output)

@@ -90,7 +90,7 @@ const SETUPS: [Case; 12] = [
     ),
 ];
 
-const MAKINGS: [Case; 12] = [
+const MAKINGS: [Case; 13] = [
     (
         0,
         [0, 0, 0],
@@ -121,6 +121,18 @@ const MAKINGS: [Case; 12] = [
         0,
         "16 0 0 0 []",
     ),
+    // A call that means nothing leaves the setup going, and one that fails ends it.
+    (
+        0,
+        [0, 0, 0],
+        [0, 0],
+        [0x40, 0x10],
+        NONE,
+        &[],
+        0,
+        "0 0 2 0 []",
+    ),
+    (6, [0, 0, 0], [0, 0], [0, 0], NONE, &[], 0, "50 0 0 0 []"),
     (
         0,
         [0, 0, 0],
@@ -131,7 +143,6 @@ const MAKINGS: [Case; 12] = [
         0,
         "17 0 0 0 []",
     ),
-    (6, [0, 0, 0], [0, 0], [0, 0], NONE, &[], 0, "50 0 0 0 []"),
     (
         6,
         [0, 0, 0],

@@ -109,6 +109,24 @@ impl<R: GuestMemoryRegion, I: Iommu, B> Machine<R, I, B> {
         let Machine { host, .. } = self;
         host
     }
+
+    /// Takes the machine apart: gives back the host, as the commands left it, and the pools of regions and of
+    /// translators, whose bytes and tables the host holds.
+    pub fn into_parts(self) -> (HostMemory<B>, Vec<Arc<R>>, Vec<Arc<I>>)
+        ensures host { result.0 ≡ self.host }
+        ensures regions { regions_of result.1 ≡ self.regions }
+        ensures translators { regions_of result.2 ≡ self.translators }
+        ensures regions_held { HoldsRegions R.region result.0 (regions_of result.1) }
+        ensures tables_held { HoldsTables I.number result.0 (regions_of result.2) }
+    {
+        let Machine {
+            host,
+            regions,
+            translators,
+            ..
+        } = self;
+        (host, regions, translators)
+    }
 }
 
 impl<R: GuestMemoryRegion, I: Iommu, B: ExactBitmap> Machine<R, I, B> {

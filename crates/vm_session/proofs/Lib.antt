@@ -3,4 +3,5 @@ mod StepLemmas
 mod ListLemmas
 mod HarvestLemmas
 mod ReadLemmas
+mod CodeLemmas
 mod RunLaws

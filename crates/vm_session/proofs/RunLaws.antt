@@ -1,15 +1,18 @@
 -- Calls of a session are a run of the model.
-use Rattle.std.proofs.Common.{◌≡◌, ◌⊎◌, Bool, true, false, List, [], ◌∷◌, Option, Some, None, slice_get, refl, sym, ap, subst, inl, inr}
+use Rattle.std.proofs.Common.{◌≡◌, ◌∙◌, ◌⊎◌, Bool, true, false, cond, List, [], ◌∷◌, Option, Some, None, slice_get, refl, sym, ap, subst, inl, inr}
 use Rattle.vm_memory.specs.Machine.{Run, Step}
 use Rattle.vm_memory.specs.Script.{Stage, setting, commanding, state_at}
 use Rattle.vm_memory.specs.ScriptRun.{SetUpRun}
 use Rattle.vm_memory.specs.Setup.{SetsUp}
 use Rattle.vm_memory.specs.State.{State}
 use Rattle.vm_memory.specs.declared.machine.command.Command as commands
+use Rattle.vm_session.proofs.CodeLemmas.{reply-ran, served-listed}
+use Rattle.vm_session.specs.Codes.{is_refused}
 use Rattle.vm_session.specs.Kinds.{kinds, sets_up, takes_list}
 use Rattle.vm_session.specs.Requests.{command_at}
 use Rattle.vm_session.specs.Run.{AnswersAll, Deed, nothing, made, ran, Did, DidEach, Exchange, commands_in, made_in, replies_in, setups_in}
-use Rattle.vm_session.specs.Session.{AnswersIf, AnswersKind, Answers, DoesIf, DoesListed, IsSetUp}
+use Rattle.vm_session.specs.Session.{AnswersIf, AnswersKind, Answers, DoesListed, IsSetUp, after_command}
+use Rattle.vm_session.specs.declared.call.Answer.{Answer}
 use Rattle.vm_session.specs.declared.call.Kind.{Kind}
 
 -- where a deed leads
@@ -27,21 +30,31 @@ set_up_moves : (s after : State) (e : Exchange) (kind : Kind) → slice_get kind
 set_up_moves s after e kind is (inl h) same = (made h.0 h.1, (kind, is, h.2, h.4, same), (after, h.3, refl))
 set_up_moves s after e kind is (inr h) same = (nothing, (inl h.0, same), inl (ap setting h.2))
 
-listed : (b : Bool) (old : State) (o : Option commands.Command) (e : Exchange) (after : State)
-    → DoesIf b old o e.before e.answer e.after after → DoesListed old o e.before e.answer e.after after
-listed true old o e after h = h
-listed false old o e after h = inl h
+-- where nothing is done the setup goes on or is over
+rests : (old : Stage) (after : State) (b : Bool) → after ≡ state_at old
+    → Leads old nothing (cond b old (commanding after))
+rests old after true same = inl refl
+rests old after false same = inr (ap commanding same)
 
 command_moves : (old : Stage) (after : State) (e : Exchange) (kind : Kind) (o : Option commands.Command)
     → slice_get kinds e.call.kind ≡ Some kind → command_at kind e.call e.input ≡ o
-    → DoesListed (state_at old) o e.before e.answer e.after after → Moves old e (commanding after)
-command_moves old after e kind None is means (inl h) = (nothing, (inl h.0, h.1), inr (ap commanding h.2))
-command_moves old after e kind (Some c) is means (inl (inl h)) =
-    (ran c h.0, (kind, is, means, h.2), (after, h.1, refl))
+    → DoesListed (state_at old) o e.before e.answer e.after after
+    → Moves old e (after_command old e.answer after)
+command_moves old after e kind None is means (inl h) =
+    (nothing, (inl h.0, h.1), rests old after (is_refused e.answer.code) h.2)
+command_moves old after e kind (Some c) is means (inl (inl h)) = (
+  ran c h.0,
+  (kind, is, means, h.2),
+  (
+    after,
+    h.1,
+    ap (λ b. cond b old (commanding after)) (ap (λ (a : Answer). is_refused a.code) h.2 ∙ reply-ran h.0),
+  ),
+)
 command_moves old after e kind (Some c) is means (inl (inr h)) =
-    (nothing, (inr (inr (inr (_, h.1))), h.2), inr (ap commanding h.3))
+    (nothing, (inr (inr (inr (_, h.1))), h.2), rests old after (is_refused e.answer.code) h.3)
 command_moves old after e kind o is means (inr h) =
-    (nothing, (inr (inr (inl h.0)), h.1), inr (ap commanding h.2))
+    (nothing, (inr (inr (inl h.0)), h.1), rests old after (is_refused e.answer.code) h.2)
 
 kind_moves : (b : Bool) (old new : Stage) (e : Exchange) (kind : Kind) → slice_get kinds e.call.kind ≡ Some kind
     → AnswersKind b kind old e.call e.input e.before e.answer e.after new → Moves old e new
@@ -51,7 +64,7 @@ kind_moves true (commanding s) new e kind is h = (nothing, (inr (inl h.0.0), h.1
 kind_moves false old new e kind is h =
     subst (λ n. Moves old e n) (sym h.2)
     (command_moves old h.0 e kind (command_at kind e.call e.input) is refl
-    (listed (takes_list kind) (state_at old) (command_at kind e.call e.input) e h.0 h.1))
+    (served-listed (takes_list kind) (state_at old) (command_at kind e.call e.input) e.before e.answer e.after h.0 h.1))
 
 call_moves : (o : Option Kind) (old new : Stage) (e : Exchange) → slice_get kinds e.call.kind ≡ o
     → AnswersIf o old e.call e.input e.before e.answer e.after new → Moves old e new

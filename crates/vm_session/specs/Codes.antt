@@ -1,5 +1,5 @@
 -- The codes of answers.
-use Rattle.std.specs.Prelude.{ℕ}
+use Rattle.std.specs.Prelude.{◌==◌, ◌||◌, ℕ, Bool}
 use Rattle.vm_session.specs.declared.call.Answer.{Answer}
 
 -- an answer that is no more than a code
@@ -19,3 +19,7 @@ short_of needed = record { code = 18; count = needed; value = 0; address = 0 }
 -- an allocation failed
 abbrev pub no_memory : Answer
 no_memory = coded 3
+
+-- whether an answer of this code is that of a call that means nothing, or whose output is too short
+abbrev pub is_refused : ℕ → Bool
+is_refused code = code == 16 || code == 18

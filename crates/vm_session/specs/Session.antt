@@ -1,5 +1,5 @@
 -- What a session answers to calls, and where it stands then.
-use Rattle.std.specs.Prelude.{◌≡◌, ◌⊎◌, ◌<◌, ◌≤◌, ◌++◌, ℕ, Bool, true, false, IsTrue, List, length, take, drop, Option, Some, None, slice_get}
+use Rattle.std.specs.Prelude.{◌≡◌, ◌⊎◌, ◌<◌, ◌≤◌, ◌++◌, ℕ, Bool, true, false, IsTrue, if◌then◌else◌, List, length, take, drop, Option, Some, None, slice_get}
 use Rattle.vm_memory.specs.Calls.{buffer_after}
 use Rattle.vm_memory.specs.Machine.{Step, outcome}
 use Rattle.vm_memory.specs.Script.{Stage, setting, commanding, state_at}
@@ -13,7 +13,7 @@ use Rattle.vm_memory.specs.declared.machine.command.Width.{Width}
 use Rattle.vm_memory.specs.declared.script.setup.Setup as setups
 use Rattle.vm_memory.specs.declared.script.reply.SetupReply.{SetupReply}
 use Rattle.vm_session.specs.Answers.{answer_of, answer_of_setup, bytes_of}
-use Rattle.vm_session.specs.Codes.{bad_call, late, no_memory, short_of}
+use Rattle.vm_session.specs.Codes.{bad_call, is_refused, late, no_memory, short_of}
 use Rattle.vm_session.specs.Kinds.{kinds, sets_up, takes_list}
 use Rattle.vm_session.specs.Requests.{IsSetup, address, command_at, is_without_size}
 use Rattle.vm_session.specs.declared.call.Answer.{Answer}
@@ -102,11 +102,16 @@ abbrev pub SetsUpBy : Stage → Kind → Call → Answer → Stage → Type 0
 SetsUpBy (setting s) kind call a new = (after : State) × IsSetUp s kind call a after × (new ≡ setting after)
 SetsUpBy (commanding s) kind call a new = (a ≡ late) × (new ≡ commanding s)
 
--- what is answered to a call of a kind. The first that does not set up ends the setup, whatever it is answered
+-- where a session stands after a call that is none of setup: one that is refused leaves it there, and any other ends
+-- the setup
+abbrev pub after_command : Stage → Answer → State → Stage
+after_command old a after = if is_refused a.code then old else commanding after
+
+-- what is answered to a call of a kind
 abbrev pub AnswersKind : Bool → Kind → Stage → Call → List ℕ → List ℕ → Answer → List ℕ → Stage → Type 0
 AnswersKind true kind old call input out a out' new = SetsUpBy old kind call a new × (out' ≡ out)
 AnswersKind false kind old call input out a out' new =
-    (after : State) × Served (state_at old) kind call input out a out' after × (new ≡ commanding after)
+    (after : State) × Served (state_at old) kind call input out a out' after × (new ≡ after_command old a after)
 
 abbrev pub AnswersIf : Option Kind → Stage → Call → List ℕ → List ℕ → Answer → List ℕ → Stage → Type 0
 AnswersIf None old call input out a out' new = (a ≡ bad_call) × (out' ≡ out) × (new ≡ old)

@@ -1,9 +1,12 @@
 //! A session, from the first setup call on.
-ghost use Rattle.std.specs.Prelude.{◌≡◌, None, IsSome, IsTrue, false};
-ghost use Rattle.vm_memory.specs.Script.{beginning, commanding, state_at};
+ghost use Rattle.std.specs.Prelude.{◌≡◌, IsTrue, false};
+ghost use Rattle.vm_memory.specs.Pools.{state_made};
+ghost use Rattle.vm_memory.specs.Script.{beginning, setting};
+ghost use Rattle.vm_memory.specs.State.{State};
+ghost use Rattle.vm_session.specs.Codes.{is_refused};
 ghost use Rattle.vm_session.specs.Inside.{stage_of};
 ghost use Rattle.vm_session.specs.Kinds.{sets_up};
-ghost use Rattle.vm_session.specs.Session.{Answers, AnswersKind, SetsUpBy};
+ghost use Rattle.vm_session.specs.Session.{Answers, AnswersKind, Served, SetsUpBy, after_command};
 
 use crate::call::{Answer, Call, Kind, kind_of};
 use crate::code;
@@ -49,7 +52,7 @@ impl Session {
     ///
     /// Bytes that are written and lists come by the input; bytes that are read and lists go to the front of the output,
     /// whose other bytes stay. Where the output is too short, the answer says how many bytes it has to have, and
-    /// nothing changed. The first call that is none of setup ends the setup, whatever it is answered.
+    /// nothing changed. The first call that is none of setup, and is not refused so, ends the setup.
     pub fn call(&mut self, call: &Call, input: &[u8], output: &mut [u8]) -> Answer
         ensures { Answers self.old call.now input.now output.old result output.new self.new }
     {
@@ -80,23 +83,43 @@ impl Session {
     fn run(&mut self, kind: Kind, call: &Call, input: &[u8], output: &mut [u8]) -> Answer
         ensures { AnswersKind false kind self.old call.now input.now output.old result output.new self.new }
     {
-        if self.machine.is_none() {
-            begin(self.alloc, &mut self.pools, &mut self.machine);
+        if let Some(machine) = &mut self.machine {
+            return serve(self.alloc, machine, kind, call, input, output);
         }
-        let Some(machine) = &mut self.machine else {
-            unreachable!();
-        };
-        serve(self.alloc, machine, kind, call, input, output)
+        let pools = mem::replace(&mut self.pools, Pools::new(self.alloc));
+        let (answer, machine, pools) = serve_first(self.alloc, pools, kind, call, input, output);
+        self.machine = machine;
+        self.pools = pools;
+        answer
     }
 }
 
-// Makes the machine of what was set up.
+// Serves the first call that is none of setup, by a machine of what was set up. Where the call is refused, the machine
+// is taken apart again, and the setup goes on.
 #[inline(never)]
-fn begin(alloc: Global, pools: &mut Pools, machine: &mut Option<ScriptMachine>)
-    requires { machine.old ≡ None }
-    ensures begun { stage_of machine.new pools.new ≡ commanding (state_at (stage_of machine.old pools.old)) }
-    ensures there { IsSome machine.new }
+fn serve_first(
+    alloc: Global,
+    pools: Pools,
+    kind: Kind,
+    call: &Call,
+    input: &[u8],
+    output: &mut [u8],
+) -> (Answer, Option<ScriptMachine>, Pools)
+    ensures { (after : State) × Served (state_made pools) kind call.now input.now output.old result.0 output.new after
+        × (stage_of result.1 result.2 ≡ after_command (setting (state_made pools)) result.0 after) }
 {
-    let made = mem::replace(pools, Pools::new(alloc));
-    *machine = Some(made.into_machine());
+    let mut machine = pools.into_machine();
+    let answer = serve(alloc, &mut machine, kind, call, input, output);
+    if is_refused(answer.code) {
+        (answer, None, Pools::of_machine(alloc, machine))
+    } else {
+        (answer, Some(machine), Pools::new(alloc))
+    }
+}
+
+// Whether a call of this code means nothing, or has too short an output.
+fn is_refused(code: u32) -> bool
+    ensures { result ≡ is_refused code }
+{
+    code == code::BAD_CALL || code == code::SHORT
 }

@@ -78,11 +78,25 @@ impl Pools {
         }
     }
 
-    /// A machine of the host, the regions and the translators.
+    /// A machine of the host, the regions and the translators. It has no layout and no memory.
     pub fn into_machine(self) -> ScriptMachine
-        ensures { result ≡ self }
+        ensures value { result ≡ self }
+        ensures bare { (self.layouts ≡ []) × (self.memories ≡ []) }
     {
         Machine::new(self.alloc, self.host, self.regions, self.translators)
+    }
+
+    /// The pools of a machine, without the layouts and the memories that it made.
+    pub fn of_machine(alloc: Global, machine: ScriptMachine) -> Pools
+        ensures { result ≡ record machine { layouts = []; memories = [] } }
+    {
+        let (host, regions, translators) = machine.into_parts();
+        Pools {
+            alloc,
+            host,
+            regions,
+            translators,
+        }
     }
 
     // The size comes before the bitmap, which may find no memory.
