@@ -13,5 +13,5 @@ returns-clause-short c =
     let division = c.self.inside.division in
     let e = rw c.as_slice.ensures.value at c.new.ensures in
     let n = len_behind c.self.inside.segments.items division.readable division.readable_len
-        division.writable_len c.self.invariant in
+    division.writable_len c.self.invariant in
     omega (arith, ap length e, n)
