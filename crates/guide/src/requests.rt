@@ -1,9 +1,11 @@
 //! Requests to a block device, over plain memory and behind an IOMMU.
 
-use crate::block_device::Disk;
+use crate::block_device::kicked;
 use anyhow::{Context, bail};
 use std::alloc::Global;
 use std::sync::Arc;
+use virtio_blk::{BlockDevice, MemoryDisk};
+use virtio_queue::{Descriptor, DriverQueue, VRING_DESC_F_NEXT, VRING_DESC_F_WRITE};
 use vm_memory::{
     Bytes, Chain, ExclusiveBitmap, GuestAddress, GuestMemory, GuestMemoryMmap, HostMemory,
     IommuMemory, NewBitmap, Permissions, Segment, TableIommu,
@@ -57,7 +59,23 @@ fn prepare<M: GuestMemory>(host: &mut Host, memory: &M) -> anyhow::Result<()> {
     Ok(())
 }
 
-// Serves one request with a disk of its own. Tells the answer, the status byte, and how each sector begins then.
+// A device on a new disk of three sectors.
+fn device_of(alloc: Global) -> anyhow::Result<BlockDevice<MemoryDisk>> {
+    let disk = MemoryDisk::new(vec![in alloc; 0u8; 1536]?);
+    Ok(BlockDevice::new(alloc, disk, false, *b"a disk of the recipe")?)
+}
+
+// How each sector of a disk begins.
+fn beginnings(disk: &MemoryDisk) -> anyhow::Result<[u8; 3]> {
+    let bytes = disk.bytes();
+    let first = bytes.first().context("there is a sector")?;
+    let second = bytes.get(512).context("there is a sector")?;
+    let third = bytes.get(1024).context("there is a sector")?;
+    Ok([*first, *second, *third])
+}
+
+// Serves one request with a disk of its own. Tells how many bytes were written, the status, and how each sector begins
+// then.
 fn serve_one<M: GuestMemory>(
     rt: &impl Print,
     alloc: Global,
@@ -77,14 +95,75 @@ fn serve_one<M: GuestMemory>(
     if !host.holds(memory) {
         bail!("the host holds no such memory");
     }
-    let mut disk = Disk::new(alloc, 3)?;
-    let answer = disk.serve(memory, host, &chain);
+    let mut device = device_of(alloc)?;
+    let len = device.serve(memory, host, &chain);
     let status = memory.read_obj::<u8, _>(host, GuestAddress(0x800))?;
-    let first = disk.first_byte(0).context("there is a sector")?;
-    let second = disk.first_byte(1).context("there is a sector")?;
-    let third = disk.first_byte(2).context("there is a sector")?;
-    println!(rt; "{answer:?} {status} [{first}, {second}, {third}]")?;
+    println!(rt; "{len} {status} {:?}", beginnings(device.disk())?)?;
     Ok(())
+}
+
+// Publishes the first request in a queue.
+fn publish(
+    host: &mut Host,
+    memory: &GuestMemoryMmap,
+    driver: &mut DriverQueue,
+) -> anyhow::Result<()> {
+    let next = VRING_DESC_F_NEXT;
+    let parts = [
+        (0, 16, next),
+        (0x200, 512, next),
+        (0x800, 1, VRING_DESC_F_WRITE),
+    ];
+    let mut index = 0u16;
+    for (addr, len, flags) in parts {
+        if !host.holds(memory) {
+            bail!("the host holds no such memory");
+        }
+        let after = index.wrapping_add(1);
+        let descriptor = Descriptor {
+            addr,
+            len,
+            flags,
+            next: after,
+        };
+        driver.put_descriptor(memory, host, index, descriptor)?;
+        index = after;
+    }
+    if !host.holds(memory) {
+        bail!("the host holds no such memory");
+    }
+    Ok(driver.publish(memory, host, 0)?)
+}
+
+// Has a request served over a queue: the driver publishes it and notifies the device.
+fn ask(
+    rt: &impl Print,
+    host: &mut Host,
+    memory: &GuestMemoryMmap,
+    device: &mut BlockDevice<MemoryDisk>,
+) -> anyhow::Result<()> {
+    let mut driver = DriverQueue::new(GuestAddress(0x2000), 4)?;
+    let mut queue = driver.queue()?;
+    publish(host, memory, &mut driver)?;
+    if !host.holds(memory) {
+        bail!("the host holds no such memory");
+    }
+    let interrupt = kicked(device, &mut queue, memory, host)?;
+    let used = driver.take_used(memory, host)?;
+    println!(rt;
+        "interrupt {interrupt}, {used:?}, {:?}",
+        beginnings(device.disk())?
+    )?;
+    Ok(())
+}
+
+// A request over a queue in plain memory.
+fn serve_over_a_queue(rt: &impl Print, alloc: Global) -> anyhow::Result<()> {
+    let mut host = HostMemory::new(alloc);
+    let memory = layout(alloc, &mut host)?;
+    prepare(&mut host, &memory)?;
+    let mut device = device_of(alloc)?;
+    ask(rt, &mut host, &memory, &mut device)
 }
 
 // All requests over plain memory.
@@ -116,8 +195,9 @@ fn serve_translated(rt: &impl Print, alloc: Global) -> anyhow::Result<()> {
     Ok(())
 }
 
-/// Serves each request over both.
+/// Serves each request over both, and one over a queue.
 pub fn serve_requests(rt: &impl Print, alloc: Global) -> anyhow::Result<()> {
     serve_plain(rt, alloc)?;
-    serve_translated(rt, alloc)
+    serve_translated(rt, alloc)?;
+    serve_over_a_queue(rt, alloc)
 }
