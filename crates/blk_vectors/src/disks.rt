@@ -34,7 +34,7 @@ impl<D: Disk> Disk for FailingDisk<D> {
 
     ghost sectors = { λ d. D.sectors d.disk };
 
-    ghost may_fail = { Unit {0} };
+    ghost calls = { λ d call done later. Unit {0} };
 
     fn sectors(&self) -> u64 {
         self.disk.sectors()

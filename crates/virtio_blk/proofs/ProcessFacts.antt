@@ -12,6 +12,7 @@ use Rattle.virtio_queue.specs.State.{Virtqueue, with_state}
 use Rattle.virtio_queue.specs.Used.{AddsUsed, after_used}
 use Rattle.virtio_queue.specs.declared.error.QueueError.{QueueError}
 use Rattle.virtio_blk.specs.Config.{Device}
+use Rattle.virtio_blk.specs.Disk.{Call}
 use Rattle.virtio_blk.specs.Process.{Breaks, NextTurn, Runs, State, Stays, Turn, Turns, past}
 use Rattle.virtio_blk.specs.Served.{Serves}
 
@@ -26,17 +27,17 @@ answered_is may_want expected answer x (inl e) is = sym e ∙ is
 answered_is may_want expected answer x (inr (e, wants)) is = absurd (cc)
 
 module _ {B D : Type 0} (marks : B → ℕ → ℕ → B → Type 0) (bytes : D → Option (List ℕ)) (sectors : D → ℕ)
-    (may_fail : Type 0) (m : Memory) where
+    (calls : D → Call → Bool → D → Type 0) (m : Memory) where
   -- a chain that was popped and served, and its head returned or not
   pub turned : (device : Device D) (queue : Virtqueue) (host : Host B)
       (pop : Result (Option (ℕ × List Segment)) QueueError) (head : ℕ) (chain : List Segment)
       → Answers (MayWantChain m host queue.state) (popped m host queue.state) pop → pop ≡ Ok (Some (head, chain))
       → (moved : Virtqueue) → moved ≡ with_state queue (after_pop queue.state pop)
       → (len : ℕ) (after : Device D) (mid : Host B)
-      → Serves marks bytes sectors may_fail m chain device host len after mid
+      → Serves marks bytes sectors calls m chain device host len after mid
       → (answer : Result (Unit {0}) QueueError) (back : Virtqueue) (new : Host B)
       → AddsUsed marks m moved.state head len mid answer new → back ≡ after_used moved answer
-      → Turn marks bytes sectors may_fail m (record { device = device; queue = queue; host = host }) answer
+      → Turn marks bytes sectors calls m (record { device = device; queue = queue; host = host }) answer
       (record { device = after; queue = back; host = new })
   turned device queue host pop head chain answers is moved place len after mid served answer back new added kept =
       let passed : moved ≡ past queue head chain =
@@ -56,7 +57,7 @@ module _ {B D : Type 0} (marks : B → ℕ → ℕ → B → Type 0) (bytes : D 
 
   -- so many chains were served, and the queue has as many entries as before
   pub record ServedSoFar (size count : ℕ) (old now : State B D) : Type 0 where
-    pub turns : Turns marks bytes sectors may_fail m count old now
+    pub turns : Turns marks bytes sectors calls m count old now
     pub most : count ≤ size
     pub same : now.queue.state.size ≡ old.queue.state.size
     pub shape : shape_of now.host ≡ shape_of old.host
@@ -65,10 +66,10 @@ module _ {B D : Type 0} (marks : B → ℕ → ℕ → B → Type 0) (bytes : D 
   served_none size old = record { turns = refl; most = omega arith; same = refl; shape = refl }
 
   pub served_more : (size count : ℕ) (old now next : State B D) → ServedSoFar size count old now → count < size
-      → Turn marks bytes sectors may_fail m now (Ok tt) next → next.queue.state.size ≡ now.queue.state.size
+      → Turn marks bytes sectors calls m now (Ok tt) next → next.queue.state.size ≡ now.queue.state.size
       → shape_of next.host ≡ shape_of now.host → ServedSoFar size (count + 1) old next
   served_more size count old now next h short turn same shape = record {
-    turns = subst (λ n. Turns marks bytes sectors may_fail m n old next) (sym (add-one count)) (now, h.turns, turn);
+    turns = subst (λ n. Turns marks bytes sectors calls m n old next) (sym (add-one count)) (now, h.turns, turn);
     most = omega arith;
     same = same ∙ h.same;
     shape = shape ∙ h.shape;
@@ -78,8 +79,8 @@ module _ {B D : Type 0} (marks : B → ℕ → ℕ → B → Type 0) (bytes : D 
   pub ended_early : (size entries count : ℕ) (old now next : State B D) (answer : Result Bool QueueError)
       → size ≡ entries → ServedSoFar size count old now → count < size
       → MatchResult answer (λ more. more ≡ false) (λ e. Unit {0})
-      → NextTurn marks bytes sectors may_fail m now answer next
-      → Runs marks bytes sectors may_fail m entries old count answer next
+      → NextTurn marks bytes sectors calls m now answer next
+      → Runs marks bytes sectors calls m entries old count answer next
   ended_early size entries count old now next answer all h short none turn = record {
     last = now;
     turns = h.turns;
@@ -87,8 +88,8 @@ module _ {B D : Type 0} (marks : B → ℕ → ℕ → B → Type 0) (bytes : D 
   }
     where
       ends : (r : Result Bool QueueError) → MatchResult r (λ more. more ≡ false) (λ e. Unit {0})
-          → NextTurn marks bytes sectors may_fail m now r next
-          → Stays marks bytes sectors may_fail m now r next ⊎ Breaks marks bytes sectors may_fail m now r next
+          → NextTurn marks bytes sectors calls m now r next
+          → Stays marks bytes sectors calls m now r next ⊎ Breaks marks bytes sectors calls m now r next
       ends (Ok true) none turn = absurd (cc)
       ends (Ok false) none turn = inl turn
       ends (Err e) none (inl stays) = inl stays
@@ -99,7 +100,7 @@ module _ {B D : Type 0} (marks : B → ℕ → ℕ → B → Type 0) (bytes : D 
       (answer : Result Bool QueueError) → size ≡ entries → ServedSoFar size count old now → size ≤ count
       → Answers (IsOn m) (avail_idx m now.host now.queue.state) idx
       → answer ≡ and_then idx (λ i. Ok (not (i == now.queue.state.next_avail)))
-      → Runs marks bytes sectors may_fail m entries old count answer now
+      → Runs marks bytes sectors calls m entries old count answer now
   ended_full size entries count old now idx answer all h full asked is = record {
     last = now;
     turns = h.turns;

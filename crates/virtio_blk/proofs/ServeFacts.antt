@@ -1,13 +1,13 @@
 -- Data on its way between guest memory and a disk, piece by piece.
-use Rattle.std.proofs.Common.{MatchBool, ◌≡◌, ◌≢◌, ◌==◌, ◌∙◌, zero, suc, ◌∷◌, Bool, true, false, if◌then◌else◌, ◌⊎◌, inl, inr, ℕ, ◌+◌, ◌-◌, ◌%◌, ◌<◌, ◌≤◌, min, List, [], ◌++◌, length, take, drop, Option, Some, None, refl, sym, ap, subst, arith, length-append, length-drop}
-use Rattle.std.proofs.lemmas.List.{drop-drop}
+use Rattle.std.proofs.Common.{MatchBool, ◌≡◌, ◌≢◌, ◌==◌, ◌∙◌, zero, suc, ◌∷◌, Bool, true, false, if◌then◌else◌, ◌⊎◌, inl, inr, ℕ, ◌+◌, ◌-◌, ◌*◌, ◌/◌, ◌%◌, ◌<◌, ◌≤◌, min, List, [], ◌++◌, length, take, drop, Option, Some, None, refl, sym, ap, subst, arith, append-nil, length-append, length-drop, take_all, take-add}
+use Rattle.std.proofs.lemmas.List.{drop-drop, drop_at, length-take-le, take_at}
 use Rattle.std.proofs.lemmas.Bool.{cases_lt, eqb-false, eqb-true, lt-ltb}
 use Rattle.vm_memory_base.specs.Table.{Table}
 use Rattle.vm_memory_base.specs.declared.iotlb.Permissions.TheVariants.{Read}
 use Rattle.vm_memory_guest.specs.Host.{Host, shape_of}
 use Rattle.vm_memory_guest.specs.Memory.{Memory}
 use Rattle.vm_memory.specs.Chain.{Entry}
-use Rattle.virtio_blk.specs.Disk.{LieAt, after_write}
+use Rattle.virtio_blk.specs.Disk.{Call, LieAt, Moves, after_write, joined, reads, writes}
 use Rattle.virtio_blk.specs.Config.{Device}
 use Rattle.virtio_blk.specs.Inside.{Asks, Did, Performed}
 use Rattle.virtio_blk.specs.Served.{Does, Loads, Performs, SameDisk, ServesTexts, Stores, Tells, TellsStatus, piece}
@@ -79,16 +79,19 @@ piece_ends-before len moved n size is short over pieces =
 
 -- ---- from a text to a disk
 
-module _ {B D : Type 0} (bytes : D → Option (List ℕ)) (sectors : D → ℕ) (may_fail : Type 0) (m : Memory)
-    (host : Host B) (es : List Entry) (at : ℕ) (old : D) where
+module _ {B D : Type 0} (bytes : D → Option (List ℕ)) (sectors : D → ℕ) (calls : D → Call → Bool → D → Type 0)
+    (m : Memory) (host : Host B) (es : List Entry) (sector : ℕ) (old : D) where
   -- so many bytes came, in whole pieces, or all did
   pub record StoredSoFar (moved : ℕ) (now : D) (left : List Entry) : Type 0 where
     pub within : moved ≤ length (reached m host.tables es)
     pub access : Accessed m host.tables Read es moved
     pub most : moved ≤ length es
     pub whole : moved % 512 ≡ 0
-    pub pieces : (moved % piece ≡ 0) ⊎ (moved ≡ length es)
-    pub disk : bytes now ≡ after_write at (text_bytes m host es moved) (bytes old)
+    pub ends : (moved % piece ≡ 0) ⊎ (moved ≡ length es)
+    pub pieces : List (List ℕ)
+    pub taken : Moves calls writes sector pieces old now
+    pub are : joined pieces ≡ text_bytes m host es moved
+    pub disk : bytes now ≡ after_write (512 * sector) (text_bytes m host es moved) (bytes old)
     pub size : sectors now ≡ sectors old
     pub place : left ≡ drop moved es
 
@@ -98,19 +101,24 @@ module _ {B D : Type 0} (bytes : D → Option (List ℕ)) (sectors : D → ℕ) 
     access = accessed_none m host.tables Read es;
     most = omega arith;
     whole = refl;
-    pieces = inl refl;
-    disk = sym (after_write-none at (bytes old));
+    ends = inl refl;
+    pieces = [];
+    taken = refl;
+    are = refl;
+    disk = sym (after_write-none (512 * sector) (bytes old));
     size = refl;
     place = refl;
   }
 
   -- a piece more
   pub stored_more : (moved n : ℕ) (now next : D) (left after : List Entry) → StoredSoFar moved now left
-      → Has (bytes old) (at + moved) → n % 512 ≡ 0 → (moved + n) % piece ≡ 0 ⊎ (moved + n ≡ length es)
+      → Has (bytes old) (512 * sector + moved) → n % 512 ≡ 0 → (moved + n) % piece ≡ 0 ⊎ (moved + n ≡ length es)
       → n ≤ length (reached m host.tables left) → Accessed m host.tables Read left n → after ≡ drop n left
-      → bytes next ≡ after_write (at + moved) (text_bytes m host left n) (bytes now) → sectors next ≡ sectors now
+      → bytes next ≡ after_write (512 * sector + moved) (text_bytes m host left n) (bytes now)
+      → calls now (writes (sector + moved / 512) (text_bytes m host left n)) true next → sectors next ≡ sectors now
       → StoredSoFar (moved + n) next after
-  stored_more moved n now next left after h has whole pieces within access place disk size =
+  stored_more moved n now next left after h has whole ends within access place disk took size =
+      let at = 512 * sector in
       let r = reached m host.tables es in
       let rest : length (reached m host.tables left) ≡ length r - moved =
       ap (λ (ls : List Entry). length (reached m host.tables ls)) h.place
@@ -122,7 +130,17 @@ module _ {B D : Type 0} (bytes : D → Option (List ℕ)) (sectors : D → ℕ) 
             (subst (λ (ls : List Entry). Accessed m host.tables Read ls n) h.place access);
         most = omega (arith, within, rest, h.within, length-reached m host.tables es);
         whole = omega (arith, whole, h.whole);
-        pieces = pieces;
+        ends = ends;
+        pieces = text_bytes m host left n ∷ h.pieces;
+        taken = (
+          now,
+          h.taken,
+          subst (λ k. calls now (writes (sector + k / 512) (text_bytes m host left n)) true next)
+              (sym (ap length h.are ∙ count)) took,
+        );
+        are = ap (λ bs. bs ++ text_bytes m host left n) h.are
+            ∙ ap (λ (ls : List Entry). text_bytes m host es moved ++ text_bytes m host ls n) h.place
+            ∙ sym (text_bytes-add m host es moved n h.within);
         disk = disk
             ∙ ap (after_write (at + moved) (text_bytes m host left n)) h.disk
             ∙ ap (λ (ls : List Entry). after_write (at + moved) (text_bytes m host ls n)
@@ -138,51 +156,96 @@ module _ {B D : Type 0} (bytes : D → Option (List ℕ)) (sectors : D → ℕ) 
 
   -- all came
   pub stored_all : (len moved : ℕ) (now : D) (left : List Entry) → len ≡ length es → StoredSoFar moved now left
-      → len ≤ moved → Stores bytes sectors may_fail m host es at len old 0 now
+      → len ≤ moved → Stores bytes sectors calls m host es sector len old 0 now
   stored_all len moved now left all h done = record {
     moved = moved;
+    pieces = h.pieces;
+    last = now;
+    taken = h.taken;
+    are = h.are;
     within = h.within;
     access = h.access;
     disk = h.disk;
     size = h.size;
-    ended = inl (refl, omega (arith, h.most));
+    ended = inl (refl, omega (arith, h.most), refl);
   }
 
   -- a piece did not
   pub stored_stop : (len moved n : ℕ) (now next : D) (left : List Entry) → len ≡ length es → StoredSoFar moved now left
-      → moved < len → n ≤ piece → bytes next ≡ bytes now → sectors next ≡ sectors now
-      → may_fail ⊎ StopsWithin m host.tables left 0 n
-      → Stores bytes sectors may_fail m host es at len old 1 next
-  stored_stop len moved n now next left all h short fits disk size why = record {
+      → moved < len → n ≡ min (len - moved) piece → bytes next ≡ bytes now → sectors next ≡ sectors now
+      → calls now (writes (sector + moved / 512) (text_bytes m host left n)) false next
+      ⊎ ((next ≡ now) × StopsWithin m host.tables left 0 n)
+      → Stores bytes sectors calls m host es sector len old 1 next
+  stored_stop len moved n now next left all h short is disk size why = record {
     moved = moved;
+    pieces = h.pieces;
+    last = now;
+    taken = h.taken;
+    are = h.are;
     within = h.within;
     access = h.access;
     disk = disk ∙ h.disk;
     size = size ∙ h.size;
-    ended = inr (refl, short, whole h.pieces, reason why);
+    ended = inr (refl, short, whole h.ends, reason why);
   }
     where
       whole : (moved % piece ≡ 0) ⊎ (moved ≡ length es) → moved % piece ≡ 0
       whole (inl e) = e
       whole (inr e) = absurd (omega (arith, e, short, all))
 
-      reason : may_fail ⊎ StopsWithin m host.tables left 0 n → may_fail ⊎ StopsWithin m host.tables es moved piece
-      reason (inl f) = inl f
-      reason (inr s) = inr (stops_within-drop m host.tables es moved n piece h.within fits
-          (subst (λ (ls : List Entry). StopsWithin m host.tables ls 0 n) h.place s))
+      fits : n ≤ piece
+      fits = omega (arith, is)
+
+      count : n ≡ min piece (len - moved)
+      count = omega (arith, is)
+
+      reason : calls now (writes (sector + moved / 512) (text_bytes m host left n)) false next
+          ⊎ ((next ≡ now) × StopsWithin m host.tables left 0 n)
+          → calls now
+          (writes (sector + moved / 512) (text_bytes m host (drop moved es) (min piece (len - moved)))) false next
+          ⊎ ((next ≡ now) × StopsWithin m host.tables es moved piece)
+      reason (inl f) = inl (subst
+          (λ k. calls now (writes (sector + moved / 512) (text_bytes m host (drop moved es) k)) false next) count
+          (subst (λ (ls : List Entry). calls now (writes (sector + moved / 512) (text_bytes m host ls n)) false next)
+          h.place f))
+      reason (inr (same, s)) = inr (
+        same,
+        stops_within-drop m host.tables es moved n piece h.within fits
+            (subst (λ (ls : List Entry). StopsWithin m host.tables ls 0 n) h.place s),
+      )
+
+-- all that came is a front of it
+pub all_of : (sent : List ℕ) (pieces : List (List ℕ)) → joined pieces ≡ sent
+    → sent ≡ take (length sent) (joined pieces)
+all_of sent pieces are = sym (take_all (length sent) sent (omega arith)) ∙ ap (take (length sent)) (sym are)
+
+-- a part of the last piece is the end of a front
+pub front_of : (sent got : List ℕ) (n : ℕ) (whole : List ℕ) → whole ≡ sent → n ≤ length got
+    → sent ++ take n got ≡ take (length (sent ++ take n got)) (whole ++ got)
+front_of sent got n whole are fits =
+    let size : length (sent ++ take n got) ≡ length sent + n =
+    omega (arith, length-append sent (take n got), length-take-le n got fits) in
+    sym (take-add (length sent) n (sent ++ got)
+    ∙ ap (λ xs. xs ++ take n (drop (length sent) (sent ++ got))) (take_at sent got (length sent) refl)
+    ∙ ap (λ xs. sent ++ take n xs) (drop_at sent got (length sent) refl))
+    ∙ ap (λ k. take k (sent ++ got)) (sym size)
+    ∙ ap (λ xs. take (length (sent ++ take n got)) (xs ++ got)) (sym are)
 
 -- ---- from a disk to a text
 
 module _ {B D : Type 0} (marks : B → ℕ → ℕ → B → Type 0) (bytes : D → Option (List ℕ)) (sectors : D → ℕ)
-    (may_fail : Type 0) (m : Memory) (host : Host B) (es : List Entry) (at : ℕ) (old : D) where
+    (calls : D → Call → Bool → D → Type 0) (m : Memory) (host : Host B) (es : List Entry) (sector : ℕ) (old : D) where
   -- so many bytes came, in whole pieces, or all did, so that one is left over
   pub record LoadedSoFar (moved : ℕ) (now : D) (after : Host B) (left : List Entry) : Type 0 where
     pub sent : List ℕ
     pub count : length sent ≡ moved
     pub most : moved < length es
     pub whole : moved % 512 ≡ 0
-    pub pieces : (moved % piece ≡ 0) ⊎ (moved + 1 ≡ length es)
-    pub lie : LieAt at sent (bytes old)
+    pub ends : (moved % piece ≡ 0) ⊎ (moved + 1 ≡ length es)
+    pub pieces : List (List ℕ)
+    pub given : Moves calls reads sector pieces old now
+    pub are : joined pieces ≡ sent
+    pub lie : LieAt (512 * sector) sent (bytes old)
     pub disk : SameDisk bytes sectors old now
     pub written : WritesAt marks m es sent host after
     pub tables : after.tables ≡ host.tables
@@ -195,8 +258,11 @@ module _ {B D : Type 0} (marks : B → ℕ → ℕ → B → Type 0) (bytes : D 
     count = refl;
     most = some;
     whole = refl;
-    pieces = inl refl;
-    lie = lie-none at (bytes old);
+    ends = inl refl;
+    pieces = [];
+    given = refl;
+    are = refl;
+    lie = lie-none (512 * sector) (bytes old);
     disk = (refl, refl);
     written = writes_none marks m es host;
     tables = refl;
@@ -207,7 +273,7 @@ module _ {B D : Type 0} (marks : B → ℕ → ℕ → B → Type 0) (bytes : D 
   -- what comes of a piece of which so many bytes came
   pub record LoadedPiece (moved n : ℕ) (piece_bytes : List ℕ) (now next : D) (after later : Host B)
       (left rest : List Entry) : Type 0 where
-    pub lie : LieAt (at + moved) piece_bytes (bytes now)
+    pub lie : LieAt (512 * sector + moved) piece_bytes (bytes now)
     pub count : length piece_bytes ≡ n
     pub written : WritesAt marks m left piece_bytes after later
     pub place : rest ≡ drop n left
@@ -218,13 +284,13 @@ module _ {B D : Type 0} (marks : B → ℕ → ℕ → B → Type 0) (bytes : D 
   -- all that is loaded, with the part of a piece
   loaded_both : (moved n : ℕ) (bs : List ℕ) (now next : D) (after later : Host B) (left rest : List Entry)
       → (h : LoadedSoFar moved now after left) → (p : LoadedPiece moved n bs now next after later left rest)
-      → LieAt at (h.sent ++ bs) (bytes old) × WritesAt marks m es (h.sent ++ bs) host later
+      → LieAt (512 * sector) (h.sent ++ bs) (bytes old) × WritesAt marks m es (h.sent ++ bs) host later
       × (length (h.sent ++ bs) ≡ moved + n) × SameDisk bytes sectors old next
       × (later.tables ≡ host.tables) × (shape_of later ≡ shape_of host) × (rest ≡ drop (moved + n) es)
   loaded_both moved n bs now next after later left rest h p = (
-    lie-append at h.sent bs (bytes old) h.lie
-        (subst (λ (o : Option (List ℕ)). LieAt (at + length h.sent) bs o) h.disk.0
-        (subst (λ k. LieAt (at + k) bs (bytes now)) (sym h.count) p.lie)),
+    lie-append (512 * sector) h.sent bs (bytes old) h.lie
+        (subst (λ (o : Option (List ℕ)). LieAt (512 * sector + length h.sent) bs o) h.disk.0
+        (subst (λ k. LieAt (512 * sector + k) bs (bytes now)) (sym h.count) p.lie)),
     writes-append marks m es h.sent bs host after later h.written
         (subst (λ (ls : List Entry). WritesAt marks m ls bs after later)
         (h.place ∙ ap (λ k. drop k es) (sym h.count)) p.written),
@@ -238,14 +304,22 @@ module _ {B D : Type 0} (marks : B → ℕ → ℕ → B → Type 0) (bytes : D 
   pub loaded_more : (moved n : ℕ) (bs : List ℕ) (now next : D) (after later : Host B) (left rest : List Entry)
       → LoadedSoFar moved now after left → LoadedPiece moved n bs now next after later left rest
       → n % 512 ≡ 0 → moved + n < length es → ((moved + n) % piece ≡ 0) ⊎ (moved + n + 1 ≡ length es)
+      → calls now (reads (sector + moved / 512) bs) true next
       → LoadedSoFar (moved + n) next later rest
-  loaded_more moved n bs now next after later left rest h p whole most pieces =
+  loaded_more moved n bs now next after later left rest h p whole most ends gave =
       let both = loaded_both moved n bs now next after later left rest h p in record {
         sent = h.sent ++ bs;
         count = both.2;
         most = most;
         whole = omega (arith, whole, h.whole);
-        pieces = pieces;
+        ends = ends;
+        pieces = bs ∷ h.pieces;
+        given = (
+          now,
+          h.given,
+          subst (λ k. calls now (reads (sector + k / 512) bs) true next) (sym (ap length h.are ∙ h.count)) gave,
+        );
+        are = ap (λ xs. xs ++ bs) h.are;
         lie = both.0;
         disk = both.3;
         written = both.1;
@@ -257,50 +331,120 @@ module _ {B D : Type 0} (marks : B → ℕ → ℕ → B → Type 0) (bytes : D 
   -- what is promised of all of it
   abbrev pub Loaded : ℕ → ℕ → ℕ → D → Host B → Type 0
   Loaded len status moved now after = (sent : List ℕ) × (length sent ≡ moved)
-      × Loads bytes sectors may_fail m host es at len old status sent now × WritesAt marks m es sent host after
+      × Loads bytes sectors calls m host es sector len old status sent now × WritesAt marks m es sent host after
 
   pub loaded_all : (len moved : ℕ) (now : D) (after : Host B) (left : List Entry) → len + 1 ≡ length es
       → LoadedSoFar moved now after left → len ≤ moved → Loaded len 0 moved now after
   loaded_all len moved now after left all h done = (
     h.sent,
     h.count,
-    record { lie = h.lie; disk = h.disk; ended = inl (refl, omega (arith, h.count, h.most)) },
+    record {
+      pieces = h.pieces;
+      last = now;
+      given = h.given;
+      front = all_of h.sent h.pieces h.are;
+      lie = h.lie;
+      disk = h.disk;
+      ended = inl (refl, omega (arith, h.count, h.most), refl);
+    },
     h.written,
   )
 
-  pub loaded_stop : (len moved n : ℕ) (bs : List ℕ) (now next : D) (after later : Host B) (left rest : List Entry)
-      → len + 1 ≡ length es → LoadedSoFar moved now after left
-      → LoadedPiece moved n bs now next after later left rest → moved + n < len
-      → (may_fail × (n ≡ 0)) ⊎ StopsAt m after.tables left n
+  -- the part of a piece that the disk gave went to the text
+  pub loaded_part : (len moved n : ℕ) (got : List ℕ) (now next : D) (after later : Host B) (left rest : List Entry)
+      → len + 1 ≡ length es → (h : LoadedSoFar moved now after left) → n ≤ length got
+      → LoadedPiece moved n (take n got) now next after later left rest → moved + n < len
+      → calls now (reads (sector + moved / 512) got) true next → StopsAt m after.tables left n
       → Loaded len 1 (moved + n) next later
-  loaded_stop len moved n bs now next after later left rest all h p short why =
+  loaded_part len moved n got now next after later left rest all h fits p short gave s =
+      let bs = take n got in
       let both = loaded_both moved n bs now next after later left rest h p in (
         h.sent ++ bs,
         both.2,
         record {
+          pieces = got ∷ h.pieces;
+          last = next;
+          given = (
+            now,
+            h.given,
+            subst (λ k. calls now (reads (sector + k / 512) got) true next) (sym (ap length h.are ∙ h.count)) gave,
+          );
+          front = front_of h.sent got n (joined h.pieces) h.are fits;
           lie = both.0;
           disk = both.3;
-          ended = inr (refl, omega (arith, both.2), reason both.2 why);
+          ended = inr (
+            refl,
+            omega (arith, both.2),
+            inr (
+              refl,
+              subst (λ k. StopsAt m host.tables es k) (sym both.2)
+                  (stops-drop m host.tables es moved n (omega (arith, h.written.within, h.count))
+                  (subst (λ (ts : List Table). StopsAt m ts (drop moved es) n) h.tables
+                  (subst (λ (ls : List Entry). StopsAt m after.tables ls n) h.place s))),
+            ),
+          );
         },
         both.1,
+      )
+
+  -- the disk gave nothing
+  pub loaded_stop : (len moved : ℕ) (spoilt : List ℕ) (now next : D) (after later : Host B) (left rest : List Entry)
+      → len + 1 ≡ length es → (h : LoadedSoFar moved now after left)
+      → LoadedPiece moved 0 [] now next after later left rest → moved < len
+      → calls now (reads (sector + moved / 512) spoilt) false next
+      → Loaded len 1 moved next later
+  loaded_stop len moved spoilt now next after later left rest all h p short failed =
+      let both = loaded_both moved 0 [] now next after later left rest h p in (
+        h.sent,
+        h.count,
+        record {
+          pieces = h.pieces;
+          last = now;
+          given = h.given;
+          front = all_of h.sent h.pieces h.are;
+          lie = h.lie;
+          disk = both.3;
+          ended = inr (
+            refl,
+            omega (arith, h.count, short),
+            inl (
+              ap (λ k. k % piece) h.count ∙ whole h.ends,
+              (spoilt, subst (λ k. calls now (reads (sector + k / 512) spoilt) false next) (sym h.count) failed),
+            ),
+          );
+        },
+        subst (λ bs. WritesAt marks m es bs host later) (append-nil h.sent) both.1,
       )
     where
       whole : (moved % piece ≡ 0) ⊎ (moved + 1 ≡ length es) → moved % piece ≡ 0
       whole (inl e) = e
       whole (inr e) = absurd (omega (arith, e, short, all))
 
-      within : moved ≤ length (reached m host.tables es)
-      within = omega (arith, h.written.within, h.count)
+  -- less than a piece came
+  pub loaded_ends : (len moved done : ℕ) (got : List ℕ) (now next : D) (after later : Host B) (left rest : List Entry)
+      → len + 1 ≡ length es → (h : LoadedSoFar moved now after left) → done ≤ length got
+      → LoadedPiece moved done (take done got) now next after later left rest → moved + done < len → (n : ℕ)
+      → ((done ≡ 0) × calls now (reads (sector + moved / 512) got) false next)
+      ⊎ (calls now (reads (sector + moved / 512) got) true next × (done < n → StopsAt m after.tables left done))
+      → done < n → Loaded len 1 (moved + done) next later
+  loaded_ends len moved done got now next after later left rest all h fits p short n call few = go call
+    where
+      go : ((done ≡ 0) × calls now (reads (sector + moved / 512) got) false next)
+          ⊎ (calls now (reads (sector + moved / 512) got) true next × (done < n → StopsAt m after.tables left done))
+          → Loaded len 1 (moved + done) next later
+      go (inl (none, failed)) =
+          let same : moved + done ≡ moved = omega (arith, none) in
+          subst (λ k. Loaded len 1 k next later) (sym same)
+          (loaded_stop len moved got now next after later left rest all h
+          (subst (λ k. LoadedPiece moved k (take k got) now next after later left rest) none p)
+          (omega (arith, short)) failed)
+      go (inr (gave, stops)) =
+          loaded_part len moved done got now next after later left rest all h fits p short gave (stops few)
 
-      reason : length (h.sent ++ bs) ≡ moved + n → (may_fail × (n ≡ 0)) ⊎ StopsAt m after.tables left n
-          → (may_fail × (length (h.sent ++ bs) % piece ≡ 0)) ⊎ StopsAt m host.tables es (length (h.sent ++ bs))
-      reason count (inl (f, none)) =
-          let same : length (h.sent ++ bs) ≡ moved = omega (arith, count, none) in
-          inl (f, ap (λ k. k % piece) same ∙ whole h.pieces)
-      reason count (inr s) = inr (subst (λ k. StopsAt m host.tables es k) (sym count)
-          (stops-drop m host.tables es moved n within
-          (subst (λ (ts : List Table). StopsAt m ts (drop moved es) n) h.tables
-          (subst (λ (ls : List Entry). StopsAt m after.tables ls n) h.place s))))
+-- a read of which something came was done
+pub gave_all : {Failed Done Stops : Type 0} {done : ℕ} → ((done ≡ 0) × Failed) ⊎ (Done × Stops) → 0 < done → Done
+gave_all (inl (none, failed)) some = absurd (omega (arith, none, some))
+gave_all (inr (gave, stops)) some = gave
 
 -- ---- the status
 
@@ -363,13 +507,13 @@ status_told marks m es left old new status moved told len some place most writte
 -- ---- chains
 
 module _ {B D : Type 0} (marks : B → ℕ → ℕ → B → Type 0) (bytes : D → Option (List ℕ)) (sectors : D → ℕ)
-    (may_fail : Type 0) (m : Memory) where
+    (calls : D → Call → Bool → D → Type 0) (m : Memory) where
   -- what the header asks for was done
   pub performed_of : (es left room : List Entry) (old : Device D) (host : Host B) (task : Task) (status moved : ℕ)
       (new : Device D) (after : Host B)
       → Asks m host old.read_only (sectors old.disk) es (length room - 1) task left
-      → Did marks bytes sectors may_fail m task left room old host status moved new after
-      → Performed marks bytes sectors may_fail m es room old host status moved new after
+      → Did marks bytes sectors calls m task left room old host status moved new after
+      → Performed marks bytes sectors calls m es room old host status moved new after
   performed_of es left room old host task status moved new after asks did = record {
     sent = did.sent;
     disk = did.disk;
@@ -380,34 +524,34 @@ module _ {B D : Type 0} (marks : B → ℕ → ℕ → B → Type 0) (bytes : D 
   }
     where
       performs : Asks m host old.read_only (sectors old.disk) es (length room - 1) task left
-          → Performs bytes sectors may_fail m host es room old status did.sent did.disk
+          → Performs bytes sectors calls m host es room old status did.sent did.disk
       performs (inl (none, refused)) = inl (
         none,
         subst
-            (λ (t : Task). Does bytes sectors may_fail m host t left room old status did.sent did.disk) refused
+            (λ (t : Task). Does bytes sectors calls m host t left room old status did.sent did.disk) refused
             did.does,
       )
       performs (inr (whole, access, rest, asked)) = inr (
         whole,
         access,
         subst
-            (λ (t : Task). Does bytes sectors may_fail m host t (drop 16 es) room old status did.sent did.disk) asked
-            (subst (λ (ls : List Entry). Does bytes sectors may_fail m host task ls room old status did.sent did.disk)
+            (λ (t : Task). Does bytes sectors calls m host t (drop 16 es) room old status did.sent did.disk) asked
+            (subst (λ (ls : List Entry). Does bytes sectors calls m host task ls room old status did.sent did.disk)
             rest did.does),
       )
 
   -- and the status was told
   pub served_of : (given room left : List Entry) (old : Device D) (host : Host B) (status moved : ℕ) (new : Device D)
       (mid : Host B) (len : ℕ) (after : Host B) → 0 < length room → moved < length room → left ≡ drop moved room
-      → Performed marks bytes sectors may_fail m given room old host status moved new mid
+      → Performed marks bytes sectors calls m given room old host status moved new mid
       → (let last = drop (length left - 1) left in
       (WritesAt marks m last (status ∷ []) mid after × (len ≡ (if length left == 1 then moved + 1 else moved)))
       ⊎ (StopsAt m mid.tables last 0 × (after ≡ mid) × (len ≡ moved)))
-      → ServesTexts marks bytes sectors may_fail m given room old host len new after
+      → ServesTexts marks bytes sectors calls m given room old host len new after
   served_of given room left old host status moved new mid len after some within place did told =
       subst (λ b. MatchBool b
       ((status : ℕ) × (sent : List ℕ) × (disk : D)
-      × Performs bytes sectors may_fail m host given room old status sent disk
+      × Performs bytes sectors calls m host given room old status sent disk
       × Tells marks m room status sent host len after × (new ≡ record old { disk = disk }))
       ((len ≡ 0) × (new ≡ old) × (after ≡ host))) (sym (lt-ltb 0 (length room) some))
       (status, did.sent, did.disk, did.performs, (mid, did.written, tells told), did.is)

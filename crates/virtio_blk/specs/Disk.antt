@@ -1,5 +1,23 @@
--- Disks: their bytes, where they are told.
-use Rattle.std.specs.Prelude.{◌≡◌, ℕ, ◌+◌, List, ◌++◌, length, take, drop, Option, Some, None, option_map}
+-- Disks: their calls, and their bytes, where they are told.
+use Rattle.std.specs.Prelude.{◌≡◌, ℕ, ◌+◌, ◌/◌, Bool, true, List, [], ◌∷◌, ◌++◌, length, take, drop, Option, Some, None, option_map}
+
+-- a call of a disk: a read from a sector on, with what it gave, a write from one on, with what it was given, a flush
+pub data Call : Type 0 where
+  reads : ℕ → List ℕ → Call
+  writes : ℕ → List ℕ → Call
+  flushes : Call
+
+-- pieces put together, of which the last comes first
+abbrev pub joined : List (List ℕ) → List ℕ
+joined [] = []
+joined (p ∷ ps) = joined ps ++ p
+
+-- pieces were moved one behind the other, from a sector on, each by a call that was done
+abbrev pub Moves : {D : Type 0} → (D → Call → Bool → D → Type 0) → (ℕ → List ℕ → Call) → ℕ → List (List ℕ) → D → D
+    → Type 0
+Moves calls move sector [] old new = new ≡ old
+Moves {D} calls move sector (p ∷ ps) old new = (mid : D) × Moves calls move sector ps old mid
+    × calls mid (move (sector + length (joined ps) / 512) p) true new
 
 -- a list with other elements from one on
 abbrev pub patched : ℕ → List ℕ → List ℕ → List ℕ

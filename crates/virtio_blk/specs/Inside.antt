@@ -5,6 +5,7 @@ use Rattle.vm_memory_guest.specs.Host.{Host}
 use Rattle.vm_memory_guest.specs.Memory.{Memory}
 use Rattle.vm_memory.specs.Chain.{Entry}
 use Rattle.virtio_blk.specs.Config.{Device}
+use Rattle.virtio_blk.specs.Disk.{Call}
 use Rattle.virtio_blk.specs.Request.{fits, task_of}
 use Rattle.virtio_blk.specs.Served.{Does, NoHeader, Performs}
 use Rattle.virtio_blk.specs.Texts.{Accessed, WritesAt, reached, text_bytes}
@@ -21,14 +22,14 @@ CanDo sectors Refuse given room = Unit {0}
 CanDo sectors Unsupported given room = Unit {0}
 
 module _ {B D : Type 0} (marks : B → ℕ → ℕ → B → Type 0) (bytes : D → Option (List ℕ)) (sectors : D → ℕ)
-    (may_fail : Type 0) (m : Memory) where
+    (calls : D → Call → Bool → D → Type 0) (m : Memory) where
   -- a task was done: its data, so many bytes, went to the front of a text, and of the device the disk alone changed
   pub record Did (task : Task) (given room : List Entry) (old : Device D) (host : Host B) (status moved : ℕ)
       (new : Device D) (after : Host B) : Type 0 where
     pub sent : List ℕ
     pub disk : D
     pub count : length sent ≡ moved
-    pub does : Does bytes sectors may_fail m host task given room old status sent disk
+    pub does : Does bytes sectors calls m host task given room old status sent disk
     pub written : WritesAt marks m room sent host after
     pub is : new ≡ record old { disk = disk }
 
@@ -38,7 +39,7 @@ module _ {B D : Type 0} (marks : B → ℕ → ℕ → B → Type 0) (bytes : D 
     pub sent : List ℕ
     pub disk : D
     pub count : length sent ≡ moved
-    pub performs : Performs bytes sectors may_fail m host given room old status sent disk
+    pub performs : Performs bytes sectors calls m host given room old status sent disk
     pub written : WritesAt marks m room sent host after
     pub is : new ≡ record old { disk = disk }
 

@@ -11,6 +11,7 @@ use Rattle.virtio_queue.specs.State.{Virtqueue, with_state}
 use Rattle.virtio_queue.specs.Used.{AddsUsed, after_used}
 use Rattle.virtio_queue.specs.declared.error.QueueError.{QueueError}
 use Rattle.virtio_blk.specs.Config.{Device}
+use Rattle.virtio_blk.specs.Disk.{Call}
 use Rattle.virtio_blk.specs.Served.{Serves}
 use Rattle.virtio_blk.specs.declared.device.process.Served.{Served}
 
@@ -35,7 +36,7 @@ error_in (Ok b) = None
 error_in (Err e) = Some e
 
 module _ {B D : Type 0} (marks : B → ℕ → ℕ → B → Type 0) (bytes : D → Option (List ℕ)) (sectors : D → ℕ)
-    (may_fail : Type 0) (m : Memory) where
+    (calls : D → Call → Bool → D → Type 0) (m : Memory) where
   -- one chain was popped and served, and its head was returned, or that was refused
   pub record Turn (old : State B D) (answer : Result (Unit {0}) QueueError) (new : State B D) : Type 0 where
     pub head : ℕ
@@ -43,7 +44,7 @@ module _ {B D : Type 0} (marks : B → ℕ → ℕ → B → Type 0) (bytes : D 
     pub len : ℕ
     pub mid : Host B
     pub popped : popped m old.host old.queue.state ≡ Ok (Some (head, chain))
-    pub served : Serves marks bytes sectors may_fail m chain old.device old.host len new.device mid
+    pub served : Serves marks bytes sectors calls m chain old.device old.host len new.device mid
     pub returned : AddsUsed marks m (past old.queue head chain).state head len mid answer new.host
     pub queue : new.queue ≡ after_used (past old.queue head chain) answer
 

@@ -1,12 +1,12 @@
 -- What serving a chain does.
-use Rattle.std.specs.Prelude.{◌≡◌, ◌⊎◌, ℕ, ◌+◌, ◌-◌, ◌*◌, ◌%◌, ◌<◌, ◌≤◌, min, ◌==◌, if◌then◌else◌, List, [], ◌∷◌, length, take, drop, Option, MatchBool, nat_lt}
+use Rattle.std.specs.Prelude.{◌≡◌, ◌⊎◌, ℕ, ◌+◌, ◌-◌, ◌*◌, ◌/◌, ◌%◌, ◌<◌, ◌≤◌, min, Bool, true, false, ◌==◌, if◌then◌else◌, List, [], ◌∷◌, length, take, drop, Option, MatchBool, nat_lt}
 use Rattle.vm_memory_base.specs.declared.iotlb.Permissions.TheVariants as permissions
 use Rattle.vm_memory_guest.specs.Host.{Host}
 use Rattle.vm_memory_guest.specs.Memory.{Memory}
 use Rattle.vm_memory.specs.Chain.{Entry, readable, text, writable}
 use Rattle.vm_memory.specs.declared.chain.Segment.{Segment}
 use Rattle.virtio_blk.specs.Config.{Device}
-use Rattle.virtio_blk.specs.Disk.{LieAt, after_write}
+use Rattle.virtio_blk.specs.Disk.{Call, reads, writes, flushes, LieAt, Moves, after_write, joined}
 use Rattle.virtio_blk.specs.Request.{task_of}
 use Rattle.virtio_blk.specs.Texts.{Accessed, StopsAt, StopsWithin, WritesAt, reached, text_bytes}
 use Rattle.virtio_blk.specs.declared.request.Task.{Task}
@@ -24,28 +24,41 @@ NoHeader m host es = (length es < 16) ⊎ StopsWithin m host.tables es 0 16
 abbrev pub SameDisk : {D : Type 0} → (D → Option (List ℕ)) → (D → ℕ) → D → D → Type 0
 SameDisk bytes sectors old new = (bytes new ≡ bytes old) × (sectors new ≡ sectors old)
 
--- the bytes of a text went to a disk, from one of its bytes on: all so many, or whole pieces, up to one that the disk
--- did not take or where a byte could not be read
-pub record Stores {B D : Type 0} (bytes : D → Option (List ℕ)) (sectors : D → ℕ) (may_fail : Type 0) (m : Memory)
-    (host : Host B) (es : List Entry) (at len : ℕ) (old : D) (status : ℕ) (new : D) : Type 0 where
+-- the bytes of a text went to a disk, from a sector on, in pieces that it took: all so many, or whole pieces, up to
+-- one that the disk did not take or where a byte could not be read
+pub record Stores {B D : Type 0} (bytes : D → Option (List ℕ)) (sectors : D → ℕ)
+    (calls : D → Call → Bool → D → Type 0) (m : Memory) (host : Host B) (es : List Entry) (sector len : ℕ) (old : D)
+    (status : ℕ) (new : D) : Type 0 where
   pub moved : ℕ
+  pub pieces : List (List ℕ)
+  pub last : D
+  pub taken : Moves calls writes sector pieces old last
+  pub are : joined pieces ≡ text_bytes m host es moved
   pub within : moved ≤ length (reached m host.tables es)
   pub access : Accessed m host.tables permissions.Read es moved
-  pub disk : bytes new ≡ after_write at (text_bytes m host es moved) (bytes old)
+  pub disk : bytes new ≡ after_write (512 * sector) (text_bytes m host es moved) (bytes old)
   pub size : sectors new ≡ sectors old
-  pub ended : ((status ≡ 0) × (moved ≡ len))
+  pub ended : ((status ≡ 0) × (moved ≡ len) × (new ≡ last))
       ⊎ ((status ≡ 1) × (moved < len) × (moved % piece ≡ 0)
-      × (may_fail ⊎ StopsWithin m host.tables es moved piece))
+      × (calls last (writes (sector + moved / 512) (text_bytes m host (drop moved es) (min piece (len - moved)))) false
+      new ⊎ ((new ≡ last) × StopsWithin m host.tables es moved piece)))
 
--- bytes of a disk, from one on, were read for a text: all so many, or whole pieces up to one that the disk did not
--- give, or those in front of an address that could not be written
-pub record Loads {B D : Type 0} (bytes : D → Option (List ℕ)) (sectors : D → ℕ) (may_fail : Type 0) (m : Memory)
-    (host : Host B) (es : List Entry) (at len : ℕ) (old : D) (status : ℕ) (sent : List ℕ) (new : D) : Type 0 where
-  pub lie : LieAt at sent (bytes old)
+-- bytes that a disk gave, in pieces from a sector on, went to a text: all so many, or whole pieces up to one that the
+-- disk did not give, or those in front of an address that could not be written
+pub record Loads {B D : Type 0} (bytes : D → Option (List ℕ)) (sectors : D → ℕ)
+    (calls : D → Call → Bool → D → Type 0) (m : Memory) (host : Host B) (es : List Entry) (sector len : ℕ) (old : D)
+    (status : ℕ) (sent : List ℕ) (new : D) : Type 0 where
+  pub pieces : List (List ℕ)
+  pub last : D
+  pub given : Moves calls reads sector pieces old last
+  pub front : sent ≡ take (length sent) (joined pieces)
+  pub lie : LieAt (512 * sector) sent (bytes old)
   pub disk : SameDisk bytes sectors old new
-  pub ended : ((status ≡ 0) × (length sent ≡ len))
+  pub ended : ((status ≡ 0) × (length sent ≡ len) × (new ≡ last))
       ⊎ ((status ≡ 1) × (length sent < len)
-      × ((may_fail × (length sent % piece ≡ 0)) ⊎ StopsAt m host.tables es (length sent)))
+      × (((length sent % piece ≡ 0)
+      × ((spoilt : List ℕ) × calls last (reads (sector + length sent / 512) spoilt) false new))
+      ⊎ ((new ≡ last) × StopsAt m host.tables es (length sent))))
 
 -- a name was told: all of it that there is room for in front of the status, or what is in front of an address that
 -- could not be written
@@ -54,17 +67,18 @@ Names m host es name status sent = (sent ≡ take (length sent) name)
     × (((status ≡ 0) × (length sent ≡ min (length name) (length es - 1)))
     ⊎ ((status ≡ 1) × (length sent < min (length name) (length es - 1)) × StopsAt m host.tables es (length sent)))
 
-module _ {B D : Type 0} (bytes : D → Option (List ℕ)) (sectors : D → ℕ) (may_fail : Type 0) (m : Memory)
-    (host : Host B) where
+module _ {B D : Type 0} (bytes : D → Option (List ℕ)) (sectors : D → ℕ) (calls : D → Call → Bool → D → Type 0)
+    (m : Memory) (host : Host B) where
   -- what is done for a request whose data lies at one text, or goes to another: the status, the data that goes to
   -- that, and the disk afterwards
   abbrev pub Does : Task → List Entry → List Entry → Device D → ℕ → List ℕ → D → Type 0
   Does (Read sector) given room old status sent new =
-      Loads bytes sectors may_fail m host room (512 * sector) (length room - 1) old.disk status sent new
+      Loads bytes sectors calls m host room sector (length room - 1) old.disk status sent new
   Does (Write sector) given room old status sent new = (sent ≡ [])
-      × Stores bytes sectors may_fail m host given (512 * sector) (length given) old.disk status new
+      × Stores bytes sectors calls m host given sector (length given) old.disk status new
   Does Flush given room old status sent new =
-      (sent ≡ []) × SameDisk bytes sectors old.disk new × ((status ≡ 0) ⊎ ((status ≡ 1) × may_fail))
+      (sent ≡ []) × SameDisk bytes sectors old.disk new
+      × (((status ≡ 0) × calls old.disk flushes true new) ⊎ ((status ≡ 1) × calls old.disk flushes false new))
   Does GetId given room old status sent new = Names m host room old.id status sent × (new ≡ old.disk)
   Does Refuse given room old status sent new = (sent ≡ []) × (status ≡ 1) × (new ≡ old.disk)
   Does Unsupported given room old status sent new = (sent ≡ []) × (status ≡ 2) × (new ≡ old.disk)
@@ -91,12 +105,12 @@ module _ {B : Type 0} (marks : B → ℕ → ℕ → B → Type 0) (m : Memory) 
       (mid : Host B) × WritesAt marks m es sent old mid × TellsStatus es status (length sent) mid len new
 
 module _ {B D : Type 0} (marks : B → ℕ → ℕ → B → Type 0) (bytes : D → Option (List ℕ)) (sectors : D → ℕ)
-    (may_fail : Type 0) (m : Memory) where
+    (calls : D → Call → Bool → D → Type 0) (m : Memory) where
   -- a chain with no byte for the status is not served
   abbrev pub ServesTexts : List Entry → List Entry → Device D → Host B → ℕ → Device D → Host B → Type 0
   ServesTexts given room old host len new after = MatchBool (nat_lt 0 (length room))
       ((status : ℕ) × (sent : List ℕ) × (disk : D)
-      × Performs bytes sectors may_fail m host given room old status sent disk
+      × Performs bytes sectors calls m host given room old status sent disk
       × Tells marks m room status sent host len after × (new ≡ record old { disk = disk }))
       ((len ≡ 0) × (new ≡ old) × (after ≡ host))
 

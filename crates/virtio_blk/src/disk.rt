@@ -1,6 +1,6 @@
 //! Disks of whole sectors.
-ghost use Rattle.std.specs.Prelude.{◌≡◌, ◌+◌, ◌*◌, ◌%◌, ◌^◌, ◌<◌, ◌≤◌, ℕ, List, length, Option, Some, IfErr, OnOk, MatchResult};
-ghost use Rattle.virtio_blk.specs.Disk.{LieAt, after_write};
+ghost use Rattle.std.specs.Prelude.{◌≡◌, ◌+◌, ◌*◌, ◌%◌, ◌^◌, ◌<◌, ◌≤◌, ℕ, Bool, List, length, Option, Some, OnOk, MatchResult, is_ok};
+ghost use Rattle.virtio_blk.specs.Disk.{Call, reads, writes, flushes, LieAt, after_write};
 
 pub(crate) mod file;
 pub(crate) mod memory;
@@ -33,8 +33,9 @@ pub trait Disk: Drop {
     /// How many sectors it has.
     ghost sectors: { Self → ℕ };
 
-    /// Whether its calls may fail.
-    ghost may_fail: { Type 0 };
+    /// What its calls may do: the disk, what was asked for, whether that was done, and the disk afterwards. So a
+    /// contract can say of any disk that a call was made, and what was answered.
+    ghost calls: { Self → Call → Bool → Self → Type 0 };
 
     /// How many sectors it has.
     fn sectors(&self) -> u64
@@ -46,7 +47,7 @@ pub trait Disk: Drop {
         requires whole { length buf.old % 512 ≡ 0 }
         requires inside { 512 * sector + length buf.old ≤ 512 * sectors self.old }
         ensures lie { OnOk result (LieAt (512 * sector) buf.new (bytes self.old)) }
-        ensures fails { IfErr result (λ _. may_fail) }
+        ensures calls { calls self.old (reads sector buf.new) (is_ok result) self.new }
         ensures bytes { bytes self.new ≡ bytes self.old }
         ensures sectors { sectors self.new ≡ sectors self.old };
 
@@ -57,12 +58,12 @@ pub trait Disk: Drop {
         ensures bytes { MatchResult result
             (λ _. bytes self.new ≡ after_write (512 * sector) data.now (bytes self.old))
             (λ _. bytes self.new ≡ bytes self.old) }
-        ensures fails { IfErr result (λ _. may_fail) }
+        ensures calls { calls self.old (writes sector data.now) (is_ok result) self.new }
         ensures sectors { sectors self.new ≡ sectors self.old };
 
     /// Brings what was written to where it stays. The disk's bytes stay as they are.
     fn flush(&mut self) -> Result<(), DiskError>
-        ensures fails { IfErr result (λ _. may_fail) }
+        ensures calls { calls self.old flushes (is_ok result) self.new }
         ensures bytes { bytes self.new ≡ bytes self.old }
         ensures sectors { sectors self.new ≡ sectors self.old };
 

@@ -1,8 +1,8 @@
 //! Data between guest memory and a disk, in pieces.
-ghost use Rattle.std.specs.Prelude.{◌≡◌, ◌⊎◌, ◌+◌, ◌-◌, ◌*◌, ◌%◌, ◌^◌, ◌<◌, ◌≤◌, ℕ, List, length, take, drop, MatchBool};
+ghost use Rattle.std.specs.Prelude.{◌≡◌, ◌⊎◌, ◌+◌, ◌-◌, ◌*◌, ◌%◌, ◌^◌, ◌<◌, ◌≤◌, ℕ, true, false, List, length, take, drop, MatchBool};
 ghost use Rattle.vm_memory_base.specs.declared.iotlb.Permissions.TheVariants.{Read};
 ghost use Rattle.vm_memory_guest.specs.Host.{shape_of, Holds};
-ghost use Rattle.virtio_blk.specs.Disk.{LieAt, after_write};
+ghost use Rattle.virtio_blk.specs.Disk.{LieAt, after_write, reads, writes};
 ghost use Rattle.virtio_blk.specs.Served.{Loads, Stores};
 ghost use Rattle.virtio_blk.specs.Texts.{Accessed, StopsAt, StopsWithin, WritesAt, reached, text_bytes};
 
@@ -28,9 +28,11 @@ fn store_piece<D: Disk, M: GuestMemory, B: Bitmap>(
     ensures stored { let m = M.memory mem.now in let n = length piece.old in MatchBool result
         ((n ≤ length (reached m host.now.tables reader.old)) × Accessed m host.now.tables Read reader.old n
         × (reader.new ≡ drop n reader.old)
-        × (D.bytes disk.new ≡ after_write (512 * sector) (text_bytes m host.now reader.old n) (D.bytes disk.old)))
+        × (D.bytes disk.new ≡ after_write (512 * sector) (text_bytes m host.now reader.old n) (D.bytes disk.old))
+        × D.calls disk.old (writes sector (text_bytes m host.now reader.old n)) true disk.new)
         ((D.bytes disk.new ≡ D.bytes disk.old)
-        × (D.may_fail ⊎ StopsWithin m host.now.tables reader.old 0 n)) }
+        × (D.calls disk.old (writes sector (text_bytes m host.now reader.old n)) false disk.new
+        ⊎ ((disk.new ≡ disk.old) × StopsWithin m host.now.tables reader.old 0 n))) }
     ensures sectors { D.sectors disk.new ≡ D.sectors disk.old }
 {
     read_all(reader, mem, host, piece) && disk.write(sector, piece).is_ok()
@@ -50,8 +52,8 @@ pub(super) fn store<D: Disk, M: GuestMemory, B: Bitmap>(
     requires inside { 512 * sector + length reader.old ≤ 512 * D.sectors disk.old }
     requires small { D.sectors disk.old < 2 ^ 55 }
     requires room { length buffer.old ≡ 65536 }
-    ensures { Stores D.bytes D.sectors D.may_fail (M.memory mem.now) host.now reader.old (512 * sector)
-        (length reader.old) disk.old result disk.new }
+    ensures { Stores D.bytes D.sectors D.calls (M.memory mem.now) host.now reader.old sector (length reader.old)
+        disk.old result disk.new }
 {
     let len = reader.left();
     let mut moved = 0;
@@ -83,8 +85,9 @@ fn load_piece<D: Disk, M: GuestMemory, B: Bitmap>(
     ensures most { result ≤ length piece.old }
     ensures lie { LieAt (512 * sector) (take result piece.new) (D.bytes disk.old) }
     ensures written { WritesAt B.marks (M.memory mem.now) writer.old (take result piece.new) host.old host.new }
-    ensures stopped { result < length piece.old → (D.may_fail × (result ≡ 0))
-        ⊎ StopsAt (M.memory mem.now) host.old.tables writer.old result }
+    ensures call { ((result ≡ 0) × D.calls disk.old (reads sector piece.new) false disk.new)
+        ⊎ (D.calls disk.old (reads sector piece.new) true disk.new
+        × (result < length piece.old → StopsAt (M.memory mem.now) host.old.tables writer.old result)) }
     ensures place { writer.new ≡ drop result writer.old }
     ensures bytes { D.bytes disk.new ≡ D.bytes disk.old }
     ensures sectors { D.sectors disk.new ≡ D.sectors disk.old }
@@ -114,8 +117,8 @@ pub(super) fn load<D: Disk, M: GuestMemory, B: Bitmap>(
     requires small { D.sectors disk.old < 2 ^ 55 }
     requires room { length buffer.old ≡ 65536 }
     ensures loaded { (sent : List ℕ) × (length sent ≡ result.1)
-        × Loads D.bytes D.sectors D.may_fail (M.memory mem.now) host.old writer.old (512 * sector)
-        (length writer.old - 1) disk.old result.0 sent disk.new
+        × Loads D.bytes D.sectors D.calls (M.memory mem.now) host.old writer.old sector (length writer.old - 1)
+        disk.old result.0 sent disk.new
         × WritesAt B.marks (M.memory mem.now) writer.old sent host.old host.new }
     ensures rest { result.1 < length writer.old }
     ensures place { writer.new ≡ drop result.1 writer.old }

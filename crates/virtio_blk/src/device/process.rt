@@ -33,7 +33,7 @@ impl<D: Disk> BlockDevice<D> {
         ensures turn { let m = M.memory mem.now in
             let old : State B D = record { device = self.old; queue = queue.old; host = host.old } in
             let new : State B D = record { device = self.new; queue = queue.new; host = host.new } in
-            NextTurn B.marks D.bytes D.sectors D.may_fail m old result new }
+            NextTurn B.marks D.bytes D.sectors D.calls m old result new }
         ensures size { queue.new.state.size ≡ queue.old.state.size }
         ensures shape { shape_of host.new ≡ shape_of host.old }
     {
@@ -56,7 +56,7 @@ impl<D: Disk> BlockDevice<D> {
         ensures runs { let m = M.memory mem.now in
             let old : State B D = record { device = self.old; queue = queue.old; host = host.old } in
             let new : State B D = record { device = self.new; queue = queue.new; host = host.new } in
-            Runs B.marks D.bytes D.sectors D.may_fail m queue.old.state.size old result.0 result.1 new }
+            Runs B.marks D.bytes D.sectors D.calls m queue.old.state.size old result.0 result.1 new }
         ensures shape { shape_of host.new ≡ shape_of host.old }
     {
         let size = queue.size();
@@ -90,7 +90,7 @@ impl<D: Disk> BlockDevice<D> {
         ensures processed { let m = M.memory mem.now in
             let old : State B D = record { device = self.old; queue = queue.old; host = host.old } in
             let new : State B D = record { device = self.new; queue = queue.new; host = host.new } in
-            Processes B.marks D.bytes D.sectors D.may_fail m old result new }
+            Processes B.marks D.bytes D.sectors D.calls m old result new }
         ensures shape { shape_of host.new ≡ shape_of host.old }
     {
         let (count, more) = self.serve_all(queue, mem, host);

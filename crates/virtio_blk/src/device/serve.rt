@@ -103,7 +103,7 @@ impl<D: Disk> BlockDevice<D> {
         requires held { Holds (shape_of host.old) (M.names mem.now) }
         requires some { 0 < length writer.old }
         requires can { CanDo (D.sectors self.old.disk) task (length reader.old) (length writer.old - 1) }
-        ensures did { Did B.marks D.bytes D.sectors D.may_fail (M.memory mem.now) task reader.old writer.old
+        ensures did { Did B.marks D.bytes D.sectors D.calls (M.memory mem.now) task reader.old writer.old
             self.old host.old result.0 result.1 self.new host.new }
         ensures rest { result.1 < length writer.old }
         ensures place { writer.new ≡ drop result.1 writer.old }
@@ -140,7 +140,7 @@ impl<D: Disk> BlockDevice<D> {
     ) -> (u8, usize)
         requires held { Holds (shape_of host.old) (M.names mem.now) }
         requires some { 0 < length writer.old }
-        ensures performed { Performed B.marks D.bytes D.sectors D.may_fail (M.memory mem.now) reader.old writer.old
+        ensures performed { Performed B.marks D.bytes D.sectors D.calls (M.memory mem.now) reader.old writer.old
             self.old host.old result.0 result.1 self.new host.new }
         ensures rest { result.1 < length writer.old }
         ensures place { writer.new ≡ drop result.1 writer.old }
@@ -163,7 +163,7 @@ impl<D: Disk> BlockDevice<D> {
         chain: &Chain,
     ) -> u32
         requires { Holds (shape_of host.old) (M.names mem.now) }
-        ensures served { Serves B.marks D.bytes D.sectors D.may_fail (M.memory mem.now) chain.now self.old host.old
+        ensures served { Serves B.marks D.bytes D.sectors D.calls (M.memory mem.now) chain.now self.old host.old
             result self.new host.new }
         ensures shape { shape_of host.new ≡ shape_of host.old }
     {

@@ -39,7 +39,7 @@ impl Disk for FileDisk {
 
     ghost sectors = { λ d. d.sectors };
 
-    ghost may_fail = { Unit {0} };
+    ghost calls = { λ d call done later. Unit {0} };
 
     fn sectors(&self) -> u64 {
         self.sectors

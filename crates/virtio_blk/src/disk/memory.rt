@@ -1,5 +1,5 @@
 //! Disks in memory.
-ghost use Rattle.std.specs.Prelude.{◌≡◌, ◌+◌, ◌*◌, ◌/◌, ◌≤◌, length, take, Some};
+ghost use Rattle.std.specs.Prelude.{◌≡◌, ◌+◌, ◌*◌, ◌/◌, ◌≤◌, true, length, take, Some};
 ghost use Rattle.virtio_blk.specs.Disk.{patched};
 ghost use Rattle.virtio_blk.specs.lemmas.DiskFacts.{told_whole};
 
@@ -36,7 +36,7 @@ impl Disk for MemoryDisk {
 
     ghost sectors = { λ d. length d.bytes.items / 512 };
 
-    ghost may_fail = { ⊥ };
+    ghost calls = { λ d call done later. done ≡ true };
 
     fn sectors(&self) -> u64 {
         (self.bytes.len() / 512) as u64

@@ -34,7 +34,11 @@ returns-after-flush-clause-did g c =
         sent = [];
         disk = c.flush.new.self;
         count = refl;
-        does = (refl, (c.flush.ensures.bytes, c.flush.ensures.sectors), inl refl);
+        does = (
+          refl,
+          (c.flush.ensures.bytes, c.flush.ensures.sectors),
+          inl (refl, rw w.in-Ok.is at c.flush.ensures.calls),
+        );
         written = none;
         is = refl;
       })
@@ -45,7 +49,7 @@ returns-after-flush-clause-did g c =
         does = (
           refl,
           (c.flush.ensures.bytes, c.flush.ensures.sectors),
-          inr (refl, rw w.in-Err.is at c.flush.ensures.fails),
+          inr (refl, rw w.in-Err.is at c.flush.ensures.calls),
         );
         written = none;
         is = refl;

@@ -10,10 +10,10 @@ returns-clause-served g c =
     let chain = c.args.chain.now in
     let p = c.perform-status in
     let Serves = λ (given room : List Entry). ServesTexts g.B.Bitmap.marks g.D.Disk.bytes g.D.Disk.sectors
-    g.D.Disk.may_fail m given room c.args.self.now c.args.host.now c.tell.result p.new.self c.tell.new.host in
+    g.D.Disk.calls m given room c.args.self.now c.args.host.now c.tell.result p.new.self c.tell.new.host in
     subst (λ (es : List Entry). Serves es (text (writable chain))) c.reader-reader.ensures.text
     (subst (λ (es : List Entry). Serves c.reader-reader.result es) c.writer-writer.ensures.text
-    (served_of g.B.Bitmap.marks g.D.Disk.bytes g.D.Disk.sectors g.D.Disk.may_fail m c.reader-reader.result
+    (served_of g.B.Bitmap.marks g.D.Disk.bytes g.D.Disk.sectors g.D.Disk.calls m c.reader-reader.result
     c.writer-writer.result p.new.writer c.args.self.now c.args.host.now p.result.0 p.result.1 p.new.self p.new.host
     c.tell.result c.tell.new.host (omega (arith, c.left.ensures, c.if-left-eq0.false)) p.ensures.rest p.ensures.place
     p.ensures.performed c.tell.ensures.told))

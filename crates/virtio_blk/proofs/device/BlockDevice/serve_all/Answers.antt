@@ -7,7 +7,7 @@ pub loop-count-preserved : goal.loop-count-preserved
 loop-count-preserved g c =
     let l = c.loop-count in
     let next = c.serve_next in
-    served_more g.B.Bitmap.marks g.D.Disk.bytes g.D.Disk.sectors g.D.Disk.may_fail
+    served_more g.B.Bitmap.marks g.D.Disk.bytes g.D.Disk.sectors g.D.Disk.calls
     (g.M.GuestMemory.memory c.args.mem.now) c.size-size.result l.count
     (record { device = c.args.self.now; queue = c.args.queue.now; host = c.args.host.now })
     (record { device = l.self; queue = l.queue; host = l.host })
@@ -19,7 +19,7 @@ pub returns-in-Ok-false-clause-runs : goal.returns-in-Ok-false-clause-runs
 returns-in-Ok-false-clause-runs g c =
     let l = c.loop-count in
     let next = c.serve_next in
-    ended_early g.B.Bitmap.marks g.D.Disk.bytes g.D.Disk.sectors g.D.Disk.may_fail
+    ended_early g.B.Bitmap.marks g.D.Disk.bytes g.D.Disk.sectors g.D.Disk.calls
     (g.M.GuestMemory.memory c.args.mem.now) c.size-size.result c.args.queue.now.state.size l.count
     (record { device = c.args.self.now; queue = c.args.queue.now; host = c.args.host.now })
     (record { device = l.self; queue = l.queue; host = l.host })
@@ -31,7 +31,7 @@ pub returns-in-Err-clause-runs : goal.returns-in-Err-clause-runs
 returns-in-Err-clause-runs g c =
     let l = c.loop-count in
     let next = c.serve_next in
-    ended_early g.B.Bitmap.marks g.D.Disk.bytes g.D.Disk.sectors g.D.Disk.may_fail
+    ended_early g.B.Bitmap.marks g.D.Disk.bytes g.D.Disk.sectors g.D.Disk.calls
     (g.M.GuestMemory.memory c.args.mem.now) c.size-size.result c.args.queue.now.state.size l.count
     (record { device = c.args.self.now; queue = c.args.queue.now; host = c.args.host.now })
     (record { device = l.self; queue = l.queue; host = l.host })
@@ -41,7 +41,7 @@ returns-in-Err-clause-runs g c =
 pub returns-clause-runs : goal.returns-clause-runs
 returns-clause-runs g c =
     let l = c.loop-count in
-    ended_full g.B.Bitmap.marks g.D.Disk.bytes g.D.Disk.sectors g.D.Disk.may_fail
+    ended_full g.B.Bitmap.marks g.D.Disk.bytes g.D.Disk.sectors g.D.Disk.calls
     (g.M.GuestMemory.memory c.args.mem.now) c.size-size.result c.args.queue.now.state.size l.count
     (record { device = c.args.self.now; queue = c.args.queue.now; host = c.args.host.now })
     (record { device = l.self; queue = l.queue; host = l.host }) c.avail_idx.result c.match-avail_idx.more

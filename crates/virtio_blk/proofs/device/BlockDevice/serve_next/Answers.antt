@@ -7,7 +7,7 @@ pub returns-in_err-add_used-clause-turn : goal.returns-in_err-add_used-clause-tu
 returns-in_err-add_used-clause-turn g c =
     let r = c.from_residual-in_err-add_used in
     let p = err_from_is_err_and r.result r.ensures.1 in
-    rw (p.1, p.2) (inr (turned g.B.Bitmap.marks g.D.Disk.bytes g.D.Disk.sectors g.D.Disk.may_fail
+    rw (p.1, p.2) (inr (turned g.B.Bitmap.marks g.D.Disk.bytes g.D.Disk.sectors g.D.Disk.calls
     (g.M.GuestMemory.memory c.args.mem.now) c.args.self.now c.args.queue.now c.args.host.now (Ok c.in_ok-head.field-0)
     c.in-Some.head c.in-Some.chain c.in_ok-head.ensures.popped (ap Ok c.in-Some.is) c.pop_descriptor_chain.new.self
     c.in_ok-head.ensures.moved c.serve-len.result c.serve-len.new.self c.serve-len.new.host c.serve-len.ensures.served
@@ -16,7 +16,7 @@ returns-in_err-add_used-clause-turn g c =
 
 pub returns-clause-turn : goal.returns-clause-turn
 returns-clause-turn g c =
-    turned g.B.Bitmap.marks g.D.Disk.bytes g.D.Disk.sectors g.D.Disk.may_fail (g.M.GuestMemory.memory c.args.mem.now)
+    turned g.B.Bitmap.marks g.D.Disk.bytes g.D.Disk.sectors g.D.Disk.calls (g.M.GuestMemory.memory c.args.mem.now)
     c.args.self.now c.args.queue.now c.args.host.now (Ok c.in_ok-head.field-0) c.in-Some.head c.in-Some.chain
     c.in_ok-head.ensures.popped (ap Ok c.in-Some.is) c.pop_descriptor_chain.new.self c.in_ok-head.ensures.moved
     c.serve-len.result c.serve-len.new.self c.serve-len.new.host c.serve-len.ensures.served

@@ -1,12 +1,13 @@
-use Rattle.std.proofs.Common.{◌≡◌, ◌+◌, ◌-◌, ◌*◌, ◌/◌, ◌≤◌, arith, length, min, take}
+use Rattle.std.proofs.Common.{◌≡◌, ◌+◌, ◌-◌, ◌*◌, ◌/◌, ◌<◌, ◌≤◌, true, arith, length, min, take, take_all, sym, subst}
 use Rattle.std.proofs.lemmas.List.{length-take-le}
-use Rattle.virtio_blk.proofs.ServeFacts.{loaded_more, loaded_none, loaded_stop, piece_ends-before, piece_whole, LoadedPiece}
+use Rattle.virtio_blk.specs.Disk.{reads}
+use Rattle.virtio_blk.proofs.ServeFacts.{loaded_ends, loaded_more, loaded_none, gave_all, piece_ends-before, piece_whole, LoadedPiece}
 use Rattle.virtio_blk.proofs.device.pieces.load.Goals as goal
 
 pub loop-moved-init : goal.loop-moved-init
 loop-moved-init g c =
-    loaded_none g.B.Bitmap.marks g.D.Disk.bytes g.D.Disk.sectors g.D.Disk.may_fail
-    (g.M.GuestMemory.memory c.args.mem.now) c.args.host.now c.args.writer.now (512 * c.args.sector) c.args.disk.now
+    loaded_none g.B.Bitmap.marks g.D.Disk.bytes g.D.Disk.sectors g.D.Disk.calls
+    (g.M.GuestMemory.memory c.args.mem.now) c.args.host.now c.args.writer.now c.args.sector c.args.disk.now
     c.requires.some
 
 pub returns-then-done-count-clause-loaded : goal.returns-then-done-count-clause-loaded
@@ -17,28 +18,31 @@ returns-then-done-count-clause-loaded g c =
     length-take-le n l.buffer (omega (arith, c.min-count.ensures, l.auto.buffer, c.requires.room)) in
     let at : 512 * (c.args.sector + l.moved / 512) ≡ 512 * c.args.sector + l.moved =
     omega (arith, l.invariant.whole) in
+    let got = c.load_piece-done.new.piece in
     let done = c.load_piece-done.result in
-    let bs = take done c.load_piece-done.new.piece in
     let most : done ≤ n = rw e at c.load_piece-done.ensures.most in
-    let came : LoadedPiece g.B.Bitmap.marks g.D.Disk.bytes g.D.Disk.sectors g.D.Disk.may_fail
-    (g.M.GuestMemory.memory c.args.mem.now) c.args.host.now c.args.writer.now (512 * c.args.sector) c.args.disk.now
-    l.moved done bs l.disk c.load_piece-done.new.disk l.host c.load_piece-done.new.host l.writer
+    let fits : done ≤ length got = omega (arith, most, e, c.load_piece-done.auto.piece) in
+    let len = length c.args.writer.now - 1 in
+    let short : l.moved + done < len =
+    omega (arith, c.if-done-count.true, c.min-count.ensures, c.left-len.ensures) in
+    let all : len + 1 ≡ length c.args.writer.now = omega (arith, c.requires.some) in
+    let came : LoadedPiece g.B.Bitmap.marks g.D.Disk.bytes g.D.Disk.sectors g.D.Disk.calls
+    (g.M.GuestMemory.memory c.args.mem.now) c.args.host.now c.args.writer.now c.args.sector c.args.disk.now
+    l.moved done (take done got) l.disk c.load_piece-done.new.disk l.host c.load_piece-done.new.host l.writer
     c.load_piece-done.new.writer = record {
       lie = rw at at c.load_piece-done.ensures.lie;
-      count = length-take-le done c.load_piece-done.new.piece (omega (arith, most, e, c.load_piece-done.auto.piece));
+      count = length-take-le done got fits;
       written = c.load_piece-done.ensures.written;
       place = c.load_piece-done.ensures.place;
       disk = (c.load_piece-done.ensures.bytes, c.load_piece-done.ensures.sectors);
       tables = c.load_piece-done.ensures.tables;
       shape = c.load_piece-done.ensures.shape;
     } in
-    let why = rw e at c.load_piece-done.ensures.stopped in
-    loaded_stop g.B.Bitmap.marks g.D.Disk.bytes g.D.Disk.sectors g.D.Disk.may_fail
-    (g.M.GuestMemory.memory c.args.mem.now) c.args.host.now c.args.writer.now (512 * c.args.sector) c.args.disk.now
-    (length c.args.writer.now - 1) l.moved done bs l.disk c.load_piece-done.new.disk l.host c.load_piece-done.new.host
-    l.writer c.load_piece-done.new.writer (omega (arith, c.requires.some)) l.invariant came
-    (omega (arith, c.if-done-count.true, c.min-count.ensures, c.left-len.ensures))
-    (why c.if-done-count.true)
+    loaded_ends g.B.Bitmap.marks g.D.Disk.bytes g.D.Disk.sectors g.D.Disk.calls
+    (g.M.GuestMemory.memory c.args.mem.now) c.args.host.now c.args.writer.now c.args.sector c.args.disk.now
+    len l.moved done got l.disk c.load_piece-done.new.disk l.host c.load_piece-done.new.host
+    l.writer c.load_piece-done.new.writer all l.invariant fits came short n
+    (rw e at c.load_piece-done.ensures.call) c.if-done-count.true
 
 pub loop-moved-preserved : goal.loop-moved-preserved
 loop-moved-preserved g c =
@@ -55,8 +59,10 @@ loop-moved-preserved g c =
     let len = length c.args.writer.now - 1 in
     let size = c.left-len.ensures in
     let is : n ≡ min (len - l.moved) 65536 = rw (← size) c.min-count.ensures in
-    let came : LoadedPiece g.B.Bitmap.marks g.D.Disk.bytes g.D.Disk.sectors g.D.Disk.may_fail
-    (g.M.GuestMemory.memory c.args.mem.now) c.args.host.now c.args.writer.now (512 * c.args.sector) c.args.disk.now
+    let same : bs ≡ c.load_piece-done.new.piece =
+    take_all done c.load_piece-done.new.piece (omega (arith, all, e, c.load_piece-done.auto.piece)) in
+    let came : LoadedPiece g.B.Bitmap.marks g.D.Disk.bytes g.D.Disk.sectors g.D.Disk.calls
+    (g.M.GuestMemory.memory c.args.mem.now) c.args.host.now c.args.writer.now c.args.sector c.args.disk.now
     l.moved done bs l.disk c.load_piece-done.new.disk l.host c.load_piece-done.new.host l.writer
     c.load_piece-done.new.writer = record {
       lie = rw at at c.load_piece-done.ensures.lie;
@@ -67,11 +73,14 @@ loop-moved-preserved g c =
       tables = c.load_piece-done.ensures.tables;
       shape = c.load_piece-done.ensures.shape;
     } in
-    loaded_more g.B.Bitmap.marks g.D.Disk.bytes g.D.Disk.sectors g.D.Disk.may_fail
-    (g.M.GuestMemory.memory c.args.mem.now) c.args.host.now c.args.writer.now (512 * c.args.sector) c.args.disk.now
+    loaded_more g.B.Bitmap.marks g.D.Disk.bytes g.D.Disk.sectors g.D.Disk.calls
+    (g.M.GuestMemory.memory c.args.mem.now) c.args.host.now c.args.writer.now c.args.sector c.args.disk.now
     l.moved done bs l.disk c.load_piece-done.new.disk l.host c.load_piece-done.new.host
     l.writer c.load_piece-done.new.writer l.invariant came
     (rw all (piece_whole len l.moved n is c.requires.whole l.invariant.whole))
     (omega (arith, all, is, c.requires.some, c.loop-moved-test.true, size))
     (rw all (piece_ends-before len l.moved n (length c.args.writer.now) is
-    (omega (arith, c.loop-moved-test.true, size)) (omega (arith, c.requires.some)) l.invariant.pieces))
+    (omega (arith, c.loop-moved-test.true, size)) (omega (arith, c.requires.some)) l.invariant.ends))
+    (subst (λ xs. g.D.Disk.calls l.disk (reads (c.args.sector + l.moved / 512) xs) true c.load_piece-done.new.disk)
+    (sym same)
+    (gave_all (rw e at c.load_piece-done.ensures.call) (omega (arith, all, is, c.loop-moved-test.true, size))))

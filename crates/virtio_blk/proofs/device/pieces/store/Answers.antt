@@ -5,8 +5,8 @@ use Rattle.virtio_blk.proofs.device.pieces.store.Goals as goal
 
 pub loop-moved-init : goal.loop-moved-init
 loop-moved-init g c =
-    stored_none g.D.Disk.bytes g.D.Disk.sectors g.D.Disk.may_fail (g.M.GuestMemory.memory c.args.mem.now)
-    c.args.host.now c.args.reader.now (512 * c.args.sector) c.args.disk.now
+    stored_none g.D.Disk.bytes g.D.Disk.sectors g.D.Disk.calls (g.M.GuestMemory.memory c.args.mem.now)
+    c.args.host.now c.args.reader.now c.args.sector c.args.disk.now
 
 pub returns-then-not-store_piece : goal.returns-then-not-store_piece
 returns-then-not-store_piece g c =
@@ -15,10 +15,10 @@ returns-then-not-store_piece g c =
     let e : length (take n l.buffer) ≡ n =
     length-take-le n l.buffer (omega (arith, c.min-count.ensures, l.auto.buffer, c.requires.room)) in
     let p = rw e at c.if-not-store_piece.ensures.stored in
-    stored_stop g.D.Disk.bytes g.D.Disk.sectors g.D.Disk.may_fail (g.M.GuestMemory.memory c.args.mem.now)
-    c.args.host.now c.args.reader.now (512 * c.args.sector) c.args.disk.now (length c.args.reader.now) l.moved n l.disk
+    stored_stop g.D.Disk.bytes g.D.Disk.sectors g.D.Disk.calls (g.M.GuestMemory.memory c.args.mem.now)
+    c.args.host.now c.args.reader.now c.args.sector c.args.disk.now (length c.args.reader.now) l.moved n l.disk
     c.store_piece.new.disk l.reader refl l.invariant (omega (arith, c.loop-moved-test.true, c.left-len.ensures))
-    (omega (arith, c.min-count.ensures)) p.0 c.if-not-store_piece.ensures.sectors p.1
+    (rw (← c.left-len.ensures) c.min-count.ensures) p.0 c.if-not-store_piece.ensures.sectors p.1
 
 pub loop-moved-preserved : goal.loop-moved-preserved
 loop-moved-preserved g c =
@@ -32,11 +32,11 @@ loop-moved-preserved g c =
     let old = c.args.disk.now in
     let len = length c.args.reader.now in
     let is : n ≡ min (len - l.moved) 65536 = rw (← c.left-len.ensures) c.min-count.ensures in
-    stored_more g.D.Disk.bytes g.D.Disk.sectors g.D.Disk.may_fail (g.M.GuestMemory.memory c.args.mem.now)
-    c.args.host.now c.args.reader.now (512 * c.args.sector) old l.moved n l.disk c.store_piece.new.disk l.reader
+    stored_more g.D.Disk.bytes g.D.Disk.sectors g.D.Disk.calls (g.M.GuestMemory.memory c.args.mem.now)
+    c.args.host.now c.args.reader.now c.args.sector old l.moved n l.disk c.store_piece.new.disk l.reader
     c.store_piece.new.reader l.invariant
     (has_sectors (g.D.Disk.bytes old) (512 * g.D.Disk.sectors old) (512 * c.args.sector + l.moved)
     (λ bytes told. g.met.D.Disk.whole old bytes told) (omega (arith, c.requires.inside, l.invariant.most)))
     (piece_whole len l.moved n is c.requires.whole l.invariant.whole)
-    (piece_ends len l.moved n is (omega (arith, c.loop-moved-test.true, c.left-len.ensures)) l.invariant.pieces)
-    p.0 p.1 p.2 p.3 c.if-not-store_piece.ensures.sectors
+    (piece_ends len l.moved n is (omega (arith, c.loop-moved-test.true, c.left-len.ensures)) l.invariant.ends)
+    p.0 p.1 p.2 p.3 p.4 c.if-not-store_piece.ensures.sectors
