@@ -2,11 +2,15 @@
 #![tactic(auto)]
 
 #[cfg(test)]
+mod bounds;
+#[cfg(test)]
 mod cuts;
 #[cfg(test)]
 mod guests;
 #[cfg(test)]
 mod moves;
+#[cfg(test)]
+mod refusals;
 #[cfg(test)]
 mod streams;
 #[cfg(test)]

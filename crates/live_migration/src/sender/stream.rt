@@ -102,9 +102,10 @@ fn send_round_end<W: Write>(
     hasher: &mut Sha256,
     round: u32,
 ) -> Result<(), SendError>
-    ensures { (sent : List ℕ) → Holds256 hasher.old sent
+    ensures sent { (sent : List ℕ) → Holds256 hasher.old sent
         → OnOk result (Sends (spelling (RoundEnd round (sha256 sent))) (W.contents writer.old) (W.contents writer.new)
         hasher.old hasher.new) }
+    ensures fits { (sent : List ℕ) → Holds256 hasher.old sent → OnOk result (IsMessage (RoundEnd round (sha256 sent))) }
 {
     let Ok(digest) = digest_of(hasher) else {
         return Err(SendError::Memory);
@@ -234,11 +235,13 @@ impl Rounds {
 }
 
 impl Sender {
+    ghost use Rattle.live_migration.specs.Following.{StaysAsItWas};
     ghost use Rattle.live_migration.specs.Sending.{AreMarkedAgain, HarvestsNext, CopiesPages, IsIdle, harvested};
 
     /// Writes the header of these blocks of a host, each with its address, and begins with the first round. The blocks
-    /// ascend by their addresses and do not meet, each is tracked by a bitmap whose pages have at most 2^20 bytes, and
-    /// none comes twice: else `Header`, `Untracked` or `Twice`, and `Changed` where the host has no such block.
+    /// ascend by their addresses and do not meet, each is tracked as a whole by a bitmap whose pages have at most 2^20
+    /// bytes, and none comes twice: else `Header`, `Untracked` or `Twice`, and `Changed` where the host has no such
+    /// block.
     pub fn begin<B: ExactBitmap, W: Write>(
         alloc: Global,
         host: &HostMemory<B>,
@@ -279,7 +282,8 @@ impl Sender {
     /// As `Rounds::copy_batch`.
     pub fn copy_batch<B: ExactBitmap>(&mut self, host: &HostMemory<B>) -> Result<usize, SendError>
         ensures copied { IfOk result (λ count. CopiesPages count self.old.rounds self.new.rounds host.now) }
-        ensures err { OnErr result (self.new.rounds.next ≡ self.old.rounds.next) }
+        ensures short { length self.new.rounds.batch.items ≤ 2 ^ 20 + 20 }
+        ensures err { OnErr result (StaysAsItWas self.old.rounds self.new.rounds) }
         ensures same { (self.new.hasher ≡ self.old.hasher) × (self.new.stage ≡ self.old.stage) }
     {
         self.rounds.copy_batch(host)
@@ -353,9 +357,12 @@ impl Sender {
         ensures sent { (sent : List ℕ) → Holds256 self.old.hasher sent
             → OnOk result (Sends (spelling (RoundEnd self.old.rounds.round (sha256 sent)))
             (W.contents writer.old) (W.contents writer.new) self.old.hasher self.new.hasher) }
+        ensures fits { (sent : List ℕ) → Holds256 self.old.hasher sent
+            → OnOk result (IsMessage (RoundEnd self.old.rounds.round (sha256 sent))) }
         ensures through { OnOk result (IsIdle self.old.rounds
             × (self.old.rounds.turn ≡ length self.old.rounds.targets.items)) }
         ensures next { OnOk result ((self.new.rounds.round ≡ self.old.rounds.round + 1) × (self.new.rounds.turn ≡ 0)) }
+        ensures err { OnErr result (self.new.rounds ≡ self.old.rounds) }
         ensures same { (self.new.rounds.targets ≡ self.old.rounds.targets)
             × (self.new.rounds.waiting ≡ self.old.rounds.waiting) × (self.new.rounds.next ≡ self.old.rounds.next)
             × (self.new.rounds.batch ≡ self.old.rounds.batch) × (self.new.rounds.last ≡ self.old.rounds.last) }
@@ -434,6 +441,7 @@ impl Sender {
         ensures early { self.old.stage ≢ stages.Accepted
             → IsErr result × (writer.new ≡ writer.old) × (self.new ≡ self.old) }
         ensures gone { self.old.stage ≡ stages.Accepted → self.new.stage ≡ stages.Gone }
+        ensures same { self.new.rounds ≡ self.old.rounds }
     {
         if self.stage != SendStage::Accepted {
             return Err(SendError::Order);
