@@ -88,7 +88,7 @@ fn harvest_twice(
     set_poor(host, true);
     let refused = sender.harvest(alloc, host);
     set_poor(host, false);
-    if !matches!(&refused, Err(SendError::Memory)) || dirty_pages(host, alloc)? != *wanted {
+    if !matches!(&refused, Err(SendError::Memory)) || dirty_pages(host, alloc)?.as_slice() != wanted {
         return Ok(None);
     }
     Ok(Some(sender.harvest(alloc, host)?))
