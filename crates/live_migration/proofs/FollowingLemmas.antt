@@ -257,5 +257,5 @@ module _ {B : Type 0} (pages_of : B → PageSet) where
     waiting = b.waiting ∙ sym (ap (λ (n : ℕ). drop n x.rounds.waiting.items) first.next ∙ first.waiting);
     batch = first.batch ∙ ap (flat_map spelling) (sym b.batch);
     sources = sources;
-    once = are.once;
+    once = are.blocks.once;
   }

@@ -15,4 +15,5 @@ pub mod SenderLemmas
 pub mod SettledLemmas
 pub mod StreamLemmas
 pub mod WholeLemmas
+pub mod WordsLemmas
 pub mod WritingLemmas

@@ -54,7 +54,7 @@ module _ {B : Type 0} (pages_of : B → PageSet) (m : Moment B) (begun : HasBegu
       → IsSource pages_of t m.host (first_state.sources j)
   first_source j t at =
       let is = begun.targets.each j t at in
-      let there = begun.targets.there j t at in
+      let there = begun.targets.blocks.there j t at in
       subst (λ (x : Source). IsSource pages_of t m.host x)
       (sym (ap (source_in pages_of m.host) at ∙ source_there pages_of m.host t is.bitmap is.tracked is.was is.dirty))
       (record {

@@ -12,4 +12,5 @@ pub mod Rounds
 pub mod Sending
 pub mod Stages
 pub mod Targets
+pub mod Words
 pub mod Writing

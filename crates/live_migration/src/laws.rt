@@ -1,5 +1,5 @@
 //! What becomes of the pages of a migration: each function here is a theorem, and does nothing.
-ghost use Rattle.std.specs.Prelude.{◌≡◌, ◌+◌, ◌^◌, ◌<◌, ◌≤◌, ℕ, List, [], Option, Some, All, length, flat_map, slice_get};
+ghost use Rattle.std.specs.Prelude.{◌≡◌, ◌+◌, ◌*◌, ◌^◌, ◌<◌, ◌≤◌, ◌⊎◌, ℕ, List, [], ◌∷◌, Option, Some, All, Contains, length, flat_map, slice_get};
 ghost use Rattle.std.specs.Io.KnownBytes.{Appends};
 ghost use Rattle.std.specs.List.{AllByRecursion};
 ghost use Rattle.live_migration.specs.Calls.{Call, DoAll, EndsPaused, HasBegun, Moment, ReadsAll};
@@ -13,10 +13,15 @@ ghost use Rattle.live_migration.specs.Targets.{AreTargets};
 ghost use Rattle.live_migration.specs.declared.sender.pages.Target.{Target};
 ghost use Rattle.live_migration.specs.declared.sender.stream.Sender.{Sender};
 ghost use Rattle.live_migration.specs.Sending.{CopiesPages, HarvestsNext, IsIdle};
+ghost use Rattle.live_migration.specs.Words.{noted, pages_set};
 ghost use Rattle.live_migration.specs.Writing.{MarksItsBlock, all_written};
 ghost use Rattle.live_migration.specs.declared.receiver.progress.Progress.{Progress};
 ghost use Rattle.live_migration.specs.declared.sender.rounds.Rounds.{Rounds};
+ghost use Rattle.vm_memory_base.specs.Markers.{known_by};
+ghost use Rattle.vm_memory_base.specs.Notes.{IsNoted};
 ghost use Rattle.vm_memory_base.specs.Table.{Table};
+ghost use Rattle.vm_memory_base.specs.Tracked.{IsLeft, after_harvests};
+ghost use Rattle.vm_memory_base.specs.declared.bitmap.tracked.Harvester.{Harvester};
 ghost use Rattle.vm_memory_base.specs.declared.iotlb.Permissions.{Permissions};
 ghost use Rattle.vm_memory_guest.specs.Access.{access_of};
 ghost use Rattle.vm_memory_guest.specs.Dirt.{with_pages};
@@ -146,3 +151,18 @@ pub fn receivers_have_what_was_sent<B: ExactBitmap, C: Bitmap>()
 {
     dirty_pages_are_listed();
 }
+
+/// A page that the harvester of a `TrackedBitmap` knows to be marked or seen set was harvested in its round, and waits
+/// to be copied where the words of this harvest are taken. Or it is among those that `close` leaves, for the last round.
+/// A harvest adds its words to those that are known, and so does no other call.
+pub fn marks_are_harvested_or_left()
+    ensures kept { (harvester : Harvester) (harvests : List (ℕ × List ℕ)) (left : List ℕ) (count word round page : ℕ)
+        → (known_by harvester).harvests ≡ noted harvests → IsLeft (known_by harvester) left
+        → IsNoted word round page (known_by harvester).marks ⊎ IsNoted word round page (known_by harvester).sightings
+        → word < length left → page < 32 → 32 * word + page < count
+        → ((words : List ℕ) × Contains harvests (round, words) × Contains (pages_set count words) (32 * word + page))
+        ⊎ Contains (pages_set count left) (32 * word + page) }
+    ensures more { (old new : Harvester) (harvests : List (ℕ × List ℕ)) (round : ℕ) (words : List ℕ)
+        → (known_by old).harvests ≡ noted harvests → known_by new ≡ after_harvests round words (known_by old)
+        → (known_by new).harvests ≡ noted ((round, words) ∷ harvests) }
+{}

@@ -14,4 +14,6 @@ mod refusals;
 #[cfg(test)]
 mod streams;
 #[cfg(test)]
+mod tracked;
+#[cfg(test)]
 mod trials;

@@ -1,12 +1,12 @@
 //! Rounds that are refused: a harvest that finds no memory, and bitmaps that do not cover their block.
 
-use crate::guests::Host;
+use crate::guests::{Host, put};
 use live_migration::{SendError, Sender};
 use std::alloc::{AllocError, Global};
 use std::num::NonZeroUsize;
 use std::test::Fail;
 use vm_memory_base::{Bitmap, BitmapId, ExactBitmap, ExclusiveBitmap, GuestAddress};
-use vm_memory_guest::{BlockId, HostMemory};
+use vm_memory_guest::HostMemory;
 
 // A bitmap that is not harvested while there is said to be no memory.
 #[derive(Drop)]
@@ -63,13 +63,6 @@ fn set_poor(host: &mut PoorHost, is_poor: bool) {
     }
 }
 
-fn write_at(host: &mut PoorHost, at: usize) {
-    if host.shape().has_place(BlockId(0), at, 1) {
-        let window = host.window(BlockId(0), at, 1);
-        host.write(&window, &[1]);
-    }
-}
-
 fn dirty_pages(host: &PoorHost, alloc: Global) -> Result<Vec<usize>, Fail> {
     if !host.shape().has_bitmap(BLOCK) {
         return Ok(Vec::new(alloc));
@@ -88,7 +81,9 @@ fn harvest_twice(
     set_poor(host, true);
     let refused = sender.harvest(alloc, host);
     set_poor(host, false);
-    if !matches!(&refused, Err(SendError::Memory)) || dirty_pages(host, alloc)?.as_slice() != wanted {
+    if !matches!(&refused, Err(SendError::Memory))
+        || dirty_pages(host, alloc)?.as_slice() != wanted
+    {
         return Ok(None);
     }
     Ok(Some(sender.harvest(alloc, host)?))
@@ -118,13 +113,13 @@ fn a_refused_harvest_loses_no_page(rt: HostRuntime) -> Result<(), Fail> {
     let block = host.new_block_with(9, bitmap)?;
     let mut stream = Vec::new(alloc);
     let mut sender = Sender::begin(alloc, &host, &[(block, GuestAddress(0))], &mut stream)?;
-    write_at(&mut host, 3);
+    put(&mut host, block, 3, 1);
     // The first round takes all pages, and the second those that were written.
     let first = harvest_twice(alloc, &mut sender, &mut host, &[1])?;
     assert!(rt; first == Some(5), "first round");
     send_all(alloc, &mut sender, &host, &mut stream)?;
-    write_at(&mut host, 8);
-    write_at(&mut host, 0);
+    put(&mut host, block, 8, 1);
+    put(&mut host, block, 0, 1);
     let second = harvest_twice(alloc, &mut sender, &mut host, &[0, 4])?;
     assert!(rt; second == Some(2), "second round");
     send_all(alloc, &mut sender, &host, &mut stream)?;

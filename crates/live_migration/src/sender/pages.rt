@@ -14,7 +14,7 @@ use crate::header::BlockEntry;
 use crate::refusal::Refusal;
 use std::alloc::{AllocError, Global};
 use thiserror::Error;
-use vm_memory_base::{BitmapId, ExactBitmap};
+use vm_memory_base::{Bitmap, BitmapId, ExactBitmap};
 use vm_memory_guest::laws::host::parts_of_a_block_are_held;
 use vm_memory_guest::{BlockId, HostMemory};
 
@@ -124,7 +124,11 @@ fn copy_part(batch: &mut Vec<u8>, number: u32, page: u64, part: &[u8]) -> Result
 }
 
 // The numbers of all pages of so many bytes.
-fn all_pages(alloc: Global, len: usize, page_size: usize) -> Result<Vec<usize>, AllocError>
+pub(super) fn all_pages(
+    alloc: Global,
+    len: usize,
+    page_size: usize,
+) -> Result<Vec<usize>, AllocError>
     requires { 0 < page_size }
     ensures { IfOk result (λ pages. pages.items ≡ numbers 0 (div_ceil len page_size)) }
 {
@@ -137,7 +141,7 @@ fn all_pages(alloc: Global, len: usize, page_size: usize) -> Result<Vec<usize>, 
 }
 
 // Whether a host has a block as it was at the beginning.
-pub(super) fn has_target<B: ExactBitmap>(host: &HostMemory<B>, target: &Target) -> bool
+pub(super) fn has_target<B: Bitmap>(host: &HostMemory<B>, target: &Target) -> bool
     ensures held { result ≡ true → Holds (shape_of host.now) (names.Block target.now.block.0 ∷ []) }
     ensures len { result ≡ true → length (block_at host.now.blocks target.now.block.0) ≡ target.now.entry.len }
     ensures other { result ≡ false → IsAsItWas target.now host.now → ⊥ }

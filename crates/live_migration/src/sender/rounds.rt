@@ -6,7 +6,7 @@ use super::pages::{
 };
 use crate::frame::MOST_PAGE_BYTES;
 use std::alloc::Global;
-use vm_memory_base::ExactBitmap;
+use vm_memory_base::{Bitmap, ExactBitmap};
 use vm_memory_guest::HostMemory;
 
 /// The rounds of a sender, without its stream. The pages of one block at a time wait to be copied.
@@ -54,7 +54,7 @@ impl Rounds {
     }
 
     // Lets pages of the next block wait.
-    fn start(&mut self, pages: Vec<usize>)
+    pub(super) fn start(&mut self, pages: Vec<usize>)
         requires { self.old.turn < length self.old.targets.items }
         ensures next { self.new.next ≡ 0 }
         ensures turn { self.new.turn ≡ self.old.turn + 1 }
@@ -75,7 +75,7 @@ impl Rounds {
     ///
     /// `Changed` where the host has the block no more as it was, and `Memory` where the first allocation fails. Then
     /// nothing changes.
-    pub fn copy_batch<B: ExactBitmap>(&mut self, host: &HostMemory<B>) -> Result<usize, SendError>
+    pub fn copy_batch<B: Bitmap>(&mut self, host: &HostMemory<B>) -> Result<usize, SendError>
         ensures copied { IfOk result (λ count. CopiesPages count self.old self.new host.now) }
         ensures short { length self.new.batch.items ≤ 2 ^ 20 + 20 }
         ensures err { OnErr result (StaysAsItWas self.old self.new) }

@@ -19,7 +19,7 @@ use crate::reply::Reply;
 use sha2::{Digest, Sha256};
 use std::alloc::{AllocError, Global};
 use std::io::{Read, Write};
-use vm_memory_base::{ExactBitmap, GuestAddress};
+use vm_memory_base::{Bitmap, ExactBitmap, GuestAddress};
 use vm_memory_guest::{BlockId, HostMemory};
 
 /// How far a sender has come.
@@ -139,7 +139,7 @@ fn targets_of<B: ExactBitmap>(
 }
 
 // Whether a target's block is none of those of others.
-fn is_new(targets: &[Target], target: &Target) -> bool
+pub(super) fn is_new(targets: &[Target], target: &Target) -> bool
     ensures { result ≡ true → IsOther targets.now target.now }
 {
     for other in targets {
@@ -223,6 +223,21 @@ fn first_sender(alloc: Global, targets: Vec<Target>, hasher: Sha256) -> Sender
     }
 }
 
+// Writes the header of these blocks, and begins with the first round.
+pub(super) fn begin_with<W: Write>(
+    alloc: Global,
+    targets: Vec<Target>,
+    writer: &mut W,
+) -> Result<Sender, SendError>
+    ensures begun { IfOk result (λ s. BeginsToSend (W.contents writer.old) (W.contents writer.new) s) }
+    ensures targets { IfOk result (λ s. s.rounds.targets.items ≡ targets.items) }
+{
+    let header = header_of(alloc, targets.as_slice())?;
+    let mut hasher = Sha256::new();
+    send(writer, &mut hasher, header.as_slice())?;
+    Ok(first_sender(alloc, targets, hasher))
+}
+
 impl Rounds {
     ghost use Rattle.live_migration.specs.Sending.{IsIdle};
 
@@ -252,10 +267,7 @@ impl Sender {
         ensures targets { IfOk result (λ s. AreTargets B.pages host.now s.rounds.targets.items) }
     {
         let targets = targets_of(alloc, host, blocks)?;
-        let header = header_of(alloc, targets.as_slice())?;
-        let mut hasher = Sha256::new();
-        send(writer, &mut hasher, header.as_slice())?;
-        Ok(first_sender(alloc, targets, hasher))
+        begin_with(alloc, targets, writer)
     }
 
     /// Ends a migration before the guest was given up: marks each page again that was harvested, so that another may
@@ -280,7 +292,7 @@ impl Sender {
     }
 
     /// As `Rounds::copy_batch`.
-    pub fn copy_batch<B: ExactBitmap>(&mut self, host: &HostMemory<B>) -> Result<usize, SendError>
+    pub fn copy_batch<B: Bitmap>(&mut self, host: &HostMemory<B>) -> Result<usize, SendError>
         ensures copied { IfOk result (λ count. CopiesPages count self.old.rounds self.new.rounds host.now) }
         ensures short { length self.new.rounds.batch.items ≤ 2 ^ 20 + 20 }
         ensures err { OnErr result (StaysAsItWas self.old.rounds self.new.rounds) }
