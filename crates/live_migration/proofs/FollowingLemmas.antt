@@ -1,22 +1,22 @@
 -- What a sender does is what the rounds say.
-use Rattle.std.proofs.Common.{◌≡◌, ℕ, zero, suc, ◌+◌, ◌<◌, true, cond, eqb, List, [], ◌∷◌, ◌++◌, length, take, drop, set, Some, refl, sym, ap, subst, ◌∙◌, arith}
+use Rattle.std.proofs.Common.{◌≡◌, ℕ, zero, suc, ◌+◌, ◌*◌, ◌<◌, ◌≤◌, true, false, cond, eqb, List, [], ◌∷◌, ◌++◌, length, take, drop, set, replicate, Some, refl, sym, ap, subst, ◌∙◌, arith}
 use Rattle.std.specs.Global.{Vec}
 use Rattle.std.specs.Prelude.{flat_map, slice_get}
 use Rattle.std.proofs.lemmas.Bool.{cond-true, cond_both, and_from, eq-eqb, eqb-true, eqb-false, lt-ltb}
-use Rattle.std.proofs.lemmas.List.{drop_all, drop-drop}
+use Rattle.std.proofs.lemmas.List.{drop_all, drop-drop, length-replicate}
 use Rattle.std.proofs.lemmas.List.Concat.{flat_map-append, flat_map-cons}
 use Rattle.std.proofs.lemmas.Option.{same_Some, slice_get_within}
 use Rattle.vm_memory_base.specs.Pages.{PageSet, Pages, cleaned}
 use Rattle.vm_memory_base.specs.declared.bitmap.BitmapId.TheVariants.{Block}
 use Rattle.vm_memory_guest.specs.Host.{Host, block_at}
 use Rattle.vm_memory_guest.specs.Window.{bitmap_of}
-use Rattle.live_migration.specs.Following.{Follows, IsSource, KeepsRounds}
+use Rattle.live_migration.specs.Following.{Follows, IsSource, KeepsRounds, StaysAsItWas}
 use Rattle.live_migration.specs.Frame.{Message, spelling}
 use Rattle.live_migration.specs.Leave.{IsFirst}
 use Rattle.live_migration.specs.Targets.{AreTargets}
 use Rattle.live_migration.specs.declared.sender.stream.Sender.{Sender}
 use Rattle.live_migration.specs.Image.{copied}
-use Rattle.live_migration.specs.Rounds.{Ends, IsBeginning, Source, Harvest, Copy, Send, EndRound, after, is_round_over, clean, may_harvest, size_of, taken}
+use Rattle.live_migration.specs.Rounds.{Ends, IsBeginning, IsThrough, Source, Harvest, Copy, Send, EndRound, after, is_round_over, clean, may_harvest, size_of, taken}
 use Rattle.live_migration.specs.Sending.{CopiesPages, HarvestsNext, IsIdle, source_of}
 use Rattle.live_migration.specs.declared.sender.pages.Target.{Target}
 use Rattle.live_migration.specs.declared.sender.rounds.Rounds.{Rounds}
@@ -35,6 +35,15 @@ slice_get-set_other (z ∷ zs) zero zero y ne = absurd (ne refl)
 slice_get-set_other (z ∷ zs) zero (suc j) y ne = refl
 slice_get-set_other (z ∷ zs) (suc i) zero y ne = refl
 slice_get-set_other (z ∷ zs) (suc i) (suc j) y ne = slice_get-set_other zs i j y (λ e. ne (ap suc e))
+
+-- a clean block has as many pages
+as_many : (x : Source) → length x.bytes ≤ length x.pages.flags * x.pages.page_size
+    → length x.bytes ≤ length (replicate (length x.pages.flags) false) * x.pages.page_size
+as_many x covers = rw (length-replicate (length x.pages.flags) false) covers
+
+pub is_over : (s : Ends) → IsThrough s → is_round_over s ≡ true
+is_over s t = and_from _ _ (eq-eqb _ _ t.turn)
+    (and_from _ _ (eq-eqb _ _ (ap length t.waiting)) (eq-eqb _ _ (ap length t.batch)))
 
 none_batched : (ms : List Message) → flat_map spelling ms ≡ [] → ms ≡ []
 none_batched [] e = refl
@@ -96,6 +105,8 @@ module _ {B : Type 0} (pages_of : B → PageSet) where
             pages = h.takes.clean ∙ ap (λ (p : Pages). cleaned (Some p)) pages_is;
             bytes = was.bytes ∙ ap (λ (bs : List (List ℕ)). block_at bs h.target.block.0) (sym same_blocks);
             size = was.size;
+            covers = as_many (s.sources s.turn) was.covers;
+            len = was.len;
           })
 
       -- another block
@@ -107,6 +118,8 @@ module _ {B : Type 0} (pages_of : B → PageSet) where
         pages = is.pages;
         bytes = is.bytes ∙ ap (λ (bs : List (List ℕ)). block_at bs t.block.0) (sym same_blocks);
         size = is.size;
+        covers = is.covers;
+        len = is.len;
       }
 
       targets_are : new.targets.items ≡ old.targets.items
@@ -188,15 +201,36 @@ module _ {B : Type 0} (pages_of : B → PageSet) where
         (ap (λ (v : Vec Target). slice_get v.items j) (sym k.targets) ∙ b) e;
   }
 
+  -- a call that is refused
+  pub refused_follows : (old new : Rounds) (host : Host B) (s : Ends) → Follows pages_of old host s
+      → StaysAsItWas old new → Follows pages_of new host s
+  refused_follows old new host s f r = record {
+    count = f.count ∙ ap (λ (v : Vec Target). length v.items) (sym r.kept.targets);
+    round = f.round ∙ sym r.round;
+    turn = f.turn ∙ sym r.turn;
+    last = f.last ∙ sym r.kept.last;
+    waiting = f.waiting ∙ ap (λ (n : ℕ). drop n old.waiting.items) (sym r.kept.next)
+        ∙ ap (λ (v : Vec ℕ). drop new.next v.items) (sym r.kept.waiting);
+    batch = r.batch ∙ f.batch;
+    sources = λ j t at. f.sources j t (ap (λ (v : Vec Target). slice_get v.items j) (sym r.kept.targets) ∙ at);
+    once = λ i j t u a b e. f.once i j t u (ap (λ (v : Vec Target). slice_get v.items i) (sym r.kept.targets) ∙ a)
+        (ap (λ (v : Vec Target). slice_get v.items j) (sym r.kept.targets) ∙ b) e;
+  }
+
+  -- a round that a sender has gone through
+  pub is_through : (old : Rounds) (host : Host B) (s : Ends) → Follows pages_of old host s → IsIdle old
+      → old.turn ≡ length old.targets.items → IsThrough s
+  is_through old host s f idle all = record {
+    turn = f.turn ∙ all ∙ sym f.count;
+    waiting = f.waiting ∙ drop_all old.next old.waiting.items idle.0;
+    batch = none_batched s.batch (sym f.batch ∙ idle.1);
+  }
+
   pub round_follows : (old new : Rounds) (host : Host B) (s : Ends) → Follows pages_of old host s
       → KeepsRounds old new → IsIdle old → old.turn ≡ length old.targets.items → new.turn ≡ 0
       → new.round ≡ old.round + 1 → new.batch ≡ old.batch → Follows pages_of new host (after EndRound s)
   round_follows old new host s f k idle all turn round same =
-      let waited : s.waiting ≡ [] = f.waiting ∙ drop_all old.next old.waiting.items idle.0 in
-      let batched : s.batch ≡ [] = none_batched s.batch (sym f.batch ∙ idle.1) in
-      let through : s.turn ≡ s.count = f.turn ∙ all ∙ sym f.count in
-      let over : is_round_over s ≡ true = and_from _ _ (eq-eqb _ _ through)
-      (and_from _ _ (eq-eqb _ _ (ap length waited)) (eq-eqb _ _ (ap length batched))) in
+      let over : is_round_over s ≡ true = is_over s (is_through old host s f idle all) in
       subst (λ (z : Ends). Follows pages_of new host z) (sym (cond-true _ _ _ over)) (record {
         count = f.count ∙ ap (λ (v : Vec Target). length v.items) (sym k.targets);
         round = ap (λ (n : ℕ). n + 1) f.round ∙ sym round;
@@ -223,5 +257,5 @@ module _ {B : Type 0} (pages_of : B → PageSet) where
     waiting = b.waiting ∙ sym (ap (λ (n : ℕ). drop n x.rounds.waiting.items) first.next ∙ first.waiting);
     batch = first.batch ∙ ap (flat_map spelling) (sym b.batch);
     sources = sources;
-    once = are.once;
+    once = are.blocks.once;
   }

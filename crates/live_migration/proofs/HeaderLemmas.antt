@@ -208,6 +208,59 @@ pub header_found : (limit : ℕ) (bytes : List ℕ) (r : Result (Vec BlockEntry)
 header_found limit bytes (Ok v) fits given = header_takes limit bytes v.items fits given
 header_found limit bytes (Err e) fits given = tt
 
+-- ---- two headers in front of the same bytes
+
+wider_entries : (es : List BlockEntry) (from left more : ℕ) → left ≤ more → AreEntries from left es
+    → AreEntries from more es
+wider_entries [] from left more l are = tt
+wider_entries (e ∷ es) from left more l are =
+    let is = are.0 in
+    let allowed = is.allowed in (
+      record {
+        some = is.some;
+        short = is.short;
+        paged = is.paged;
+        small = is.small;
+        behind = is.behind;
+        addressed = is.addressed;
+        allowed = omega arith;
+      },
+      wider_entries es (e.address + e.len) (left - e.len) (more - e.len) (omega arith) are.1,
+    )
+
+-- a header, from left to right
+header_parts : (es : List BlockEntry) (x : List ℕ)
+    → header_bytes es ++ x ≡ to_le_bytes w64 0x5441_5247_494d_4d56
+    ++ (to_le_bytes w32 1 ++ (to_le_bytes w32 (length es) ++ (flat_map entry_bytes es ++ x)))
+unfolding header_bytes
+header_parts es x = simp append_assoc
+
+abbrev front : ℕ × List ℕ → Result (ℕ × List ℕ) Refusal
+front p = Ok p
+
+abbrev listed : List BlockEntry × List ℕ → Result (List BlockEntry × List ℕ) Refusal
+listed p = Ok p
+
+same_pairs : {X Y : Type 0} (a b : X) (x y : Y) → ◌≡◌ {A = X × Y} (a, x) (b, y) → (a ≡ b) × (x ≡ y)
+same_pairs {X} {Y} a b x y e = (ap (λ (p : X × Y). p.0) e, ap (λ (p : X × Y). p.1) e)
+
+-- the blocks of a header, and what lies behind it, are decided by the bytes
+pub same_header : (limit most : ℕ) (es fs : List BlockEntry) (x y : List ℕ) → IsHeader limit es → IsHeader most fs
+    → header_bytes es ++ x ≡ header_bytes fs ++ y → (es ≡ fs) × (x ≡ y)
+same_header limit most es fs x y a b e =
+    let tail = flat_map entry_bytes es ++ x in
+    let tail' = flat_map entry_bytes fs ++ y in
+    let fronts : front (length es, tail) ≡ front (length fs, tail') =
+    sym (front_again (length es) tail a.0) ∙ ap front_in (sym (header_parts es x) ∙ e ∙ header_parts fs y)
+    ∙ front_again (length fs) tail' b.0 in
+    let counts = same_pairs (length es) (length fs) tail tail' (ok_is (length es, tail) (length fs, tail') fronts) in
+    let lists : listed (es, x) ≡ listed (fs, y) =
+    sym (entries_again es 0 (limit + most) x (wider_entries es 0 limit (limit + most) (omega arith) a.1))
+    ∙ ap (λ (n : ℕ). entries_in n 0 (limit + most) tail) counts.0
+    ∙ ap (entries_in (length fs) 0 (limit + most)) counts.1
+    ∙ entries_again fs 0 (limit + most) y (wider_entries fs 0 most (limit + most) (omega arith) b.1) in
+    same_pairs es fs x y (ok_is (es, x) (fs, y) lists)
+
 -- an entry that was read has room behind it
 pub room_behind : (from left : ℕ) (bytes : List ℕ) (r : Result (BlockEntry × Bor (List ℕ)) Refusal) → IsBytes bytes
     → Gives (λ x. (x.0, x.1.now)) r (entry_in from left bytes)

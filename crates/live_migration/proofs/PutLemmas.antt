@@ -1,6 +1,7 @@
 -- Bytes that are put behind others.
-use Rattle.std.proofs.Common.{◌≡◌, ℕ, ◌≤◌, List, ◌++◌, length, take, refl, sym, ap, ◌∙◌, append_assoc, arith}
+use Rattle.std.proofs.Common.{◌≡◌, ℕ, ◌+◌, ◌≤◌, List, ◌++◌, length, take, Result, Ok, Err, OnOk, OnErr, refl, sym, ap, ◌∙◌, append_assoc, arith}
 use Rattle.std.proofs.lemmas.List.{take_at, take-take, length-append}
+use Rattle.live_migration.specs.Frame.{Pages, ZeroPage, spelling}
 
 -- one behind the other
 pub behind : (new mid old a b : List ℕ) → new ≡ mid ++ b → mid ≡ old ++ a → new ≡ old ++ (a ++ b)
@@ -14,3 +15,19 @@ front_kept new mid old a e f =
     ap (take (length old)) (e ∙ f) ∙ take_at old a (length old) refl in
     let below : length old ≤ length mid = omega (arith, ap length f, length-append old a) in
     sym (take-take (length old) (length mid) new below) ∙ all
+
+pub ruleset put_behind = (behind, front_kept)
+
+-- by how much bytes grow, if they do
+pub grows_by : {X E : Type 0} (r : Result X E) (old new more : List ℕ) (n : ℕ) → OnOk r (new ≡ old ++ more)
+    → OnErr r (new ≡ old) → length more ≤ n → length new ≤ length old + n
+grows_by (Ok x) old new more n ok err l = omega (arith, ap length ok, length-append old more)
+grows_by (Err e) old new more n ok err l = omega (arith, ap length err)
+
+pub zero_page_len : (block page : ℕ) → length (spelling (ZeroPage block page)) ≡ 20
+unfolding spelling
+zero_page_len block page = refl
+
+pub pages_len : (block first : ℕ) (bytes : List ℕ) → length (spelling (Pages block first bytes)) ≡ 20 + length bytes
+unfolding spelling
+pages_len block first bytes = omega arith

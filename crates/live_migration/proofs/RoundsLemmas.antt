@@ -307,7 +307,7 @@ kept_from_follows s block page f =
 abbrev pub IsCleared : Ends → Type 0
 IsCleared s = (block page : ℕ) → block < s.turn → get_or (s.sources block).pages.flags page false ≡ false
 
-none_set : (n page : ℕ) → get_or (replicate n false) page false ≡ false
+pub none_set : (n page : ℕ) → get_or (replicate n false) page false ≡ false
 none_set n page = elim (cases_lt page n) [
   | inl below ↦ get_or-replicate n page false false below
   | inr past ↦ get_or_past (replicate n false) page false (omega (arith, length-replicate n false))

@@ -11,8 +11,8 @@ use Rattle.vm_memory_base.specs.Pages.{PageSet, cleaned, dirty_pages}
 use Rattle.vm_memory_base.specs.declared.bitmap.BitmapId.TheVariants.{Block}
 use Rattle.vm_memory_guest.specs.Host.{Host, block_at, bytes_at}
 use Rattle.vm_memory_guest.specs.Window.{bitmap_of, block_window, cells_of, with_bitmap}
-use Rattle.live_migration.specs.Sending.{AreMarkedAgain, Harvests, IsMarkedAgain, IsTracked, TakesPages}
-use Rattle.live_migration.specs.Targets.{AreTargets, IsOther}
+use Rattle.live_migration.specs.Sending.{AreMarkedAgain, Harvests, IsAsItWas, IsMarkedAgain, IsTracked, TakesPages}
+use Rattle.live_migration.specs.Targets.{AreBlocks, AreTargets, IsOther}
 use Rattle.live_migration.specs.declared.sender.pages.Target.{Target}
 
 -- all bytes of a block are a window of it
@@ -49,7 +49,8 @@ module _ {B : Type 0} (pages_of : B → PageSet) (t : Target) (old new : Host B)
     same_bitmap : (pages : List ℕ) (h : Harvests pages_of t.block.0 pages old new) → h.before ≡ tracked.bitmap
     same_bitmap pages h = same_Some h.before tracked.bitmap (sym h.was ∙ tracked.was)
 
-    dirty_of : (pages : List ℕ) (h : Harvests pages_of t.block.0 pages old new) → pages_of h.before ≡ Some tracked.tracked
+    dirty_of : (pages : List ℕ) (h : Harvests pages_of t.block.0 pages old new)
+        → pages_of h.before ≡ Some tracked.tracked
     dirty_of pages h = ap pages_of (same_bitmap pages h) ∙ tracked.dirty
 
     pub takes_dirty : (round : ℕ) (pages : List ℕ) → (round ≡ 0 → ⊥) → Harvests pages_of t.block.0 pages old new
@@ -110,19 +111,21 @@ sliced_more (x ∷ xs) t u zero e = inl e
 sliced_more (x ∷ xs) t u (suc j) e =
     elim (sliced_more xs t u j e) [ inl old ↦ inl old | inr new ↦ inr (ap suc new.0, new.1) ]
 
-pub none_targets : {B : Type 0} (pages_of : B → PageSet) (host : Host B) → AreTargets pages_of host []
-none_targets pages_of host = record {
-  each = λ j t e. absurd cc;
+pub none_blocks : {B : Type 0} (host : Host B) → AreBlocks host []
+none_blocks host = record {
+  there = λ j t e. absurd cc;
   once = λ i j t u a b e. absurd cc;
 }
 
-pub targets_more : {B : Type 0} (pages_of : B → PageSet) (host : Host B) (ts : List Target) (t : Target)
-    → AreTargets pages_of host ts → IsTracked pages_of t host → IsOther ts t
-    → AreTargets pages_of host (ts ++ t ∷ [])
-targets_more pages_of host ts t are is other = record {
-  each = λ j u e. elim (sliced_more ts t u j e) [
-    | inl old ↦ are.each j u old
-    | inr new ↦ subst (λ (x : Target). IsTracked pages_of x host) new.1 is
+pub none_targets : {B : Type 0} (pages_of : B → PageSet) (host : Host B) → AreTargets pages_of host []
+none_targets pages_of host = record { blocks = none_blocks host; each = λ j t e. absurd cc }
+
+pub blocks_more : {B : Type 0} (host : Host B) (ts : List Target) (t : Target) → AreBlocks host ts → IsAsItWas t host
+    → IsOther ts t → AreBlocks host (ts ++ t ∷ [])
+blocks_more host ts t are there other = record {
+  there = λ j u e. elim (sliced_more ts t u j e) [
+    | inl old ↦ are.there j u old
+    | inr new ↦ subst (λ (x : Target). IsAsItWas x host) new.1 there
   ];
   once = λ i j u v a b e. elim (sliced_more ts t u i a) [
     | inl old ↦ elim (sliced_more ts t v j b) [
@@ -133,5 +136,16 @@ targets_more pages_of host ts t are is other = record {
       | inl old' ↦ absurd (other j v old' (sym e ∙ ap (λ (x : Target). x.block.0) (sym new.1)))
       | inr new' ↦ new.0 ∙ sym new'.0
     ]
+  ];
+}
+
+pub targets_more : {B : Type 0} (pages_of : B → PageSet) (host : Host B) (ts : List Target) (t : Target)
+    → AreTargets pages_of host ts → IsTracked pages_of t host → IsAsItWas t host → IsOther ts t
+    → AreTargets pages_of host (ts ++ t ∷ [])
+targets_more pages_of host ts t are is there other = record {
+  blocks = blocks_more host ts t are.blocks there other;
+  each = λ j u e. elim (sliced_more ts t u j e) [
+    | inl old ↦ are.each j u old
+    | inr new ↦ subst (λ (x : Target). IsTracked pages_of x host) new.1 is
   ];
 }

@@ -1,5 +1,5 @@
 -- A sender with its host, as the state of the rounds.
-use Rattle.std.specs.Prelude.{◌≡◌, ℕ, length, drop, flat_map, slice_get, Some}
+use Rattle.std.specs.Prelude.{◌≡◌, ℕ, ◌*◌, ◌≤◌, length, drop, flat_map, slice_get, Some}
 use Rattle.vm_memory_base.specs.Pages.{PageSet}
 use Rattle.vm_memory_base.specs.declared.bitmap.BitmapId.TheVariants.{Block}
 use Rattle.vm_memory_guest.specs.Host.{Host, block_at}
@@ -9,13 +9,15 @@ use Rattle.live_migration.specs.Rounds.{Ends, Source}
 use Rattle.live_migration.specs.declared.sender.pages.Target.{Target}
 use Rattle.live_migration.specs.declared.sender.rounds.Rounds.{Rounds}
 
--- a block of a host is this source
+-- a block of a host is this source: it is as long as at the beginning, and the pages cover it
 pub record IsSource {B : Type 0} (pages_of : B → PageSet) (t : Target) (host : Host B) (x : Source) : Type 0 where
   pub bitmap : B
   pub there : bitmap_of host (Block t.block.0) ≡ Some bitmap
   pub pages : pages_of bitmap ≡ Some x.pages
   pub bytes : x.bytes ≡ block_at host.blocks t.block.0
   pub size : x.pages.page_size ≡ t.entry.page_size
+  pub covers : length x.bytes ≤ length x.pages.flags * x.pages.page_size
+  pub len : length x.bytes ≡ t.entry.len
 
 -- a sender has what the state says of its end, and no block twice
 pub record Follows {B : Type 0} (pages_of : B → PageSet) (r : Rounds) (host : Host B) (s : Ends) : Type 0 where
@@ -35,3 +37,10 @@ pub record KeepsRounds (old new : Rounds) : Type 0 where
   pub waiting : new.waiting ≡ old.waiting
   pub next : new.next ≡ old.next
   pub last : new.last ≡ old.last
+
+-- what a call that is refused leaves of a sender: the pages that wait still wait
+pub record StaysAsItWas (old new : Rounds) : Type 0 where
+  pub kept : KeepsRounds old new
+  pub round : new.round ≡ old.round
+  pub turn : new.turn ≡ old.turn
+  pub batch : new.batch.items ≡ old.batch.items

@@ -1,3 +1,4 @@
+pub mod Calls
 pub mod Following
 pub mod Frame
 pub mod Header
@@ -11,3 +12,5 @@ pub mod Rounds
 pub mod Sending
 pub mod Stages
 pub mod Targets
+pub mod Words
+pub mod Writing

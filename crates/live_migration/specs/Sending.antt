@@ -1,5 +1,5 @@
 -- What a sender's calls do, in the words of the rounds.
-use Rattle.std.specs.Prelude.{◌≡◌, ℕ, ◌+◌, ◌<◌, ◌≤◌, ◌⊎◌, ◌==◌, if◌then◌else◌, List, [], ◌∷◌, ◌++◌, length, take, drop, flat_map, slice_get, Some}
+use Rattle.std.specs.Prelude.{◌≡◌, ℕ, ◌+◌, ◌*◌, ◌^◌, ◌<◌, ◌≤◌, ◌⊎◌, ◌==◌, if◌then◌else◌, List, [], ◌∷◌, ◌++◌, length, take, drop, flat_map, slice_get, Some}
 use Rattle.vm_memory_base.specs.Pages.{PageSet, Pages, cleaned, dirty_pages, marked}
 use Rattle.vm_memory_base.specs.declared.bitmap.BitmapId.TheVariants.{Block}
 use Rattle.vm_memory_guest.specs.Host.{Host, block_at}
@@ -14,7 +14,7 @@ use Rattle.live_migration.specs.declared.sender.rounds.Rounds.{Rounds}
 abbrev pub source_of : {B : Type 0} → Target → Pages → Host B → Source
 source_of t pages host = record { bytes = block_at host.blocks t.block.0; pages = pages }
 
--- a block's bitmap tracks pages of the size that the header says
+-- a block's bitmap tracks all of it, in pages of the size that the header says
 pub record IsTracked {B : Type 0} (pages_of : B → PageSet) (t : Target) (host : Host B) : Type 0 where
   pub bitmap : B
   pub tracked : Pages
@@ -22,6 +22,7 @@ pub record IsTracked {B : Type 0} (pages_of : B → PageSet) (t : Target) (host 
   pub dirty : pages_of bitmap ≡ Some tracked
   pub size : tracked.page_size ≡ t.entry.page_size
   pub some : 0 < t.entry.page_size
+  pub covers : length (block_at host.blocks t.block.0) ≤ length tracked.flags * tracked.page_size
 
 -- the dirty pages of a block were taken, and none of it is dirty then. Nothing else changed
 pub record Harvests {B : Type 0} (pages_of : B → PageSet) (block : ℕ) (pages : List ℕ) (old new : Host B) : Type 0 where
@@ -56,12 +57,13 @@ pub record HarvestsNext {B : Type 0} (pages_of : B → PageSet) (old new : Round
   pub last : new.last ≡ old.turn
   pub same : (new.targets ≡ old.targets) × (new.round ≡ old.round) × (new.batch ≡ old.batch)
 
--- so many pages that waited were copied behind what waits to be sent
+-- so many pages that waited were copied behind what waits to be sent. They have at most 2^20 bytes
 pub record CopiesPages {B : Type 0} (count : ℕ) (old new : Rounds) (host : Host B) : Type 0 where
   pub target : Target
   pub there : slice_get old.targets.items old.last ≡ Some target
   pub inside : old.next + count ≤ length old.waiting.items
   pub next : new.next ≡ old.next + count
+  pub most : count * target.entry.page_size ≤ 2 ^ 20
   pub batch : new.batch.items ≡ old.batch.items ++ flat_map spelling
       (flat_map (copied target.entry.page_size old.last (block_at host.blocks target.block.0))
       (take count (drop old.next old.waiting.items)))

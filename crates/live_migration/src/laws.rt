@@ -1,23 +1,44 @@
 //! What becomes of the pages of a migration: each function here is a theorem, and does nothing.
-ghost use Rattle.std.specs.Prelude.{◌≡◌, ◌+◌, ◌<◌, ℕ, List, [], Some, length, flat_map, slice_get};
+ghost use Rattle.std.specs.Prelude.{◌≡◌, ◌+◌, ◌*◌, ◌^◌, ◌<◌, ◌≤◌, ◌⊎◌, ℕ, List, [], ◌∷◌, Option, Some, All, Contains, length, flat_map, slice_get};
+ghost use Rattle.std.specs.Io.KnownBytes.{Appends};
 ghost use Rattle.std.specs.List.{AllByRecursion};
-ghost use Rattle.live_migration.specs.Frame.{IsMessage, Message, spelling};
+ghost use Rattle.live_migration.specs.Calls.{Call, DoAll, EndsPaused, HasBegun, Moment, ReadsAll};
+ghost use Rattle.live_migration.specs.Frame.{Go, IsMessage, Message, spelling};
 ghost use Rattle.live_migration.specs.Header.{IsHeader, header_bytes};
 ghost use Rattle.live_migration.specs.Image.{arrived, copied};
 ghost use Rattle.live_migration.specs.declared.header.BlockEntry.{BlockEntry};
-ghost use Rattle.live_migration.specs.Following.{Follows, IsSource, KeepsRounds};
+ghost use Rattle.live_migration.specs.Following.{Follows, IsSource, KeepsRounds, StaysAsItWas};
 ghost use Rattle.live_migration.specs.Leave.{IsFirst};
 ghost use Rattle.live_migration.specs.Targets.{AreTargets};
 ghost use Rattle.live_migration.specs.declared.sender.pages.Target.{Target};
 ghost use Rattle.live_migration.specs.declared.sender.stream.Sender.{Sender};
 ghost use Rattle.live_migration.specs.Sending.{CopiesPages, HarvestsNext, IsIdle};
+ghost use Rattle.live_migration.specs.Words.{noted, pages_set};
+ghost use Rattle.live_migration.specs.Writing.{MarksItsBlock, all_written};
+ghost use Rattle.live_migration.specs.declared.receiver.progress.Progress.{Progress};
 ghost use Rattle.live_migration.specs.declared.sender.rounds.Rounds.{Rounds};
-ghost use Rattle.vm_memory_guest.specs.Host.{Host};
+ghost use Rattle.vm_memory_base.specs.Markers.{known_by};
+ghost use Rattle.vm_memory_base.specs.Notes.{IsNoted};
+ghost use Rattle.vm_memory_base.specs.Table.{Table};
+ghost use Rattle.vm_memory_base.specs.Tracked.{IsLeft, after_harvests};
+ghost use Rattle.vm_memory_base.specs.declared.bitmap.tracked.Harvester.{Harvester};
+ghost use Rattle.vm_memory_base.specs.declared.iotlb.Permissions.{Permissions};
+ghost use Rattle.vm_memory_guest.specs.Access.{access_of};
+ghost use Rattle.vm_memory_guest.specs.Dirt.{with_pages};
+ghost use Rattle.vm_memory_guest.specs.Host.{Host, block_at};
+ghost use Rattle.vm_memory_guest.specs.Lent.{MarksChanges};
+ghost use Rattle.vm_memory_guest.specs.Memory.{IsOn, Memory, route};
+ghost use Rattle.vm_memory_guest.specs.Region.{IsRegion};
+ghost use Rattle.vm_memory_guest.specs.Typed.{given, place_of};
+ghost use Rattle.vm_memory_guest.specs.Walk.{reached};
+ghost use Rattle.vm_memory_guest.specs.Window.{Window, Writes, block_window, part};
 ghost use Rattle.vm_memory.specs.Rounds.{patched};
-ghost use Rattle.live_migration.specs.Rounds.{Ends, Event, Harvest, Copy, Send, EndRound, after, AllMay, AllStill, IsBeginning, IsKept, IsThrough, story};
+ghost use Rattle.live_migration.specs.Rounds.{Ends, Event, Harvest, Copy, Send, EndRound, Source, after, AllMay, AllStill, IsBeginning, IsKept, IsThrough, story};
 
-use vm_memory_base::ExactBitmap;
-use vm_memory_base::laws::pages::dirty_pages_are_listed;
+use vm_memory_base::laws::pages::{
+    dirty_pages_are_listed, mark_is_by_bytes, mark_keeps_shape, marked_bytes_are_dirty,
+};
+use vm_memory_base::{Bitmap, ExactBitmap};
 
 /// After any harvests, copies, sends, round ends and writes that mark what they change, in any order, no page of a
 /// block is lost: it is dirty or due to the first harvest, or waits to be copied, or waits to be sent, or is equal at
@@ -56,8 +77,8 @@ pub fn copied_pages_patch_an_image()
 {}
 
 /// A sender that has just begun has what a state before the first round says. One that has what a state of the rounds
-/// says has what the next state says after a harvest, a copy, a send and the end of a round. So its calls are the
-/// events of the theorems above.
+/// says has what the next state says after a harvest, a copy, a send and the end of a round, and what the same state
+/// says after a call that was refused. So its calls are the events of the theorems above.
 pub fn senders_do_as_the_rounds_say<B: ExactBitmap>()
     ensures begin { (sender : Sender) (host : Host B) (s : Ends) → IsFirst sender
         → AreTargets B.pages host sender.rounds.targets.items → IsBeginning s → s.last ≡ sender.rounds.last
@@ -74,4 +95,74 @@ pub fn senders_do_as_the_rounds_say<B: ExactBitmap>()
     ensures round { (old new : Rounds) (host : Host B) (s : Ends) → Follows B.pages old host s → KeepsRounds old new
         → IsIdle old → old.turn ≡ length old.targets.items → new.turn ≡ 0 → new.round ≡ old.round + 1
         → new.batch ≡ old.batch → Follows B.pages new host (after EndRound s) }
+    ensures refused { (old new : Rounds) (host : Host B) (s : Ends) → Follows B.pages old host s → StaysAsItWas old new
+        → Follows B.pages new host s }
+{}
+
+/// A write of a host with exact bitmaps marks what it changes: what `Bytes::write` and its kin write, and what a window
+/// of a host gets. Windows that are reached where addresses are physical mark their own block, as do those of a block,
+/// and their parts. Behind an IOMMU that is on they mark a space, and leave the block's bitmap as it is.
+pub fn writes_mark_what_they_change<B: ExactBitmap>()
+    ensures changes { (ws : List Window) (bytes : List ℕ) (old new : Host B) → Writes B.marks ws bytes old new
+        → MarksChanges ws (with_pages B.pages old) (with_pages B.pages new) }
+    ensures accesses { (memory : Memory) (tables : List Table) (a n : ℕ) (access : Permissions)
+        → All IsRegion memory.regions → (IsOn memory → ⊥)
+        → All MarksItsBlock (reached memory tables a n access).windows }
+    ensures stores { (memory : Memory) (tables : List Table) (a n : ℕ) (access : Permissions)
+        → All IsRegion memory.regions → (IsOn memory → ⊥)
+        → All MarksItsBlock (given (place_of n (access_of memory.regions (route memory tables) a n access))) }
+    ensures blocks { (block offset size : ℕ) → offset + size ≤ 2 ^ 64
+        → MarksItsBlock (block_window block offset size) }
+    ensures parts { (w : Window) (offset len : ℕ) → MarksItsBlock w → 0 < len → offset + len ≤ w.size
+        → MarksItsBlock (part w offset len) }
+{
+    mark_is_by_bytes();
+    mark_keeps_shape();
+    marked_bytes_are_dirty();
+}
+
+/// Writes that mark what they change, in windows that mark their own block, are events of the rounds that may come. So
+/// `no_page_is_lost` holds of what a guest and its devices write.
+pub fn marked_writes_may_come<B: ExactBitmap>()
+    ensures { (ws : List Window) (r : Rounds) (old new : Host B) (s : Ends) → Follows B.pages r old s
+        → All MarksItsBlock ws → MarksChanges ws (with_pages B.pages old) (with_pages B.pages new)
+        → (sources : ℕ → Source) × AllMay (all_written sources s.count) s
+        × Follows B.pages r new (story (all_written sources s.count) s) }
+{}
+
+/// What a sender sends, its receiver has. A sender begins over a stream that had nothing. Then come any calls that
+/// succeed, and any writes that mark what they change. There are events that may come by which the sender does as the
+/// rounds say, and once go is sent, a receiver that reads the whole stream has of each block the image of the rounds.
+/// Where the guest was paused for a last round, both ends have the same blocks.
+pub fn receivers_have_what_was_sent<B: ExactBitmap, C: Bitmap>()
+    ensures rounds { (calls : List Call) (first last : Moment B) → HasBegun B.pages first
+        → DoAll B.pages calls first last
+        → (s : Ends) × (events : List Event) × IsBeginning s × AllMay events s
+        × Follows B.pages last.sender.rounds last.host (story events s)
+        × ((sent : Option (List ℕ)) (p : Progress) (next : Host C) → Appends last.stream sent (spelling Go)
+        → ReadsAll sent p next
+        → (j : ℕ) (t : Target) → slice_get last.sender.rounds.targets.items j ≡ Some t
+        → block_at next.blocks (p.base + j) ≡ (story events s).images j) }
+    ensures equal { (first last : Moment B) (sent : Option (List ℕ)) (p : Progress) (next : Host C)
+        → HasBegun B.pages first → EndsPaused B.pages first last → Appends last.stream sent (spelling Go)
+        → ReadsAll sent p next
+        → (j : ℕ) (t : Target) → slice_get last.sender.rounds.targets.items j ≡ Some t
+        → block_at next.blocks (p.base + j) ≡ block_at last.host.blocks t.block.0 }
+{
+    dirty_pages_are_listed();
+}
+
+/// A page that the harvester of a `TrackedBitmap` knows to be marked or seen set was harvested in its round, and waits
+/// to be copied where the words of this harvest are taken. Or it is among those that `close` leaves, for the last round.
+/// A harvest adds its words to those that are known, and so does no other call.
+pub fn marks_are_harvested_or_left()
+    ensures kept { (harvester : Harvester) (harvests : List (ℕ × List ℕ)) (left : List ℕ) (count word round page : ℕ)
+        → (known_by harvester).harvests ≡ noted harvests → IsLeft (known_by harvester) left
+        → IsNoted word round page (known_by harvester).marks ⊎ IsNoted word round page (known_by harvester).sightings
+        → word < length left → page < 32 → 32 * word + page < count
+        → ((words : List ℕ) × Contains harvests (round, words) × Contains (pages_set count words) (32 * word + page))
+        ⊎ Contains (pages_set count left) (32 * word + page) }
+    ensures more { (old new : Harvester) (harvests : List (ℕ × List ℕ)) (round : ℕ) (words : List ℕ)
+        → (known_by old).harvests ≡ noted harvests → known_by new ≡ after_harvests round words (known_by old)
+        → (known_by new).harvests ≡ noted ((round, words) ∷ harvests) }
 {}

@@ -3,6 +3,7 @@
 mod pages;
 mod rounds;
 mod stream;
+mod tracked;
 
 pub use pages::{SendError, Target};
 pub use rounds::Rounds;

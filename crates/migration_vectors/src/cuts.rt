@@ -1,4 +1,4 @@
-//! Connections that are cut at any byte of a small migration, and the next try.
+//! Connections that are cut at each byte of a small migration, and the next try.
 
 use crate::guests::{Host, are_equal, dirty_count, guest_of, put, send_pages, take_until};
 use live_migration::{Receiver, Reply, SendError, Sender, Stage};
@@ -40,7 +40,7 @@ fn send_all(
 ) -> Result<(), SendError> {
     send_pages(alloc, sender, host, 2, writer)?;
     sender.end_round(alloc, writer)?;
-    put(host, BlockId(1), 0x1001, 8);
+    put(host, BlockId(1), 0x101, 8);
     send_pages(alloc, sender, host, 2, writer)?;
     sender.send_section(alloc, writer, b"q", &[5])?;
     sender.end_round(alloc, writer)?;
@@ -74,27 +74,50 @@ fn tried(
     Ok(are_equal(host, places, &other, 0))
 }
 
+// The bytes of the whole stream: the header, the pages, of which the second block has one of zeros and one that is cut,
+// the end of a round, that page again, a section, the end of the last round, and done.
+const STREAM: usize = HEADER + FIRST_BLOCK + (20 + 20 + 0x80) + 44 + (20 + 0x80) + 11 + 44 + 8;
+
+// The bytes of the header, and of the first round's pages of the first block: two of zeros, and one that is cut.
+const HEADER: usize = 16 + 2 * 24;
+
+const FIRST_BLOCK: usize = 20 + 20 + 21;
+
+// How many pages of each block are dirty after a try that was cut behind so many bytes: those of a block that was
+// harvested are again, also what no one had written.
+fn dirty_after(left: usize) -> (usize, usize) {
+    if left < HEADER {
+        (1, 1)
+    } else if left < HEADER + FIRST_BLOCK {
+        (3, 1)
+    } else {
+        (3, 2)
+    }
+}
+
 #[test]
 fn cut_connections_and_the_next_try(rt: HostRuntime) -> Result<(), Fail> {
     let alloc = rt.alloc();
     let mut cuts: usize = 0;
-    for step in 0..400 {
-        let (mut host, places) = guest_of(alloc, &[(0x21, 0x10), (0x1800, 0x1000)])?;
+    for left in 0..0x1000 {
+        let (mut host, places) = guest_of(alloc, &[(0x21, 0x10), (0x180, 0x100)])?;
         put(&mut host, BlockId(0), 0x20, 3);
-        put(&mut host, BlockId(1), 0x17ff, 4);
-        let left = step * 41;
+        put(&mut host, BlockId(1), 0x17f, 4);
         if tried(alloc, &mut host, &places, left)? {
             break;
         }
         cuts = cuts.saturating_add(1);
-        // What was harvested is dirty again, also what no one had written.
         let first = dirty_count(&mut host, alloc, BlockId(0))?;
         let second = dirty_count(&mut host, alloc, BlockId(1))?;
-        assert!(rt; first == 3 || first == 1, "{left}: {first} pages");
-        assert!(rt; second == 2 || second == 1, "{left}: {second} pages");
+        let wanted = dirty_after(left);
+        assert!(rt;
+            first == wanted.0 && second == wanted.1,
+            "{left}: {first} and {second} pages"
+        );
         let is_equal = tried(alloc, &mut host, &places, usize::MAX)?;
         assert!(rt; is_equal, "{left}");
     }
-    assert!(rt; cuts > 100 && cuts < 400, "{cuts} cuts");
+    // Each byte of the stream was the first that was not sent.
+    assert!(rt; cuts == STREAM, "{cuts} cuts");
     Ok(())
 }

@@ -5,7 +5,7 @@ use std::alloc::Global;
 use std::io::Write;
 use std::num::NonZeroUsize;
 use std::test::Fail;
-use vm_memory_base::{BitmapId, ExactBitmap, ExclusiveBitmap, GuestAddress};
+use vm_memory_base::{Bitmap, BitmapId, ExactBitmap, ExclusiveBitmap, GuestAddress};
 use vm_memory_guest::{BlockId, HostMemory};
 
 pub(crate) type Host = HostMemory<ExclusiveBitmap>;
@@ -29,7 +29,12 @@ pub(crate) fn guest_of(
 }
 
 /// Writes a byte into a block, if the host has it there, and marks it.
-pub(crate) fn put(host: &mut Host, block: BlockId, at: usize, byte: u8) -> bool {
+pub(crate) fn put<B: Bitmap>(
+    host: &mut HostMemory<B>,
+    block: BlockId,
+    at: usize,
+    byte: u8,
+) -> bool {
     if !host.shape().has_place(block, at, 1) {
         return false;
     }
@@ -39,12 +44,12 @@ pub(crate) fn put(host: &mut Host, block: BlockId, at: usize, byte: u8) -> bool 
 }
 
 /// How long a block is, or 0.
-pub(crate) fn len_of(host: &Host, block: BlockId) -> usize {
+pub(crate) fn len_of<B: Bitmap>(host: &HostMemory<B>, block: BlockId) -> usize {
     host.shape().block_len(block).unwrap_or(0)
 }
 
 /// The bytes of a block, or none.
-pub(crate) fn bytes_of(host: &Host, block: BlockId) -> &[u8] {
+pub(crate) fn bytes_of<B: Bitmap>(host: &HostMemory<B>, block: BlockId) -> &[u8] {
     let len = len_of(host, block);
     if !host.shape().has_place(block, 0, len) {
         return &[];

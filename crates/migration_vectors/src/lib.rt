@@ -2,12 +2,18 @@
 #![tactic(auto)]
 
 #[cfg(test)]
+mod bounds;
+#[cfg(test)]
 mod cuts;
 #[cfg(test)]
 mod guests;
 #[cfg(test)]
 mod moves;
 #[cfg(test)]
+mod refusals;
+#[cfg(test)]
 mod streams;
+#[cfg(test)]
+mod tracked;
 #[cfg(test)]
 mod trials;

@@ -1,5 +1,5 @@
 //! Pages of a block that are taken and copied.
-ghost use Rattle.std.specs.Prelude.{◌≡◌, ◌≢◌, true, false, ℕ, ◌+◌, ◌-◌, ◌*◌, ◌^◌, ◌<◌, ◌≤◌, List, [], ◌∷◌, ◌++◌, length, take, drop, flat_map, min, Some, IfOk, OnOk, OnErr, IfSome, ◌==◌, if◌then◌else◌};
+ghost use Rattle.std.specs.Prelude.{◌≡◌, ◌≢◌, true, false, ℕ, ◌+◌, ◌-◌, ◌*◌, ◌^◌, ◌<◌, ◌≤◌, List, [], ◌∷◌, ◌++◌, ◌⊎◌, length, take, drop, flat_map, min, Some, IfOk, OnOk, OnErr, IfSome, ◌==◌, if◌then◌else◌};
 ghost use Rattle.std.specs.Int.{div_ceil};
 ghost use Rattle.vm_memory_base.specs.Address.{numbers};
 ghost use Rattle.vm_memory_guest.specs.Host as names;
@@ -14,7 +14,7 @@ use crate::header::BlockEntry;
 use crate::refusal::Refusal;
 use std::alloc::{AllocError, Global};
 use thiserror::Error;
-use vm_memory_base::{BitmapId, ExactBitmap};
+use vm_memory_base::{Bitmap, BitmapId, ExactBitmap};
 use vm_memory_guest::laws::host::parts_of_a_block_are_held;
 use vm_memory_guest::{BlockId, HostMemory};
 
@@ -24,7 +24,7 @@ pub enum SendError {
     /// The blocks make no header.
     #[error("{0}")]
     Header(Refusal),
-    /// A block has no bitmap that tracks pages.
+    /// A block has no bitmap, or one whose pages do not cover it.
     #[error("block is not tracked")]
     Untracked,
     /// The host has no such block, or it has another length or page size than at the beginning.
@@ -89,6 +89,7 @@ fn copy_page(
     requires { page_size ≤ 2 ^ 20 }
     ensures ok { OnOk result (batch.new.items
         ≡ batch.old.items ++ flat_map spelling (copied page_size number bytes.now page)) }
+    ensures len { length batch.new.items ≤ length batch.old.items + (20 + page_size) }
     ensures err { OnErr result (batch.new.items ≡ batch.old.items) }
 {
     let start = page.saturating_mul(page_size);
@@ -104,6 +105,7 @@ fn copy_part(batch: &mut Vec<u8>, number: u32, page: u64, part: &[u8]) -> Result
     requires { length part.now ≤ 2 ^ 20 }
     ensures ok { OnOk result (batch.new.items ≡ batch.old.items
         ++ spelling (if list_all (λ b. b == 0) part.now then ZeroPage number page else Pages number page part.now)) }
+    ensures len { length batch.new.items ≤ length batch.old.items + (20 + length part.now) }
     ensures err { OnErr result (batch.new.items ≡ batch.old.items) }
 {
     if is_zero(part) {
@@ -122,7 +124,11 @@ fn copy_part(batch: &mut Vec<u8>, number: u32, page: u64, part: &[u8]) -> Result
 }
 
 // The numbers of all pages of so many bytes.
-fn all_pages(alloc: Global, len: usize, page_size: usize) -> Result<Vec<usize>, AllocError>
+pub(super) fn all_pages(
+    alloc: Global,
+    len: usize,
+    page_size: usize,
+) -> Result<Vec<usize>, AllocError>
     requires { 0 < page_size }
     ensures { IfOk result (λ pages. pages.items ≡ numbers 0 (div_ceil len page_size)) }
 {
@@ -135,7 +141,7 @@ fn all_pages(alloc: Global, len: usize, page_size: usize) -> Result<Vec<usize>, 
 }
 
 // Whether a host has a block as it was at the beginning.
-pub(super) fn has_target<B: ExactBitmap>(host: &HostMemory<B>, target: &Target) -> bool
+pub(super) fn has_target<B: Bitmap>(host: &HostMemory<B>, target: &Target) -> bool
     ensures held { result ≡ true → Holds (shape_of host.now) (names.Block target.now.block.0 ∷ []) }
     ensures len { result ≡ true → length (block_at host.now.blocks target.now.block.0) ≡ target.now.entry.len }
     ensures other { result ≡ false → IsAsItWas target.now host.now → ⊥ }
@@ -146,16 +152,30 @@ pub(super) fn has_target<B: ExactBitmap>(host: &HostMemory<B>, target: &Target) 
     }
 }
 
-// Whether a block's bitmap tracks pages of the size that the header says.
+// Whether so many pages of this size cover so many bytes.
+fn covers(page_size: usize, count: usize, len: u64) -> bool
+    ensures { result ≡ true → len ≤ count * page_size }
+{
+    match count.checked_mul(page_size) {
+        Some(bytes) => len <= bytes as u64,
+        None => true,
+    }
+}
+
+// Whether a block's bitmap tracks all of it, in pages of the size that the header says.
 fn check_pages<B: ExactBitmap>(host: &HostMemory<B>, target: &Target) -> Result<(), SendError>
-    requires { Holds (shape_of host.now) (names.Block target.now.block.0 ∷ []) }
+    requires held { Holds (shape_of host.now) (names.Block target.now.block.0 ∷ []) }
+    requires len { length (block_at host.now.blocks target.now.block.0) ≡ target.now.entry.len }
     ensures { OnOk result (IsTracked B.pages target.now host.now) }
 {
     match host.bitmap(BitmapId::Block(target.block.0)).shape() {
         None => Err(SendError::Untracked),
-        Some((page_size, _)) => {
+        Some((page_size, count)) => {
             if page_size == 0 || page_size as u64 != target.entry.page_size {
                 return Err(SendError::Changed);
+            }
+            if !covers(page_size, count, target.entry.len) {
+                return Err(SendError::Untracked);
             }
             Ok(())
         }
@@ -221,7 +241,8 @@ fn take_all<B: ExactBitmap>(
     }
 }
 
-// Copies pages of a block behind what waits to be sent, as long as there is room, and answers how many.
+// Copies pages of a block behind what waits to be sent, as long as there is room, and answers how many: at most 2^20
+// bytes of pages, zeros among them.
 pub(super) fn copy_pages(
     batch: &mut Vec<u8>,
     number: u32,
@@ -231,11 +252,13 @@ pub(super) fn copy_pages(
 ) -> usize
     requires { page_size ≤ 2 ^ 20 }
     ensures count { result ≤ length pages.now }
+    ensures most { result * page_size ≤ 2 ^ 20 }
+    ensures short { length batch.old.items ≤ 2 ^ 20 + 20 → length batch.new.items ≤ 2 ^ 20 + 20 }
     ensures copied { batch.new.items ≡ batch.old.items
         ++ flat_map spelling (flat_map (copied page_size number bytes.now) (take result pages.now)) }
 {
     for (i, page) in pages.iter().enumerate() {
-        if !has_room(batch.len(), page_size) {
+        if !has_room(i, batch.len(), page_size) {
             return i;
         }
         if copy_page(batch, number, page_size, bytes, *page).is_err() {
@@ -245,9 +268,13 @@ pub(super) fn copy_pages(
     pages.len()
 }
 
-// Whether a page of this size fits behind so many bytes.
-fn has_room(len: usize, page_size: usize) -> bool {
-    len == 0 || len.saturating_add(page_size) <= MOST_PAGE_BYTES
+// Whether a page of this size may be copied behind so many pages, and behind so many bytes that wait to be sent.
+fn has_room(count: usize, len: usize, page_size: usize) -> bool
+    ensures pages { result ≡ true → (count + 1) * page_size ≤ 2 ^ 20 }
+    ensures bytes { result ≡ true → (len ≡ 0) ⊎ (len + page_size ≤ 2 ^ 20) }
+{
+    let pages = count.saturating_add(1).saturating_mul(page_size);
+    pages <= MOST_PAGE_BYTES && (len == 0 || len.saturating_add(page_size) <= MOST_PAGE_BYTES)
 }
 
 // Makes all pages of a block dirty, if the host has it as it was at the beginning.
@@ -280,10 +307,10 @@ pub(super) fn target_of<B: ExactBitmap>(
     let Some(len) = host.shape().block_len(block) else {
         return Err(SendError::Changed);
     };
-    let Some((page_size, _)) = host.bitmap(BitmapId::Block(block.0)).shape() else {
+    let Some((page_size, count)) = host.bitmap(BitmapId::Block(block.0)).shape() else {
         return Err(SendError::Untracked);
     };
-    if page_size == 0 {
+    if page_size == 0 || !covers(page_size, count, len as u64) {
         return Err(SendError::Untracked);
     }
     Ok(Target {

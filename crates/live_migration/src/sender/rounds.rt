@@ -1,12 +1,12 @@
 //! The rounds of a sender: which pages wait to be copied, and what was copied and waits to be sent.
-ghost use Rattle.std.specs.Prelude.{◌≡◌, ◌+◌, ◌<◌, ◌≤◌, length, IfOk, OnOk, OnErr};
+ghost use Rattle.std.specs.Prelude.{◌≡◌, ◌+◌, ◌^◌, ◌<◌, ◌≤◌, length, IfOk, OnOk, OnErr};
 
 use super::pages::{
     SendError, Target, copy_pages, has_target, mark_targets, take_pages, whole_block,
 };
 use crate::frame::MOST_PAGE_BYTES;
 use std::alloc::Global;
-use vm_memory_base::ExactBitmap;
+use vm_memory_base::{Bitmap, ExactBitmap};
 use vm_memory_guest::HostMemory;
 
 /// The rounds of a sender, without its stream. The pages of one block at a time wait to be copied.
@@ -20,9 +20,11 @@ pub struct Rounds {
     pub(crate) next: usize,
     pub(crate) batch: Vec<u8>,
     ghost inside: { next ≤ length waiting.items },
+    ghost short: { length batch.items ≤ 2 ^ 20 + 20 },
 }
 
 impl Rounds {
+    ghost use Rattle.live_migration.specs.Following.{StaysAsItWas};
     ghost use Rattle.live_migration.specs.Sending.{AreMarkedAgain, CopiesPages, HarvestsNext, harvested};
 
     /// Takes the pages of the next block of the round, so that they wait to be copied and none of the block is dirty,
@@ -52,7 +54,7 @@ impl Rounds {
     }
 
     // Lets pages of the next block wait.
-    fn start(&mut self, pages: Vec<usize>)
+    pub(super) fn start(&mut self, pages: Vec<usize>)
         requires { self.old.turn < length self.old.targets.items }
         ensures next { self.new.next ≡ 0 }
         ensures turn { self.new.turn ≡ self.old.turn + 1 }
@@ -67,14 +69,16 @@ impl Rounds {
         self.turn += 1;
     }
 
-    /// Copies pages that wait, as they are now, behind what waits to be sent: at most 2^20 bytes wait then, or one
-    /// page. It answers how many pages were copied, which is 0 where there is no room.
+    /// Copies pages that wait, as they are now, behind what waits to be sent. One call copies at most 2^20 bytes of
+    /// pages, zeros among them, and at most 2^20 + 20 bytes wait to be sent then. It answers how many pages were
+    /// copied, which is 0 where there is no room.
     ///
     /// `Changed` where the host has the block no more as it was, and `Memory` where the first allocation fails. Then
     /// nothing changes.
-    pub fn copy_batch<B: ExactBitmap>(&mut self, host: &HostMemory<B>) -> Result<usize, SendError>
+    pub fn copy_batch<B: Bitmap>(&mut self, host: &HostMemory<B>) -> Result<usize, SendError>
         ensures copied { IfOk result (λ count. CopiesPages count self.old self.new host.now) }
-        ensures err { OnErr result (self.new.next ≡ self.old.next) }
+        ensures short { length self.new.batch.items ≤ 2 ^ 20 + 20 }
+        ensures err { OnErr result (StaysAsItWas self.old self.new) }
     {
         let Some(target) = self.targets.get(self.last).copied() else {
             return Err(SendError::Order);

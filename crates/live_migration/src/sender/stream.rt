@@ -19,7 +19,7 @@ use crate::reply::Reply;
 use sha2::{Digest, Sha256};
 use std::alloc::{AllocError, Global};
 use std::io::{Read, Write};
-use vm_memory_base::{ExactBitmap, GuestAddress};
+use vm_memory_base::{Bitmap, ExactBitmap, GuestAddress};
 use vm_memory_guest::{BlockId, HostMemory};
 
 /// How far a sender has come.
@@ -102,9 +102,10 @@ fn send_round_end<W: Write>(
     hasher: &mut Sha256,
     round: u32,
 ) -> Result<(), SendError>
-    ensures { (sent : List ℕ) → Holds256 hasher.old sent
+    ensures sent { (sent : List ℕ) → Holds256 hasher.old sent
         → OnOk result (Sends (spelling (RoundEnd round (sha256 sent))) (W.contents writer.old) (W.contents writer.new)
         hasher.old hasher.new) }
+    ensures fits { (sent : List ℕ) → Holds256 hasher.old sent → OnOk result (IsMessage (RoundEnd round (sha256 sent))) }
 {
     let Ok(digest) = digest_of(hasher) else {
         return Err(SendError::Memory);
@@ -138,7 +139,7 @@ fn targets_of<B: ExactBitmap>(
 }
 
 // Whether a target's block is none of those of others.
-fn is_new(targets: &[Target], target: &Target) -> bool
+pub(super) fn is_new(targets: &[Target], target: &Target) -> bool
     ensures { result ≡ true → IsOther targets.now target.now }
 {
     for other in targets {
@@ -222,6 +223,21 @@ fn first_sender(alloc: Global, targets: Vec<Target>, hasher: Sha256) -> Sender
     }
 }
 
+// Writes the header of these blocks, and begins with the first round.
+pub(super) fn begin_with<W: Write>(
+    alloc: Global,
+    targets: Vec<Target>,
+    writer: &mut W,
+) -> Result<Sender, SendError>
+    ensures begun { IfOk result (λ s. BeginsToSend (W.contents writer.old) (W.contents writer.new) s) }
+    ensures targets { IfOk result (λ s. s.rounds.targets.items ≡ targets.items) }
+{
+    let header = header_of(alloc, targets.as_slice())?;
+    let mut hasher = Sha256::new();
+    send(writer, &mut hasher, header.as_slice())?;
+    Ok(first_sender(alloc, targets, hasher))
+}
+
 impl Rounds {
     ghost use Rattle.live_migration.specs.Sending.{IsIdle};
 
@@ -234,11 +250,13 @@ impl Rounds {
 }
 
 impl Sender {
+    ghost use Rattle.live_migration.specs.Following.{StaysAsItWas};
     ghost use Rattle.live_migration.specs.Sending.{AreMarkedAgain, HarvestsNext, CopiesPages, IsIdle, harvested};
 
     /// Writes the header of these blocks of a host, each with its address, and begins with the first round. The blocks
-    /// ascend by their addresses and do not meet, each is tracked by a bitmap whose pages have at most 2^20 bytes, and
-    /// none comes twice: else `Header`, `Untracked` or `Twice`, and `Changed` where the host has no such block.
+    /// ascend by their addresses and do not meet, each is tracked as a whole by a bitmap whose pages have at most 2^20
+    /// bytes, and none comes twice: else `Header`, `Untracked` or `Twice`, and `Changed` where the host has no such
+    /// block.
     pub fn begin<B: ExactBitmap, W: Write>(
         alloc: Global,
         host: &HostMemory<B>,
@@ -249,10 +267,7 @@ impl Sender {
         ensures targets { IfOk result (λ s. AreTargets B.pages host.now s.rounds.targets.items) }
     {
         let targets = targets_of(alloc, host, blocks)?;
-        let header = header_of(alloc, targets.as_slice())?;
-        let mut hasher = Sha256::new();
-        send(writer, &mut hasher, header.as_slice())?;
-        Ok(first_sender(alloc, targets, hasher))
+        begin_with(alloc, targets, writer)
     }
 
     /// Ends a migration before the guest was given up: marks each page again that was harvested, so that another may
@@ -277,9 +292,10 @@ impl Sender {
     }
 
     /// As `Rounds::copy_batch`.
-    pub fn copy_batch<B: ExactBitmap>(&mut self, host: &HostMemory<B>) -> Result<usize, SendError>
+    pub fn copy_batch<B: Bitmap>(&mut self, host: &HostMemory<B>) -> Result<usize, SendError>
         ensures copied { IfOk result (λ count. CopiesPages count self.old.rounds self.new.rounds host.now) }
-        ensures err { OnErr result (self.new.rounds.next ≡ self.old.rounds.next) }
+        ensures short { length self.new.rounds.batch.items ≤ 2 ^ 20 + 20 }
+        ensures err { OnErr result (StaysAsItWas self.old.rounds self.new.rounds) }
         ensures same { (self.new.hasher ≡ self.old.hasher) × (self.new.stage ≡ self.old.stage) }
     {
         self.rounds.copy_batch(host)
@@ -353,9 +369,12 @@ impl Sender {
         ensures sent { (sent : List ℕ) → Holds256 self.old.hasher sent
             → OnOk result (Sends (spelling (RoundEnd self.old.rounds.round (sha256 sent)))
             (W.contents writer.old) (W.contents writer.new) self.old.hasher self.new.hasher) }
+        ensures fits { (sent : List ℕ) → Holds256 self.old.hasher sent
+            → OnOk result (IsMessage (RoundEnd self.old.rounds.round (sha256 sent))) }
         ensures through { OnOk result (IsIdle self.old.rounds
             × (self.old.rounds.turn ≡ length self.old.rounds.targets.items)) }
         ensures next { OnOk result ((self.new.rounds.round ≡ self.old.rounds.round + 1) × (self.new.rounds.turn ≡ 0)) }
+        ensures err { OnErr result (self.new.rounds ≡ self.old.rounds) }
         ensures same { (self.new.rounds.targets ≡ self.old.rounds.targets)
             × (self.new.rounds.waiting ≡ self.old.rounds.waiting) × (self.new.rounds.next ≡ self.old.rounds.next)
             × (self.new.rounds.batch ≡ self.old.rounds.batch) × (self.new.rounds.last ≡ self.old.rounds.last) }
@@ -434,6 +453,7 @@ impl Sender {
         ensures early { self.old.stage ≢ stages.Accepted
             → IsErr result × (writer.new ≡ writer.old) × (self.new ≡ self.old) }
         ensures gone { self.old.stage ≡ stages.Accepted → self.new.stage ≡ stages.Gone }
+        ensures same { self.new.rounds ≡ self.old.rounds }
     {
         if self.stage != SendStage::Accepted {
             return Err(SendError::Order);

@@ -1,4 +1,4 @@
-use Rattle.live_migration.proofs.FollowingLemmas.{begin_follows, copy_follows, harvest_follows, round_follows, send_follows}
+use Rattle.live_migration.proofs.FollowingLemmas.{begin_follows, copy_follows, harvest_follows, refused_follows, round_follows, send_follows}
 use Rattle.live_migration.proofs.laws.senders_do_as_the_rounds_say.Goals as goal
 
 pub returns-clause-harvest : goal.returns-clause-harvest
@@ -15,3 +15,6 @@ returns-clause-round g c = round_follows g.B.ExactBitmap.pages
 
 pub returns-clause-begin : goal.returns-clause-begin
 returns-clause-begin g c = begin_follows g.B.ExactBitmap.pages
+
+pub returns-clause-refused : goal.returns-clause-refused
+returns-clause-refused g c = refused_follows g.B.ExactBitmap.pages

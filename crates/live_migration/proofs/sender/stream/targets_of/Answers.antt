@@ -14,4 +14,4 @@ loop-block-preserved g c =
     subst (λ (ts : List Target). IsOther ts t) c.as_slice.ensures.value (c.if-not-is_new.ensures refl) in
     subst (λ (ts : List Target). AreTargets pages c.args.host.now ts) (sym pushed)
     (targets_more pages c.args.host.now c.loop-block.targets.items t c.loop-block.invariant
-    c.in_ok-target.ensures.tracked other)
+    c.in_ok-target.ensures.tracked c.in_ok-target.ensures.there other)

@@ -1,0 +1,55 @@
+//! How much one call copies: at most 2^20 bytes of pages, zeros among them.
+
+use crate::guests::{guest_of, put};
+use live_migration::Sender;
+use std::alloc::Global;
+use std::test::Fail;
+use vm_memory_guest::BlockId;
+
+// The length of a block and of its pages, whether each page has a byte that is not zero, and how many pages the first
+// call copies, and how many bytes are sent then.
+const CASES: [(usize, usize, bool, usize, usize); 6] = [
+    // 2^20 bytes of zeros.
+    (0x40_0000, 0x1000, false, 0x100, 0x100 * 20),
+    // One page more would make more than 2^20 bytes.
+    (0x40_0000, 0x1000, true, 254, 254 * 0x1014),
+    // Two pages have more than 2^20 bytes.
+    (0x30_0000, 0x8_0001, false, 1, 20),
+    (0x30_0000, 0x8_0001, true, 1, 0x8_0001 + 20),
+    // One page of the greatest size.
+    (0x30_0000, 0x10_0000, false, 1, 20),
+    (0x30_0000, 0x10_0000, true, 1, 0x10_0000 + 20),
+];
+
+// The pages that the first call copies, and the bytes that are sent.
+fn first_batch(
+    alloc: Global,
+    len: usize,
+    page_size: usize,
+    is_written: bool,
+) -> Result<(usize, usize), Fail> {
+    let (mut host, places) = guest_of(alloc, &[(len, page_size)])?;
+    if is_written {
+        for page in 0..len.div_ceil(page_size.max(1)) {
+            put(&mut host, BlockId(0), page.saturating_mul(page_size), 1);
+        }
+    }
+    let mut sender = Sender::begin(alloc, &host, &places, &mut Vec::new(alloc))?;
+    sender.harvest(alloc, &mut host)?;
+    let count = sender.copy_batch(&host)?;
+    let mut stream = Vec::new(alloc);
+    sender.send_batch(&mut stream)?;
+    Ok((count, stream.len()))
+}
+
+#[test]
+fn batches_are_bounded(rt: HostRuntime) -> Result<(), Fail> {
+    for (case, (len, page_size, is_written, pages, bytes)) in CASES.iter().enumerate() {
+        let (count, sent) = first_batch(rt.alloc(), *len, *page_size, *is_written)?;
+        assert!(rt;
+            count == *pages && sent == *bytes,
+            "case {case}: {count} pages, {sent} bytes"
+        );
+    }
+    Ok(())
+}

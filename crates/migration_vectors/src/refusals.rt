@@ -1,0 +1,159 @@
+//! Rounds that are refused: a harvest that finds no memory, and bitmaps that do not cover their block.
+
+use crate::guests::{Host, put};
+use live_migration::{SendError, Sender};
+use std::alloc::{AllocError, Global};
+use std::num::NonZeroUsize;
+use std::test::Fail;
+use vm_memory_base::{Bitmap, BitmapId, ExactBitmap, ExclusiveBitmap, GuestAddress};
+use vm_memory_guest::HostMemory;
+
+// A bitmap that is not harvested while there is said to be no memory.
+#[derive(Drop)]
+struct Poor<B> {
+    bitmap: B,
+    is_poor: bool,
+}
+
+impl<B: Bitmap> Bitmap for Poor<B> {
+    ghost marks = { λ old offset len new. B.marks old.bitmap offset len new.bitmap };
+
+    ghost tells = { λ b offset told. B.tells b.bitmap offset told };
+
+    fn mark_dirty(&mut self, offset: usize, len: usize) {
+        self.bitmap.mark_dirty(offset, len);
+    }
+
+    fn dirty_at(&self, offset: usize) -> bool {
+        self.bitmap.dirty_at(offset)
+    }
+}
+
+impl<B: ExactBitmap> ExactBitmap for Poor<B> {
+    ghost pages = { λ b. B.pages b.bitmap };
+
+    ghost fits = { λ b. B.fits b.bitmap };
+
+    ghost marks_pages = { λ old new offset len h. B.marks_pages old.bitmap new.bitmap offset len h };
+
+    ghost tells_pages = { λ b offset told h. B.tells_pages b.bitmap offset told h };
+
+    ghost made_clean = { λ len b none. absurd none };
+
+    fn shape(&self) -> Option<(usize, usize)> {
+        self.bitmap.shape()
+    }
+
+    fn harvest(&mut self, alloc: Global) -> Result<Vec<usize>, AllocError> {
+        if self.is_poor && !self.bitmap.dirty_pages(alloc)?.is_empty() {
+            return Err(AllocError);
+        }
+        self.bitmap.harvest(alloc)
+    }
+}
+
+type PoorHost = HostMemory<Poor<ExclusiveBitmap>>;
+
+const BLOCK: BitmapId = BitmapId::Block(0);
+
+// Says whether there is memory.
+fn set_poor(host: &mut PoorHost, is_poor: bool) {
+    if host.shape().has_bitmap(BLOCK) {
+        host.bitmap_mut(BLOCK).is_poor = is_poor;
+    }
+}
+
+fn dirty_pages(host: &PoorHost, alloc: Global) -> Result<Vec<usize>, Fail> {
+    if !host.shape().has_bitmap(BLOCK) {
+        return Ok(Vec::new(alloc));
+    }
+    Ok(host.bitmap(BLOCK).dirty_pages(alloc)?)
+}
+
+// Harvests with no memory, and then with some. Answers whether the first was refused and left the dirty pages, and how
+// many pages the second took.
+fn harvest_twice(
+    alloc: Global,
+    sender: &mut Sender,
+    host: &mut PoorHost,
+    wanted: &[usize],
+) -> Result<Option<usize>, Fail> {
+    set_poor(host, true);
+    let refused = sender.harvest(alloc, host);
+    set_poor(host, false);
+    if !matches!(&refused, Err(SendError::Memory))
+        || dirty_pages(host, alloc)?.as_slice() != wanted
+    {
+        return Ok(None);
+    }
+    Ok(Some(sender.harvest(alloc, host)?))
+}
+
+// Copies and sends what waits.
+fn send_all(
+    alloc: Global,
+    sender: &mut Sender,
+    host: &PoorHost,
+    stream: &mut Vec<u8>,
+) -> Result<(), SendError> {
+    sender.copy_batch(host)?;
+    sender.send_batch(stream)?;
+    sender.end_round(alloc, stream)
+}
+
+#[test]
+fn a_refused_harvest_loses_no_page(rt: HostRuntime) -> Result<(), Fail> {
+    let alloc = rt.alloc();
+    let mut host = PoorHost::new(alloc);
+    let size = NonZeroUsize::new(2).ok_or("pages have bytes")?;
+    let bitmap = Poor {
+        bitmap: ExclusiveBitmap::new(alloc, 9, size)?,
+        is_poor: false,
+    };
+    let block = host.new_block_with(9, bitmap)?;
+    let mut stream = Vec::new(alloc);
+    let mut sender = Sender::begin(alloc, &host, &[(block, GuestAddress(0))], &mut stream)?;
+    put(&mut host, block, 3, 1);
+    // The first round takes all pages, and the second those that were written.
+    let first = harvest_twice(alloc, &mut sender, &mut host, &[1])?;
+    assert!(rt; first == Some(5), "first round");
+    send_all(alloc, &mut sender, &host, &mut stream)?;
+    put(&mut host, block, 8, 1);
+    put(&mut host, block, 0, 1);
+    let second = harvest_twice(alloc, &mut sender, &mut host, &[0, 4])?;
+    assert!(rt; second == Some(2), "second round");
+    send_all(alloc, &mut sender, &host, &mut stream)?;
+    Ok(())
+}
+
+// The answer to a sender of a block of 9 bytes whose bitmap has pages of 2 for so many bytes.
+fn begun_with(alloc: Global, bytes: usize) -> Result<Result<Sender, SendError>, Fail> {
+    let mut host = Host::new(alloc);
+    let size = NonZeroUsize::new(2).ok_or("pages have bytes")?;
+    let bitmap = ExclusiveBitmap::new(alloc, bytes, size)?;
+    let block = host.new_block_with(9, bitmap)?;
+    let places = [(block, GuestAddress(0))];
+    Ok(Sender::begin(alloc, &host, &places, &mut Vec::new(alloc)))
+}
+
+#[test]
+fn bitmaps_cover_their_block(rt: HostRuntime) -> Result<(), Fail> {
+    // The ninth byte has a page of its own.
+    for (bytes, is_covered) in [
+        (0, false),
+        (7, false),
+        (8, false),
+        (9, true),
+        (10, true),
+        (11, true),
+    ] {
+        let begun = begun_with(rt.alloc(), bytes)?;
+        let is_right = match begun {
+            Ok(_) => is_covered,
+            Err(SendError::Untracked) => !is_covered,
+            Err(_) => false,
+        };
+        assert!(rt; is_right, "{bytes} bytes");
+    }
+    Ok(())
+}
