@@ -22,7 +22,7 @@ use Rattle.live_migration.specs.declared.sender.pages.Target.{Target}
 use Rattle.live_migration.specs.declared.sender.rounds.Rounds.{Rounds}
 use Rattle.live_migration.proofs.OneWayLemmas.{some_bytes}
 
-slice_get-set_same : {X : Type 0} (xs : List X) (i : ℕ) (x y : X) → slice_get xs i ≡ Some x
+pub slice_get-set_same : {X : Type 0} (xs : List X) (i : ℕ) (x y : X) → slice_get xs i ≡ Some x
     → slice_get (set xs i y) i ≡ Some y
 slice_get-set_same [] i x y e = absurd cc
 slice_get-set_same (z ∷ zs) zero x y e = refl

@@ -1,3 +1,4 @@
+pub mod AgainLemmas
 pub mod CallsLemmas
 pub mod FieldLemmas
 pub mod FollowingLemmas

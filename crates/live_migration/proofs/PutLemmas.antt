@@ -1,5 +1,5 @@
 -- Bytes that are put behind others.
-use Rattle.std.proofs.Common.{◌≡◌, ℕ, ◌+◌, ◌≤◌, List, ◌++◌, length, take, Result, Ok, Err, OnOk, OnErr, refl, sym, ap, ◌∙◌, append_assoc, arith}
+use Rattle.std.proofs.Common.{◌≡◌, ℕ, ◌+◌, ◌≤◌, Bool, true, false, cond, List, ◌++◌, length, take, Result, Ok, Err, OnOk, OnErr, refl, sym, ap, ◌∙◌, append_assoc, arith}
 use Rattle.std.proofs.lemmas.List.{take_at, take-take, length-append}
 use Rattle.live_migration.specs.Frame.{Pages, ZeroPage, spelling}
 
@@ -19,15 +19,24 @@ front_kept new mid old a e f =
 pub ruleset put_behind = (behind, front_kept)
 
 -- by how much bytes grow, if they do
-pub grows_by : {X E : Type 0} (r : Result X E) (old new more : List ℕ) (n : ℕ) → OnOk r (new ≡ old ++ more)
+grows_by : {X E : Type 0} (r : Result X E) (old new more : List ℕ) (n : ℕ) → OnOk r (new ≡ old ++ more)
     → OnErr r (new ≡ old) → length more ≤ n → length new ≤ length old + n
 grows_by (Ok x) old new more n ok err l = omega (arith, ap length ok, length-append old more)
 grows_by (Err e) old new more n ok err l = omega (arith, ap length err)
 
-pub zero_page_len : (block page : ℕ) → length (spelling (ZeroPage block page)) ≡ 20
+zero_page_len : (block page : ℕ) → length (spelling (ZeroPage block page)) ≡ 20
 unfolding spelling
 zero_page_len block page = refl
 
-pub pages_len : (block first : ℕ) (bytes : List ℕ) → length (spelling (Pages block first bytes)) ≡ 20 + length bytes
+pages_len : (block first : ℕ) (bytes : List ℕ) → length (spelling (Pages block first bytes)) ≡ 20 + length bytes
 unfolding spelling
 pages_len block first bytes = omega arith
+
+-- a page that is copied takes its bytes and the head of a frame, at most
+pub page_grows : {X E : Type 0} (r : Result X E) (old new part : List ℕ) (zeros : Bool) (number page size : ℕ)
+    → OnOk r (new ≡ old ++ spelling (cond zeros (ZeroPage number page) (Pages number page part)))
+    → OnErr r (new ≡ old) → length part ≤ size → length new ≤ length old + (20 + size)
+page_grows r old new part true number page size ok err l =
+    grows_by r old new (spelling (ZeroPage number page)) (20 + size) ok err (omega (arith, zero_page_len number page))
+page_grows r old new part false number page size ok err l =
+    grows_by r old new (spelling (Pages number page part)) (20 + size) ok err (omega (arith, pages_len number page part))

@@ -1,5 +1,5 @@
 //! What becomes of the pages of a migration: each function here is a theorem, and does nothing.
-ghost use Rattle.std.specs.Prelude.{◌≡◌, ◌+◌, ◌*◌, ◌^◌, ◌<◌, ◌≤◌, ◌⊎◌, ℕ, List, [], ◌∷◌, Option, Some, All, Contains, length, flat_map, slice_get};
+ghost use Rattle.std.specs.Prelude.{◌≡◌, ◌+◌, ◌*◌, ◌^◌, ◌<◌, ◌≤◌, ◌⊎◌, ℕ, List, [], ◌∷◌, Option, Some, All, Contains, true, length, flat_map, slice_get};
 ghost use Rattle.std.specs.Io.KnownBytes.{Appends};
 ghost use Rattle.std.specs.List.{AllByRecursion};
 ghost use Rattle.live_migration.specs.Calls.{Call, DoAll, EndsPaused, HasBegun, Moment, ReadsAll};
@@ -12,7 +12,7 @@ ghost use Rattle.live_migration.specs.Leave.{IsFirst};
 ghost use Rattle.live_migration.specs.Targets.{AreTargets};
 ghost use Rattle.live_migration.specs.declared.sender.pages.Target.{Target};
 ghost use Rattle.live_migration.specs.declared.sender.stream.Sender.{Sender};
-ghost use Rattle.live_migration.specs.Sending.{CopiesPages, HarvestsNext, IsIdle};
+ghost use Rattle.live_migration.specs.Sending.{AreMarkedAgain, CopiesPages, HarvestsNext, IsAsItWas, IsIdle};
 ghost use Rattle.live_migration.specs.Words.{noted, pages_set};
 ghost use Rattle.live_migration.specs.Writing.{MarksItsBlock, all_written};
 ghost use Rattle.live_migration.specs.declared.receiver.progress.Progress.{Progress};
@@ -24,9 +24,11 @@ ghost use Rattle.vm_memory_base.specs.Tracked.{IsLeft, after_harvests};
 ghost use Rattle.vm_memory_base.specs.declared.bitmap.tracked.Harvester.{Harvester};
 ghost use Rattle.vm_memory_base.specs.declared.iotlb.Permissions.{Permissions};
 ghost use Rattle.vm_memory_guest.specs.Access.{access_of};
-ghost use Rattle.vm_memory_guest.specs.Dirt.{with_pages};
+ghost use Rattle.vm_memory_base.specs.Pages.{is_dirty_at};
+ghost use Rattle.vm_memory_base.specs.declared.bitmap.BitmapId.{BitmapId};
+ghost use Rattle.vm_memory_guest.specs.Dirt.{pages_at, with_pages};
 ghost use Rattle.vm_memory_guest.specs.Host.{Host, block_at};
-ghost use Rattle.vm_memory_guest.specs.Lent.{MarksChanges};
+ghost use Rattle.vm_memory_guest.specs.Lent.{IsDirty, MarksChanges};
 ghost use Rattle.vm_memory_guest.specs.Memory.{IsOn, Memory, route};
 ghost use Rattle.vm_memory_guest.specs.Region.{IsRegion};
 ghost use Rattle.vm_memory_guest.specs.Typed.{given, place_of};
@@ -150,6 +152,20 @@ pub fn receivers_have_what_was_sent<B: ExactBitmap, C: Bitmap>()
         → block_at next.blocks (p.base + j) ≡ block_at last.host.blocks t.block.0 }
 {
     dirty_pages_are_listed();
+}
+
+/// What `abort` leaves: each byte of each block of which pages were harvested is dirty, if the host still has the block
+/// as it was. No byte changed, and no page is clean that was dirty. So a migration that failed loses no page.
+pub fn aborted_rounds_lose_no_page<B: ExactBitmap>()
+    ensures { (ts : List Target) (old new : Host B) → AreMarkedAgain B.pages ts old new
+        → (new.blocks ≡ old.blocks)
+        × ((id : BitmapId) (offset : ℕ) → is_dirty_at (pages_at id (with_pages B.pages old)) offset ≡ true
+        → is_dirty_at (pages_at id (with_pages B.pages new)) offset ≡ true)
+        × ((j : ℕ) (t : Target) → slice_get ts j ≡ Some t → IsAsItWas t old → (k : ℕ) → k < t.entry.len
+        → IsDirty (BitmapId.Block t.block.0) k (with_pages B.pages new)) }
+{
+    mark_keeps_shape();
+    marked_bytes_are_dirty();
 }
 
 /// A page that the harvester of a `TrackedBitmap` knows to be marked or seen set was harvested in its round, and waits

