@@ -394,3 +394,11 @@ module _ {B : Type 0} (pages_of : B → PageSet) (ts : List Target) where
           still = λ quiet. still-append g.events r.events (g.still quiet.0) (r.still quiet.1);
           sent = subst (λ (z : Ends). HasSent new z r.messages) (sym (story-append g.events r.events s)) r.sent;
         }
+
+-- one call more
+pub one_call_more : {B : Type 0} (pages_of : B → PageSet) (cs : List Call) (c : Call) (first mid last : Moment B)
+    → DoAll pages_of cs first mid → Does pages_of c mid last → DoAll pages_of (cs ++ c ∷ []) first last
+one_call_more pages_of [] c first mid last d one =
+    (last, subst (λ (m : Moment _). Does pages_of c m last) d one, refl)
+one_call_more pages_of (x ∷ xs) c first mid last d one =
+    (d.0, d.1, one_call_more pages_of xs c d.0 mid last d.2 one)

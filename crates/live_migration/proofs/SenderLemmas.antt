@@ -1,6 +1,6 @@
 -- What a sender copies.
-use Rattle.std.proofs.Common.{◌≡◌, ℕ, zero, suc, ◌+◌, List, [], ◌∷◌, ◌++◌, length, set, Some, Result, Ok, Err, OnErr, refl, sym, ap, subst, ◌∙◌, arith, add-zero, zero-add, ◌⊎◌, inl, inr}
-use Rattle.std.proofs.lemmas.List.{set-get_or, take_all}
+use Rattle.std.proofs.Common.{◌≡◌, ℕ, zero, suc, ◌+◌, ◌<◌, List, [], ◌∷◌, ◌++◌, length, map, get_or, take, set, Some, Result, Ok, Err, OnErr, refl, sym, ap, ap₂, subst, ◌∙◌, arith, add-zero, zero-add, ◌⊎◌, inl, inr}
+use Rattle.std.proofs.lemmas.List.{map_more, map_push, set-get_or, take_all}
 use Rattle.std.specs.Int.{div_ceil}
 use Rattle.std.specs.Prelude.{slice_get}
 use Rattle.std.proofs.lemmas.Bool.{cond-false, ne_eqb}
@@ -10,9 +10,10 @@ use Rattle.vm_memory_guest.proofs.WrittenLaws.{bytes_at-block}
 use Rattle.vm_memory_base.specs.Pages.{PageSet, cleaned, dirty_pages}
 use Rattle.vm_memory_base.specs.declared.bitmap.BitmapId.TheVariants.{Block}
 use Rattle.vm_memory_guest.specs.Host.{Host, block_at, bytes_at}
+use Rattle.vm_memory_guest.specs.declared.host.BlockId.{BlockId}
 use Rattle.vm_memory_guest.specs.Window.{bitmap_of, block_window, cells_of, with_bitmap}
 use Rattle.live_migration.specs.Sending.{AreMarkedAgain, Harvests, IsAsItWas, IsMarkedAgain, IsTracked, TakesPages}
-use Rattle.live_migration.specs.Targets.{AreBlocks, AreTargets, IsOther}
+use Rattle.live_migration.specs.Targets.{AreBlocks, AreTargets, IsOther, place_of}
 use Rattle.live_migration.specs.declared.sender.pages.Target.{Target}
 
 -- all bytes of a block are a window of it
@@ -149,3 +150,14 @@ targets_more pages_of host ts t are is there other = record {
     | inr new ↦ subst (λ (x : Target). IsTracked pages_of x host) new.1 is
   ];
 }
+
+-- one block more is one that was asked for
+pub asked_more : {X Y : Type 0} (f : Target → Y) (g : X → Y) (ts : List Target) (xs : List X) (t : Target) (i : ℕ)
+    (d : X) → i < length xs → map f ts ≡ map g (take i xs) → f t ≡ g (get_or xs i d)
+    → map f (ts ++ t ∷ []) ≡ map g (take (i + 1) xs)
+asked_more {Y = Y} f g ts xs t i d l same is =
+    map_push f ts t ∙ ap (λ (ys : List Y). ys ++ f t ∷ []) same
+    ∙ ap (λ (y : Y). map g (take i xs) ++ y ∷ []) is ∙ sym (map_more g xs i d l)
+
+pub place_is : (t : Target) (b : BlockId) (a : ℕ) → t.block ≡ b → t.entry.address ≡ a → place_of t ≡ (b.0, a)
+place_is t b a p q = ap₂ (λ (x : BlockId) (y : ℕ). (x.0, y)) p q

@@ -1,8 +1,8 @@
 //! What becomes of the pages of a migration: each function here is a theorem, and does nothing.
-ghost use Rattle.std.specs.Prelude.{◌≡◌, ◌+◌, ◌*◌, ◌^◌, ◌<◌, ◌≤◌, ◌⊎◌, ℕ, List, [], ◌∷◌, Option, Some, All, Contains, true, length, flat_map, slice_get};
+ghost use Rattle.std.specs.Prelude.{◌≡◌, ◌+◌, ◌*◌, ◌^◌, ◌<◌, ◌≤◌, ◌⊎◌, ℕ, List, [], ◌∷◌, ◌++◌, Option, Some, All, Contains, true, length, flat_map, slice_get};
 ghost use Rattle.std.specs.Io.KnownBytes.{Appends};
 ghost use Rattle.std.specs.List.{AllByRecursion};
-ghost use Rattle.live_migration.specs.Calls.{Call, DoAll, EndsPaused, HasBegun, Moment, ReadsAll};
+ghost use Rattle.live_migration.specs.Calls.{Call, DoAll, Does, EndsPaused, HasBegun, Moment, ReadsAll};
 ghost use Rattle.live_migration.specs.Frame.{Go, IsMessage, Message, spelling};
 ghost use Rattle.live_migration.specs.Header.{IsHeader, header_bytes};
 ghost use Rattle.live_migration.specs.Image.{arrived, copied};
@@ -12,6 +12,7 @@ ghost use Rattle.live_migration.specs.Leave.{IsFirst};
 ghost use Rattle.live_migration.specs.Targets.{AreTargets};
 ghost use Rattle.live_migration.specs.declared.sender.pages.Target.{Target};
 ghost use Rattle.live_migration.specs.declared.sender.stream.Sender.{Sender};
+ghost use Rattle.live_migration.specs.Receiving.{ReceivesAll, TakesFrame};
 ghost use Rattle.live_migration.specs.Sending.{AreMarkedAgain, CopiesPages, HarvestsNext, IsAsItWas, IsIdle};
 ghost use Rattle.live_migration.specs.Words.{noted, pages_set};
 ghost use Rattle.live_migration.specs.Writing.{MarksItsBlock, all_written};
@@ -153,6 +154,19 @@ pub fn receivers_have_what_was_sent<B: ExactBitmap, C: Bitmap>()
 {
     dirty_pages_are_listed();
 }
+
+/// How calls of a sender are put together for the theorem above, and frames that a receiver takes one by one: nothing at
+/// first, and then one more.
+pub fn calls_and_frames_add_up<B: ExactBitmap, C: Bitmap>()
+    ensures calls { (calls : List Call) (call : Call) (first mid last : Moment B) → DoAll B.pages calls first mid
+        → Does B.pages call mid last → DoAll B.pages (calls ++ call ∷ []) first last }
+    ensures none { (stream : Option (List ℕ)) (base : ℕ) (entries : List BlockEntry) (host : Host C)
+        → ReceivesAll stream stream base entries host host }
+    ensures more { (before mid after : Option (List ℕ)) (base : ℕ) (entries : List BlockEntry) (old new : Progress)
+        (host there next : Host C) → old.base ≡ base → old.entries.items ≡ entries
+        → ReceivesAll before mid base entries host there → TakesFrame mid after old new there next
+        → ReceivesAll before after base entries host next }
+{}
 
 /// What `abort` leaves: each byte of each block of which pages were harvested is dirty, if the host still has the block
 /// as it was. No byte changed, and no page is clean that was dirty. So a migration that failed loses no page.

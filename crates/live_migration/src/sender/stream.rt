@@ -6,7 +6,7 @@ ghost use Rattle.sha2.specs.Sha256.{sha256};
 ghost use Rattle.live_migration.specs.Frame.{Done, Go, IsMessage, RoundEnd, Section, message_of, spelling};
 ghost use Rattle.live_migration.specs.Header.{IsHeader, header_bytes};
 ghost use Rattle.live_migration.specs.declared.sender.stream.SendStage.TheVariants as stages;
-ghost use Rattle.live_migration.specs.Targets.{AreTargets, IsOther};
+ghost use Rattle.live_migration.specs.Targets.{AreTargets, IsOther, asked, place_of};
 ghost use Rattle.live_migration.specs.Leave.{Sends, IsFirst, BeginsToSend};
 
 use super::pages::{SendError, Target, target_of};
@@ -123,7 +123,8 @@ fn targets_of<B: ExactBitmap>(
     host: &HostMemory<B>,
     blocks: &[(BlockId, GuestAddress)],
 ) -> Result<Vec<Target>, SendError>
-    ensures { IfOk result (λ targets. AreTargets B.pages host.now targets.items) }
+    ensures are { IfOk result (λ targets. AreTargets B.pages host.now targets.items) }
+    ensures asked { IfOk result (λ targets. map place_of targets.items ≡ map asked blocks.now) }
 {
     let mut targets = Vec::new(alloc);
     for (block, address) in blocks {
@@ -265,6 +266,7 @@ impl Sender {
     ) -> Result<Sender, SendError>
         ensures begun { IfOk result (λ s. BeginsToSend (W.contents writer.old) (W.contents writer.new) s) }
         ensures targets { IfOk result (λ s. AreTargets B.pages host.now s.rounds.targets.items) }
+        ensures asked { IfOk result (λ s. map place_of s.rounds.targets.items ≡ map asked blocks.now) }
     {
         let targets = targets_of(alloc, host, blocks)?;
         begin_with(alloc, targets, writer)

@@ -1,8 +1,8 @@
 //! Blocks whose pages a `TrackedBitmap` tracks, which threads mark and which is harvested without the lock of a host.
-ghost use Rattle.std.specs.Prelude.{◌≡◌, ◌/◌, ◌<◌, length, IfOk, OnOk, OnErr};
+ghost use Rattle.std.specs.Prelude.{◌≡◌, ◌/◌, ◌<◌, length, map, IfOk, OnOk, OnErr};
 ghost use Rattle.std.specs.Int.{div_ceil};
 ghost use Rattle.live_migration.specs.Leave.{BeginsToSend};
-ghost use Rattle.live_migration.specs.Targets.{AreBlocks};
+ghost use Rattle.live_migration.specs.Targets.{AreBlocks, sized_asked, sized_place_of};
 ghost use Rattle.live_migration.specs.Sending.{IsAsItWas};
 ghost use Rattle.live_migration.specs.Words as spec;
 ghost use Rattle.live_migration.specs.Words.{TakesWords};
@@ -70,12 +70,12 @@ fn taken_by(
 // A block as the header says it, with pages of this size.
 fn block_of<B: Bitmap>(
     host: &HostMemory<B>,
-    block: BlockId,
-    address: u64,
-    page_size: NonZeroUsize,
+    place: &(BlockId, GuestAddress, NonZeroUsize),
 ) -> Result<Target, SendError>
-    ensures { IfOk result (λ t. IsAsItWas t host.now) }
+    ensures there { IfOk result (λ t. IsAsItWas t host.now) }
+    ensures asked { IfOk result (λ t. sized_place_of t ≡ sized_asked place.now) }
 {
+    let (block, address, page_size) = *place;
     let Some(len) = host.shape().block_len(block) else {
         return Err(SendError::Changed);
     };
@@ -84,7 +84,7 @@ fn block_of<B: Bitmap>(
         entry: BlockEntry {
             len: len as u64,
             page_size: page_size.get() as u64,
-            address,
+            address: address.0,
         },
     })
 }
@@ -95,11 +95,12 @@ fn blocks_of<B: Bitmap>(
     host: &HostMemory<B>,
     blocks: &[(BlockId, GuestAddress, NonZeroUsize)],
 ) -> Result<Vec<Target>, SendError>
-    ensures { IfOk result (λ targets. AreBlocks host.now targets.items) }
+    ensures are { IfOk result (λ targets. AreBlocks host.now targets.items) }
+    ensures asked { IfOk result (λ targets. map sized_place_of targets.items ≡ map sized_asked blocks.now) }
 {
     let mut targets = Vec::new(alloc);
-    for (block, address, page_size) in blocks {
-        let target = block_of(host, *block, address.0, *page_size)?;
+    for place in blocks {
+        let target = block_of(host, place)?;
         if !is_new(targets.as_slice(), &target) {
             return Err(SendError::Twice);
         }
@@ -145,6 +146,7 @@ impl Sender {
     ) -> Result<Sender, SendError>
         ensures begun { IfOk result (λ s. BeginsToSend (W.contents writer.old) (W.contents writer.new) s) }
         ensures blocks { IfOk result (λ s. AreBlocks host.now s.rounds.targets.items) }
+        ensures asked { IfOk result (λ s. map sized_place_of s.rounds.targets.items ≡ map sized_asked blocks.now) }
     {
         let targets = blocks_of(alloc, host, blocks)?;
         begin_with(alloc, targets, writer)
