@@ -99,6 +99,7 @@ def main():
         rows.append((pages, size_of_round))
         if is_last:
             break
+    print("the guest was given up")
     print("             rounds   pages sent        bytes")
     for name, part in [("while it ran", rows[:-1]), ("in the pause", rows[-1:]), ("in all", rows)]:
         print(f"{name:<12} {len(part):>6} {sum(r[0] for r in part):>12} {sum(r[1] for r in part):>12}")

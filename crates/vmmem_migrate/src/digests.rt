@@ -3,12 +3,14 @@
 use crate::report::tell_digest;
 use anyhow::{Context, Result, bail};
 use std::alloc::Global;
-use std::io::{self, Read, Write};
+use std::io::{Read, Write};
 
 /// Sends digests.
-pub fn send_digests<W: Write>(writer: &mut W, digests: &[[u8; 32]]) -> io::Result<()> {
+pub fn send_digests<W: Write>(writer: &mut W, digests: &[[u8; 32]]) -> Result<()> {
     for digest in digests {
-        writer.write_all(digest.as_slice())?;
+        writer
+            .write_all(digest.as_slice())
+            .context("the other end takes no digests")?;
     }
     Ok(())
 }

@@ -90,7 +90,7 @@ fn tell_guest(rt: &impl Print, guest: &Guest) -> Result<()> {
     for entry in guest.entries.as_slice() {
         bytes = bytes.saturating_add(entry.len);
     }
-    println!(rt; "the guest came with {blocks} blocks of {bytes} bytes and {states} states")?;
+    println!(rt; "blocks {blocks}, bytes {bytes}, states {states}")?;
     Ok(())
 }
 
@@ -130,7 +130,7 @@ where
     println!(rt; "listening on {place}")?;
     for stream in listener.incoming() {
         let stream = stream?;
-        stream.set_nodelay(true)?;
+        let _ = stream.set_nodelay(true);
         match receiving::receive(rt, alloc, &stream, asked.limit) {
             Ok(received) => return take_in(rt, alloc, received, asked.verify),
             Err(error) => eprintln!(rt; "vmmem_migrate: {error:#}")?,

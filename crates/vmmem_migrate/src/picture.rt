@@ -24,6 +24,7 @@ const HEAD: &str = r#"<svg xmlns="http://www.w3.org/2000/svg" viewBox="0 0 720 3
 text { font: 12px system-ui, sans-serif; fill: #59636e }
 text.title { font-size: 16px; font-weight: 600; fill: #1f2328 }
 text.mark { font-weight: 600; fill: #7d4e00 }
+text.count { font-size: 10px }
 .paper { fill: #ffffff }
 .grid { stroke: #d1d9e0 }
 .axis { stroke: #59636e }
@@ -89,6 +90,8 @@ struct Scale {
     slot: u64,
     // Whether numbers stand above the bars.
     is_numbered: bool,
+    // Of so many rounds one has its own number below it.
+    step: usize,
 }
 
 fn scale_of(rows: &[Row]) -> Scale {
@@ -96,6 +99,7 @@ fn scale_of(rows: &[Row]) -> Scale {
         most: most_of(rows),
         slot: WIDTH.checked_div(rows.len() as u64).unwrap_or(WIDTH),
         is_numbered: rows.len() <= NUMBERED,
+        step: rows.len() / 25 + 1,
     }
 }
 
@@ -135,18 +139,17 @@ impl Scale {
         self.draw_line(text, "axis", BOTTOM)
     }
 
-    // A number at a place, in the middle.
+    // A number, of which the middle of the base stands at a place.
     fn draw_number(
         &self,
         text: &mut String,
-        x: u64,
-        y: u64,
+        class: &str,
+        place: (u64, u64),
         number: u64,
     ) -> Result<(), AllocError> {
-        write!(
-            text,
-            "<text x=\"{x}\" y=\"{y}\" text-anchor=\"middle\">{number}</text>\n"
-        )
+        let (x, y) = place;
+        write!(text, "<text class=\"{class}\" x=\"{x}\" y=\"{y}\" ")?;
+        write!(text, "text-anchor=\"middle\">{number}</text>\n")
     }
 
     // A bar with its number.
@@ -167,7 +170,7 @@ impl Scale {
         write!(text, "height=\"{height}\"><title>{number}</title></rect>\n")?;
         if self.is_numbered && number > 0 {
             let middle = x.saturating_add(width / 2);
-            self.draw_number(text, middle, y.saturating_sub(4), number)?;
+            self.draw_number(text, "count", (middle, y.saturating_sub(4)), number)?;
         }
         Ok(())
     }
@@ -179,7 +182,10 @@ impl Scale {
         let first = middle.saturating_sub(width);
         self.draw_bar(text, "sent", (first, width), row.pages as u64)?;
         self.draw_bar(text, "left", (middle, width), row.left as u64)?;
-        self.draw_number(text, middle, BOTTOM + 18, number as u64)
+        if number.checked_rem(self.step) == Some(0) {
+            self.draw_number(text, "round", (middle, BOTTOM + 18), number as u64)?;
+        }
+        Ok(())
     }
 
     // The place of the last round, in which the guest stands.

@@ -134,20 +134,20 @@ fn tell_sums(
 /// The table at the end: what went while the guest ran, in the pause, and in all.
 pub fn tell_table(rt: &impl Print, alloc: Global, times: bool, rounds: &Rounds) -> Result<()> {
     let rows = rounds.rows.as_slice();
-    let running = &rows[..rows.len().saturating_sub(1)];
-    let (count, pages, bytes, micros) = sums(rows);
-    let (before, ran, moved, _) = sums(running);
+    let (count, pages, bytes, _) = sums(rows);
+    let ran = sums(&rows[..rows.len().saturating_sub(1)]);
     let paused = (
-        count.saturating_sub(before),
-        pages.saturating_sub(ran),
-        bytes.saturating_sub(moved),
+        count.saturating_sub(ran.0),
+        pages.saturating_sub(ran.1),
+        bytes.saturating_sub(ran.2),
         rounds.pause,
     );
+    let all = (count, pages, bytes, ran.3.saturating_add(rounds.pause));
     let end = if times { "         ms" } else { "" };
     println!(rt; "             rounds   pages sent        bytes{end}")?;
-    tell_sums(rt, alloc, times, "while it ran", sums(running))?;
+    tell_sums(rt, alloc, times, "while it ran", ran)?;
     tell_sums(rt, alloc, times, "in the pause", paused)?;
-    tell_sums(rt, alloc, times, "in all", (count, pages, bytes, micros))
+    tell_sums(rt, alloc, times, "in all", all)
 }
 
 /// The line of the writers.

@@ -5,8 +5,8 @@ use crate::digests::{compare, read_digests, send_digests};
 use crate::options::Sending;
 use crate::report::{Rounds, Row, micros_since, tell_head, tell_row, tell_table, tell_writers};
 use crate::writers::{Pace, Shared, write_on};
-use anyhow::{Context, Result, bail};
-use live_migration::{Reply, SendError, Sender};
+use anyhow::{Context, Result, anyhow, bail};
+use live_migration::{Refusal, Reply, SendError, Sender};
 use std::alloc::Global;
 use std::io::{Read, Write};
 use std::net::TcpStream;
@@ -174,6 +174,17 @@ impl<'a, R: Clock + Print + Wait> SendingEnd<'a, R> {
         Ok(())
     }
 
+    // Why the receiver refused, if it said so.
+    fn refusal(&mut self) -> Option<Refusal> {
+        self.connection.allow(1).ok()?;
+        let mut bytes = [0; 8];
+        self.connection.read_exact(&mut bytes).ok()?;
+        match Reply::decode(bytes) {
+            Some(Reply::Refused(refusal)) => Some(refusal),
+            _ => None,
+        }
+    }
+
     // Makes all pages that were harvested dirty again, and tells how many are.
     fn keep(self) -> Result<usize> {
         let SendingEnd {
@@ -205,8 +216,9 @@ impl<'a, R: Clock + Print + Wait> SendingEnd<'a, R> {
         rounds
     }
 
-    // Tells what was moved, and compares it if that is asked.
+    // Tells that the guest is no longer here and what was moved, and compares it if that is asked.
     fn tell(&mut self) -> Result<()> {
+        println!(self.rt; "the guest was given up")?;
         tell_table(self.rt, self.alloc, self.asked.times, &self.rounds)?;
         tell_writers(self.rt, &self.shared.load, self.shared.written(self.rt))?;
         if self.asked.verify {
@@ -257,6 +269,10 @@ fn migrate<R: Clock + Print + Wait>(
     let mut end = begin(rt, alloc, shared, stream, how).context("the guest stays here")?;
     match end.send_guest() {
         Err(error) => {
+            let error = match end.refusal() {
+                Some(refusal) => anyhow!("refused: {refusal}"),
+                None => error,
+            };
             let count = end.keep()?;
             Err(error.context(format_args!("the guest stays here, {count} of its pages dirty")))
         }
