@@ -1,0 +1,171 @@
+//! The receiving end.
+
+use crate::connection::{Connection, PATIENCE, VERIFY_PATIENCE};
+use crate::digests::{read_digests, send_digests};
+use crate::guest::{Host, digests_of};
+use anyhow::{Result, anyhow, bail};
+use live_migration::{Guest, Receiver, Refusal, Reply, Stage};
+use std::alloc::Global;
+use std::io::{BufReader, Write};
+use std::net::TcpStream;
+use std::time::Clock;
+
+// How many bytes are read ahead.
+const AHEAD: usize = 0x4_0000;
+
+/// A guest that came, or none where all of it came but leave to run it, and the connection on which it came.
+#[derive(Drop)]
+pub struct Received<'a, R> {
+    pub guest: Option<Guest>,
+    pub rounds: u64,
+    pub frames: u64,
+    host: Host,
+    reader: BufReader<Connection<'a, R>>,
+    writer: Connection<'a, R>,
+}
+
+/// The digests of this end, and those that the other end told.
+#[derive(Drop)]
+pub struct TwoDigests {
+    pub ours: Vec<[u8; 32]>,
+    pub theirs: Vec<[u8; 32]>,
+}
+
+// The receiving end of a migration.
+#[derive(Drop)]
+struct ReceivingEnd<'a, R> {
+    host: Host,
+    reader: BufReader<Connection<'a, R>>,
+    writer: Connection<'a, R>,
+    receiver: Receiver,
+    rounds: u64,
+    frames: u64,
+}
+
+// Sends back why something is refused, if that can be, and tells it.
+fn refuse<R: Clock>(
+    reader: &BufReader<Connection<'_, R>>,
+    writer: &mut Connection<'_, R>,
+    refusal: Refusal,
+) -> anyhow::Error {
+    let is_late = reader.get_ref().is_late();
+    if writer.allow(PATIENCE).is_ok() {
+        let _ = writer.write_all(&Reply::Refused(refusal).encode());
+    }
+    if is_late {
+        return anyhow!("given up: nothing whole came in {PATIENCE} seconds");
+    }
+    anyhow!("refused: {refusal}")
+}
+
+// Reads the header, and says that frames may come.
+fn begin<'a, R: Clock>(
+    rt: &'a R,
+    alloc: Global,
+    stream: &'a TcpStream,
+    limit: u64,
+) -> Result<ReceivingEnd<'a, R>> {
+    let connection = Connection::new(rt, stream, PATIENCE)?;
+    let mut reader = BufReader::with_capacity(alloc, AHEAD, connection)?;
+    let mut writer = Connection::new(rt, stream, PATIENCE)?;
+    let mut host = Host::new(alloc);
+    let receiver = match Receiver::begin(alloc, &mut reader, &mut host, limit) {
+        Ok(receiver) => receiver,
+        Err(refusal) => return Err(refuse(&reader, &mut writer, refusal)),
+    };
+    writer.allow(PATIENCE)?;
+    writer.write_all(&Reply::Ready.encode())?;
+    Ok(ReceivingEnd {
+        reader,
+        writer,
+        host,
+        receiver,
+        rounds: 0,
+        frames: 0,
+    })
+}
+
+impl<'a, R: Clock> ReceivingEnd<'a, R> {
+    // Takes the next frame, which has its time as a whole.
+    fn take(&mut self) -> Result<Stage, Refusal> {
+        let connection = self.reader.get_mut();
+        if connection.allow(PATIENCE).is_err() {
+            return Err(Refusal::Failed);
+        }
+        self.receiver.take(&mut self.reader, &mut self.host)
+    }
+
+    // Takes all frames up to done. Where one is refused, that goes back.
+    fn take_guest(&mut self) -> Result<()> {
+        for _ in 0..u64::MAX {
+            self.frames = self.frames.saturating_add(1);
+            match self.take() {
+                Ok(Stage::Done) => return Ok(()),
+                Ok(Stage::RoundEnded) => self.rounds = self.rounds.saturating_add(1),
+                Ok(Stage::Round) => {}
+                Ok(Stage::Gone) | Ok(Stage::Failed) => bail!("frame out of order"),
+                Err(refusal) => return Err(refuse(&self.reader, &mut self.writer, refusal)),
+            }
+        }
+        bail!("there were too many frames")
+    }
+
+    // Says that all came, and waits for leave to run it. From the first on the sender may have given its guest up, so
+    // that nothing here fails any more.
+    fn await_leave(&mut self) {
+        if self.writer.allow(PATIENCE).is_ok() {
+            let _ = self.writer.write_all(&Reply::Accepted.encode());
+        }
+        let _ = self.take();
+    }
+
+    // The guest, if there is leave to run it.
+    fn hand_out(self) -> Received<'a, R> {
+        let ReceivingEnd {
+            host,
+            reader,
+            writer,
+            receiver,
+            rounds,
+            frames,
+        } = self;
+        Received {
+            guest: receiver.into_guest().ok(),
+            rounds,
+            frames,
+            host,
+            reader,
+            writer,
+        }
+    }
+}
+
+impl<'a, R: Clock> Received<'a, R> {
+    /// The digests of the guest's blocks at both ends.
+    pub fn digests(&mut self, alloc: Global) -> Result<TwoDigests> {
+        let Some(guest) = &self.guest else {
+            bail!("there is no guest");
+        };
+        let blocks = guest.entries.len();
+        let ours = digests_of(alloc, &self.host, guest.base, blocks)?;
+        self.writer.allow(VERIFY_PATIENCE)?;
+        send_digests(&mut self.writer, ours.as_slice())?;
+        let connection = self.reader.get_mut();
+        connection.allow(VERIFY_PATIENCE)?;
+        let theirs = read_digests(alloc, &mut self.reader, blocks)?;
+        Ok(TwoDigests { ours, theirs })
+    }
+}
+
+/// Takes a guest from a connection. What fails, fails before the sender may have given its guest up.
+pub fn receive<'a, R: Clock>(
+    rt: &'a R,
+    alloc: Global,
+    stream: &'a TcpStream,
+    limit: u64,
+) -> Result<Received<'a, R>> {
+    let mut end = begin(rt, alloc, stream, limit)?;
+    end.take_guest()?;
+    end.await_leave();
+    Ok(end.hand_out())
+}

@@ -1,0 +1,312 @@
+//! The sending end.
+
+use crate::connection::{Connection, PATIENCE, READY_PATIENCE, VERIFY_PATIENCE};
+use crate::digests::{compare, read_digests, send_digests};
+use crate::options::Sending;
+use crate::report::{Rounds, Row, micros_since, tell_head, tell_row, tell_table, tell_writers};
+use crate::writers::{Pace, Shared, write_on};
+use anyhow::{Context, Result, anyhow, bail};
+use live_migration::{Refusal, Reply, SendError, Sender};
+use std::alloc::Global;
+use std::io::{Read, Write};
+use std::net::TcpStream;
+use std::sync::Wait;
+use std::thread::{self, Threads};
+use std::time::{Clock, Instant};
+
+// The sending end of a migration: its guest is written by other threads.
+#[derive(Drop)]
+struct SendingEnd<'a, R> {
+    rt: &'a R,
+    alloc: Global,
+    shared: &'a Shared,
+    asked: Sending<'a>,
+    pace: Pace,
+    connection: Connection<'a, R>,
+    sender: Sender,
+    rounds: Rounds,
+}
+
+// A sender, and its header, which waits to be sent.
+fn first_sender<R: Wait>(
+    rt: &R,
+    alloc: Global,
+    shared: &Shared,
+) -> Result<(Sender, Vec<u8>), SendError> {
+    let mut header = Vec::new(alloc);
+    let running = shared.running.lock(rt);
+    let places = shared.layout.places.as_slice();
+    let sender = Sender::begin(alloc, &running.host, places, &mut header)?;
+    Ok((sender, header))
+}
+
+// Waits for the receiver to be ready.
+fn read_ready<R: Read>(reader: &mut R) -> Result<()> {
+    let mut bytes = [0; 8];
+    reader
+        .read_exact(&mut bytes)
+        .context("the receiver was not ready in time")?;
+    match Reply::decode(bytes) {
+        Some(Reply::Ready) => Ok(()),
+        Some(Reply::Refused(refusal)) => bail!("refused: {refusal}"),
+        Some(Reply::Accepted) | None => bail!("unknown reply"),
+    }
+}
+
+impl<'a, R: Clock + Print + Wait> SendingEnd<'a, R> {
+    // Takes the pages of the next block. The lock is held for this alone.
+    fn harvest(&mut self) -> Result<usize, SendError> {
+        let shared = self.shared;
+        let mut guard = shared.running.lock(self.rt);
+        let running = &mut *guard;
+        self.sender.harvest(self.alloc, &mut running.host)
+    }
+
+    // Copies pages that wait. The lock is held for this alone.
+    fn copy(&mut self) -> Result<usize, SendError> {
+        let shared = self.shared;
+        let running = shared.running.lock(self.rt);
+        self.sender.copy_batch(&running.host)
+    }
+
+    // Copies and sends so many pages that wait.
+    fn send_waiting(&mut self, count: usize) -> Result<()> {
+        let mut left = count;
+        for _ in 0..u64::MAX {
+            if left == 0 {
+                break;
+            }
+            left = left.saturating_sub(self.copy()?);
+            self.connection.allow(PATIENCE)?;
+            self.sender.send_batch(&mut self.connection)?;
+        }
+        Ok(())
+    }
+
+    // Sends the pages of each block. Counted writers write from the last harvest on, so that it is decided what they
+    // write before and behind it.
+    fn send_pages(&mut self, is_last: bool) -> Result<usize> {
+        let blocks = self.shared.layout.places.len();
+        let mut pages = 0usize;
+        for number in 0..blocks {
+            let count = self.harvest()?;
+            pages = pages.saturating_add(count);
+            let is_taken = number.saturating_add(1) == blocks;
+            if is_taken && !is_last && self.pace == Pace::Count {
+                self.shared.release(self.rt, pages);
+            }
+            self.send_waiting(count)?;
+        }
+        Ok(pages)
+    }
+
+    // Sends what goes with the guest beside its memory: how many pages were written.
+    fn send_state(&mut self) -> Result<()> {
+        let state = self.shared.written(self.rt).to_le_bytes();
+        self.sender
+            .send_section(self.alloc, &mut self.connection, b"writers", &state)?;
+        Ok(())
+    }
+
+    // Sends a round, and tells how many pages are dirty behind it.
+    fn send_round(&mut self, is_last: bool) -> Result<Row> {
+        let start = Instant::now(self.rt)?;
+        let before = self.connection.sent();
+        let pages = self.send_pages(is_last)?;
+        self.connection.allow(PATIENCE)?;
+        if is_last {
+            self.send_state()?;
+        } else if self.pace == Pace::Count {
+            self.shared.await_writers(self.rt);
+        }
+        self.sender.end_round(self.alloc, &mut self.connection)?;
+        Ok(Row {
+            pages,
+            bytes: self.connection.sent().saturating_sub(before),
+            micros: micros_since(self.rt, start)?,
+            left: self.shared.dirty(self.rt, self.alloc)?,
+        })
+    }
+
+    // Says that all was sent, and waits for the receiver's word that it has it.
+    fn finish(&mut self) -> Result<()> {
+        self.connection.allow(PATIENCE)?;
+        self.sender.done(self.alloc, &mut self.connection)?;
+        self.sender.accepted(&mut self.connection)?;
+        Ok(())
+    }
+
+    // Rounds while the guest runs, and one while it stands. Answers when it stopped.
+    fn send_rounds(&mut self) -> Result<Instant> {
+        let all = self.shared.layout.pages;
+        let times = self.asked.times;
+        let mut left = all;
+        tell_head(self.rt, times)?;
+        for number in 0..u64::MAX {
+            let start = Instant::now(self.rt)?;
+            let is_last = self.asked.policy.is_last(number, left);
+            if is_last {
+                self.shared.stop(self.rt);
+            }
+            let row = self.send_round(is_last)?;
+            tell_row(self.rt, self.alloc, times, number, (&row, all))?;
+            self.rounds.rows.push(row)?;
+            if is_last {
+                return Ok(start);
+            }
+            left = row.left;
+        }
+        bail!("there were too many rounds")
+    }
+
+    // All up to the word of the receiver that it has the guest. Answers when the guest stopped.
+    fn send_guest(&mut self) -> Result<Instant> {
+        let start = self.send_rounds()?;
+        self.finish()?;
+        Ok(start)
+    }
+
+    // Gives the guest up.
+    fn give_up(&mut self, start: Instant) -> Result<()> {
+        self.connection.allow(PATIENCE)?;
+        self.sender.go(&mut self.connection)?;
+        self.rounds.pause = micros_since(self.rt, start)?;
+        Ok(())
+    }
+
+    // Why the receiver refused, if it said so.
+    fn refusal(&mut self) -> Option<Refusal> {
+        self.connection.allow(1).ok()?;
+        let mut bytes = [0; 8];
+        self.connection.read_exact(&mut bytes).ok()?;
+        match Reply::decode(bytes) {
+            Some(Reply::Refused(refusal)) => Some(refusal),
+            _ => None,
+        }
+    }
+
+    // Makes all pages that were harvested dirty again, and tells how many are.
+    fn keep(self) -> Result<usize> {
+        let SendingEnd {
+            rt,
+            alloc,
+            shared,
+            sender,
+            ..
+        } = self;
+        let mut guard = shared.running.lock(rt);
+        let running = &mut *guard;
+        sender.abort(&mut running.host);
+        drop(guard);
+        Ok(shared.dirty(rt, alloc)?)
+    }
+
+    // Compares the blocks of both ends, by their digests.
+    fn verify(&mut self) -> Result<()> {
+        let blocks = self.shared.layout.places.len();
+        let ours = self.shared.digests(self.rt, self.alloc)?;
+        self.connection.allow(VERIFY_PATIENCE)?;
+        send_digests(&mut self.connection, ours.as_slice())?;
+        let theirs = read_digests(self.alloc, &mut self.connection, blocks)?;
+        compare(self.rt, self.alloc, ours.as_slice(), theirs.as_slice())
+    }
+
+    fn into_rounds(self) -> Rounds {
+        let SendingEnd { rounds, .. } = self;
+        rounds
+    }
+
+    // Tells that the guest is no longer here and what was moved, and compares it if that is asked.
+    fn tell(&mut self) -> Result<()> {
+        println!(self.rt; "the guest was given up")?;
+        tell_table(self.rt, self.alloc, self.asked.times, &self.rounds)?;
+        tell_writers(self.rt, &self.shared.load, self.shared.written(self.rt))?;
+        if self.asked.verify {
+            self.verify()?;
+        }
+        Ok(())
+    }
+}
+
+// Says which blocks there are, and waits for the receiver to be ready.
+fn begin<'a, R: Clock + Wait>(
+    rt: &'a R,
+    alloc: Global,
+    shared: &'a Shared,
+    stream: &'a TcpStream,
+    how: (Sending<'a>, Pace),
+) -> Result<SendingEnd<'a, R>> {
+    let (sender, header) = first_sender(rt, alloc, shared)?;
+    let mut connection = Connection::new(rt, stream, PATIENCE)?;
+    connection.write_all(header.as_slice())?;
+    connection.allow(READY_PATIENCE)?;
+    read_ready(&mut connection)?;
+    let (asked, pace) = how;
+    Ok(SendingEnd {
+        rt,
+        alloc,
+        shared,
+        asked,
+        pace,
+        connection,
+        sender,
+        rounds: Rounds {
+            rows: Vec::new(alloc),
+            pause: 0,
+        },
+    })
+}
+
+// Moves a guest, which others write meanwhile, and answers its rounds. Where it fails before the guest was given up,
+// the guest is as it was.
+fn migrate<R: Clock + Print + Wait>(
+    rt: &R,
+    alloc: Global,
+    shared: &Shared,
+    stream: &TcpStream,
+    how: (Sending<'_>, Pace),
+) -> Result<Rounds> {
+    let mut end = begin(rt, alloc, shared, stream, how).context("the guest stays here")?;
+    match end.send_guest() {
+        Err(error) => {
+            let error = match end.refusal() {
+                Some(refusal) => anyhow!("refused: {refusal}"),
+                None => error,
+            };
+            let count = end.keep()?;
+            Err(error.context(format_args!("the guest stays here, {count} of its pages dirty")))
+        }
+        Ok(start) => {
+            end.give_up(start).context(
+                "the guest was given up, and it is not known whether the receiver has leave to run it",
+            )?;
+            end.tell()?;
+            Ok(end.into_rounds())
+        }
+    }
+}
+
+/// Starts the threads that write a guest, and moves it.
+pub fn run<R: Clock + Print + Sync + Threads + Wait>(
+    rt: &R,
+    alloc: Global,
+    shared: &Shared,
+    stream: &TcpStream,
+    how: (Sending<'_>, Pace),
+) -> Result<Rounds> {
+    let pace = how.1;
+    thread::scope(thread::scope_env(), rt, move |scope| -> Result<Rounds> {
+        for writer in 0..shared.load.threads {
+            if scope
+                .spawn(move || write_on(rt, shared, writer, pace))
+                .is_err()
+            {
+                shared.stop(rt);
+                bail!("a thread could not be started");
+            }
+        }
+        let moved = migrate(rt, alloc, shared, stream, how);
+        shared.stop(rt);
+        moved
+    })
+}
