@@ -1,0 +1,5 @@
+pub mod ApplyLemmas
+pub mod CodecLemmas
+pub mod CommandLemmas
+pub mod SendLemmas
+pub mod TableLemmas
