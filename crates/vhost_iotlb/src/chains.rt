@@ -169,17 +169,21 @@ pub struct WriteChain<'a, M> {
 }
 
 impl<'a, M: GuestMemory> WriteChain<'a, M> {
-    /// A write of these bytes to the front of what a chain has room for, through the table of this number.
+    /// A write of these bytes to what a chain has room for, behind so many of its writable bytes, through the table of
+    /// this number.
     pub fn new(
         memory: &'a M,
         table: TlbId,
         chain: &'a Chain,
+        skipped: usize,
         bytes: &'a [u8],
     ) -> WriteChain<'a, M> {
+        let mut writer = chain.writer();
+        writer.skip(skipped);
         WriteChain {
             memory,
             table,
-            writer: chain.writer(),
+            writer,
             bytes,
             done: 0,
         }

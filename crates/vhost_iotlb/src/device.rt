@@ -1,6 +1,8 @@
 //! The I/O table of a device, as its front end fills it.
-ghost use Rattle.std.specs.Prelude.{◌≡◌, ◌≤◌, OnOk, IfOk, true};
+ghost use Rattle.std.specs.Prelude.{◌≡◌, ◌+◌, ◌^◌, ◌<◌, OnOk, IfOk, MatchResult};
 ghost use Rattle.std.specs.Io.KnownBytes.{Appends};
+ghost use Rattle.vhost_iotlb.specs.Handling.{Handles, Serves, Settles, answer_to, reply_bytes, value_of};
+ghost use Rattle.vhost_iotlb.specs.declared.device.Handled.{Handled};
 
 use crate::channel::{ChannelError, Frame, Incoming, send};
 use crate::header::{
@@ -13,6 +15,7 @@ use crate::reply::encode_reply;
 use crate::request::{Outcome, Request};
 use crate::table::{DeviceTable, Refusal};
 use std::io::{Read, Write};
+use std::marker::Model;
 use thiserror::Error;
 
 /// How long a request is tried.
@@ -77,8 +80,18 @@ pub struct DeviceIotlb<F, O> {
     limits: Limits,
 }
 
-// The flags of a message.
-fn reply_header(request: u32) -> Header {
+impl<F, O> Model for DeviceIotlb<F, O> {
+    ghost use Rattle.vhost_iotlb.specs.declared.table.DeviceTable.{DeviceTable};
+
+    ghost Value = { DeviceTable };
+
+    ghost view = { λ d. d.table };
+}
+
+// The header of a reply.
+fn reply_header(request: u32) -> Header
+    ensures { result ≡ record { request = request; flags = 5; size = 8 } }
+{
     Header {
         request,
         flags: VERSION | VHOST_USER_REPLY,
@@ -86,9 +99,67 @@ fn reply_header(request: u32) -> Header {
     }
 }
 
+// Sends the reply to a request: 0 where it was done.
+fn answer<F: Write>(front: &mut F, request: u32, value: u64) -> Result<(), ChannelError>
+    ensures { OnOk result (Appends (F.contents front.old) (F.contents front.new) (reply_bytes request value)) }
+{
+    send(front, reply_header(request), &encode_reply(value))
+}
+
+// Applies the message of a frame to a table of a host.
+fn settle<H: SharedHost>(table: &DeviceTable, host: &mut H, frame: &Frame) -> Handled
+    ensures { Settles H.applies table.now frame.now host.old result host.new }
+{
+    let message = match frame.message() {
+        Ok(message) => message,
+        Err(error) => return Handled::Refused(Refusal::Malformed(error)),
+    };
+    match host.apply(table, &message) {
+        Ok(()) => Handled::Applied(message),
+        Err(refusal) => Handled::Refused(refusal),
+    }
+}
+
+// The value of the reply to a message.
+fn value_of(handled: Handled) -> u64
+    ensures { result ≡ value_of handled }
+{
+    match handled {
+        Handled::Refused(_) => 1,
+        Handled::Nothing | Handled::Applied(_) | Handled::Other(_) => 0,
+    }
+}
+
+// Serves a message that came on the front end's channel, and answers it where that is asked for, by what came of it:
+// so it was applied before. It is, too, where the reply cannot be sent.
+fn serve<F: Write, H: SharedHost>(
+    table: &DeviceTable,
+    front: &mut F,
+    host: &mut H,
+    frame: &Frame,
+) -> Result<Handled, ChannelError>
+    ensures settled { MatchResult result
+        (λ handled. Serves H.applies table.now frame.now host.old handled host.new)
+        (λ e. (handled : Handled) × Serves H.applies table.now frame.now host.old handled host.new) }
+    ensures answered { IfOk result (λ handled. Appends (F.contents front.old) (F.contents front.new)
+        (answer_to frame.now handled)) }
+{
+    let header = frame.header;
+    if header.request != VHOST_USER_IOTLB_MSG || header.is_reply() {
+        return Ok(Handled::Other(*frame));
+    }
+    let handled = settle(table, host, frame);
+    if header.needs_reply() {
+        answer(front, header.request, value_of(handled))?;
+    }
+    Ok(handled)
+}
+
 impl<F: Read + Write, O: Read + Write> DeviceIotlb<F, O> {
     /// A table of a host, the front end's channel, and the back end's own.
-    pub fn new(table: DeviceTable, front: F, own: O, limits: Limits) -> DeviceIotlb<F, O> {
+    pub fn new(table: DeviceTable, front: F, own: O, limits: Limits) -> DeviceIotlb<F, O>
+        ensures { result ≡ table }
+    {
         DeviceIotlb {
             table,
             front,
@@ -102,68 +173,74 @@ impl<F: Read + Write, O: Read + Write> DeviceIotlb<F, O> {
     }
 
     /// Its table.
-    pub fn table(&self) -> &DeviceTable {
+    pub fn table(&self) -> &DeviceTable
+        ensures { result.now ≡ self.now }
+    {
         &self.table
     }
 
+    /// The front end's channel.
+    pub fn front(&self) -> &F {
+        &self.front
+    }
+
+    /// The table, the front end's channel and the back end's own, of one that is done with.
+    pub fn into_parts(self) -> (DeviceTable, F, O)
+        ensures { result.0 ≡ self }
+    {
+        (self.table, self.front, self.own)
+    }
+
     /// The last message of another request that came while a request waited, if one did. It is given out once.
-    pub fn take_other(&mut self) -> Option<Frame> {
+    pub fn take_other(&mut self) -> Option<Frame>
+        ensures { self.new ≡ self.old }
+    {
         self.other.take()
     }
 
-    // Sends the reply to a request of the front end: 0 where it was done.
-    fn answer(&mut self, request: u32, value: u64) -> Result<(), ChannelError> {
-        send(&mut self.front, reply_header(request), &encode_reply(value))
-    }
-
     // Sends a message on the back end's own channel.
-    fn tell(&mut self, message: IotlbMessage, flags: u32) -> Result<(), ChannelError> {
+    fn tell(&mut self, message: IotlbMessage, flags: u32) -> Result<(), ChannelError>
+        requires { flags < 2 ^ 16 }
+        ensures { self.new ≡ self.old }
+    {
         let header = Header {
             request: VHOST_USER_BACKEND_IOTLB_MSG,
-            flags: VERSION | flags,
+            flags: VERSION + flags,
             size: PAYLOAD_LEN as u32,
         };
         send(&mut self.own, header, &message.encode())
     }
 
-    // Serves a message that came on the front end's channel, and answers it where that is asked for: behind the call
-    // that applies it.
-    fn serve<H: SharedHost>(
-        &mut self,
-        host: &mut H,
-        frame: &Frame,
-    ) -> Result<Handled, ChannelError> {
-        let header = frame.header;
-        if header.request != VHOST_USER_IOTLB_MSG || header.is_reply() {
-            return Ok(Handled::Other(*frame));
-        }
-        let handled = settle(&self.table, host, frame);
-        if header.needs_reply() {
-            let value = u64::from(matches!(handled, Handled::Refused(_)));
-            self.answer(header.request, value)?;
-        }
-        Ok(handled)
-    }
-
     /// Looks once at the front end's channel, and serves what came there: a message is applied to the table and then
     /// answered, where the front end asks for that, by 0 if it was applied and by 1 if it was refused.
-    pub fn handle<H: SharedHost>(&mut self, host: &mut H) -> Result<Handled, ChannelError> {
+    ///
+    /// Where the reply cannot be sent, the message was applied or refused all the same.
+    pub fn handle<H: SharedHost>(&mut self, host: &mut H) -> Result<Handled, ChannelError>
+        ensures handled { MatchResult result
+            (λ handled. Handles H.applies self.old host.old handled host.new)
+            (λ e. (handled : Handled) × Handles H.applies self.old host.old handled host.new) }
+        ensures table { self.new ≡ self.old }
+    {
         match self.coming.look(&mut self.front)? {
-            Some(frame) => self.serve(host, &frame),
+            Some(frame) => serve(&self.table, &mut self.front, host, &frame),
             None => Ok(Handled::Nothing),
         }
     }
 
     /// Answers a message of another request, where it asks for that: 0 where it was done.
-    pub fn reply(&mut self, frame: &Frame, value: u64) -> Result<(), ChannelError> {
+    pub fn reply(&mut self, frame: &Frame, value: u64) -> Result<(), ChannelError>
+        ensures { self.new ≡ self.old }
+    {
         if !frame.header.needs_reply() {
             return Ok(());
         }
-        self.answer(frame.header.request, value)
+        answer(&mut self.front, frame.header.request, value)
     }
 
     /// Sends a message of another request on the back end's own channel, with no payload and no reply.
-    pub fn notify(&mut self, request: u32) -> Result<(), ChannelError> {
+    pub fn notify(&mut self, request: u32) -> Result<(), ChannelError>
+        ensures { self.new ≡ self.old }
+    {
         let header = Header {
             request,
             flags: VERSION,
@@ -173,7 +250,9 @@ impl<F: Read + Write, O: Read + Write> DeviceIotlb<F, O> {
     }
 
     // Looks at the back end's own channel, and answers the reply to the last message that was sent there, if it came.
-    fn look_back(&mut self) -> Result<Option<u64>, ChannelError> {
+    fn look_back(&mut self) -> Result<Option<u64>, ChannelError>
+        ensures { self.new ≡ self.old }
+    {
         let Some(frame) = self.back.look(&mut self.own)? else {
             return Ok(None);
         };
@@ -191,7 +270,9 @@ impl<F: Read + Write, O: Read + Write> DeviceIotlb<F, O> {
     }
 
     // Looks once at both channels while a mapping is missed: it answers whether one came.
-    fn wait<H: SharedHost>(&mut self, host: &mut H) -> Result<bool, MissError> {
+    fn wait<H: SharedHost>(&mut self, host: &mut H) -> Result<bool, MissError>
+        ensures { self.new ≡ self.old }
+    {
         match self.handle(host).map_err(MissError::Channel)? {
             Handled::Applied(IotlbMessage::Update { .. }) => return Ok(true),
             Handled::Applied(_) | Handled::Refused(_) => return Ok(false),
@@ -214,7 +295,9 @@ impl<F: Read + Write, O: Read + Write> DeviceIotlb<F, O> {
         host: &mut H,
         message: IotlbMessage,
         looks: u32,
-    ) -> Result<u32, MissError> {
+    ) -> Result<u32, MissError>
+        ensures { self.new ≡ self.old }
+    {
         self.awaited = self.awaited.saturating_add(1);
         self.tell(message, VHOST_USER_NEED_REPLY)
             .map_err(MissError::Channel)?;
@@ -238,7 +321,8 @@ impl<F: Read + Write, O: Read + Write> DeviceIotlb<F, O> {
         host: &mut H,
         request: &mut R,
     ) -> Result<(), MissError>
-        ensures { OnOk result (R.is_done request.new) }
+        ensures done { OnOk result (R.is_done request.new) }
+        ensures table { self.new ≡ self.old }
     {
         let mut looks = self.limits.looks;
         for _ in 0..self.limits.tries {
@@ -256,17 +340,5 @@ impl<F: Read + Write, O: Read + Write> DeviceIotlb<F, O> {
             }
         }
         Err(MissError::Tries)
-    }
-}
-
-// Applies the message of a frame to a table of a host.
-fn settle<H: SharedHost>(table: &DeviceTable, host: &mut H, frame: &Frame) -> Handled {
-    let message = match frame.message() {
-        Ok(message) => message,
-        Err(error) => return Handled::Refused(Refusal::Malformed(error)),
-    };
-    match host.apply(table, &message) {
-        Ok(()) => Handled::Applied(message),
-        Err(refusal) => Handled::Refused(refusal),
     }
 }
