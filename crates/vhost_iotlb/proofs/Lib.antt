@@ -1,0 +1,6 @@
+pub mod ApplyLemmas
+pub mod CodecLemmas
+pub mod CommandLemmas
+pub mod HandlingLemmas
+pub mod SendLemmas
+pub mod TableLemmas

@@ -1,0 +1,16 @@
+use Rattle.std.proofs.Common.{rules, sym, ◌∙◌}
+use Rattle.vhost_iotlb.proofs.ApplyLemmas.{set_made, taken_back}
+use Rattle.vhost_iotlb.proofs.table.DeviceTable.apply.Goals as goal
+
+pub returns-then-set_in-clause-applied : goal.returns-then-set_in-clause-applied
+returns-then-set_in-clause-applied g c =
+    let m = c.in-Update in
+    set_made c.args.self.now.table.0 c.args.self.now.memory c.args.message.now c.args.host.now c.set_in.new.host m.iova
+    m.size m.user_address m.permissions c.in-Some.to m.is (search rules) (sym c.guest_of.ensures ∙ c.in-Some.is)
+    (c.set_in.ensures.set c.if-set_in.true)
+
+pub returns-else-is_none-2-clause-applied : goal.returns-else-is_none-2-clause-applied
+returns-else-is_none-2-clause-applied g c =
+    let m = c.in-Invalidate in
+    taken_back c.args.self.now.table.0 c.args.self.now.memory c.args.message.now c.args.host.now c.take_back_in.new.host
+    m.iova m.size m.is (search rules) c.take_back_in.ensures.changed

@@ -1,0 +1,190 @@
+//! Accesses of guest memory that can be tried again.
+ghost use Rattle.std.specs.Prelude.{◌≡◌, ◌≤◌, ◌-◌, length, map, min, vec_len};
+ghost use Rattle.vm_memory_base.specs.Lookup.{range_in};
+ghost use Rattle.vm_memory_base.specs.Table.{says};
+ghost use Rattle.vhost_iotlb.specs.Reaches.{Reaches, first_of, front_of, stopped_at};
+
+use crate::request::{Outcome, Request};
+use vm_memory::{
+    Bitmap, Bytes, GuestAddress, GuestMemory, HostMemory, Iotlb, IovaRange, LookupError,
+    Permissions, TlbId,
+};
+
+/// How many bytes of an access from an address on a table allows, up to the first that it misses or forbids, and what
+/// the access comes to: it misses the first address that has no mapping, or is forbidden by the first mapping that does
+/// not permit it, whichever comes first. `Failed`, with no bytes, where an allocation fails.
+pub fn reach(table: &Iotlb, iova: u64, len: usize, access: Permissions) -> (usize, Outcome)
+    ensures reaches { Reaches (says table.now) iova len access result.0 result.1 }
+    ensures most { result.0 ≤ len }
+{
+    let fails = match table.lookup(GuestAddress(iova), len, access) {
+        Ok(_) => return (len, Outcome::Done),
+        Err(LookupError::Fails(fails)) => fails,
+        Err(LookupError::Memory) => return (0, Outcome::Failed),
+    };
+    let missed = first_of(fails.misses.as_slice());
+    let forbidden = first_of(fails.access_fails.as_slice());
+    let outcome = stopped_at(missed, forbidden, access);
+    (front_of(iova, len, outcome), outcome)
+}
+
+// The first address of ranges.
+fn first_of(ranges: &[IovaRange]) -> Option<u64>
+    ensures { result ≡ first_of (map range_in ranges.now) }
+{
+    match ranges {
+        [first, ..] => Some(first.base.0),
+        [] => None,
+    }
+}
+
+fn stopped_at(missed: Option<u64>, forbidden: Option<u64>, access: Permissions) -> Outcome
+    ensures { result ≡ stopped_at missed forbidden access }
+{
+    match (missed, forbidden) {
+        (Some(missed), Some(forbidden)) => {
+            if forbidden < missed {
+                Outcome::Forbidden {
+                    iova: forbidden,
+                    access,
+                }
+            } else {
+                Outcome::Missed {
+                    iova: missed,
+                    access,
+                }
+            }
+        }
+        (Some(iova), None) => Outcome::Missed { iova, access },
+        (None, Some(iova)) => Outcome::Forbidden { iova, access },
+        (None, None) => Outcome::Failed,
+    }
+}
+
+// How many of so many bytes from an address on lie in front of where an access stopped.
+fn front_of(iova: u64, len: usize, outcome: Outcome) -> usize
+    ensures value { result ≡ front_of iova len outcome }
+    ensures most { result ≤ len }
+{
+    match outcome {
+        Outcome::Missed { iova: stop, .. } | Outcome::Forbidden { iova: stop, .. } => {
+            (stop.saturating_sub(iova) as usize).min(len)
+        }
+        Outcome::Done | Outcome::Failed => 0,
+    }
+}
+
+/// A read of guest memory behind a table, as far as its mappings go, and on from there at the next try.
+#[derive(Drop)]
+pub struct ReadBytes<'a, M> {
+    memory: &'a M,
+    table: TlbId,
+    address: GuestAddress,
+    bytes: Vec<u8>,
+    done: usize,
+    ghost in_range: { done ≤ vec_len bytes },
+}
+
+impl<'a, M: GuestMemory> ReadBytes<'a, M> {
+    /// A read of as many bytes as there are, from an address on, in place of them, through the table of this number.
+    pub fn new(
+        memory: &'a M,
+        table: TlbId,
+        address: GuestAddress,
+        bytes: Vec<u8>,
+    ) -> ReadBytes<'a, M> {
+        ReadBytes {
+            memory,
+            table,
+            address,
+            bytes,
+            done: 0,
+        }
+    }
+
+    /// The bytes, of which those in front were read.
+    pub fn into_bytes(self) -> Vec<u8> {
+        self.bytes
+    }
+}
+
+impl<M: GuestMemory> Request for ReadBytes<'_, M> {
+    ghost is_done = { λ r. r.done ≡ vec_len r.bytes };
+
+    fn attempt<B: Bitmap>(&mut self, host: &mut HostMemory<B>) -> Outcome {
+        if !host.holds(self.memory) || !host.shape().has_table(self.table) {
+            return Outcome::Failed;
+        }
+        let Some(at) = self.address.0.checked_add(self.done as u64) else {
+            return Outcome::Failed;
+        };
+        let left = self.bytes.len() - self.done;
+        let (count, outcome) = reach(host.table(self.table), at, left, Permissions::Read);
+        let end = self.done + count;
+        let part = &mut self.bytes.as_mut_slice()[self.done..end];
+        if self
+            .memory
+            .read_slice(host, part, GuestAddress(at))
+            .is_err()
+        {
+            return Outcome::Failed;
+        }
+        self.done = end;
+        outcome
+    }
+}
+
+/// A write of guest memory behind a table, as far as its mappings go, and on from there at the next try.
+#[derive(Drop)]
+pub struct WriteBytes<'a, M> {
+    memory: &'a M,
+    table: TlbId,
+    address: GuestAddress,
+    bytes: &'a [u8],
+    done: usize,
+    ghost in_range: { done ≤ length bytes.now },
+}
+
+impl<'a, M: GuestMemory> WriteBytes<'a, M> {
+    /// A write of these bytes, from an address on, through the table of this number.
+    pub fn new(
+        memory: &'a M,
+        table: TlbId,
+        address: GuestAddress,
+        bytes: &'a [u8],
+    ) -> WriteBytes<'a, M> {
+        WriteBytes {
+            memory,
+            table,
+            address,
+            bytes,
+            done: 0,
+        }
+    }
+}
+
+impl<M: GuestMemory> Request for WriteBytes<'_, M> {
+    ghost is_done = { λ r. r.done ≡ length r.bytes.now };
+
+    fn attempt<B: Bitmap>(&mut self, host: &mut HostMemory<B>) -> Outcome {
+        if !host.holds(self.memory) || !host.shape().has_table(self.table) {
+            return Outcome::Failed;
+        }
+        let Some(at) = self.address.0.checked_add(self.done as u64) else {
+            return Outcome::Failed;
+        };
+        let left = self.bytes.len() - self.done;
+        let (count, outcome) = reach(host.table(self.table), at, left, Permissions::Write);
+        let end = self.done + count;
+        let part = &self.bytes[self.done..end];
+        if self
+            .memory
+            .write_slice(host, part, GuestAddress(at))
+            .is_err()
+        {
+            return Outcome::Failed;
+        }
+        self.done = end;
+        outcome
+    }
+}

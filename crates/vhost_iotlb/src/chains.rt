@@ -1,0 +1,212 @@
+//! Chains of descriptors whose bytes are read and written in tries.
+ghost use Rattle.std.specs.Prelude.{◌≡◌, ◌<◌, ◌≤◌, length, vec_len, IfOk};
+ghost use Rattle.vm_memory_guest.specs.Host.{shape_of, Holds};
+
+use crate::access::reach;
+use crate::request::{Outcome, Request};
+use vm_memory::{
+    Bitmap, Chain, ChainReader, ChainWriter, GuestMemory, GuestMemoryError, HostMemory, IommuError,
+    IovaRange, Permissions, TlbId,
+};
+
+// The range whose translation was refused, if one was.
+fn refused_range(error: &GuestMemoryError) -> Option<IovaRange> {
+    match error {
+        GuestMemoryError::IommuError(IommuError::CannotResolve { iova_range, .. }) => {
+            Some(*iova_range)
+        }
+        _ => None,
+    }
+}
+
+// What a try came to that did not do all.
+fn undone(outcome: Outcome) -> Outcome
+    ensures { result ≡ Outcome.Done → ⊥ }
+{
+    match outcome {
+        Outcome::Done => Outcome::Failed,
+        other => other,
+    }
+}
+
+// Reads what comes next in a chain, some bytes at least, or tells why there are none. Of an access that is refused it
+// reads the bytes in front of the address for that.
+fn read_some<M: GuestMemory, B: Bitmap>(
+    memory: &M,
+    host: &HostMemory<B>,
+    table: TlbId,
+    reader: &mut ChainReader<'_>,
+    bytes: &mut [u8],
+) -> Result<usize, Outcome>
+    requires held { Holds (shape_of host.now) (M.names memory.now) }
+    requires there { table.0 < length host.now.tables }
+    ensures most { IfOk result (λ n. n ≤ length bytes.old) }
+{
+    let len = bytes.len();
+    let range = match reader.read(memory, host, bytes) {
+        Ok(0) => return Err(Outcome::Failed),
+        Ok(count) => return Ok(count.min(len)),
+        Err(error) => match refused_range(&error) {
+            Some(range) => range,
+            None => return Err(Outcome::Failed),
+        },
+    };
+    let (count, outcome) = reach(
+        host.table(table),
+        range.base.0,
+        range.length,
+        Permissions::Read,
+    );
+    let front = count.min(len);
+    if front == 0 {
+        return Err(outcome);
+    }
+    match reader.read(memory, host, &mut bytes[..front]) {
+        Ok(0) | Err(_) => Err(Outcome::Failed),
+        Ok(count) => Ok(count.min(len)),
+    }
+}
+
+// Writes to what comes next in a chain, some bytes at least, or tells why there are none.
+fn write_some<M: GuestMemory, B: Bitmap>(
+    memory: &M,
+    host: &mut HostMemory<B>,
+    table: TlbId,
+    writer: &mut ChainWriter<'_>,
+    bytes: &[u8],
+) -> Result<usize, Outcome>
+    requires held { Holds (shape_of host.old) (M.names memory.now) }
+    requires there { table.0 < length host.old.tables }
+    ensures most { IfOk result (λ n. n ≤ length bytes.now) }
+    ensures shape { shape_of host.new ≡ shape_of host.old }
+{
+    let len = bytes.len();
+    let range = match writer.write(memory, host, bytes) {
+        Ok(0) => return Err(Outcome::Failed),
+        Ok(count) => return Ok(count.min(len)),
+        Err(error) => match refused_range(&error) {
+            Some(range) => range,
+            None => return Err(Outcome::Failed),
+        },
+    };
+    let (count, outcome) = reach(
+        host.table(table),
+        range.base.0,
+        range.length,
+        Permissions::Write,
+    );
+    let front = count.min(len);
+    if front == 0 {
+        return Err(outcome);
+    }
+    match writer.write(memory, host, &bytes[..front]) {
+        Ok(0) | Err(_) => Err(Outcome::Failed),
+        Ok(count) => Ok(count.min(len)),
+    }
+}
+
+/// A read of the readable bytes of a chain behind a table, as far as its mappings go, and on from there at the next
+/// try.
+#[derive(Drop)]
+pub struct ReadChain<'a, M> {
+    memory: &'a M,
+    table: TlbId,
+    reader: ChainReader<'a>,
+    bytes: Vec<u8>,
+    done: usize,
+    ghost in_range: { done ≤ vec_len bytes },
+}
+
+impl<'a, M: GuestMemory> ReadChain<'a, M> {
+    /// A read of as many bytes as there are, in place of them, through the table of this number.
+    pub fn new(memory: &'a M, table: TlbId, chain: &'a Chain, bytes: Vec<u8>) -> ReadChain<'a, M> {
+        ReadChain {
+            memory,
+            table,
+            reader: chain.reader(),
+            bytes,
+            done: 0,
+        }
+    }
+
+    /// The bytes, of which those in front were read.
+    pub fn into_bytes(self) -> Vec<u8> {
+        self.bytes
+    }
+}
+
+impl<M: GuestMemory> Request for ReadChain<'_, M> {
+    ghost is_done = { λ r. r.done ≡ vec_len r.bytes };
+
+    fn attempt<B: Bitmap>(&mut self, host: &mut HostMemory<B>) -> Outcome {
+        for _ in 0..usize::MAX {
+            if self.done >= self.bytes.len() {
+                return Outcome::Done;
+            }
+            if !host.holds(self.memory) || !host.shape().has_table(self.table) {
+                return Outcome::Failed;
+            }
+            let part = &mut self.bytes.as_mut_slice()[self.done..];
+            match read_some(self.memory, host, self.table, &mut self.reader, part) {
+                Ok(count) => self.done += count,
+                Err(outcome) => return undone(outcome),
+            }
+        }
+        Outcome::Failed
+    }
+}
+
+/// A write of the writable bytes of a chain behind a table, as far as its mappings go, and on from there at the next
+/// try.
+#[derive(Drop)]
+pub struct WriteChain<'a, M> {
+    memory: &'a M,
+    table: TlbId,
+    writer: ChainWriter<'a>,
+    bytes: &'a [u8],
+    done: usize,
+    ghost in_range: { done ≤ length bytes.now },
+}
+
+impl<'a, M: GuestMemory> WriteChain<'a, M> {
+    /// A write of these bytes to what a chain has room for, behind so many of its writable bytes, through the table of
+    /// this number.
+    pub fn new(
+        memory: &'a M,
+        table: TlbId,
+        chain: &'a Chain,
+        skipped: usize,
+        bytes: &'a [u8],
+    ) -> WriteChain<'a, M> {
+        let mut writer = chain.writer();
+        writer.skip(skipped);
+        WriteChain {
+            memory,
+            table,
+            writer,
+            bytes,
+            done: 0,
+        }
+    }
+}
+
+impl<M: GuestMemory> Request for WriteChain<'_, M> {
+    ghost is_done = { λ r. r.done ≡ length r.bytes.now };
+
+    fn attempt<B: Bitmap>(&mut self, host: &mut HostMemory<B>) -> Outcome {
+        for _ in 0..usize::MAX {
+            if self.done >= self.bytes.len() {
+                return Outcome::Done;
+            }
+            if !host.holds(self.memory) || !host.shape().has_table(self.table) {
+                return Outcome::Failed;
+            }
+            let part = &self.bytes[self.done..];
+            match write_some(self.memory, host, self.table, &mut self.writer, part) {
+                Ok(count) => self.done += count,
+                Err(outcome) => return undone(outcome),
+            }
+        }
+        Outcome::Failed
+    }
+}

@@ -1,0 +1,97 @@
+//! What holds of every list of messages: each function here is a theorem, and does nothing. It calls the theorems that
+//! it follows from.
+ghost use Rattle.std.specs.Prelude.{◌≡◌, ◌+◌, ◌-◌, ◌^◌, ◌<◌, ℕ, true, List, Some, None, slice_get, Ok};
+ghost use Rattle.vm_memory_base.specs.Address.{step};
+ghost use Rattle.vm_memory_base.specs.Pages.{PageSet};
+ghost use Rattle.vm_memory_base.specs.Permissions.{allow};
+ghost use Rattle.vm_memory_base.specs.Table as table;
+ghost use Rattle.vm_memory_base.specs.Table.{Table, TableEvent, events_of, says, says_after, says_after_all};
+ghost use Rattle.vm_memory_base.specs.declared.iotlb.Permissions.{Permissions};
+ghost use Rattle.vm_memory_guest.specs.Access.{Reached};
+ghost use Rattle.vm_memory_guest.specs.Host.{Host};
+ghost use Rattle.vm_memory_guest.specs.Memory.{Memory, Translation, behind_of};
+ghost use Rattle.vm_memory_guest.specs.Region.{Backed, cell};
+ghost use Rattle.vm_memory.specs.History.{GoesThrough, IsLast, table_events};
+ghost use Rattle.vm_memory.specs.Machine.{Run};
+ghost use Rattle.vm_memory.specs.Reply.{reached_by};
+ghost use Rattle.vm_memory.specs.State.{State};
+ghost use Rattle.vhost_iotlb.specs.Changes.{Handles};
+ghost use Rattle.vhost_iotlb.specs.Commands.{IsAmong, all_done, commands_of};
+ghost use Rattle.vhost_iotlb.specs.Message.{IsMessage, Spells, fields_in, fields_of, message_in, payload_bytes};
+ghost use Rattle.vhost_iotlb.specs.UserMemory.{guest_of};
+ghost use Rattle.vhost_iotlb.specs.declared.message.IotlbMessage.{IotlbMessage};
+ghost use Rattle.vhost_iotlb.specs.declared.message.IotlbMessage.TheVariants.{Update};
+ghost use Rattle.vhost_iotlb.specs.declared.user_memory.UserRegion.{UserRegion};
+
+use vm_memory::laws::machine::{
+    accesses_go_through_what_was_set_last, tables_say_what_was_set_last,
+};
+
+/// What is encoded is decoded as it was: the payload of a message spells it, and what spells it is decoded to it.
+pub fn messages_come_back()
+    ensures spelled { (m : IotlbMessage) → IsMessage m → Spells (fields_in (payload_bytes (fields_of m))) m }
+    ensures decoded { (m : IotlbMessage) → IsMessage m
+        → message_in (fields_in (payload_bytes (fields_of m))) ≡ Ok m }
+    ensures one { (payload : List ℕ) (m n : IotlbMessage) → Spells (fields_in payload) m
+        → Spells (fields_in payload) n → m ≡ n }
+{}
+
+/// What messages make of a table of a host are commands of a machine, each of which is done. So what holds of every
+/// run of a machine holds of every list of messages.
+pub fn messages_are_commands()
+    ensures run { (number : ℕ) (regions : List UserRegion) (ms : List IotlbMessage) (calls : List TableEvent)
+        (old new : Host PageSet) (s : State) → Handles number regions ms calls old new
+        → Run (record s { host = old }) (commands_of number calls) (all_done calls) (record s { host = new }) }
+    ensures events { (number : ℕ) (regions : List UserRegion) (ms : List IotlbMessage) (calls : List TableEvent)
+        (old new : Host PageSet) (t : Table) → Handles number regions ms calls old new
+        → table_events number t (commands_of number calls) (all_done calls) ≡ events_of calls t }
+    ensures updates { (number : ℕ) (regions : List UserRegion) (ms : List IotlbMessage) (calls : List TableEvent)
+        (old new : Host PageSet) (iova to len : ℕ) (perm : Permissions) → Handles number regions ms calls old new
+        → IsAmong (table.Set iova to len perm) calls
+        → (user : ℕ) × IsAmong (Update iova len user perm) ms
+        × (guest_of regions user len ≡ Some (record { 0 = to })) }
+{}
+
+/// After any list of messages a table says of each address what the call or eviction that covers it last made of it: an
+/// UPDATE that was applied mapped it, or an INVALIDATE or an eviction took the mapping back. Where none covers it, it
+/// says what it said before.
+pub fn tables_say_what_was_updated_last()
+    ensures all { (number x : ℕ) (regions : List UserRegion) (ms : List IotlbMessage) (calls : List TableEvent)
+        (old new : Host PageSet) (t : Table) → Handles number regions ms calls old new
+        → slice_get old.tables number ≡ Some t → x < 2 ^ 64
+        → (u : Table) × (slice_get new.tables number ≡ Some u)
+        × (says u x ≡ says_after_all (events_of calls t) x (says t x)) }
+    ensures last { (number x : ℕ) (regions : List UserRegion) (ms : List IotlbMessage) (calls : List TableEvent)
+        (old new : Host PageSet) (t u : Table) (call : TableEvent) → Handles number regions ms calls old new
+        → slice_get old.tables number ≡ Some t → slice_get new.tables number ≡ Some u → x < 2 ^ 64
+        → IsLast x (events_of calls t) call → says u x ≡ says_after call x None }
+{
+    messages_are_commands();
+    tables_say_what_was_set_last();
+}
+
+/// After any list of messages an access behind the table reaches each byte through the mapping that an UPDATE set last
+/// for its address, and never through one that an INVALIDATE or an eviction took back.
+pub fn accesses_go_through_what_was_updated_last()
+    ensures all { (regions : List UserRegion) (ms : List IotlbMessage) (calls : List TableEvent)
+        (old new : Host PageSet) (m : Memory) (b : Translation) (t : Table) (a n i : ℕ) (access : Permissions)
+        (x : Reached) → Handles b.table regions ms calls old new → behind_of m.iommu ≡ Some b
+        → slice_get old.tables b.table ≡ Some t → slice_get (reached_by m new.tables a n access).path i ≡ Some x
+        → GoesThrough m.regions (a + i) (says_after_all (events_of calls t) (a + i) (says t (a + i))) access x }
+    ensures updated { (regions : List UserRegion) (ms : List IotlbMessage) (calls : List TableEvent)
+        (old new : Host PageSet) (m : Memory) (b : Translation) (t : Table) (a n i iova to len : ℕ)
+        (access perm : Permissions) (x : Reached) → Handles b.table regions ms calls old new
+        → behind_of m.iommu ≡ Some b → slice_get old.tables b.table ≡ Some t
+        → slice_get (reached_by m new.tables a n access).path i ≡ Some x
+        → IsLast (a + i) (events_of calls t) (table.Set iova to len perm)
+        → (allow perm access ≡ true) × (cell m.regions (step to (a + i - iova)) ≡ Backed x.region x.cell) }
+    ensures taken_back { (regions : List UserRegion) (ms : List IotlbMessage) (calls : List TableEvent)
+        (old new : Host PageSet) (m : Memory) (b : Translation) (t : Table) (a n i : ℕ) (access : Permissions)
+        (x : Reached) (call : TableEvent) → Handles b.table regions ms calls old new
+        → behind_of m.iommu ≡ Some b → slice_get old.tables b.table ≡ Some t
+        → slice_get (reached_by m new.tables a n access).path i ≡ Some x
+        → IsLast (a + i) (events_of calls t) call → says_after call (a + i) None ≡ None → ⊥ }
+{
+    messages_are_commands();
+    accesses_go_through_what_was_set_last();
+}

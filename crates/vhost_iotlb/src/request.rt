@@ -1,0 +1,27 @@
+//! What is tried on guest memory, again and again until it misses nothing.
+ghost use Rattle.std.specs.Prelude.{◌≡◌};
+
+use vm_memory::{Bitmap, HostMemory, Permissions};
+
+/// What one try of a request came to.
+#[derive(Clone, Copy, Debug, PartialEq, Eq)]
+pub enum Outcome {
+    /// It is done.
+    Done,
+    /// The table has no mapping of an address that it has to access so: the first of those that it lacks.
+    Missed { iova: u64, access: Permissions },
+    /// The mapping of an address forbids an access that it has to make.
+    Forbidden { iova: u64, access: Permissions },
+    /// It cannot be done, whatever is mapped.
+    Failed,
+}
+
+/// An access, or a whole request of a device, that can be tried again: docs/VHOST.md.
+pub trait Request {
+    /// Whether it is done.
+    ghost is_done: { Self → Type 0 };
+
+    /// Tries it on the memory of a host. A try that is not `Done` may have done a part, with which the next goes on.
+    fn attempt<B: Bitmap>(&mut self, host: &mut HostMemory<B>) -> Outcome
+        ensures { result ≡ Outcome.Done → is_done self.new };
+}

@@ -1,0 +1,152 @@
+//! A bounded table of a host, and what messages make of it.
+ghost use Rattle.std.specs.Prelude.{◌≡◌, ◌⊎◌, ◌+◌, ◌^◌, ◌<◌, ℕ, true, false, List, [], length, Some, IfOk, OnOk, OnErr};
+ghost use Rattle.vm_memory_base.specs.Table as tables;
+ghost use Rattle.vm_memory_base.specs.Table.{TableEvent};
+ghost use Rattle.vm_memory_guest.specs.Host.{shape_of, with_given_table};
+ghost use Rattle.vhost_iotlb.specs.Changes.{Applies, Changes};
+
+use crate::malformed::Malformed;
+use crate::message::IotlbMessage;
+use crate::user_memory::UserMemory;
+use std::alloc::{AllocError, Global};
+use thiserror::Error;
+use vm_memory::{GuestAddress, HostMemory, Iotlb, Permissions, TlbId};
+
+/// Why a message was not applied. Then nothing changed.
+#[derive(Clone, Copy, Debug, PartialEq, Eq, Error)]
+pub enum Refusal {
+    /// The message is malformed.
+    #[error("malformed message: {0}")]
+    Malformed(Malformed),
+    /// An allocation failed.
+    #[error("out of memory")]
+    Memory,
+    /// The host has no such table.
+    #[error("no such table")]
+    NoTable,
+}
+
+/// A table of a host that a front end fills, and the memory that it announced.
+#[derive(Debug, Drop)]
+pub struct DeviceTable {
+    /// The number of the table.
+    pub table: TlbId,
+    /// What user addresses mean.
+    pub memory: UserMemory,
+}
+
+// Maps a range of a table of a host.
+fn set_in<B>(
+    host: &mut HostMemory<B>,
+    table: TlbId,
+    iova: u64,
+    to: GuestAddress,
+    size: u64,
+    permissions: Permissions,
+) -> bool
+    requires there { table.0 < length host.old.tables }
+    requires fits { iova + size < 2 ^ 64 }
+    ensures set { result ≡ true → Changes table.0 (tables.Set iova to.0 size permissions) host.old host.new }
+    ensures refused { result ≡ false → host.new ≡ host.old }
+    ensures shape { shape_of host.new ≡ shape_of host.old }
+{
+    let set = host
+        .table_mut(table)
+        .set_mapping(GuestAddress(iova), to, size as usize, permissions);
+    match set {
+        Ok(()) => true,
+        Err(_) => false,
+    }
+}
+
+// Takes back the mappings of a range, or all, where memory is short: to take back a part of a range may want some.
+fn take_back(table: &mut Iotlb, iova: u64, size: u64)
+    requires { iova + size < 2 ^ 64 }
+    ensures { (table.new ≡ tables.changed (tables.Invalidate iova size) table.old)
+        ⊎ (table.new ≡ tables.changed tables.InvalidateAll table.old) }
+{
+    if table
+        .invalidate_mapping(GuestAddress(iova), size as usize)
+        .is_err()
+    {
+        table.invalidate_all();
+    }
+}
+
+// The same of a table of a host.
+fn take_back_in<B>(host: &mut HostMemory<B>, table: TlbId, iova: u64, size: u64)
+    requires there { table.0 < length host.old.tables }
+    requires fits { iova + size < 2 ^ 64 }
+    ensures changed { Changes table.0 (tables.Invalidate iova size) host.old host.new
+        ⊎ Changes table.0 tables.InvalidateAll host.old host.new }
+    ensures shape { shape_of host.new ≡ shape_of host.old }
+{
+    take_back(host.table_mut(table), iova, size);
+}
+
+impl DeviceTable {
+    /// Makes a table of a host that keeps at most `limit` ranges, which has to be 1 or more, for a front end that
+    /// announced this memory. `AllocError` where there is no room for it, and then nothing changes.
+    pub fn new<B>(
+        alloc: Global,
+        host: &mut HostMemory<B>,
+        limit: usize,
+        memory: UserMemory,
+    ) -> Result<DeviceTable, AllocError>
+        requires { 0 < limit }
+        ensures number { IfOk result (λ d. d.table.0 ≡ length host.old.tables) }
+        ensures memory { IfOk result (λ d. d.memory ≡ memory) }
+        ensures ok { OnOk result (host.new ≡ with_given_table host.old (record { limit = Some limit; ranges = [] })) }
+        ensures err { OnErr result (host.new ≡ host.old) }
+    {
+        let table = host.new_table_with(Iotlb::with_limit(alloc, limit))?;
+        Ok(DeviceTable { table, memory })
+    }
+
+    /// Applies a message of the front end to the table: an UPDATE maps its range to the guest memory that its user
+    /// address is, and an INVALIDATE takes its range back. Where memory is too short for that, it takes back all,
+    /// which the table then misses: an INVALIDATE is never refused for memory. An UPDATE is, with `Memory`.
+    ///
+    /// `Malformed` with `Kind` for a message that a front end does not send, with `Range` for a range past the last
+    /// address, and with `UserAddress` where the announced memory does not hold an UPDATE's. `NoTable` where the host
+    /// has no such table. Whatever is refused changes nothing.
+    pub fn apply<B>(&self, host: &mut HostMemory<B>, message: &IotlbMessage) -> Result<(), Refusal>
+        ensures applied { (calls : List TableEvent)
+            × Applies self.now.table.0 self.now.memory message.now result calls host.old host.new }
+        ensures shape { shape_of host.new ≡ shape_of host.old }
+    {
+        if !host.shape().has_table(self.table) {
+            return Err(Refusal::NoTable);
+        }
+        match *message {
+            IotlbMessage::Update {
+                iova,
+                size,
+                user_address,
+                permissions,
+            } => {
+                if iova.checked_add(size).is_none() {
+                    return Err(Refusal::Malformed(Malformed::Range));
+                }
+                let Some(to) = self.memory.guest_of(user_address, size) else {
+                    return Err(Refusal::Malformed(Malformed::UserAddress));
+                };
+                if set_in(host, self.table, iova, to, size, permissions) {
+                    Ok(())
+                } else {
+                    Err(Refusal::Memory)
+                }
+            }
+            IotlbMessage::Invalidate { iova, size } => {
+                if iova.checked_add(size).is_none() {
+                    return Err(Refusal::Malformed(Malformed::Range));
+                }
+                take_back_in(host, self.table, iova, size);
+                Ok(())
+            }
+            IotlbMessage::Miss { .. } | IotlbMessage::AccessFail { .. } => {
+                Err(Refusal::Malformed(Malformed::Kind))
+            }
+        }
+    }
+}
