@@ -121,6 +121,7 @@ pub enum Kind {
 
 impl Kind {
     // Whether a call of this kind sets up.
+    #[inline(always)]
     pub(crate) fn sets_up(self) -> bool
         ensures { result ≡ sets_up self }
     {
@@ -173,12 +174,14 @@ const KINDS: [Kind; 33] = [
 ];
 
 // The kind of a number, if it is one.
+#[inline(always)]
 pub(crate) fn kind_of(number: u32) -> Option<Kind>
     ensures { result ≡ slice_get kinds number }
 {
     nth(&KINDS, number as usize)
 }
 
+#[inline(always)]
 fn nth(kinds: &[Kind], number: usize) -> Option<Kind>
     ensures { result ≡ slice_get kinds.now number }
 {
@@ -214,7 +217,7 @@ pub(crate) fn switch_of(number: u64) -> Option<bool>
 }
 
 // A width by its number of bytes, if it is one.
-#[inline]
+#[inline(always)]
 pub(crate) fn width_of(number: u32) -> Option<Width>
     ensures { result ≡ width_at number }
 {

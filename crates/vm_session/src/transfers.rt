@@ -23,18 +23,28 @@ pub(crate) fn receive(
     machine: &mut ScriptMachine,
     call: &Call,
     input: &[u8],
-) -> Answer
+    answer: &mut Answer,
+)
     ensures { (out : List ℕ) → DoesListed (state_made machine.old) (command_at Kind.ReadFrom call.now input.now)
-        out result out (state_made machine.new) }
+        out answer.new out (state_made machine.new) }
 {
     let steps = match source(alloc, input) {
         Ok(Some(steps)) => steps,
-        Ok(None) => return Answer::of_code(code::BAD_CALL),
-        Err(_) => return Answer::of_code(code::MEMORY),
+        Ok(None) => {
+            *answer = Answer::of_code(code::BAD_CALL);
+            return;
+        }
+        Err(_) => {
+            *answer = Answer::of_code(code::MEMORY);
+            return;
+        }
     };
     let mut source = ScriptSource::new(steps.as_slice());
     let addr = GuestAddress(call.address);
-    moved(machine.read_volatile_from(call.first, addr, &mut source, call.length))
+    moved(
+        machine.read_volatile_from(call.first, addr, &mut source, call.length),
+        answer,
+    );
 }
 
 // Receives just so many bytes of a memory.
@@ -43,18 +53,28 @@ pub(crate) fn receive_whole(
     machine: &mut ScriptMachine,
     call: &Call,
     input: &[u8],
-) -> Answer
+    answer: &mut Answer,
+)
     ensures { (out : List ℕ) → DoesListed (state_made machine.old) (command_at Kind.ReadExactFrom call.now input.now)
-        out result out (state_made machine.new) }
+        out answer.new out (state_made machine.new) }
 {
     let steps = match source(alloc, input) {
         Ok(Some(steps)) => steps,
-        Ok(None) => return Answer::of_code(code::BAD_CALL),
-        Err(_) => return Answer::of_code(code::MEMORY),
+        Ok(None) => {
+            *answer = Answer::of_code(code::BAD_CALL);
+            return;
+        }
+        Err(_) => {
+            *answer = Answer::of_code(code::MEMORY);
+            return;
+        }
     };
     let mut source = ScriptSource::new(steps.as_slice());
     let addr = GuestAddress(call.address);
-    done(machine.read_exact_volatile_from(call.first, addr, &mut source, call.length))
+    done(
+        machine.read_exact_volatile_from(call.first, addr, &mut source, call.length),
+        answer,
+    );
 }
 
 // Sends at most so many bytes of a memory. What the sink takes goes to the front of the output.
