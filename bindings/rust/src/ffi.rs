@@ -48,10 +48,9 @@ impl Session {
         })
     }
 
-    /// Makes a call.
+    /// Makes a call. The answer is read where the library puts it, as a copy of it would wait for these stores.
     #[inline]
-    pub(crate) fn call(&self, call: &Call, input: &[u8], output: &mut [u8]) -> Answer {
-        let mut answer = Answer::default();
+    pub(crate) fn call(&self, call: &Call, input: &[u8], output: &mut [u8], answer: &mut Answer) {
         // SAFETY: the declaration fits the library's function. The handle is that of an open session, as each call leaves
         // it, and no other call of it runs: the session is on this thread alone, and the library calls nothing back. So
         // nothing else reads or writes what the cell has while the library does. The other pointers and the lengths are
@@ -64,10 +63,9 @@ impl Session {
                 input.len(),
                 output.as_mut_ptr(),
                 output.len(),
-                &mut answer,
+                answer,
             );
         }
-        answer
     }
 }
 

@@ -44,32 +44,59 @@ impl<'a> GuestMemory<'a> {
         }
     }
 
+    // Makes a call that accesses the memory, and tells why it was refused, if it was.
+    #[inline]
+    fn access(
+        &self,
+        call: &Call,
+        input: &[u8],
+        output: &mut [u8],
+        answer: &mut Answer,
+    ) -> Result<(), GuestMemoryError> {
+        self.machine.call_into(call, input, output, answer);
+        if answer.code == code::DONE {
+            Ok(())
+        } else {
+            Err(refusal_of(answer))
+        }
+    }
+
     /// Writes the beginning of the buffer that fits, and answers how many bytes that is.
     #[inline]
     pub fn write(&self, buf: &[u8], addr: GuestAddress) -> Result<usize, GuestMemoryError> {
-        let answer = self.machine.call(&self.at(kind::WRITE, addr, 0), buf, &mut []);
-        done(&answer)?;
+        let mut answer = Answer::default();
+        self.access(&self.at(kind::WRITE, addr, 0), buf, &mut [], &mut answer)?;
         Ok(answer.count)
     }
 
     /// Reads into the beginning of the buffer, and answers how many bytes that is.
     #[inline]
     pub fn read(&self, buf: &mut [u8], addr: GuestAddress) -> Result<usize, GuestMemoryError> {
-        let answer = self.machine.call(&self.at(kind::READ, addr, buf.len()), &[], buf);
-        done(&answer)?;
+        let mut answer = Answer::default();
+        self.access(&self.at(kind::READ, addr, buf.len()), &[], buf, &mut answer)?;
         Ok(answer.count)
     }
 
     /// Writes the whole buffer. Where only its beginning fits, it writes that, and the error says how long it is.
     #[inline]
     pub fn write_slice(&self, buf: &[u8], addr: GuestAddress) -> Result<(), GuestMemoryError> {
-        done(&self.machine.call(&self.at(kind::WRITE_SLICE, addr, 0), buf, &mut []))
+        self.access(
+            &self.at(kind::WRITE_SLICE, addr, 0),
+            buf,
+            &mut [],
+            &mut Answer::default(),
+        )
     }
 
     /// Fills the whole buffer. Where only its beginning can be filled, it fills that, and the error says how long it is.
     #[inline]
     pub fn read_slice(&self, buf: &mut [u8], addr: GuestAddress) -> Result<(), GuestMemoryError> {
-        done(&self.machine.call(&self.at(kind::READ_SLICE, addr, buf.len()), &[], buf))
+        self.access(
+            &self.at(kind::READ_SLICE, addr, buf.len()),
+            &[],
+            buf,
+            &mut Answer::default(),
+        )
     }
 
     /// Writes the bytes of a value.
@@ -90,7 +117,7 @@ impl<'a> GuestMemory<'a> {
         let mut call = self.at(kind::STORE, addr, 0);
         call.width = T::WIDTH;
         call.value = val.to_number();
-        done(&self.machine.call(&call, &[], &mut []))
+        self.access(&call, &[], &mut [], &mut Answer::default())
     }
 
     /// Loads a value as one integer.
@@ -98,8 +125,8 @@ impl<'a> GuestMemory<'a> {
     pub fn load<T: AtomicAccess>(&self, addr: GuestAddress, _order: Ordering) -> Result<T, GuestMemoryError> {
         let mut call = self.at(kind::LOAD, addr, 0);
         call.width = T::WIDTH;
-        let answer = self.machine.call(&call, &[], &mut []);
-        done(&answer)?;
+        let mut answer = Answer::default();
+        self.access(&call, &[], &mut [], &mut answer)?;
         Ok(T::from_number(answer.value))
     }
 
@@ -108,16 +135,6 @@ impl<'a> GuestMemory<'a> {
         let mut call = self.at(kind::CHECK_RANGE, addr, count);
         call.access = access as u32;
         matches!(self.machine.ask(call), Ok(answer) if answer.value == 1)
-    }
-}
-
-// Tells why an access was refused, if it was.
-#[inline]
-fn done(answer: &Answer) -> Result<(), GuestMemoryError> {
-    if answer.code == code::DONE {
-        Ok(())
-    } else {
-        Err(refusal_of(answer))
     }
 }
 

@@ -1,11 +1,13 @@
 //! The calls of a machine, by their kinds.
 ghost use Rattle.std.specs.Prelude.{◌≡◌, List, [], ℕ, false, IsTrue, is_some, option_map, slice_get};
+ghost use Rattle.vm_memory.specs.Calls.{IsInteger};
 ghost use Rattle.vm_memory.specs.Machine.{Step};
 ghost use Rattle.vm_memory.specs.Pools.{state_made};
 ghost use Rattle.vm_memory.specs.Reply.{replied};
 ghost use Rattle.vm_memory.specs.Typed.{fits_width, integer_of};
 ghost use Rattle.vm_memory.specs.declared.machine.command.Command.TheVariants as command;
 ghost use Rattle.vm_memory.specs.declared.machine.command.Reply.TheVariants as reply;
+ghost use Rattle.vm_memory.specs.declared.machine.command.Width as widths;
 ghost use Rattle.vm_session.specs.Kinds.{is_listing, is_making, is_moving};
 ghost use Rattle.vm_session.specs.Requests.{address, command_at};
 ghost use Rattle.vm_session.specs.Session.{Does, DoesListed, Loads, Served, Stores};
@@ -20,7 +22,7 @@ use crate::words::numbers_of;
 use std::alloc::Global;
 use vm_memory::script::ScriptMachine;
 use vm_memory::{BlockRange, Refusal, Width};
-use vm_memory_base::{BitmapId, GuestAddress, Permissions};
+use vm_memory_base::{AtomicAccess, BitmapId, GuestAddress, Permissions};
 
 // Serves a call of a kind that is none of setup. Each kind of call has a function of its own, so that a short one pays
 // for its own values alone.
@@ -316,33 +318,49 @@ fn word_at(machine: &ScriptMachine, call: &Call, width: Width) -> Result<u64, Re
 }
 
 // Stores a number as an integer of this width, if it is one.
-#[inline(never)]
+#[inline(always)]
 fn store(machine: &mut ScriptMachine, call: &Call, width: Width, answer: &mut Answer)
     ensures { Stores (state_made machine.old) call.now width answer.new (state_made machine.new) }
 {
     if !width.fits(call.value) {
-        *answer = too_wide(machine, call, width);
+        too_wide(machine, call, width, answer);
         return;
     }
-    let addr = GuestAddress(call.address);
     match width {
-        Width::One => done(machine.store(call.first, addr, call.value as u8), answer),
-        Width::Two => done(machine.store(call.first, addr, call.value as u16), answer),
-        Width::Four => done(machine.store(call.first, addr, call.value as u32), answer),
-        Width::Eight => done(machine.store(call.first, addr, call.value), answer),
+        Width::One => store_as(machine, call, call.value as u8, answer),
+        Width::Two => store_as(machine, call, call.value as u16, answer),
+        Width::Four => store_as(machine, call, call.value as u32, answer),
+        Width::Eight => store_as(machine, call, call.value, answer),
     }
+}
+
+// Stores a value. Each type has a function of its own, into which all of the access is inlined.
+#[inline(never)]
+fn store_as<T: AtomicAccess>(
+    machine: &mut ScriptMachine,
+    call: &Call,
+    value: T,
+    answer: &mut Answer,
+)
+    ensures { (width : widths.Width) → IsInteger (T.bytes value) width call.now.value
+        → Stores (state_made machine.old) call.now width answer.new (state_made machine.new) }
+{
+    done(
+        machine.store(call.first, GuestAddress(call.address), value),
+        answer,
+    );
 }
 
 // Refuses a value that has too many bytes, where the memory is there.
 #[inline(never)]
-fn too_wide(machine: &ScriptMachine, call: &Call, width: Width) -> Answer
+fn too_wide(machine: &ScriptMachine, call: &Call, width: Width, answer: &mut Answer)
     requires { fits_width (integer_of width) call.now.value ≡ false }
-    ensures { let now = state_made machine.now in Stores now call.now width result now }
+    ensures { let now = state_made machine.now in Stores now call.now width answer.new now }
 {
     if has_memory(machine, call.first) {
-        Answer::of_code(code::BAD_RANGE)
+        *answer = Answer::of_code(code::BAD_RANGE);
     } else {
-        Answer::of_code(code::NO_SUCH)
+        *answer = Answer::of_code(code::NO_SUCH);
     }
 }
 
