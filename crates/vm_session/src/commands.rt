@@ -8,7 +8,7 @@ ghost use Rattle.vm_memory.specs.Typed.{fits_width, integer_of};
 ghost use Rattle.vm_memory.specs.declared.machine.command.Command.TheVariants as command;
 ghost use Rattle.vm_memory.specs.declared.machine.command.Reply.TheVariants as reply;
 ghost use Rattle.vm_memory.specs.declared.machine.command.Width as widths;
-ghost use Rattle.vm_session.specs.Kinds.{is_listing, is_making, is_moving};
+ghost use Rattle.vm_session.specs.Kinds.{is_access, is_listing, is_making, is_moving};
 ghost use Rattle.vm_session.specs.Requests.{address, command_at};
 ghost use Rattle.vm_session.specs.Session.{Does, DoesListed, Loads, Served, Stores};
 ghost use Rattle.vm_session.specs.Words.{numbers_in};
@@ -24,9 +24,7 @@ use vm_memory::script::ScriptMachine;
 use vm_memory::{BlockRange, Refusal, Width};
 use vm_memory_base::{AtomicAccess, BitmapId, GuestAddress, Permissions};
 
-// Serves a call of a kind that is none of setup. Each kind of call has a function of its own, so that a short one pays
-// for its own values alone.
-#[inline(always)]
+// Serves a call of a kind that is none of setup.
 pub(crate) fn serve(
     alloc: Global,
     machine: &mut ScriptMachine,
@@ -40,18 +38,8 @@ pub(crate) fn serve(
         (state_made machine.new) }
 {
     match kind {
-        Kind::Read => read(machine, call, output, answer),
-        Kind::Write => write(machine, call, input, answer),
-        Kind::ReadSlice => read_slice(machine, call, output, answer),
-        Kind::WriteSlice => write_slice(machine, call, input, answer),
-        Kind::Store => match width_of(call.width) {
-            Some(width) => store(machine, call, width, answer),
-            None => *answer = Answer::of_code(code::BAD_CALL),
-        },
-        Kind::Load => match width_of(call.width) {
-            Some(width) => load(machine, call, width, answer),
-            None => *answer = Answer::of_code(code::BAD_CALL),
-        },
+        Kind::Read | Kind::Write | Kind::ReadSlice | Kind::WriteSlice | Kind::Store | Kind::Load =>
+            serve_access(machine, kind, call, input, output, answer),
         Kind::Layout
         | Kind::Insert
         | Kind::Remove
@@ -79,6 +67,38 @@ pub(crate) fn serve(
         | Kind::LimitedTable
         | Kind::Region
         | Kind::Translator => *answer = Answer::of_code(code::BAD_CALL),
+    }
+}
+
+// The calls that are made most often: those that access bytes of a memory. Each has a function of its own, since a
+// function pays at its entry for all values that it may come to have.
+#[inline(always)]
+pub(crate) fn serve_access(
+    machine: &mut ScriptMachine,
+    kind: Kind,
+    call: &Call,
+    input: &[u8],
+    output: &mut [u8],
+    answer: &mut Answer,
+)
+    requires { IsTrue (is_access kind) }
+    ensures { Served (state_made machine.old) kind call.now input.now output.old answer.new output.new
+        (state_made machine.new) }
+{
+    match kind {
+        Kind::Read => read(machine, call, output, answer),
+        Kind::Write => write(machine, call, input, answer),
+        Kind::ReadSlice => read_slice(machine, call, output, answer),
+        Kind::WriteSlice => write_slice(machine, call, input, answer),
+        Kind::Store => match width_of(call.width) {
+            Some(width) => store(machine, call, width, answer),
+            None => *answer = Answer::of_code(code::BAD_CALL),
+        },
+        Kind::Load => match width_of(call.width) {
+            Some(width) => load(machine, call, width, answer),
+            None => *answer = Answer::of_code(code::BAD_CALL),
+        },
+        _ => unreachable!(),
     }
 }
 

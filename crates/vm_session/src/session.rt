@@ -8,9 +8,9 @@ ghost use Rattle.vm_session.specs.Inside.{IsSettingUp, stage_of};
 ghost use Rattle.vm_session.specs.Kinds.{sets_up};
 ghost use Rattle.vm_session.specs.Session.{Answers, AnswersKind, Served, SetsUpBy, after_command};
 
-use crate::call::{Answer, Call, Kind, kind_of};
+use crate::call::{Answer, Call, Kind, access_kind, kind_of};
 use crate::code;
-use crate::commands::serve;
+use crate::commands::{serve, serve_access};
 use crate::setup::set_up;
 use std::alloc::Global;
 use std::marker::Model;
@@ -66,6 +66,19 @@ impl Session {
     pub fn call_into(&mut self, call: &Call, input: &[u8], output: &mut [u8], answer: &mut Answer)
         ensures { Answers self.old call.now input.now output.old answer.new output.new self.new }
     {
+        if let Some(kind) = access_kind(call.kind) {
+            if let Some(machine) = &mut self.machine {
+                serve_access(machine, kind, call, input, output, answer);
+                return;
+            }
+        }
+        self.call_any(call, input, output, answer);
+    }
+
+    #[inline(never)]
+    fn call_any(&mut self, call: &Call, input: &[u8], output: &mut [u8], answer: &mut Answer)
+        ensures { Answers self.old call.now input.now output.old answer.new output.new self.new }
+    {
         match kind_of(call.kind) {
             None => *answer = Answer::of_code(code::BAD_CALL),
             Some(kind) => {
@@ -78,7 +91,6 @@ impl Session {
         }
     }
 
-    #[inline(never)]
     fn set_up(&mut self, kind: Kind, call: &Call, answer: &mut Answer)
         requires { IsTrue (sets_up kind) }
         ensures { SetsUpBy self.old kind call.now answer.new self.new }
@@ -90,7 +102,6 @@ impl Session {
         *answer = set_up(&mut self.pools, kind, call);
     }
 
-    #[inline(always)]
     fn run(&mut self, kind: Kind, call: &Call, input: &[u8], output: &mut [u8], answer: &mut Answer)
         ensures { AnswersKind false kind self.old call.now input.now output.old answer.new output.new self.new }
     {
@@ -101,9 +112,7 @@ impl Session {
         self.run_first(kind, call, input, output, answer);
     }
 
-    // Runs the first call that is none of setup. A function pays at its entry for all values that it may come to have, so
-    // that those of this one are no part of `run`.
-    #[inline(never)]
+    // Runs the first call that is none of setup.
     fn run_first(
         &mut self,
         kind: Kind,
@@ -125,7 +134,6 @@ impl Session {
 
 // Serves the first call that is none of setup, by a machine of what was set up. Where the call is refused, the machine
 // is taken apart again, and the setup goes on.
-#[inline(never)]
 fn serve_first(
     alloc: Global,
     pools: Pools,
