@@ -1,15 +1,12 @@
 //! The calls of a machine, by their kinds.
 ghost use Rattle.std.specs.Prelude.{◌≡◌, List, [], ℕ, false, IsTrue, is_some, option_map, slice_get};
 ghost use Rattle.vm_memory.specs.Calls.{IsInteger};
-ghost use Rattle.vm_memory.specs.Machine.{Step};
 ghost use Rattle.vm_memory.specs.Pools.{state_made};
-ghost use Rattle.vm_memory.specs.Reply.{replied};
 ghost use Rattle.vm_memory.specs.Typed.{fits_width, integer_of};
 ghost use Rattle.vm_memory.specs.declared.machine.command.Command.TheVariants as command;
-ghost use Rattle.vm_memory.specs.declared.machine.command.Reply.TheVariants as reply;
 ghost use Rattle.vm_memory.specs.declared.machine.command.Width as widths;
 ghost use Rattle.vm_session.specs.Kinds.{is_access, is_listing, is_making, is_moving};
-ghost use Rattle.vm_session.specs.Requests.{address, command_at};
+ghost use Rattle.vm_session.specs.Requests.{command_at};
 ghost use Rattle.vm_session.specs.Session.{Does, DoesListed, Loads, Served, Stores};
 ghost use Rattle.vm_session.specs.Words.{numbers_in};
 
@@ -21,7 +18,7 @@ use crate::transfers::{receive, receive_whole, send, send_whole};
 use crate::words::numbers_of;
 use std::alloc::Global;
 use vm_memory::script::ScriptMachine;
-use vm_memory::{BlockRange, Refusal, Width};
+use vm_memory::{BlockRange, Width};
 use vm_memory_base::{AtomicAccess, BitmapId, GuestAddress, Permissions};
 
 // Serves a call of a kind that is none of setup.
@@ -186,8 +183,8 @@ fn serve_moving(
 {
     let addr = GuestAddress(call.address);
     match kind {
-        Kind::ReadFrom => receive(alloc, machine, call, input, answer),
-        Kind::ReadExactFrom => receive_whole(alloc, machine, call, input, answer),
+        Kind::ReadFrom => *answer = receive(alloc, machine, call, input),
+        Kind::ReadExactFrom => *answer = receive_whole(alloc, machine, call, input),
         Kind::CheckRange => match access_of(call.access) {
             Some(access) => {
                 checked(
@@ -310,31 +307,8 @@ fn write_slice(machine: &mut ScriptMachine, call: &Call, input: &[u8], answer: &
 fn load(machine: &ScriptMachine, call: &Call, width: Width, answer: &mut Answer)
     ensures { Loads (state_made machine.now) call.now width answer.new }
 {
-    loaded(word_at(machine, call, width), answer);
-}
-
-// Loads an integer of this width, as a number. `Machine::load_word` does so too, but is not inlined.
-#[inline(always)]
-fn word_at(machine: &ScriptMachine, call: &Call, width: Width) -> Result<u64, Refusal>
-    ensures { let now = state_made machine.now in
-        Step now (command.Load call.now.first width (address call.now.address)) (replied reply.Value result) now }
-{
     let addr = GuestAddress(call.address);
-    match width {
-        Width::One => match machine.load::<u8>(call.first, addr) {
-            Ok(value) => Ok(u64::from(value)),
-            Err(refusal) => Err(refusal),
-        },
-        Width::Two => match machine.load::<u16>(call.first, addr) {
-            Ok(value) => Ok(u64::from(value)),
-            Err(refusal) => Err(refusal),
-        },
-        Width::Four => match machine.load::<u32>(call.first, addr) {
-            Ok(value) => Ok(u64::from(value)),
-            Err(refusal) => Err(refusal),
-        },
-        Width::Eight => machine.load::<u64>(call.first, addr),
-    }
+    loaded(machine.load_word(call.first, width, addr), answer);
 }
 
 // Stores a number as an integer of this width, if it is one.

@@ -23,28 +23,21 @@ pub(crate) fn receive(
     machine: &mut ScriptMachine,
     call: &Call,
     input: &[u8],
-    answer: &mut Answer,
-)
+) -> Answer
     ensures { (out : List ℕ) → DoesListed (state_made machine.old) (command_at Kind.ReadFrom call.now input.now)
-        out answer.new out (state_made machine.new) }
+        out result out (state_made machine.new) }
 {
     let steps = match source(alloc, input) {
         Ok(Some(steps)) => steps,
-        Ok(None) => {
-            *answer = Answer::of_code(code::BAD_CALL);
-            return;
-        }
-        Err(_) => {
-            *answer = Answer::of_code(code::MEMORY);
-            return;
-        }
+        Ok(None) => return Answer::of_code(code::BAD_CALL),
+        Err(_) => return Answer::of_code(code::MEMORY),
     };
     let mut source = ScriptSource::new(steps.as_slice());
     let addr = GuestAddress(call.address);
-    moved(
-        machine.read_volatile_from(call.first, addr, &mut source, call.length),
-        answer,
-    );
+    let outcome = machine.read_volatile_from(call.first, addr, &mut source, call.length);
+    let mut answer = Answer::of_code(code::DONE);
+    moved(outcome, &mut answer);
+    answer
 }
 
 // Receives just so many bytes of a memory.
@@ -53,28 +46,21 @@ pub(crate) fn receive_whole(
     machine: &mut ScriptMachine,
     call: &Call,
     input: &[u8],
-    answer: &mut Answer,
-)
+) -> Answer
     ensures { (out : List ℕ) → DoesListed (state_made machine.old) (command_at Kind.ReadExactFrom call.now input.now)
-        out answer.new out (state_made machine.new) }
+        out result out (state_made machine.new) }
 {
     let steps = match source(alloc, input) {
         Ok(Some(steps)) => steps,
-        Ok(None) => {
-            *answer = Answer::of_code(code::BAD_CALL);
-            return;
-        }
-        Err(_) => {
-            *answer = Answer::of_code(code::MEMORY);
-            return;
-        }
+        Ok(None) => return Answer::of_code(code::BAD_CALL),
+        Err(_) => return Answer::of_code(code::MEMORY),
     };
     let mut source = ScriptSource::new(steps.as_slice());
     let addr = GuestAddress(call.address);
-    done(
-        machine.read_exact_volatile_from(call.first, addr, &mut source, call.length),
-        answer,
-    );
+    let outcome = machine.read_exact_volatile_from(call.first, addr, &mut source, call.length);
+    let mut answer = Answer::of_code(code::DONE);
+    done(outcome, &mut answer);
+    answer
 }
 
 // Sends at most so many bytes of a memory. What the sink takes goes to the front of the output.
