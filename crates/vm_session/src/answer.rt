@@ -77,7 +77,7 @@ pub(crate) fn refused(refusal: Refusal) -> Answer
     }
 }
 
-// Answers a call that gives nothing back. An answer is put where it is wanted: a copy of one takes as long as a load.
+// Answers a call that gives nothing back. An answer is put where it is wanted, so that it is not copied.
 #[inline(always)]
 pub(crate) fn done(outcome: Result<(), Refusal>, answer: &mut Answer)
     ensures { answer.new ≡ answer_of (replied as_done outcome) }

@@ -61,7 +61,7 @@ impl Session {
         answer
     }
 
-    /// Answers a call as `call` does, and leaves the answer where it is wanted: a copy of one costs as much as a load.
+    /// Answers a call as `call` does, and puts the answer where it is wanted, so that it is not copied.
     #[inline]
     pub fn call_into(&mut self, call: &Call, input: &[u8], output: &mut [u8], answer: &mut Answer)
         ensures { Answers self.old call.now input.now output.old answer.new output.new self.new }
