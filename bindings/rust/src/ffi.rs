@@ -48,27 +48,24 @@ impl Session {
         })
     }
 
-    /// Makes a call.
+    /// Makes a call. The answer is read where the library puts it, as a copy of it would wait for these stores.
     #[inline]
-    pub(crate) fn call(&self, call: &Call, input: &[u8], output: &mut [u8]) -> Answer {
-        let mut handle = self.handle.get();
-        let mut answer = Answer::default();
+    pub(crate) fn call(&self, call: &Call, input: &[u8], output: &mut [u8], answer: &mut Answer) {
         // SAFETY: the declaration fits the library's function. The handle is that of an open session, as each call leaves
-        // it, and no other call of it runs: the session is on this thread alone, and the library calls nothing back. The
-        // pointers and lengths are those of one `&[u8]` and one `&mut [u8]`, and all are borrowed for the call.
+        // it, and no other call of it runs: the session is on this thread alone, and the library calls nothing back. So
+        // nothing else reads or writes what the cell has while the library does. The other pointers and the lengths are
+        // those of a `&Call`, a `&[u8]`, a `&mut [u8]` and a `&mut Answer`, and all are borrowed for the call.
         unsafe {
             vmm_call(
-                &mut handle,
+                self.handle.as_ptr(),
                 call,
                 input.as_ptr(),
                 input.len(),
                 output.as_mut_ptr(),
                 output.len(),
-                &mut answer,
+                answer,
             );
         }
-        self.handle.set(handle);
-        answer
     }
 }
 

@@ -95,7 +95,15 @@ impl Machine {
     /// Makes a call of plain numbers.
     #[inline]
     pub fn call(&self, call: &Call, input: &[u8], output: &mut [u8]) -> Answer {
-        self.session.call(call, input, output)
+        let mut answer = Answer::default();
+        self.call_into(call, input, output, &mut answer);
+        answer
+    }
+
+    // Makes a call, and puts its answer where it is wanted.
+    #[inline]
+    pub(crate) fn call_into(&self, call: &Call, input: &[u8], output: &mut [u8], answer: &mut Answer) {
+        self.session.call(call, input, output, answer);
     }
 
     // A call without input and output.

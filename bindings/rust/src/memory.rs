@@ -1,8 +1,8 @@
 //! Guest memory of a machine.
 
-use crate::error::GuestMemoryError;
-use crate::machine::{answered, Machine, Permissions};
-use crate::raw::{code, kind, Call};
+use crate::error::{error_of, GuestMemoryError};
+use crate::machine::{Machine, Permissions};
+use crate::raw::{code, kind, Answer, Call};
 use crate::value::{AtomicAccess, ByteValued};
 use std::sync::atomic::Ordering;
 
@@ -44,46 +44,59 @@ impl<'a> GuestMemory<'a> {
         }
     }
 
+    // Makes a call that accesses the memory, and tells why it was refused, if it was.
+    #[inline]
+    fn access(
+        &self,
+        call: &Call,
+        input: &[u8],
+        output: &mut [u8],
+        answer: &mut Answer,
+    ) -> Result<(), GuestMemoryError> {
+        self.machine.call_into(call, input, output, answer);
+        if answer.code == code::DONE {
+            Ok(())
+        } else {
+            Err(refusal_of(answer))
+        }
+    }
+
     /// Writes the beginning of the buffer that fits, and answers how many bytes that is.
     #[inline]
     pub fn write(&self, buf: &[u8], addr: GuestAddress) -> Result<usize, GuestMemoryError> {
-        let answer = self.machine.call(&self.at(kind::WRITE, addr, 0), buf, &mut []);
-        if answer.code == code::DONE {
-            return Ok(answer.count);
-        }
-        Ok(answered(answer)?.count)
+        let mut answer = Answer::default();
+        self.access(&self.at(kind::WRITE, addr, 0), buf, &mut [], &mut answer)?;
+        Ok(answer.count)
     }
 
     /// Reads into the beginning of the buffer, and answers how many bytes that is.
     #[inline]
     pub fn read(&self, buf: &mut [u8], addr: GuestAddress) -> Result<usize, GuestMemoryError> {
-        let answer = self.machine.call(&self.at(kind::READ, addr, buf.len()), &[], buf);
-        if answer.code == code::DONE {
-            return Ok(answer.count);
-        }
-        Ok(answered(answer)?.count)
+        let mut answer = Answer::default();
+        self.access(&self.at(kind::READ, addr, buf.len()), &[], buf, &mut answer)?;
+        Ok(answer.count)
     }
 
     /// Writes the whole buffer. Where only its beginning fits, it writes that, and the error says how long it is.
     #[inline]
     pub fn write_slice(&self, buf: &[u8], addr: GuestAddress) -> Result<(), GuestMemoryError> {
-        let answer = self.machine.call(&self.at(kind::WRITE_SLICE, addr, 0), buf, &mut []);
-        if answer.code == code::DONE {
-            return Ok(());
-        }
-        answered(answer)?;
-        Ok(())
+        self.access(
+            &self.at(kind::WRITE_SLICE, addr, 0),
+            buf,
+            &mut [],
+            &mut Answer::default(),
+        )
     }
 
     /// Fills the whole buffer. Where only its beginning can be filled, it fills that, and the error says how long it is.
     #[inline]
     pub fn read_slice(&self, buf: &mut [u8], addr: GuestAddress) -> Result<(), GuestMemoryError> {
-        let answer = self.machine.call(&self.at(kind::READ_SLICE, addr, buf.len()), &[], buf);
-        if answer.code == code::DONE {
-            return Ok(());
-        }
-        answered(answer)?;
-        Ok(())
+        self.access(
+            &self.at(kind::READ_SLICE, addr, buf.len()),
+            &[],
+            buf,
+            &mut Answer::default(),
+        )
     }
 
     /// Writes the bytes of a value.
@@ -104,12 +117,7 @@ impl<'a> GuestMemory<'a> {
         let mut call = self.at(kind::STORE, addr, 0);
         call.width = T::WIDTH;
         call.value = val.to_number();
-        let answer = self.machine.call(&call, &[], &mut []);
-        if answer.code == code::DONE {
-            return Ok(());
-        }
-        answered(answer)?;
-        Ok(())
+        self.access(&call, &[], &mut [], &mut Answer::default())
     }
 
     /// Loads a value as one integer.
@@ -117,11 +125,9 @@ impl<'a> GuestMemory<'a> {
     pub fn load<T: AtomicAccess>(&self, addr: GuestAddress, _order: Ordering) -> Result<T, GuestMemoryError> {
         let mut call = self.at(kind::LOAD, addr, 0);
         call.width = T::WIDTH;
-        let answer = self.machine.call(&call, &[], &mut []);
-        if answer.code == code::DONE {
-            return Ok(T::from_number(answer.value));
-        }
-        Ok(T::from_number(answered(answer)?.value))
+        let mut answer = Answer::default();
+        self.access(&call, &[], &mut [], &mut answer)?;
+        Ok(T::from_number(answer.value))
     }
 
     /// Whether each of `count` bytes exists and may be accessed so.
@@ -130,4 +136,11 @@ impl<'a> GuestMemory<'a> {
         call.access = access as u32;
         matches!(self.machine.ask(call), Ok(answer) if answer.value == 1)
     }
+}
+
+#[cold]
+#[inline(never)]
+fn refusal_of(answer: &Answer) -> GuestMemoryError {
+    // No access lists ranges, so each answer but `DONE` has an error.
+    error_of(answer).map_or(GuestMemoryError::Memory, GuestMemoryError::from)
 }

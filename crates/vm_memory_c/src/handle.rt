@@ -24,6 +24,7 @@ impl Model for Handle {
 
 impl Handle {
     // A handle of no session.
+    #[inline(always)]
     pub(crate) fn closed(alloc: Global) -> Handle
         ensures { result.stage ≡ None }
     {
@@ -34,6 +35,7 @@ impl Handle {
     }
 
     // The handle of a session.
+    #[inline(always)]
     pub(crate) fn of(session: Loose<Session, Global>) -> Handle
         ensures { result.stage ≡ Some session.value }
     {
@@ -45,6 +47,7 @@ impl Handle {
     }
 
     // The session of a handle.
+    #[inline(always)]
     pub(crate) fn loosen(self) -> Loose<Session, Global>
         requires { IsSome self.stage }
         ensures { Some result.value ≡ self.stage }

@@ -43,7 +43,7 @@ pub extern "C" fn vmm_call(
 {
     let handle = mem::replace(session, Handle::closed(alloc));
     let mut open = handle.loosen().into_box();
-    *answer = open.call(call, input, output);
+    open.call_into(call, input, output, answer);
     *session = Handle::of(Loose::of(open));
 }
 

@@ -1,5 +1,5 @@
 -- No reply is answered with the code of a call that was refused before it ran, and such a call leaves a session.
-use Rattle.std.proofs.Common.{◌≡◌, ◌∙◌, ℕ, Bool, true, false, cond, List, [], Option, Some, None, refl, sym, ap, ap₂, inl, inr}
+use Rattle.std.proofs.Common.{◌≡◌, ◌∙◌, ℕ, Bool, true, false, cond, IsTrue, List, [], Option, Some, None, refl, sym, ap, ap₂, inl, inr, subst, slice_get}
 use Rattle.std.proofs.lemmas.Bool.{false≢true}
 use Rattle.std.specs.declared.io.ErrorKind.{ErrorKind}
 use Rattle.std.specs.declared.io.ErrorKind.TheVariants.{Interrupted, WriteZero, UnexpectedEof}
@@ -19,12 +19,13 @@ use Rattle.vm_memory.specs.declared.machine.command.Reply as replies
 use Rattle.vm_memory.specs.declared.machine.command.Reply.TheVariants as reply
 use Rattle.vm_session.specs.Answers.{answer_of, answer_of_ending, answer_of_error, answer_of_fault, code_of_fault, code_of_kind, code_of_reason}
 use Rattle.vm_session.specs.Codes.{is_refused}
-use Rattle.vm_session.specs.Kinds.{takes_list}
+use Rattle.vm_session.specs.Kinds.{is_access, kinds, sets_up, takes_list}
 use Rattle.vm_session.specs.Requests.{command_at}
-use Rattle.vm_session.specs.Session.{DoesIf, DoesListed, Served, after_command}
+use Rattle.vm_session.specs.Session.{Answers, AnswersIf, AnswersKind, DoesIf, DoesListed, Served, after_command}
 use Rattle.vm_session.specs.declared.call.Answer.{Answer}
 use Rattle.vm_session.specs.declared.call.Call.{Call}
 use Rattle.vm_session.specs.declared.call.Kind.{Kind}
+use Rattle.vm_session.specs.declared.call.Kind.TheVariants as kind
 
 kind-ran : (k : ErrorKind) → is_refused (code_of_kind k) ≡ false
 kind-ran Interrupted = refl
@@ -121,3 +122,22 @@ turned_back p m kind call input out a out' bare h refused =
     ap (λ (s : State). record s { layouts = []; memories = [] })
     (served-stays (state_made p) kind call input out a out' (state_made m) h refused)
     ∙ ap₂ (λ ls ms. state_made (record p { layouts = ls; memories = ms })) (sym (bare.0)) (sym (bare.1))
+
+-- a call that accesses bytes sets nothing up
+no-setup : (kind : Kind) → IsTrue (is_access kind) → sets_up kind ≡ false
+no-setup kind.Block h = absurd (false≢true h)
+no-setup kind.Space h = absurd (false≢true h)
+no-setup kind.Table h = absurd (false≢true h)
+no-setup kind.LimitedTable h = absurd (false≢true h)
+no-setup kind.Region h = absurd (false≢true h)
+no-setup kind.Translator h = absurd (false≢true h)
+no-setup k h = refl
+
+-- what such a call of a machine that runs is answered is what its session answers
+pub access_answers : (old : State) (kind : Kind) (call : Call) (input out : List ℕ) (a : Answer) (out' : List ℕ)
+    (new : State) → slice_get kinds call.kind ≡ Some kind → IsTrue (is_access kind)
+    → Served old kind call input out a out' new → Answers (commanding old) call input out a out' (commanding new)
+access_answers old kind call input out a out' new is access served =
+    subst (λ (o : Option Kind). AnswersIf o (commanding old) call input out a out' (commanding new)) (sym is)
+    (subst (λ (b : Bool). AnswersKind b kind (commanding old) call input out a out' (commanding new))
+    (sym (no-setup kind access)) (new, served, running old kind call input out a out' new served))

@@ -57,6 +57,16 @@ takes_list kind.WriteTo = true
 takes_list kind.WriteAllTo = true
 takes_list k = false
 
+-- the kinds of calls that access bytes of a memory
+abbrev pub is_access : Kind → Bool
+is_access kind.Read = true
+is_access kind.Write = true
+is_access kind.ReadSlice = true
+is_access kind.WriteSlice = true
+is_access kind.Store = true
+is_access kind.Load = true
+is_access k = false
+
 -- the kinds of calls that make layouts and memories, that move bytes or change tables, and whose replies are listed
 abbrev pub is_making : Kind → Bool
 is_making kind.Layout = true

@@ -13,7 +13,7 @@ use vm_memory_base::{IommuError, Reason};
 
 impl Answer {
     // An answer that is no more than a code.
-    #[inline]
+    #[inline(always)]
     pub(crate) fn of_code(code: u32) -> Answer
         ensures { result ≡ coded code }
     {
@@ -26,7 +26,7 @@ impl Answer {
     }
 
     // How many bytes moved, or how many items are listed.
-    #[inline]
+    #[inline(always)]
     pub(crate) fn of_count(count: usize) -> Answer
         ensures { result ≡ counted count }
     {
@@ -39,7 +39,7 @@ impl Answer {
     }
 
     // The number of what was made, or a value that was loaded.
-    #[inline]
+    #[inline(always)]
     pub(crate) fn of_value(value: u64) -> Answer
         ensures { result ≡ valued value }
     {
@@ -77,58 +77,58 @@ pub(crate) fn refused(refusal: Refusal) -> Answer
     }
 }
 
-// The answer to a call that gives nothing back.
-#[inline]
-pub(crate) fn done(answer: Result<(), Refusal>) -> Answer
-    ensures { result ≡ answer_of (replied as_done answer) }
+// Answers a call that gives nothing back. An answer is put where it is wanted, so that it is not copied.
+#[inline(always)]
+pub(crate) fn done(outcome: Result<(), Refusal>, answer: &mut Answer)
+    ensures { answer.new ≡ answer_of (replied as_done outcome) }
 {
-    match answer {
-        Ok(()) => Answer::of_code(code::DONE),
-        Err(refusal) => refused(refusal),
+    match outcome {
+        Ok(()) => *answer = Answer::of_code(code::DONE),
+        Err(refusal) => *answer = refused(refusal),
     }
 }
 
-// The answer to a call that made a layout or a memory.
-pub(crate) fn made(answer: Result<usize, Refusal>) -> Answer
-    ensures layout { result ≡ answer_of (replied reply.Layout answer) }
-    ensures memory { result ≡ answer_of (replied reply.MemoryMade answer) }
+// Answers a call that made a layout or a memory.
+pub(crate) fn made(outcome: Result<usize, Refusal>, answer: &mut Answer)
+    ensures layout { answer.new ≡ answer_of (replied reply.Layout outcome) }
+    ensures memory { answer.new ≡ answer_of (replied reply.MemoryMade outcome) }
 {
-    match answer {
-        Ok(number) => Answer::of_value(number as u64),
-        Err(refusal) => refused(refusal),
+    match outcome {
+        Ok(number) => *answer = Answer::of_value(number as u64),
+        Err(refusal) => *answer = refused(refusal),
     }
 }
 
-// The answer to a call that moved bytes.
-#[inline]
-pub(crate) fn moved(answer: Result<usize, Refusal>) -> Answer
-    ensures { result ≡ answer_of (replied reply.Count answer) }
+// Answers a call that moved bytes.
+#[inline(always)]
+pub(crate) fn moved(outcome: Result<usize, Refusal>, answer: &mut Answer)
+    ensures { answer.new ≡ answer_of (replied reply.Count outcome) }
 {
-    match answer {
-        Ok(count) => Answer::of_count(count),
-        Err(refusal) => refused(refusal),
+    match outcome {
+        Ok(count) => *answer = Answer::of_count(count),
+        Err(refusal) => *answer = refused(refusal),
     }
 }
 
-// The answer to a load.
-#[inline]
-pub(crate) fn loaded(answer: Result<u64, Refusal>) -> Answer
-    ensures { result ≡ answer_of (replied reply.Value answer) }
+// Answers a load.
+#[inline(always)]
+pub(crate) fn loaded(outcome: Result<u64, Refusal>, answer: &mut Answer)
+    ensures { answer.new ≡ answer_of (replied reply.Value outcome) }
 {
-    match answer {
-        Ok(value) => Answer::of_value(value),
-        Err(refusal) => refused(refusal),
+    match outcome {
+        Ok(value) => *answer = Answer::of_value(value),
+        Err(refusal) => *answer = refused(refusal),
     }
 }
 
-// The answer to a check.
-pub(crate) fn checked(answer: Result<bool, Refusal>) -> Answer
-    ensures { result ≡ answer_of (replied reply.Truth answer) }
+// Answers a check.
+pub(crate) fn checked(outcome: Result<bool, Refusal>, answer: &mut Answer)
+    ensures { answer.new ≡ answer_of (replied reply.Truth outcome) }
 {
-    match answer {
-        Ok(true) => Answer::of_value(1),
-        Ok(false) => Answer::of_value(0),
-        Err(refusal) => refused(refusal),
+    match outcome {
+        Ok(true) => *answer = Answer::of_value(1),
+        Ok(false) => *answer = Answer::of_value(0),
+        Err(refusal) => *answer = refused(refusal),
     }
 }
 

@@ -1,6 +1,6 @@
 //! Calls and answers as plain numbers, as they cross to C.
-ghost use Rattle.std.specs.Prelude.{◌≡◌, slice_get};
-ghost use Rattle.vm_session.specs.Kinds.{access_at, kinds, sets_up, switch_at, width_at};
+ghost use Rattle.std.specs.Prelude.{◌≡◌, IfSome, IsTrue, Some, slice_get};
+ghost use Rattle.vm_session.specs.Kinds.{access_at, is_access, kinds, sets_up, switch_at, width_at};
 
 use vm_memory::Width;
 use vm_memory_base::Permissions;
@@ -121,6 +121,7 @@ pub enum Kind {
 
 impl Kind {
     // Whether a call of this kind sets up.
+    #[inline(always)]
     pub(crate) fn sets_up(self) -> bool
         ensures { result ≡ sets_up self }
     {
@@ -173,12 +174,14 @@ const KINDS: [Kind; 33] = [
 ];
 
 // The kind of a number, if it is one.
+#[inline(always)]
 pub(crate) fn kind_of(number: u32) -> Option<Kind>
     ensures { result ≡ slice_get kinds number }
 {
     nth(&KINDS, number as usize)
 }
 
+#[inline(always)]
 fn nth(kinds: &[Kind], number: usize) -> Option<Kind>
     ensures { result ≡ slice_get kinds.now number }
 {
@@ -186,6 +189,22 @@ fn nth(kinds: &[Kind], number: usize) -> Option<Kind>
         Some(kinds[number])
     } else {
         None
+    }
+}
+
+// The kind of a number, if it is that of a call that accesses bytes of a memory.
+#[inline(always)]
+pub(crate) fn access_kind(number: u32) -> Option<Kind>
+    ensures { IfSome result (λ kind. (slice_get kinds number ≡ Some kind) × IsTrue (is_access kind)) }
+{
+    match number {
+        13 => Some(Kind::Read),
+        14 => Some(Kind::Write),
+        15 => Some(Kind::ReadSlice),
+        16 => Some(Kind::WriteSlice),
+        17 => Some(Kind::Store),
+        18 => Some(Kind::Load),
+        _ => None,
     }
 }
 
@@ -214,7 +233,7 @@ pub(crate) fn switch_of(number: u64) -> Option<bool>
 }
 
 // A width by its number of bytes, if it is one.
-#[inline]
+#[inline(always)]
 pub(crate) fn width_of(number: u32) -> Option<Width>
     ensures { result ≡ width_at number }
 {

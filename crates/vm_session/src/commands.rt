@@ -1,9 +1,11 @@
 //! The calls of a machine, by their kinds.
 ghost use Rattle.std.specs.Prelude.{◌≡◌, List, [], ℕ, false, IsTrue, is_some, option_map, slice_get};
+ghost use Rattle.vm_memory.specs.Calls.{IsInteger};
 ghost use Rattle.vm_memory.specs.Pools.{state_made};
 ghost use Rattle.vm_memory.specs.Typed.{fits_width, integer_of};
 ghost use Rattle.vm_memory.specs.declared.machine.command.Command.TheVariants as command;
-ghost use Rattle.vm_session.specs.Kinds.{is_listing, is_making, is_moving};
+ghost use Rattle.vm_memory.specs.declared.machine.command.Width as widths;
+ghost use Rattle.vm_session.specs.Kinds.{is_access, is_listing, is_making, is_moving};
 ghost use Rattle.vm_session.specs.Requests.{command_at};
 ghost use Rattle.vm_session.specs.Session.{Does, DoesListed, Loads, Served, Stores};
 ghost use Rattle.vm_session.specs.Words.{numbers_in};
@@ -17,11 +19,9 @@ use crate::words::numbers_of;
 use std::alloc::Global;
 use vm_memory::script::ScriptMachine;
 use vm_memory::{BlockRange, Width};
-use vm_memory_base::{BitmapId, GuestAddress, Permissions};
+use vm_memory_base::{AtomicAccess, BitmapId, GuestAddress, Permissions};
 
-// Serves a call of a kind that is none of setup. Each kind of call has a function of its own, so that a short one pays
-// for its own values alone.
-#[inline]
+// Serves a call of a kind that is none of setup.
 pub(crate) fn serve(
     alloc: Global,
     machine: &mut ScriptMachine,
@@ -29,50 +29,73 @@ pub(crate) fn serve(
     call: &Call,
     input: &[u8],
     output: &mut [u8],
-) -> Answer
-    ensures { Served (state_made machine.old) kind call.now input.now output.old result output.new
+    answer: &mut Answer,
+)
+    ensures { Served (state_made machine.old) kind call.now input.now output.old answer.new output.new
         (state_made machine.new) }
 {
     match kind {
-        Kind::Read => read(machine, call, output),
-        Kind::Write => write(machine, call, input),
-        Kind::ReadSlice => read_slice(machine, call, output),
-        Kind::WriteSlice => write_slice(machine, call, input),
-        Kind::Store => match width_of(call.width) {
-            Some(width) => store(machine, call, width),
-            None => Answer::of_code(code::BAD_CALL),
-        },
-        Kind::Load => match width_of(call.width) {
-            Some(width) => load(machine, call, width),
-            None => Answer::of_code(code::BAD_CALL),
-        },
+        Kind::Read | Kind::Write | Kind::ReadSlice | Kind::WriteSlice | Kind::Store | Kind::Load =>
+            serve_access(machine, kind, call, input, output, answer),
         Kind::Layout
         | Kind::Insert
         | Kind::Remove
         | Kind::Plain
         | Kind::Memory
         | Kind::Replace
-        | Kind::Enable => serve_making(alloc, machine, kind, call, input),
+        | Kind::Enable => serve_making(alloc, machine, kind, call, input, answer),
         Kind::ReadFrom
         | Kind::ReadExactFrom
         | Kind::CheckRange
         | Kind::Copy
         | Kind::Set
         | Kind::Invalidate
-        | Kind::InvalidateAll => serve_moving(alloc, machine, kind, call, input),
+        | Kind::InvalidateAll => serve_moving(alloc, machine, kind, call, input, answer),
         Kind::WriteTo
         | Kind::WriteAllTo
         | Kind::Lookup
         | Kind::DirtyBlock
         | Kind::DirtySpace
         | Kind::HarvestBlock
-        | Kind::HarvestSpace => serve_listing(alloc, machine, kind, call, input, output),
+        | Kind::HarvestSpace => serve_listing(alloc, machine, kind, call, input, output, answer),
         Kind::Block
         | Kind::Space
         | Kind::Table
         | Kind::LimitedTable
         | Kind::Region
-        | Kind::Translator => Answer::of_code(code::BAD_CALL),
+        | Kind::Translator => *answer = Answer::of_code(code::BAD_CALL),
+    }
+}
+
+// The calls that are made most often: those that access bytes of a memory. Each has a function of its own, since a
+// function pays at its entry for all values that it may come to have.
+#[inline(always)]
+pub(crate) fn serve_access(
+    machine: &mut ScriptMachine,
+    kind: Kind,
+    call: &Call,
+    input: &[u8],
+    output: &mut [u8],
+    answer: &mut Answer,
+)
+    requires { IsTrue (is_access kind) }
+    ensures { Served (state_made machine.old) kind call.now input.now output.old answer.new output.new
+        (state_made machine.new) }
+{
+    match kind {
+        Kind::Read => read(machine, call, output, answer),
+        Kind::Write => write(machine, call, input, answer),
+        Kind::ReadSlice => read_slice(machine, call, output, answer),
+        Kind::WriteSlice => write_slice(machine, call, input, answer),
+        Kind::Store => match width_of(call.width) {
+            Some(width) => store(machine, call, width, answer),
+            None => *answer = Answer::of_code(code::BAD_CALL),
+        },
+        Kind::Load => match width_of(call.width) {
+            Some(width) => load(machine, call, width, answer),
+            None => *answer = Answer::of_code(code::BAD_CALL),
+        },
+        _ => unreachable!(),
     }
 }
 
@@ -85,12 +108,13 @@ fn serve_listing(
     call: &Call,
     input: &[u8],
     output: &mut [u8],
-) -> Answer
+    answer: &mut Answer,
+)
     requires { IsTrue (is_listing kind) }
-    ensures { Served (state_made machine.old) kind call.now input.now output.old result output.new
+    ensures { Served (state_made machine.old) kind call.now input.now output.old answer.new output.new
         (state_made machine.new) }
 {
-    match kind {
+    *answer = match kind {
         Kind::WriteTo => send(alloc, machine, call, input, output),
         Kind::WriteAllTo => send_whole(alloc, machine, call, input, output),
         Kind::Lookup => match access_of(call.access) {
@@ -102,7 +126,7 @@ fn serve_listing(
         Kind::HarvestBlock => harvest(alloc, machine, BitmapId::Block(call.first), output),
         Kind::HarvestSpace => harvest(alloc, machine, BitmapId::Space(call.first), output),
         _ => unreachable!(),
-    }
+    };
 }
 
 // The calls that make layouts and memories.
@@ -113,27 +137,31 @@ fn serve_making(
     kind: Kind,
     call: &Call,
     input: &[u8],
-) -> Answer
+    answer: &mut Answer,
+)
     requires { IsTrue (is_making kind) }
-    ensures { (out : List ℕ) → Served (state_made machine.old) kind call.now input.now out result out
+    ensures { (out : List ℕ) → Served (state_made machine.old) kind call.now input.now out answer.new out
         (state_made machine.new) }
 {
     match kind {
-        Kind::Layout => make_layout(alloc, machine, input),
-        Kind::Insert => made(machine.insert(call.first, call.second)),
+        Kind::Layout => make_layout(alloc, machine, input, answer),
+        Kind::Insert => made(machine.insert(call.first, call.second), answer),
         Kind::Remove => {
             let base = GuestAddress(call.address);
-            made(machine.remove(call.first, base, call.length as u64))
+            made(machine.remove(call.first, base, call.length as u64), answer);
         }
-        Kind::Plain => made(machine.plain(call.first)),
+        Kind::Plain => made(machine.plain(call.first), answer),
         Kind::Memory => match switch_of(call.value) {
-            Some(on) => made(machine.new_memory(call.first, call.second, call.third, on)),
-            None => Answer::of_code(code::BAD_CALL),
+            Some(on) => made(
+                machine.new_memory(call.first, call.second, call.third, on),
+                answer,
+            ),
+            None => *answer = Answer::of_code(code::BAD_CALL),
         },
-        Kind::Replace => made(machine.replace_backend(call.first, call.second)),
+        Kind::Replace => made(machine.replace_backend(call.first, call.second), answer),
         Kind::Enable => match switch_of(call.value) {
-            Some(on) => done(machine.enable(call.first, on)),
-            None => Answer::of_code(code::BAD_CALL),
+            Some(on) => done(machine.enable(call.first, on), answer),
+            None => *answer = Answer::of_code(code::BAD_CALL),
         },
         _ => unreachable!(),
     }
@@ -147,48 +175,60 @@ fn serve_moving(
     kind: Kind,
     call: &Call,
     input: &[u8],
-) -> Answer
+    answer: &mut Answer,
+)
     requires { IsTrue (is_moving kind) }
-    ensures { (out : List ℕ) → Served (state_made machine.old) kind call.now input.now out result out
+    ensures { (out : List ℕ) → Served (state_made machine.old) kind call.now input.now out answer.new out
         (state_made machine.new) }
 {
     let addr = GuestAddress(call.address);
     match kind {
-        Kind::ReadFrom => receive(alloc, machine, call, input),
-        Kind::ReadExactFrom => receive_whole(alloc, machine, call, input),
+        Kind::ReadFrom => *answer = receive(alloc, machine, call, input),
+        Kind::ReadExactFrom => *answer = receive_whole(alloc, machine, call, input),
         Kind::CheckRange => match access_of(call.access) {
-            Some(access) => checked(machine.check_range(call.first, addr, call.length, access)),
-            None => Answer::of_code(code::BAD_CALL),
+            Some(access) => {
+                checked(
+                    machine.check_range(call.first, addr, call.length, access),
+                    answer,
+                );
+            }
+            None => *answer = Answer::of_code(code::BAD_CALL),
         },
-        Kind::Copy => copy(machine, call),
+        Kind::Copy => copy(machine, call, answer),
         Kind::Set => match access_of(call.access) {
             Some(access) => {
                 let target = GuestAddress(call.target);
-                done(machine.set_mapping(call.first, addr, target, call.length, access))
+                done(
+                    machine.set_mapping(call.first, addr, target, call.length, access),
+                    answer,
+                );
             }
-            None => Answer::of_code(code::BAD_CALL),
+            None => *answer = Answer::of_code(code::BAD_CALL),
         },
-        Kind::Invalidate => done(machine.invalidate_mapping(call.first, addr, call.length)),
-        Kind::InvalidateAll => done(machine.invalidate_all(call.first)),
+        Kind::Invalidate => done(
+            machine.invalidate_mapping(call.first, addr, call.length),
+            answer,
+        ),
+        Kind::InvalidateAll => done(machine.invalidate_all(call.first), answer),
         _ => unreachable!(),
     }
 }
 
 // Makes the layout of the regions that the input lists.
-fn make_layout(alloc: Global, machine: &mut ScriptMachine, input: &[u8]) -> Answer
+fn make_layout(alloc: Global, machine: &mut ScriptMachine, input: &[u8], answer: &mut Answer)
     ensures { (out : List ℕ) → DoesListed (state_made machine.old)
-        (option_map command.FromRegions (numbers_in input.now)) out result out (state_made machine.new) }
+        (option_map command.FromRegions (numbers_in input.now)) out answer.new out (state_made machine.new) }
 {
     match numbers_of(alloc, input) {
-        Ok(Some(numbers)) => made(machine.from_regions(numbers.as_slice())),
-        Ok(None) => Answer::of_code(code::BAD_CALL),
-        Err(_) => Answer::of_code(code::MEMORY),
+        Ok(Some(numbers)) => made(machine.from_regions(numbers.as_slice()), answer),
+        Ok(None) => *answer = Answer::of_code(code::BAD_CALL),
+        Err(_) => *answer = Answer::of_code(code::MEMORY),
     }
 }
 
 // Copies between blocks.
-fn copy(machine: &mut ScriptMachine, call: &Call) -> Answer
-    ensures { (out : List ℕ) → Does (state_made machine.old) (command_at Kind.Copy call.now []) out result out
+fn copy(machine: &mut ScriptMachine, call: &Call, answer: &mut Answer)
+    ensures { (out : List ℕ) → Does (state_made machine.old) (command_at Kind.Copy call.now []) out answer.new out
         (state_made machine.new) }
 {
     let from = BlockRange {
@@ -201,91 +241,120 @@ fn copy(machine: &mut ScriptMachine, call: &Call) -> Answer
         offset: call.target as usize,
         len: call.other_length,
     };
-    done(machine.copy(from, to))
+    done(machine.copy(from, to), answer);
 }
 
 // Reads at most so many bytes of a memory into the front of the output.
 #[inline(never)]
-fn read(machine: &ScriptMachine, call: &Call, output: &mut [u8]) -> Answer
+fn read(machine: &ScriptMachine, call: &Call, output: &mut [u8], answer: &mut Answer)
     ensures { let now = state_made machine.now in
-        Does now (command_at Kind.Read call.now []) output.old result output.new now }
+        Does now (command_at Kind.Read call.now []) output.old answer.new output.new now }
 {
     if output.len() < call.length {
-        return Answer::short(call.length);
+        *answer = Answer::short(call.length);
+        return;
     }
     let addr = GuestAddress(call.address);
-    moved(machine.read(call.first, addr, &mut output[..call.length]))
+    moved(
+        machine.read(call.first, addr, &mut output[..call.length]),
+        answer,
+    );
 }
 
 // Reads just so many bytes of a memory into the front of the output.
 #[inline(never)]
-fn read_slice(machine: &ScriptMachine, call: &Call, output: &mut [u8]) -> Answer
+fn read_slice(machine: &ScriptMachine, call: &Call, output: &mut [u8], answer: &mut Answer)
     ensures { let now = state_made machine.now in
-        Does now (command_at Kind.ReadSlice call.now []) output.old result output.new now }
+        Does now (command_at Kind.ReadSlice call.now []) output.old answer.new output.new now }
 {
     if output.len() < call.length {
-        return Answer::short(call.length);
+        *answer = Answer::short(call.length);
+        return;
     }
     let addr = GuestAddress(call.address);
     match machine.read_slice(call.first, addr, &mut output[..call.length]) {
-        Ok(()) => Answer::of_count(call.length),
-        Err(refusal) => refused(refusal),
+        Ok(()) => *answer = Answer::of_count(call.length),
+        Err(refusal) => *answer = refused(refusal),
     }
 }
 
 // Writes the bytes of the input that fit.
 #[inline(never)]
-fn write(machine: &mut ScriptMachine, call: &Call, input: &[u8]) -> Answer
-    ensures { (out : List ℕ) → Does (state_made machine.old) (command_at Kind.Write call.now input.now) out result out
+fn write(machine: &mut ScriptMachine, call: &Call, input: &[u8], answer: &mut Answer)
+    ensures { (out : List ℕ) → Does (state_made machine.old) (command_at Kind.Write call.now input.now) out answer.new out
         (state_made machine.new) }
 {
-    moved(machine.write(call.first, GuestAddress(call.address), input))
+    moved(
+        machine.write(call.first, GuestAddress(call.address), input),
+        answer,
+    );
 }
 
 // Writes all bytes of the input.
 #[inline(never)]
-fn write_slice(machine: &mut ScriptMachine, call: &Call, input: &[u8]) -> Answer
-    ensures { (out : List ℕ) → Does (state_made machine.old) (command_at Kind.WriteSlice call.now input.now) out result
-        out (state_made machine.new) }
+fn write_slice(machine: &mut ScriptMachine, call: &Call, input: &[u8], answer: &mut Answer)
+    ensures { (out : List ℕ) → Does (state_made machine.old) (command_at Kind.WriteSlice call.now input.now) out
+        answer.new out (state_made machine.new) }
 {
-    done(machine.write_slice(call.first, GuestAddress(call.address), input))
+    done(
+        machine.write_slice(call.first, GuestAddress(call.address), input),
+        answer,
+    );
 }
 
 // Loads an integer of this width.
 #[inline(never)]
-fn load(machine: &ScriptMachine, call: &Call, width: Width) -> Answer
-    ensures { Loads (state_made machine.now) call.now width result }
+fn load(machine: &ScriptMachine, call: &Call, width: Width, answer: &mut Answer)
+    ensures { Loads (state_made machine.now) call.now width answer.new }
 {
-    loaded(machine.load_word(call.first, width, GuestAddress(call.address)))
+    let addr = GuestAddress(call.address);
+    loaded(machine.load_word(call.first, width, addr), answer);
 }
 
 // Stores a number as an integer of this width, if it is one.
-#[inline(never)]
-fn store(machine: &mut ScriptMachine, call: &Call, width: Width) -> Answer
-    ensures { Stores (state_made machine.old) call.now width result (state_made machine.new) }
+#[inline(always)]
+fn store(machine: &mut ScriptMachine, call: &Call, width: Width, answer: &mut Answer)
+    ensures { Stores (state_made machine.old) call.now width answer.new (state_made machine.new) }
 {
     if !width.fits(call.value) {
-        return too_wide(machine, call, width);
+        too_wide(machine, call, width, answer);
+        return;
     }
-    let addr = GuestAddress(call.address);
     match width {
-        Width::One => done(machine.store(call.first, addr, call.value as u8)),
-        Width::Two => done(machine.store(call.first, addr, call.value as u16)),
-        Width::Four => done(machine.store(call.first, addr, call.value as u32)),
-        Width::Eight => done(machine.store(call.first, addr, call.value)),
+        Width::One => store_as(machine, call, call.value as u8, answer),
+        Width::Two => store_as(machine, call, call.value as u16, answer),
+        Width::Four => store_as(machine, call, call.value as u32, answer),
+        Width::Eight => store_as(machine, call, call.value, answer),
     }
+}
+
+// Stores a value. Each type has a function of its own, into which all of the access is inlined.
+#[inline(never)]
+fn store_as<T: AtomicAccess>(
+    machine: &mut ScriptMachine,
+    call: &Call,
+    value: T,
+    answer: &mut Answer,
+)
+    ensures { (width : widths.Width) → IsInteger (T.bytes value) width call.now.value
+        → Stores (state_made machine.old) call.now width answer.new (state_made machine.new) }
+{
+    done(
+        machine.store(call.first, GuestAddress(call.address), value),
+        answer,
+    );
 }
 
 // Refuses a value that has too many bytes, where the memory is there.
 #[inline(never)]
-fn too_wide(machine: &ScriptMachine, call: &Call, width: Width) -> Answer
+fn too_wide(machine: &ScriptMachine, call: &Call, width: Width, answer: &mut Answer)
     requires { fits_width (integer_of width) call.now.value ≡ false }
-    ensures { let now = state_made machine.now in Stores now call.now width result now }
+    ensures { let now = state_made machine.now in Stores now call.now width answer.new now }
 {
     if has_memory(machine, call.first) {
-        Answer::of_code(code::BAD_RANGE)
+        *answer = Answer::of_code(code::BAD_RANGE);
     } else {
-        Answer::of_code(code::NO_SUCH)
+        *answer = Answer::of_code(code::NO_SUCH);
     }
 }
 

@@ -4,13 +4,13 @@ ghost use Rattle.vm_memory.specs.Pools.{state_made};
 ghost use Rattle.vm_memory.specs.Script.{beginning, setting};
 ghost use Rattle.vm_memory.specs.State.{State};
 ghost use Rattle.vm_session.specs.Codes.{is_refused};
-ghost use Rattle.vm_session.specs.Inside.{stage_of};
+ghost use Rattle.vm_session.specs.Inside.{IsSettingUp, stage_of};
 ghost use Rattle.vm_session.specs.Kinds.{sets_up};
 ghost use Rattle.vm_session.specs.Session.{Answers, AnswersKind, Served, SetsUpBy, after_command};
 
-use crate::call::{Answer, Call, Kind, kind_of};
+use crate::call::{Answer, Call, Kind, access_kind, kind_of};
 use crate::code;
-use crate::commands::serve;
+use crate::commands::{serve, serve_access};
 use crate::setup::set_up;
 use std::alloc::Global;
 use std::marker::Model;
@@ -56,47 +56,84 @@ impl Session {
     pub fn call(&mut self, call: &Call, input: &[u8], output: &mut [u8]) -> Answer
         ensures { Answers self.old call.now input.now output.old result output.new self.new }
     {
+        let mut answer = Answer::of_code(code::DONE);
+        self.call_into(call, input, output, &mut answer);
+        answer
+    }
+
+    /// Answers a call as `call` does, and puts the answer where it is wanted, so that it is not copied.
+    #[inline]
+    pub fn call_into(&mut self, call: &Call, input: &[u8], output: &mut [u8], answer: &mut Answer)
+        ensures { Answers self.old call.now input.now output.old answer.new output.new self.new }
+    {
+        if let Some(kind) = access_kind(call.kind) {
+            if let Some(machine) = &mut self.machine {
+                serve_access(machine, kind, call, input, output, answer);
+                return;
+            }
+        }
+        self.call_any(call, input, output, answer);
+    }
+
+    #[inline(never)]
+    fn call_any(&mut self, call: &Call, input: &[u8], output: &mut [u8], answer: &mut Answer)
+        ensures { Answers self.old call.now input.now output.old answer.new output.new self.new }
+    {
         match kind_of(call.kind) {
-            None => Answer::of_code(code::BAD_CALL),
+            None => *answer = Answer::of_code(code::BAD_CALL),
             Some(kind) => {
                 if kind.sets_up() {
-                    self.set_up(kind, call)
+                    self.set_up(kind, call, answer);
                 } else {
-                    self.run(kind, call, input, output)
+                    self.run(kind, call, input, output, answer);
                 }
             }
         }
     }
 
-    #[inline(never)]
-    fn set_up(&mut self, kind: Kind, call: &Call) -> Answer
+    fn set_up(&mut self, kind: Kind, call: &Call, answer: &mut Answer)
         requires { IsTrue (sets_up kind) }
-        ensures { SetsUpBy self.old kind call.now result self.new }
+        ensures { SetsUpBy self.old kind call.now answer.new self.new }
     {
         if self.machine.is_some() {
-            return Answer::of_code(code::LATE);
+            *answer = Answer::of_code(code::LATE);
+            return;
         }
-        set_up(&mut self.pools, kind, call)
+        *answer = set_up(&mut self.pools, kind, call);
     }
 
-    #[inline]
-    fn run(&mut self, kind: Kind, call: &Call, input: &[u8], output: &mut [u8]) -> Answer
-        ensures { AnswersKind false kind self.old call.now input.now output.old result output.new self.new }
+    fn run(&mut self, kind: Kind, call: &Call, input: &[u8], output: &mut [u8], answer: &mut Answer)
+        ensures { AnswersKind false kind self.old call.now input.now output.old answer.new output.new self.new }
     {
         if let Some(machine) = &mut self.machine {
-            return serve(self.alloc, machine, kind, call, input, output);
+            serve(self.alloc, machine, kind, call, input, output, answer);
+            return;
         }
+        self.run_first(kind, call, input, output, answer);
+    }
+
+    // Runs the first call that is none of setup.
+    fn run_first(
+        &mut self,
+        kind: Kind,
+        call: &Call,
+        input: &[u8],
+        output: &mut [u8],
+        answer: &mut Answer,
+    )
+        requires { IsSettingUp self.old }
+        ensures { AnswersKind false kind self.old call.now input.now output.old answer.new output.new self.new }
+    {
         let pools = mem::replace(&mut self.pools, Pools::new(self.alloc));
-        let (answer, machine, pools) = serve_first(self.alloc, pools, kind, call, input, output);
+        let (told, machine, pools) = serve_first(self.alloc, pools, kind, call, input, output);
         self.machine = machine;
         self.pools = pools;
-        answer
+        *answer = told;
     }
 }
 
 // Serves the first call that is none of setup, by a machine of what was set up. Where the call is refused, the machine
 // is taken apart again, and the setup goes on.
-#[inline(never)]
 fn serve_first(
     alloc: Global,
     pools: Pools,
@@ -109,7 +146,8 @@ fn serve_first(
         × (stage_of result.1 result.2 ≡ after_command (setting (state_made pools)) result.0 after) }
 {
     let mut machine = pools.into_machine();
-    let answer = serve(alloc, &mut machine, kind, call, input, output);
+    let mut answer = Answer::of_code(code::DONE);
+    serve(alloc, &mut machine, kind, call, input, output, &mut answer);
     if is_refused(answer.code) {
         (answer, None, Pools::of_machine(alloc, machine))
     } else {

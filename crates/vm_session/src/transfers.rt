@@ -34,7 +34,10 @@ pub(crate) fn receive(
     };
     let mut source = ScriptSource::new(steps.as_slice());
     let addr = GuestAddress(call.address);
-    moved(machine.read_volatile_from(call.first, addr, &mut source, call.length))
+    let outcome = machine.read_volatile_from(call.first, addr, &mut source, call.length);
+    let mut answer = Answer::of_code(code::DONE);
+    moved(outcome, &mut answer);
+    answer
 }
 
 // Receives just so many bytes of a memory.
@@ -54,7 +57,10 @@ pub(crate) fn receive_whole(
     };
     let mut source = ScriptSource::new(steps.as_slice());
     let addr = GuestAddress(call.address);
-    done(machine.read_exact_volatile_from(call.first, addr, &mut source, call.length))
+    let outcome = machine.read_exact_volatile_from(call.first, addr, &mut source, call.length);
+    let mut answer = Answer::of_code(code::DONE);
+    done(outcome, &mut answer);
+    answer
 }
 
 // Sends at most so many bytes of a memory. What the sink takes goes to the front of the output.

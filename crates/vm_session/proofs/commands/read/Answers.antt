@@ -7,5 +7,5 @@ pub returns : goal.returns
 returns c =
     let call = c.args.call.now in
     read_does (state_made c.args.machine.now) call.first (address call.address) call.length c.args.output.now
-    c.read.new.buf c.read.result c.moved.result c.if-output-call.false c.read.auto.buf c.read.ensures.answer
+    c.read.new.buf c.read.result c.moved.new.answer c.if-output-call.false c.read.auto.buf c.read.ensures.answer
     c.read.ensures.at_most c.moved.ensures

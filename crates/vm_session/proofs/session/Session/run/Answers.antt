@@ -14,10 +14,10 @@ returns-in-Some c =
     let stands : commanding before ≡ c.args.self.now =
     ap (λ m. stage_of m c.self.inside.pools) (sym c.in-Some.is) ∙ c.self.view_is in
     subst (λ (s : Stage). (x : State) × Served (state_at s) c.args.kind c.args.call.now c.args.input.now
-    c.args.output.now c.serve.result c.serve.new.output x
-    × (commanding after ≡ after_command s c.serve.result x)) stands (
+    c.args.output.now c.serve.new.answer c.serve.new.output x
+    × (commanding after ≡ after_command s c.serve.new.answer x)) stands (
       after,
       c.serve.ensures,
-      running before c.args.kind c.args.call.now c.args.input.now c.args.output.now c.serve.result c.serve.new.output
+      running before c.args.kind c.args.call.now c.args.input.now c.args.output.now c.serve.new.answer c.serve.new.output
           after c.serve.ensures,
     )
