@@ -39,4 +39,5 @@ pub page_grows : {X E : Type 0} (r : Result X E) (old new part : List ℕ) (zero
 page_grows r old new part true number page size ok err l =
     grows_by r old new (spelling (ZeroPage number page)) (20 + size) ok err (omega (arith, zero_page_len number page))
 page_grows r old new part false number page size ok err l =
-    grows_by r old new (spelling (Pages number page part)) (20 + size) ok err (omega (arith, pages_len number page part))
+    grows_by r old new (spelling (Pages number page part)) (20 + size) ok err
+    (omega (arith, pages_len number page part))

@@ -3,11 +3,11 @@ use Rattle.std.proofs.Common.{◌≡◌, ℕ, ◌+◌, ◌<◌, ◌≤◌, ◌�
 use Rattle.std.specs.Io.KnownBytes.{Consumes}
 use Rattle.std.specs.List.{AllByRecursion}
 use Rattle.std.specs.Prelude.{flat_map, slice_get}
-use Rattle.std.proofs.lemmas.List.{flat_map_more}
+use Rattle.std.proofs.lemmas.List.{append-nil, flat_map_more}
 use Rattle.vm_memory_guest.specs.Host.{Host, block_at}
 use Rattle.live_migration.specs.Frame.{Message, IsMessage, spelling}
 use Rattle.live_migration.specs.Image.{arrived, received}
-use Rattle.live_migration.specs.Receiving.{ReceivesAll, TakesFrame}
+use Rattle.live_migration.specs.Receiving.{KeepsBlocks, ReceivesAll, TakesFrame, section_in, sections_told}
 use Rattle.live_migration.specs.declared.header.BlockEntry.{BlockEntry}
 use Rattle.live_migration.specs.declared.receiver.progress.Progress.{Progress}
 use Rattle.live_migration.proofs.ImageLemmas.{arrived-append}
@@ -62,3 +62,28 @@ received_more a b c base entries old new host mid next at are r t =
           ∙ r.others c' outside;
       shape = t.applied.shape ∙ r.shape;
     }
+
+-- ---- what stays of a receiver, and the sections that came
+
+pub none_kept : {B : Type 0} (a : Option (List ℕ)) (p : Progress) (host : Host B)
+    → (r : ReceivesAll a a p.base p.entries.items host host) × KeepsBlocks r.messages p p
+unfolding none_received
+none_kept a p host = (
+  none_received a p.base p.entries.items host,
+  record { base = refl; entries = refl; sections = sym (append-nil (sections_told p)) },
+)
+
+pub kept_more : {B : Type 0} (a b c : Option (List ℕ)) (first old new : Progress) (host mid next : Host B)
+    (r : ReceivesAll a b first.base first.entries.items host mid) → KeepsBlocks r.messages first old
+    → TakesFrame b c old new mid next
+    → (more : ReceivesAll a c first.base first.entries.items host next) × KeepsBlocks more.messages first new
+unfolding received_more
+kept_more a b c first old new host mid next r k t = (
+  received_more a b c first.base first.entries.items old new host mid next k.base k.entries r t,
+  record {
+    base = t.base ∙ k.base;
+    entries = t.entries ∙ k.entries;
+    sections = t.sections ∙ ap (λ (xs : List (List ℕ × List ℕ)). xs ++ section_in t.message) k.sections
+        ∙ flat_map_more section_in (sections_told first) r.messages t.message;
+  },
+)

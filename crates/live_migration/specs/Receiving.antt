@@ -1,11 +1,11 @@
 -- What a receiver took from its stream.
-use Rattle.std.specs.Prelude.{◌≡◌, ℕ, ◌+◌, ◌<◌, ◌≤◌, ◌⊎◌, List, ◌++◌, length, map, flat_map, replicate, slice_get, Option, Some, Ok}
+use Rattle.std.specs.Prelude.{◌≡◌, ℕ, ◌+◌, ◌<◌, ◌≤◌, ◌⊎◌, List, [], ◌∷◌, ◌++◌, length, map, flat_map, replicate, slice_get, Option, Some, Ok}
 use Rattle.std.specs.List.{AllByRecursion}
 use Rattle.std.specs.Io.KnownBytes.{Consumes}
 use Rattle.sha2.specs.Hashers.{Holds256}
 use Rattle.sha2.specs.Sha256.{sha256}
 use Rattle.vm_memory_guest.specs.Host.{Host, block_at, shape_of}
-use Rattle.live_migration.specs.Frame.{Message, RoundEnd, IsMessage, spelling}
+use Rattle.live_migration.specs.Frame.{Message, RoundEnd, Section, IsMessage, spelling}
 use Rattle.live_migration.specs.Header.{IsHeader, header_bytes}
 use Rattle.live_migration.specs.Image.{arrived}
 use Rattle.live_migration.specs.Placing.{Applies}
@@ -29,6 +29,15 @@ round_after round m = round
 abbrev pub zeroed : List BlockEntry → List (List ℕ)
 zeroed entries = map (λ e. replicate e.len 0) entries
 
+-- the names and the bytes of the sections that came
+abbrev pub sections_told : Progress → List (List ℕ × List ℕ)
+sections_told p = map (λ s. (s.name.items, s.bytes.items)) p.sections.items
+
+-- the section that a message has, if it has one
+abbrev pub section_in : Message → List (List ℕ × List ℕ)
+section_in (Section name bytes) = (name, bytes) ∷ []
+section_in m = []
+
 -- only sections came, and took of what is allowed
 pub record IsSectionKept (old new : Progress) : Type 0 where
   pub base : new.base ≡ old.base
@@ -48,6 +57,7 @@ pub record TakesFrame {B : Type 0} (before after : Option (List ℕ)) (old new :
     pub base : new.base ≡ old.base
     pub entries : new.entries.items ≡ old.entries.items
     pub round : new.round ≡ round_after old.round message
+    pub sections : sections_told new ≡ sections_told old ++ section_in message
     pub right : (sent : List ℕ) → Holds256 old.hasher sent → IsRightEnd old.round sent message
     pub hashed : (sent : List ℕ) → Holds256 old.hasher sent → Holds256 new.hasher (sent ++ spelling message)
 
@@ -78,6 +88,12 @@ pub record ReceivesAll {B : Type 0} (before after : Option (List ℕ)) (base : �
       → block_at next.blocks (base + j) ≡ arrived e.page_size j messages (block_at host.blocks (base + j))
   pub others : (c : ℕ) → (c < base) ⊎ (base + length entries ≤ c) → block_at next.blocks c ≡ block_at host.blocks c
   pub shape : shape_of next ≡ shape_of host
+
+-- the blocks of a receiver stay the same, and the sections of these messages came
+pub record KeepsBlocks (messages : List Message) (old new : Progress) : Type 0 where
+  pub base : new.base ≡ old.base
+  pub entries : new.entries.items ≡ old.entries.items
+  pub sections : sections_told new ≡ sections_told old ++ flat_map section_in messages
 
 -- what a receiver gives out
 pub record GivesOut (old : Progress) (new : Guest) : Type 0 where

@@ -155,8 +155,8 @@ pub fn receivers_have_what_was_sent<B: ExactBitmap, C: Bitmap>()
     dirty_pages_are_listed();
 }
 
-/// How calls of a sender are put together for the theorem above, and frames that a receiver takes one by one: nothing at
-/// first, and then one more.
+/// How calls of a sender are put together for the theorem above, and frames that a receiver takes one by one: nothing
+/// at first, and then one more.
 pub fn calls_and_frames_add_up<B: ExactBitmap, C: Bitmap>()
     ensures calls { (calls : List Call) (call : Call) (first mid last : Moment B) → DoAll B.pages calls first mid
         → Does B.pages call mid last → DoAll B.pages (calls ++ call ∷ []) first last }
@@ -183,8 +183,8 @@ pub fn aborted_rounds_lose_no_page<B: ExactBitmap>()
 }
 
 /// A page that the harvester of a `TrackedBitmap` knows to be marked or seen set was harvested in its round, and waits
-/// to be copied where the words of this harvest are taken. Or it is among those that `close` leaves, for the last round.
-/// A harvest adds its words to those that are known, and so does no other call.
+/// to be copied where the words of this harvest are taken. Or it is among those that `close` leaves, for the last
+/// round. A harvest adds its words to those that are known, and no other call does.
 pub fn marks_are_harvested_or_left()
     ensures kept { (harvester : Harvester) (harvests : List (ℕ × List ℕ)) (left : List ℕ) (count word round page : ℕ)
         → (known_by harvester).harvests ≡ noted harvests → IsLeft (known_by harvester) left

@@ -17,3 +17,5 @@ mod streams;
 mod tracked;
 #[cfg(test)]
 mod trials;
+#[cfg(test)]
+mod whole;

@@ -21,7 +21,7 @@ pub struct Guest {
 }
 
 impl Receiver {
-    ghost use Rattle.live_migration.specs.Receiving.{GivesOut, ReceivesAll};
+    ghost use Rattle.live_migration.specs.Receiving.{GivesOut, KeepsBlocks, ReceivesAll};
     ghost use Rattle.live_migration.specs.declared.receiver.Stage.TheVariants as stage;
 
     /// Takes all frames up to leave to run the guest. After done it says that it has all. What is refused is for the
@@ -34,6 +34,9 @@ impl Receiver {
     ) -> Result<(), Refusal>
         ensures received { OnOk result (ReceivesAll (R.remaining reader.old) (R.remaining reader.new) self.old.seen.base
             self.old.seen.entries.items host.old host.new) }
+        ensures kept { OnOk result ((r : ReceivesAll (R.remaining reader.old) (R.remaining reader.new)
+            self.old.seen.base self.old.seen.entries.items host.old host.new)
+            × KeepsBlocks r.messages self.old.seen self.new.seen) }
         ensures gone { OnOk result (self.new.seen.stage ≡ stage.Gone) }
     {
         for _ in 0..u64::MAX {

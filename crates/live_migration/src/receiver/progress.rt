@@ -1,5 +1,5 @@
 //! How far a receiver has come.
-ghost use Rattle.std.specs.Prelude.{◌≡◌, ℕ, ◌+◌, ◌^◌, ◌<◌, ◌≤◌, List, ◌++◌, length, replicate, IfOk, OnOk, OnErr, Ok};
+ghost use Rattle.std.specs.Prelude.{◌≡◌, ℕ, ◌+◌, ◌^◌, ◌<◌, ◌≤◌, List, [], ◌∷◌, ◌++◌, length, replicate, IfOk, OnOk, OnErr, Ok};
 ghost use Rattle.sha2.specs.Hashers.{Holds256};
 ghost use Rattle.sha2.specs.Sha256.{sha256};
 
@@ -59,7 +59,7 @@ impl Progress {
     ghost use Rattle.vm_memory_guest.specs.Host.{Host};
     ghost use Rattle.live_migration.specs.Frame.{Message, RoundEnd, message_of, head};
     ghost use Rattle.live_migration.specs.Placing.{Applies};
-    ghost use Rattle.live_migration.specs.Receiving.{IsRightEnd, IsSectionKept, round_after};
+    ghost use Rattle.live_migration.specs.Receiving.{IsRightEnd, IsSectionKept, round_after, section_in, sections_told};
     ghost use Rattle.live_migration.specs.Stages.{stage_after};
 
     // Ends a round, if its number is the next and the digest is that of what came before.
@@ -88,6 +88,7 @@ impl Progress {
     // Keeps a section, if its bytes are among those that are still allowed.
     fn keep_section(&mut self, name: &[u8], bytes: &[u8]) -> Result<(), Refusal>
         ensures kept { IsSectionKept self.old self.new }
+        ensures added { OnOk result (sections_told self.new ≡ sections_told self.old ++ (name.now, bytes.now) ∷ []) }
     {
         let len = name.len() as u64 + bytes.len() as u64;
         if len > self.left {
@@ -115,6 +116,8 @@ impl Progress {
         ensures right { OnOk result ((sent : List ℕ) → Holds256 self.old.hasher sent
             → IsRightEnd self.old.round sent (message_of frame.now)) }
         ensures kept { IsSectionKept self.old record self.new { round = self.old.round; stage = self.old.stage } }
+        ensures sections { OnOk result (sections_told self.new
+            ≡ sections_told self.old ++ section_in (message_of frame.now)) }
         ensures err { OnErr result (host.new ≡ host.old) }
     {
         let stage = stage_after(self.stage, frame)?;
@@ -142,7 +145,9 @@ impl Progress {
     }
 }
 
-fn section_of(alloc: Global, name: &[u8], bytes: &[u8]) -> Result<Section, AllocError> {
+fn section_of(alloc: Global, name: &[u8], bytes: &[u8]) -> Result<Section, AllocError>
+    ensures { IfOk result (λ s. (s.name.items ≡ name.now) × (s.bytes.items ≡ bytes.now)) }
+{
     Ok(Section {
         name: Vec::from_slice(alloc, name)?,
         bytes: Vec::from_slice(alloc, bytes)?,

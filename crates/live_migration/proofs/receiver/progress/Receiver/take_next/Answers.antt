@@ -3,6 +3,7 @@ use Rattle.std.specs.Io.KnownBytes.{Consumes}
 use Rattle.sha2.specs.Hashers.{Holds256}
 use Rattle.sha2.specs.declared.Sha256.{Sha256}
 use Rattle.live_migration.specs.Frame.{message_of, payload_of}
+use Rattle.live_migration.specs.Receiving.{sections_told}
 use Rattle.live_migration.specs.declared.receiver.progress.Progress.{Progress}
 use Rattle.live_migration.proofs.StreamLemmas.{spelled}
 use Rattle.live_migration.proofs.receiver.progress.Receiver.take_next.Goals as goal
@@ -29,6 +30,7 @@ returns-clause-taken g c =
         base = ap (λ (p : Progress). p.base) same ∙ kept.base;
         entries = ap (λ (p : Progress). p.entries.items) same ∙ kept.entries;
         round = ap (λ (p : Progress). p.round) same ∙ c.in_ok-accept.ensures.round;
+        sections = ap (λ (p : Progress). sections_told p) same ∙ c.in_ok-accept.ensures.sections;
         right = c.in_ok-accept.ensures.right;
         hashed = λ sent h.
             subst (λ (t : List ℕ). Holds256 c.note.new.self.hasher (sent ++ t))
