@@ -18,6 +18,10 @@ use std::io::{Read, Write};
 use std::marker::Model;
 use thiserror::Error;
 
+// How many replies to messages of its own may wait to be read: a mapping often comes before the reply to its MISS, and
+// replies that no one reads would fill the channel.
+const MOST_AWAITED: u64 = 4;
+
 /// How long a request is tried.
 #[derive(Clone, Copy, Debug)]
 pub struct Limits {
@@ -269,6 +273,16 @@ impl<F: Read + Write, O: Read + Write> DeviceIotlb<F, O> {
         Ok(Some(value))
     }
 
+    // Looks for a reply to an earlier message, where many are awaited.
+    fn catch_up(&mut self) -> Result<(), ChannelError>
+        ensures { self.new ≡ self.old }
+    {
+        if self.awaited > MOST_AWAITED {
+            self.look_back()?;
+        }
+        Ok(())
+    }
+
     // Looks once at both channels while a mapping is missed: it answers whether one came.
     fn wait<H: SharedHost>(&mut self, host: &mut H) -> Result<bool, MissError>
         ensures { self.new ≡ self.old }
@@ -298,6 +312,9 @@ impl<F: Read + Write, O: Read + Write> DeviceIotlb<F, O> {
     ) -> Result<u32, MissError>
         ensures { self.new ≡ self.old }
     {
+        // One more than comes, so that no backlog stays.
+        self.catch_up().map_err(MissError::Channel)?;
+        self.catch_up().map_err(MissError::Channel)?;
         self.awaited = self.awaited.saturating_add(1);
         self.tell(message, VHOST_USER_NEED_REPLY)
             .map_err(MissError::Channel)?;

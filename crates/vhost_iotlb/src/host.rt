@@ -29,21 +29,16 @@ pub trait SharedHost {
 }
 
 /// A host that no one else uses.
-#[derive(Drop)]
-pub struct OwnedHost<'a, B> {
-    pub host: &'a mut HostMemory<B>,
-}
-
-impl<B: Bitmap> SharedHost for OwnedHost<'_, B> {
+impl<B: Bitmap> SharedHost for HostMemory<B> {
     ghost applies = { λ old table m answer new. (calls : List TableEvent)
-        × Applies table.table.0 table.memory m answer calls old.host.now new.host.now };
+        × Applies table.table.0 table.memory m answer calls old new };
 
     fn apply(&mut self, table: &DeviceTable, message: &IotlbMessage) -> Result<(), Refusal> {
-        table.apply(self.host, message)
+        table.apply(self, message)
     }
 
     fn attempt<R: Request>(&mut self, request: &mut R) -> Outcome {
-        request.attempt(self.host)
+        request.attempt(self)
     }
 }
 

@@ -24,7 +24,7 @@ pub use header::{
     Header, VERSION, VHOST_USER_BACKEND_IOTLB_MSG, VHOST_USER_IOTLB_MSG, VHOST_USER_NEED_REPLY,
     VHOST_USER_REPLY,
 };
-pub use host::{LockedHost, OwnedHost, SharedHost};
+pub use host::{LockedHost, SharedHost};
 pub use malformed::Malformed;
 pub use message::{IotlbMessage, PAYLOAD_LEN};
 pub use reply::{decode_reply, encode_reply};

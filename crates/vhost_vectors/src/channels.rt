@@ -1,0 +1,127 @@
+//! Channels that give what a test says, and the bytes of messages, written here by themselves.
+
+use std::alloc::Global;
+use std::io::{self, ErrorKind, Read, Write};
+use std::test::Fail;
+
+/// A channel that gives its bytes in pieces, and keeps what is written to it.
+#[derive(Drop)]
+pub struct Given {
+    pub input: Vec<u8>,
+    pub at: usize,
+    // The longest piece.
+    pub piece: usize,
+    // Whether nothing is there at every other read.
+    pub halts: bool,
+    pub halted: bool,
+    // Whether it ends behind its bytes. Else nothing more comes.
+    pub ends: bool,
+    // Whether a reply of 20 bytes comes only for a message of 44 that was written.
+    pub answers: bool,
+    pub output: Vec<u8>,
+}
+
+/// A channel that gives these bytes.
+pub fn giving(alloc: Global, input: Vec<u8>, piece: usize, halts: bool, ends: bool) -> Given {
+    Given {
+        input,
+        at: 0,
+        piece,
+        halts,
+        halted: false,
+        ends,
+        answers: false,
+        output: Vec::new(alloc),
+    }
+}
+
+impl Read for Given {
+    fn read(&mut self, buf: &mut [u8]) -> io::Result<usize> {
+        self.halted = !self.halted;
+        if self.halts && self.halted {
+            return Err(io::Error::from(ErrorKind::WouldBlock));
+        }
+        let there = if self.answers {
+            self.input.len().min(self.output.len() / 44 * 20)
+        } else {
+            self.input.len()
+        };
+        if self.at >= there {
+            if self.ends {
+                return Ok(0);
+            }
+            return Err(io::Error::from(ErrorKind::TimedOut));
+        }
+        let count = buf.len().min(self.piece).min(there - self.at);
+        let from = self.at;
+        buf[..count].copy_from_slice(&self.input.as_slice()[from..from + count]);
+        self.at = from + count;
+        Ok(count)
+    }
+}
+
+impl Write for Given {
+    fn write(&mut self, buf: &[u8]) -> io::Result<usize> {
+        self.output.extend_from_slice(buf)?;
+        Ok(buf.len())
+    }
+
+    fn flush(&mut self) -> io::Result<()> {
+        Ok(())
+    }
+}
+
+/// The fields of a payload.
+#[derive(Clone, Copy)]
+pub struct Parts {
+    pub iova: u64,
+    pub size: u64,
+    pub user: u64,
+    pub permissions: u8,
+    pub kind: u8,
+}
+
+/// Puts a header behind other bytes.
+pub fn put_header(out: &mut Vec<u8>, request: u32, flags: u32, size: u32) -> Result<(), Fail> {
+    out.extend_from_slice(&request.to_le_bytes())?;
+    out.extend_from_slice(&flags.to_le_bytes())?;
+    out.extend_from_slice(&size.to_le_bytes())?;
+    Ok(())
+}
+
+/// Puts a payload behind other bytes. Its last six bytes mean nothing.
+pub fn put_payload(out: &mut Vec<u8>, parts: Parts) -> Result<(), Fail> {
+    out.extend_from_slice(&parts.iova.to_le_bytes())?;
+    out.extend_from_slice(&parts.size.to_le_bytes())?;
+    out.extend_from_slice(&parts.user.to_le_bytes())?;
+    out.extend_from_slice(&[parts.permissions, parts.kind, 9, 8, 7, 6, 5, 4])?;
+    Ok(())
+}
+
+/// Puts a message of the front end behind other bytes.
+pub fn put_message(out: &mut Vec<u8>, flags: u32, parts: Parts) -> Result<(), Fail> {
+    put_header(out, 22, flags, 32)?;
+    put_payload(out, parts)
+}
+
+/// Puts a reply to a message of the back end behind other bytes.
+pub fn put_reply(out: &mut Vec<u8>, value: u64) -> Result<(), Fail> {
+    put_header(out, 1, 5, 8)?;
+    out.extend_from_slice(&value.to_le_bytes())?;
+    Ok(())
+}
+
+/// The number of 8 bytes from a place on, or 0 past the end.
+pub fn number_at(bytes: &[u8], at: usize) -> u64 {
+    let mut number = 0u64;
+    for i in 0..8 {
+        let byte = bytes.get(at.saturating_add(i)).copied().unwrap_or(0);
+        number |= u64::from(byte) << (8 * i);
+    }
+    number
+}
+
+/// The byte at a place, or 0 past the end.
+pub fn byte_at(bytes: &[u8], at: usize) -> u8 {
+    bytes.get(at).copied().unwrap_or(0)
+}

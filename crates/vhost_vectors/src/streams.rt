@@ -1,0 +1,311 @@
+//! Streams that are made from a valid one by changes, beside a plain reading of the same bytes.
+
+use crate::channels::{Parts, byte_at, giving, number_at, put_header, put_message};
+use crate::worlds::{
+    Host, IOVA, Iotlb, NOWHERE, PAGE, World, invalidate, make_iotlb, make_world, mapped, update,
+};
+use std::alloc::Global;
+use std::test::Fail;
+use test_text::next_number;
+use vhost_iotlb::{ChannelError, Handled, Limits, Malformed, Refusal};
+
+// How many streams each of the four tests handles.
+const STREAMS: usize = 25_000;
+
+// What a message comes to, by its place in a count.
+const NAMES: [&str; 10] = [
+    "applied",
+    "other",
+    "Version",
+    "PayloadSize",
+    "Kind",
+    "EmptyRange",
+    "Range",
+    "Permissions",
+    "UserAddress",
+    "Memory",
+];
+
+type Counts = [u32; 10];
+
+fn count(counts: &mut Counts, place: usize) {
+    if place < counts.len() {
+        counts[place] = counts[place].saturating_add(1);
+    }
+}
+
+// A stream of messages, of which two want no reply and one is of another request.
+fn valid(alloc: Global) -> Result<Vec<u8>, Fail> {
+    let mut out = Vec::new(alloc);
+    put_message(&mut out, 9, update(0, 3))?;
+    put_message(&mut out, 1, update(1, 1))?;
+    put_message(&mut out, 9, invalidate(0))?;
+    put_header(&mut out, 35, 1, 8)?;
+    out.extend_from_slice(&[7; 8])?;
+    put_message(&mut out, 9, update(3, 2))?;
+    let wide = Parts {
+        iova: IOVA,
+        size: 4 * PAGE,
+        user: 0x7fff_0000_0000,
+        permissions: 3,
+        kind: 2,
+    };
+    put_message(&mut out, 9, wide)?;
+    put_message(&mut out, 1, invalidate(2))?;
+    put_message(&mut out, 9, update(2, 3))?;
+    Ok(out)
+}
+
+// Changes some fields of a stream: any byte, or the flags, the size, the kind or a number of a message.
+fn change(bytes: &mut [u8], state: &mut u64) {
+    if bytes.is_empty() {
+        return;
+    }
+    let len = bytes.len();
+    let at = next_number(state) as usize % len;
+    let value = (next_number(state) % 256) as u8;
+    let message = next_number(state) as usize % 8 * 44;
+    let field = [4, 8, 27, 36, 37, 37, 19, 20, 21, 33];
+    let place = message + field[next_number(state) as usize % field.len()];
+    match next_number(state) % 6 {
+        0 => bytes[at] = value,
+        1 => bytes[at] ^= 1,
+        2 if place < len => bytes[place] = 0,
+        3 if place < len => bytes[place] = 255,
+        4 if place < len => bytes[place] = value % 8,
+        _ if place < len => bytes[place] ^= 1 << (value % 8),
+        _ => bytes[at] = 0,
+    }
+}
+
+// The address of guest memory that so many bytes of the front end's are, if they were announced.
+fn announced(user: u64, size: u64) -> Option<u64> {
+    let end = u128::from(user) + u128::from(size);
+    for (start, guest, len) in [
+        (0x7fff_0000_0000u64, 0u64, 0x8000u64),
+        (0x7ffe_0000_0000, 0x8000, 0x8000),
+        (NOWHERE, 0x1_0000, 0x1000),
+    ] {
+        if user >= start && end <= u128::from(start) + u128::from(len) {
+            return Some(guest.wrapping_add(user.wrapping_sub(start)));
+        }
+    }
+    None
+}
+
+// What a plain reading makes of a stream.
+#[derive(Drop)]
+struct Told {
+    counts: Counts,
+    replies: Vec<u8>,
+    // Where the first page of I/O addresses, and each of the next ones, leads.
+    pages: [Option<u64>; 8],
+}
+
+impl Told {
+    // A range is set, or taken back.
+    fn set(&mut self, iova: u64, size: u64, to: Option<u64>) {
+        for i in 0..8 {
+            let page = IOVA.wrapping_add((i as u64).wrapping_mul(PAGE));
+            if page >= iova && page - iova < size {
+                self.pages[i] = to.map(|to| to.wrapping_add(page - iova));
+            }
+        }
+    }
+
+    // What a payload comes to.
+    fn payload(&mut self, bytes: &[u8]) -> usize {
+        let iova = number_at(bytes, 0);
+        let size = number_at(bytes, 8);
+        let user = number_at(bytes, 16);
+        let permitted = matches!(byte_at(bytes, 24), 1..=3);
+        let kind = byte_at(bytes, 25);
+        let past = u128::from(iova) + u128::from(size) > u128::from(u64::MAX);
+        match kind {
+            1 | 4 if !permitted => 7,
+            2 | 3 if size == 0 => 5,
+            2 | 3 if past => 6,
+            2 if !permitted => 7,
+            2 => match announced(user, size) {
+                Some(to) => {
+                    self.set(iova, size, Some(to));
+                    0
+                }
+                None => 8,
+            },
+            3 => {
+                self.set(iova, size, None);
+                0
+            }
+            _ => 4,
+        }
+    }
+}
+
+fn read_plainly(alloc: Global, bytes: &[u8]) -> Result<Told, Fail> {
+    let mut told = Told {
+        counts: [0; 10],
+        replies: Vec::new(alloc),
+        pages: [None; 8],
+    };
+    let mut at = 0usize;
+    for _ in 0..bytes.len() {
+        let head = bytes.get(at..).unwrap_or(&[]);
+        let request = number_at(head, 0) % (1 << 32);
+        let flags = byte_at(head, 4);
+        let size = number_at(head, 8) % (1 << 32);
+        let kept = 12usize.saturating_add(size.min(32) as usize);
+        if head.len() < kept {
+            break;
+        }
+        let place = if request != 22 || flags / 4 % 2 == 1 {
+            1
+        } else if flags % 4 != 1 {
+            2
+        } else if size != 32 {
+            3
+        } else {
+            told.payload(head.get(12..).unwrap_or(&[]))
+        };
+        count(&mut told.counts, place);
+        if place != 1 && flags / 8 % 2 == 1 {
+            told.replies.push(u8::from(place != 0))?;
+        }
+        at = at.saturating_add(12).saturating_add(size as usize);
+    }
+    Ok(told)
+}
+
+fn place_of(handled: &Handled) -> Option<usize> {
+    match handled {
+        Handled::Nothing => None,
+        Handled::Applied(_) => Some(0),
+        Handled::Other(_) => Some(1),
+        Handled::Refused(Refusal::Malformed(malformed)) => Some(match malformed {
+            Malformed::Version => 2,
+            Malformed::PayloadSize => 3,
+            Malformed::Kind => 4,
+            Malformed::EmptyRange => 5,
+            Malformed::Range => 6,
+            Malformed::Permissions => 7,
+            Malformed::UserAddress => 8,
+        }),
+        Handled::Refused(_) => Some(9),
+    }
+}
+
+// Handles all that comes, and counts it.
+fn handle_all(host: &mut Host, iotlb: &mut Iotlb) -> Result<Counts, ChannelError> {
+    let mut counts: Counts = [0; 10];
+    for _ in 0..u64::MAX {
+        match iotlb.handle(host) {
+            Ok(handled) => {
+                if let Some(place) = place_of(&handled) {
+                    count(&mut counts, place);
+                }
+            }
+            Err(ChannelError::Ended) => return Ok(counts),
+            Err(error) => return Err(error),
+        }
+    }
+    Ok(counts)
+}
+
+// Fails where replies or the table are other than a plain reading makes them.
+fn compare(world: &World, wanted: &Told, replies: &[u8]) -> Result<(), Fail> {
+    for (i, value) in wanted.replies.as_slice().iter().enumerate() {
+        let at = i.saturating_mul(20).saturating_add(12);
+        if number_at(replies, at) != u64::from(*value) {
+            return Err(Fail::new(format_args!("reply {i}")));
+        }
+    }
+    if replies.len() != wanted.replies.len().saturating_mul(20) {
+        return Err(Fail::new("more or fewer replies"));
+    }
+    for (i, to) in wanted.pages.iter().enumerate() {
+        let iova = IOVA.wrapping_add((i as u64).wrapping_mul(PAGE));
+        if mapped(world, iova) != *to {
+            return Err(Fail::new(format_args!("page {i}")));
+        }
+    }
+    Ok(())
+}
+
+// Handles a stream in pieces, and fails where that is another than the plain reading.
+fn run(
+    alloc: Global,
+    world: &mut World,
+    bytes: Vec<u8>,
+    piece: usize,
+    total: &mut Counts,
+) -> Result<(), Fail> {
+    let wanted = read_plainly(alloc, bytes.as_slice())?;
+    if world.host.shape().has_table(world.table) {
+        world.host.table_mut(world.table).invalidate_all();
+    }
+    let limits = Limits { tries: 1, looks: 1 };
+    let front = giving(alloc, bytes, piece, false, true);
+    let own = giving(alloc, Vec::new(alloc), 1, false, true);
+    let mut iotlb = make_iotlb(alloc, world.table, front, own, limits)?;
+    let counts = handle_all(&mut world.host, &mut iotlb)?;
+    if counts != wanted.counts {
+        return Err(Fail::new(format_args!("{counts:?}, not {:?}", wanted.counts)));
+    }
+    let (_table, front, _own) = iotlb.into_parts();
+    compare(world, &wanted, front.output.as_slice())?;
+    for (sum, more) in total.iter_mut().zip(counts) {
+        *sum = sum.saturating_add(more);
+    }
+    Ok(())
+}
+
+// Handles streams that are changed at random from this seed on, and fails where other counts come out.
+fn expect_counts(alloc: Global, seed: u64, wanted: Counts) -> Result<(), Fail> {
+    let mut state = seed;
+    let mut total: Counts = [0; 10];
+    let mut world = make_world(alloc, 1000)?;
+    let stream = valid(alloc)?;
+    for number in 0..STREAMS {
+        let mut bytes = stream.clone()?;
+        for _ in 0..number % 4 {
+            change(bytes.as_mut_slice(), &mut state);
+        }
+        if number % 16 == 5 {
+            bytes.truncate(next_number(&mut state) as usize % 340);
+        }
+        let piece = if number % 8 == 0 {
+            1 + next_number(&mut state) as usize % 50
+        } else {
+            1000
+        };
+        run(alloc, &mut world, bytes, piece, &mut total)?;
+    }
+    if total != wanted {
+        return Err(Fail::new(format_args!("{total:?} of {NAMES:?}")));
+    }
+    Ok(())
+}
+
+#[test]
+fn changed_streams(rt: HostRuntime) -> Result<(), Fail> {
+    let counts = [147665, 28166, 594, 1852, 1692, 304, 4, 746, 3884, 0];
+    expect_counts(rt.alloc(), 1, counts)
+}
+
+#[test]
+fn more_changed_streams(rt: HostRuntime) -> Result<(), Fail> {
+    let counts = [147391, 28256, 578, 1890, 1645, 278, 6, 795, 3701, 0];
+    expect_counts(rt.alloc(), 2, counts)
+}
+
+#[test]
+fn again_more_changed_streams(rt: HostRuntime) -> Result<(), Fail> {
+    let counts = [147161, 28198, 561, 1911, 1700, 312, 2, 763, 3819, 0];
+    expect_counts(rt.alloc(), 3, counts)
+}
+
+#[test]
+fn the_last_changed_streams(rt: HostRuntime) -> Result<(), Fail> {
+    let counts = [147405, 28116, 614, 1925, 1657, 270, 5, 738, 3813, 0];
+    expect_counts(rt.alloc(), 4, counts)
+}
