@@ -1,0 +1,304 @@
+//! The back end: a block device behind a table that the front end fills.
+
+use crate::world::{CALL, Host, KICK, Layout, Memory, make_host};
+use anyhow::bail;
+use std::alloc::Global;
+use std::io::{Read, Write};
+use std::sync::{Mutex, Wait};
+use vhost_iotlb::{
+    ChannelError, DeviceIotlb, Handled, LockedHost, MissError, Outcome, ReadChain, Request,
+    SharedHost, WriteChain, reach,
+};
+use virtio_blk::{BlockDevice, MemoryDisk, VIRTIO_BLK_S_IOERR};
+use virtio_queue::{Queue, QueueError};
+use vm_memory::{
+    Bitmap, Bytes, Chain, GuestAddress, GuestMemoryError, HostMemory, IommuError, Permissions,
+    Segment, TlbId,
+};
+
+// The most bytes of a chain.
+const MOST: usize = 0x1_0000;
+
+/// What a back end did.
+#[derive(Clone, Copy, Debug)]
+pub struct Done {
+    /// The requests that it served.
+    pub served: u64,
+    /// Those of them that it gave up, as a mapping was refused or forbids an access.
+    pub given_up: u64,
+}
+
+// A turn at the queue: a chain is popped, or one is returned.
+#[derive(Drop)]
+struct QueueTurn {
+    alloc: Global,
+    memory: Memory,
+    table: TlbId,
+    queue: Queue,
+    returned: Option<(u16, u32)>,
+    popped: Option<(u16, Chain)>,
+}
+
+impl QueueTurn {
+    // What an access of a range comes to that was refused.
+    fn refused<B>(
+        &self,
+        host: &HostMemory<B>,
+        iova: u64,
+        len: usize,
+        access: Permissions,
+    ) -> Outcome {
+        if !host.shape().has_table(self.table) {
+            return Outcome::Failed;
+        }
+        match reach(host.table(self.table), iova, len, access).1 {
+            Outcome::Done => Outcome::Failed,
+            outcome => outcome,
+        }
+    }
+
+    fn pop<B: Bitmap>(&mut self, host: &mut HostMemory<B>) -> Outcome {
+        if !host.holds(&self.memory) {
+            return Outcome::Failed;
+        }
+        let range = match self
+            .queue
+            .pop_descriptor_chain(self.alloc, &self.memory, host)
+        {
+            Ok(popped) => {
+                self.popped = popped;
+                return Outcome::Done;
+            }
+            Err(
+                QueueError::GuestMemory(
+                    GuestMemoryError::IommuError(IommuError::CannotResolve { iova_range, .. }),
+                ),
+            ) => iova_range,
+            Err(_) => return Outcome::Failed,
+        };
+        self.refused(host, range.base.0, range.length, Permissions::Read)
+    }
+
+    // The used ring is mapped before anything is written to it.
+    fn give_back<B: Bitmap>(&mut self, host: &mut HostMemory<B>, head: u16, len: u32) -> Outcome {
+        let ring = self.queue.used_ring().0;
+        let size = 6 + 8 * usize::from(self.queue.size());
+        if !host.shape().has_table(self.table) || !host.holds(&self.memory) {
+            return Outcome::Failed;
+        }
+        match reach(host.table(self.table), ring, size, Permissions::Write).1 {
+            Outcome::Done => {}
+            outcome => return outcome,
+        }
+        match self.queue.add_used(&self.memory, host, head, len) {
+            Ok(()) => Outcome::Done,
+            Err(_) => Outcome::Failed,
+        }
+    }
+}
+
+impl Request for QueueTurn {
+    ghost is_done = { λ _. Unit {0} };
+
+    fn attempt<B: Bitmap>(&mut self, host: &mut HostMemory<B>) -> Outcome {
+        match self.returned {
+            Some((head, len)) => self.give_back(host, head, len),
+            None => self.pop(host),
+        }
+    }
+}
+
+// A block device over memory of its own, to which requests are copied.
+#[derive(Drop)]
+struct Desk {
+    host: Host,
+    layout: Layout,
+    device: BlockDevice<MemoryDisk>,
+}
+
+impl Desk {
+    // Serves a request whose readable bytes these are, and which has so many writable ones. It answers those, and how
+    // many from the first on were written without a gap.
+    fn serve(
+        &mut self,
+        alloc: Global,
+        given: &[u8],
+        room: usize,
+    ) -> anyhow::Result<(Vec<u8>, u32)> {
+        let len = given.len();
+        if len > MOST || room > MOST - len {
+            bail!("the desk is too small");
+        }
+        if !self.host.holds(&self.layout) {
+            bail!("the host holds no such memory");
+        }
+        self.layout
+            .write_slice(&mut self.host, given, GuestAddress(0))?;
+        let mut segments = Vec::new(alloc);
+        segments.push(Segment {
+            addr: GuestAddress(0),
+            len: len as u32,
+            writable: false,
+        })?;
+        segments.push(Segment {
+            addr: GuestAddress(len as u64),
+            len: room as u32,
+            writable: true,
+        })?;
+        let chain = Chain::new(segments)?;
+        if !self.host.holds(&self.layout) {
+            bail!("the host holds no such memory");
+        }
+        let count = self.device.serve(&self.layout, &mut self.host, &chain);
+        let mut written = vec![in alloc; 0u8; room]?;
+        if !self.host.holds(&self.layout) {
+            bail!("the host holds no such memory");
+        }
+        self.layout.read_slice(&self.host, written.as_mut_slice(), GuestAddress(len as u64))?;
+        Ok((written, count))
+    }
+}
+
+/// A back end.
+#[derive(Drop)]
+pub struct BackEnd<F, O> {
+    alloc: Global,
+    iotlb: DeviceIotlb<F, O>,
+    turn: QueueTurn,
+    desk: Desk,
+    done: Done,
+}
+
+impl<F: Read + Write + Drop, O: Read + Write + Drop> BackEnd<F, O> {
+    /// A back end with a table, guest memory behind it, a queue in that, and a disk.
+    pub fn new(
+        alloc: Global,
+        iotlb: DeviceIotlb<F, O>,
+        memory: Memory,
+        queue: Queue,
+        disk: MemoryDisk,
+    ) -> anyhow::Result<BackEnd<F, O>> {
+        let (host, layout) = make_host(alloc)?;
+        let device = BlockDevice::new(alloc, disk, false, *b"vmmem_vhost disk 0\0\0")?;
+        let table = iotlb.table().table;
+        Ok(BackEnd {
+            alloc,
+            iotlb,
+            turn: QueueTurn {
+                alloc,
+                memory,
+                table,
+                queue,
+                returned: None,
+                popped: None,
+            },
+            desk: Desk {
+                host,
+                layout,
+                device,
+            },
+            done: Done {
+                served: 0,
+                given_up: 0,
+            },
+        })
+    }
+
+    // The readable bytes of a chain.
+    fn given<H: SharedHost>(
+        &mut self,
+        host: &mut H,
+        chain: &Chain,
+    ) -> anyhow::Result<Result<Vec<u8>, MissError>> {
+        let len = chain.reader().left();
+        if len > MOST {
+            return Ok(Err(MissError::Failed));
+        }
+        let bytes = vec![in self.alloc; 0u8; len]?;
+        let mut request = ReadChain::new(&self.turn.memory, self.turn.table, chain, bytes);
+        Ok(match self.iotlb.with_misses(host, &mut request) {
+            Ok(()) => Ok(request.into_bytes()),
+            Err(error) => Err(error),
+        })
+    }
+
+    // Writes to a chain, behind so many of its writable bytes.
+    fn tell<H: SharedHost>(
+        &mut self,
+        host: &mut H,
+        chain: &Chain,
+        skipped: usize,
+        bytes: &[u8],
+    ) -> Result<(), MissError> {
+        let memory = &self.turn.memory;
+        let mut request = WriteChain::new(memory, self.turn.table, chain, skipped, bytes);
+        self.iotlb.with_misses(host, &mut request)
+    }
+
+    // Serves a chain, and answers how many of its writable bytes were written without a gap. One that is given up gets
+    // the status of a failure.
+    fn serve_chain<H: SharedHost>(&mut self, host: &mut H, chain: &Chain) -> anyhow::Result<u32> {
+        let room = chain.writer().left();
+        self.done.served = self.done.served.saturating_add(1);
+        let served = match self.given(host, chain)? {
+            Ok(given) => {
+                let (written, len) = self.desk.serve(self.alloc, given.as_slice(), room)?;
+                match self.tell(host, chain, 0, written.as_slice()) {
+                    Ok(()) => Ok(len),
+                    Err(error) => Err(error),
+                }
+            }
+            Err(error) => Err(error),
+        };
+        let error = match served {
+            Ok(len) => return Ok(len),
+            Err(error) => error,
+        };
+        if let MissError::Channel(error) = error {
+            bail!("a channel fails: {error}");
+        }
+        self.done.given_up = self.done.given_up.saturating_add(1);
+        if room > 0
+            && self
+                .tell(host, chain, room - 1, &[VIRTIO_BLK_S_IOERR])
+                .is_err()
+        {
+            bail!("the status cannot be written");
+        }
+        Ok(u32::from(room == 1))
+    }
+
+    // Serves the chains that the driver has published.
+    fn serve_queue<H: SharedHost>(&mut self, host: &mut H) -> anyhow::Result<()> {
+        for _ in 0..self.turn.queue.size() {
+            self.turn.returned = None;
+            self.iotlb.with_misses(host, &mut self.turn)?;
+            let Some((head, chain)) = self.turn.popped.take() else {
+                return Ok(());
+            };
+            let len = self.serve_chain(host, &chain)?;
+            self.turn.returned = Some((head, len));
+            self.iotlb.with_misses(host, &mut self.turn)?;
+        }
+        Ok(())
+    }
+
+    /// Serves messages and requests until the front end closes its channel.
+    pub fn run<W: Wait>(mut self, rt: &W, lock: &Mutex<Host>) -> anyhow::Result<Done> {
+        let mut host = LockedHost { rt, lock };
+        for _ in rt.forever() {
+            match self.iotlb.handle(&mut host) {
+                Ok(Handled::Other(frame)) if frame.header.request == KICK => {
+                    self.serve_queue(&mut host)?;
+                    self.iotlb.reply(&frame, 0)?;
+                    self.iotlb.notify(CALL)?;
+                }
+                Ok(Handled::Other(frame)) => self.iotlb.reply(&frame, 1)?,
+                Ok(_) => {}
+                Err(ChannelError::Ended) => return Ok(self.done),
+                Err(error) => bail!("the front end's channel: {error}"),
+            }
+        }
+        unreachable!()
+    }
+}

@@ -1,0 +1,530 @@
+//! The front end: a guest's I/O table, its driver, and what it tells the back end.
+ghost use Rattle.std.specs.Prelude.{◌<◌};
+
+use crate::hostile::{MALFORMED, malformed};
+use crate::world::{
+    CALL, DATA_PAGE, FRAMES, HEADER_PAGE, Host, IOVA, KICK, Layout, Memory, PAGE, PAGES,
+    QUEUE_SIZE, SECTORS, STATUS_PAGE, user_of,
+};
+use anyhow::bail;
+use rand_core::Rng;
+use rand_xoshiro::Xoshiro256PlusPlus;
+use std::alloc::Global;
+use std::io::{Read, Write};
+use std::sync::{Mutex, Wait};
+use vhost_iotlb::{
+    Frame, Header, Incoming, IotlbMessage, VERSION, VHOST_USER_BACKEND_IOTLB_MSG,
+    VHOST_USER_IOTLB_MSG, VHOST_USER_NEED_REPLY, VHOST_USER_REPLY, encode_reply, send,
+};
+use virtio_blk::{VIRTIO_BLK_S_IOERR, VIRTIO_BLK_S_OK, VIRTIO_BLK_T_IN, VIRTIO_BLK_T_OUT};
+use virtio_queue::{Descriptor, DriverQueue, VRING_DESC_F_NEXT, VRING_DESC_F_WRITE};
+use vm_memory::{Bytes, GuestAddress, Permissions, TlbId};
+
+/// What a front end did and saw.
+#[derive(Clone, Copy, Debug)]
+pub struct Seen {
+    /// The requests that were done, and those that failed.
+    pub requests: u64,
+    pub failed: u64,
+    /// The addresses that the back end missed, and those of them that it had and evicted.
+    pub misses: u64,
+    pub evictions: u64,
+    /// The ranges that were taken back, and the accesses that a mapping forbade.
+    pub invalidations: u64,
+    pub forbidden: u64,
+    /// The malformed messages that were refused.
+    pub refused: u64,
+    /// The bytes that were read, and those that are not what was written.
+    pub bytes: u64,
+    pub wrong: u64,
+}
+
+/// Nothing was seen yet.
+pub const NOTHING: Seen = Seen {
+    requests: 0,
+    failed: 0,
+    misses: 0,
+    evictions: 0,
+    invalidations: 0,
+    forbidden: 0,
+    refused: 0,
+    bytes: 0,
+    wrong: 0,
+};
+
+/// One end of a channel.
+#[derive(Drop)]
+pub struct End<C> {
+    pub stream: C,
+    pub coming: Incoming,
+}
+
+impl<C: Read> End<C> {
+    // The next message.
+    fn next(&mut self) -> anyhow::Result<Frame> {
+        for _ in 0..u64::MAX {
+            if let Some(frame) = self.coming.look(&mut self.stream)? {
+                return Ok(frame);
+            }
+        }
+        bail!("nothing comes")
+    }
+}
+
+/// The guest's table: where each page leads, which frames are free, and what the back end was told of it.
+#[derive(Drop)]
+pub struct Pages {
+    pub frames: [u64; PAGES as usize],
+    pub free: Vec<u64>,
+    pub told: [bool; PAGES as usize],
+}
+
+// What goes wrong with a page in a request: the front end does not map it, or not for the access.
+#[derive(Clone, Copy, PartialEq, Eq)]
+enum Trouble {
+    None,
+    Refused(u64),
+    Forbidden(u64),
+}
+
+/// A front end.
+#[derive(Drop)]
+pub struct FrontEnd<C> {
+    pub alloc: Global,
+    pub rng: Xoshiro256PlusPlus,
+    pub hostile: bool,
+    pub layout: Layout,
+    pub memory: Memory,
+    pub table: TlbId,
+    pub pages: Pages,
+    pub driver: DriverQueue,
+    pub front: End<C>,
+    pub own: End<C>,
+    pub disk: Vec<u8>,
+    pub seen: Seen,
+}
+
+// A request: its sector, how many sectors, where its data lies, and whether it writes.
+#[derive(Clone, Copy)]
+struct Asked {
+    writes: bool,
+    sector: u64,
+    count: u64,
+    header: u64,
+    data: u64,
+    status: u64,
+}
+
+// The bytes of a header.
+fn header_of(asked: Asked) -> [u8; 16] {
+    let kind = if asked.writes {
+        VIRTIO_BLK_T_OUT
+    } else {
+        VIRTIO_BLK_T_IN
+    };
+    let [a, b, c, d] = kind.to_le_bytes();
+    let [s, t, u, v, w, x, y, z] = asked.sector.to_le_bytes();
+    [a, b, c, d, 0, 0, 0, 0, s, t, u, v, w, x, y, z]
+}
+
+fn iova_of(page: u64) -> u64 {
+    IOVA.wrapping_add(page.wrapping_mul(PAGE))
+}
+
+impl<C: Read + Write + Drop> FrontEnd<C> {
+    // A number below another.
+    fn below(&mut self, limit: u64) -> u64
+        requires { 0 < limit }
+        ensures { result < limit }
+    {
+        self.rng.next_u64() % limit
+    }
+
+    fn frame_of(&self, page: u64) -> u64 {
+        self.pages.frames.get(page as usize).copied().unwrap_or(0)
+    }
+
+    fn was_told(&self, page: u64) -> bool {
+        self.pages.told.get(page as usize).copied().unwrap_or(false)
+    }
+
+    fn set_told(&mut self, page: u64, told: bool) {
+        if let Some(place) = self.pages.told.get_mut(page as usize) {
+            *place = told;
+        }
+    }
+
+    // Sends a message, and answers the value of the reply.
+    fn tell_header(&mut self, header: Header, payload: &[u8]) -> anyhow::Result<u64> {
+        send(&mut self.front.stream, header, payload)?;
+        if !header.needs_reply() {
+            return Ok(0);
+        }
+        let reply = self.front.next()?;
+        if reply.header.request != header.request || !reply.header.is_reply() {
+            bail!("another message in place of a reply");
+        }
+        let [a, b, c, d, e, f, g, h, ..] = reply.payload;
+        Ok(u64::from_le_bytes([a, b, c, d, e, f, g, h]))
+    }
+
+    fn tell(&mut self, message: IotlbMessage, flags: u32) -> anyhow::Result<()> {
+        let header = Header {
+            request: VHOST_USER_IOTLB_MSG,
+            flags: VERSION | flags,
+            size: 32,
+        };
+        if self.tell_header(header, &message.encode())? != 0 {
+            bail!("a message was refused");
+        }
+        Ok(())
+    }
+
+    // Tells the back end where a page leads.
+    fn set_page(&mut self, page: u64, permissions: Permissions, flags: u32) -> anyhow::Result<()> {
+        let update = IotlbMessage::Update {
+            iova: iova_of(page),
+            size: PAGE,
+            user_address: user_of(self.frame_of(page)),
+            permissions,
+        };
+        self.tell(update, flags)?;
+        self.set_told(page, true);
+        Ok(())
+    }
+
+    // Takes pages back: none of them is accessed from then on.
+    fn take_back(&mut self, page: u64, count: u64) -> anyhow::Result<()> {
+        let invalidate = IotlbMessage::Invalidate {
+            iova: iova_of(page),
+            size: count.wrapping_mul(PAGE),
+        };
+        self.tell(invalidate, VHOST_USER_NEED_REPLY)?;
+        for taken in page..page.saturating_add(count) {
+            self.set_told(taken, false);
+        }
+        self.seen.invalidations = self.seen.invalidations.saturating_add(1);
+        Ok(())
+    }
+
+    // Copies a frame to another, leaves other bytes in the old one, and maps the page to the new one.
+    fn copy_page<W: Wait>(
+        &mut self,
+        rt: &W,
+        lock: &Mutex<Host>,
+        page: u64,
+        to: u64,
+    ) -> anyhow::Result<()> {
+        let from = self.frame_of(page);
+        let mut bytes = vec![in self.alloc; 0u8; PAGE as usize]?;
+        let mut guard = lock.lock(rt);
+        let host = &mut *guard;
+        if !host.holds(&self.layout) {
+            bail!("the host holds no such memory");
+        }
+        let old = GuestAddress(from.wrapping_mul(PAGE));
+        self.layout.read_slice(host, bytes.as_mut_slice(), old)?;
+        self.layout.write_slice(host, bytes.as_slice(), GuestAddress(to.wrapping_mul(PAGE)))?;
+        if !host.holds(&self.layout) {
+            bail!("the host holds no such memory");
+        }
+        bytes.as_mut_slice().fill(0xdd);
+        self.layout.write_slice(host, bytes.as_slice(), old)?;
+        map_page(host, self.table, page, to)
+    }
+
+    // Moves a page to another frame.
+    fn move_page<W: Wait>(&mut self, rt: &W, lock: &Mutex<Host>, page: u64) -> anyhow::Result<()> {
+        let Some(to) = self.pages.free.pop() else {
+            return Ok(());
+        };
+        self.take_back(page, 1)?;
+        let from = self.frame_of(page);
+        self.copy_page(rt, lock, page, to)?;
+        if let Some(place) = self.pages.frames.get_mut(page as usize) {
+            *place = to;
+        }
+        // The oldest free frame is taken next.
+        self.pages.free.insert(0, from)?;
+        Ok(())
+    }
+
+    // Sends a malformed message, which has to be refused.
+    fn harass(&mut self) -> anyhow::Result<()> {
+        let pick = self.below(MALFORMED as u64) as usize;
+        let (header, payload) = malformed(pick, IOVA);
+        let len = (header.size as usize).min(payload.len());
+        let front = payload.get(..len).unwrap_or(&[]);
+        if self.tell_header(header, front)? == 0 {
+            bail!("malformed message {pick} was not refused");
+        }
+        self.seen.refused = self.seen.refused.saturating_add(1);
+        Ok(())
+    }
+
+    // Moves, takes back and sets pages at random, but for one.
+    fn stir<W: Wait>(&mut self, rt: &W, lock: &Mutex<Host>, but: u64) -> anyhow::Result<()> {
+        let page = self.below(PAGES);
+        let act = self.below(16);
+        if self.hostile && self.below(4) == 0 {
+            self.harass()?;
+        }
+        match act {
+            0..=3 => self.move_page(rt, lock, page),
+            4 | 5 if page != but => self.take_back(page, 1),
+            6 => {
+                let count = 1 + self.below(PAGES - page.min(PAGES - 1));
+                self.take_back(page, count)
+            }
+            _ => Ok(()),
+        }
+    }
+
+    // Replies to a message of the back end: 0 where it was done.
+    fn answer(&mut self, value: u64) -> anyhow::Result<()> {
+        let header = Header {
+            request: VHOST_USER_BACKEND_IOTLB_MSG,
+            flags: VERSION | VHOST_USER_REPLY,
+            size: 8,
+        };
+        send(&mut self.own.stream, header, &encode_reply(value))?;
+        Ok(())
+    }
+
+    // Answers a miss: pages are moved and taken back first, and sometimes another page is set alone.
+    fn answer_miss<W: Wait>(
+        &mut self,
+        rt: &W,
+        lock: &Mutex<Host>,
+        iova: u64,
+        access: Permissions,
+        trouble: Trouble,
+    ) -> anyhow::Result<()> {
+        let page = iova.wrapping_sub(IOVA) / PAGE;
+        self.seen.misses = self.seen.misses.saturating_add(1);
+        if page >= PAGES || trouble == Trouble::Refused(page) {
+            return self.answer(1);
+        }
+        if self.was_told(page) {
+            self.seen.evictions = self.seen.evictions.saturating_add(1);
+        }
+        self.stir(rt, lock, page)?;
+        if self.below(16) == 0 {
+            let other = self.below(PAGES);
+            let forbidden = trouble == Trouble::Forbidden(other);
+            if other != page && !forbidden && trouble != Trouble::Refused(other) {
+                self.set_page(other, Permissions::ReadWrite, VHOST_USER_NEED_REPLY)?;
+                return self.answer(0);
+            }
+        }
+        let permissions = match (trouble, access) {
+            (Trouble::Forbidden(forbidden), Permissions::Read) if forbidden == page => {
+                Permissions::Write
+            }
+            (Trouble::Forbidden(forbidden), _) if forbidden == page => Permissions::Read,
+            _ => Permissions::ReadWrite,
+        };
+        self.set_page(page, permissions, 0)?;
+        self.answer(0)
+    }
+
+    // Serves messages of the back end until it calls the driver.
+    fn wait_for_call<W: Wait>(
+        &mut self,
+        rt: &W,
+        lock: &Mutex<Host>,
+        trouble: Trouble,
+    ) -> anyhow::Result<()> {
+        for _ in 0..u64::MAX {
+            let frame = self.own.next()?;
+            if frame.header.request == CALL {
+                return Ok(());
+            }
+            match frame.message() {
+                Ok(IotlbMessage::Miss { iova, access }) => {
+                    self.answer_miss(rt, lock, iova, access, trouble)?;
+                }
+                Ok(IotlbMessage::AccessFail { .. }) => {
+                    self.seen.forbidden = self.seen.forbidden.saturating_add(1);
+                }
+                _ => bail!("the back end sends another message"),
+            }
+        }
+        bail!("no call")
+    }
+
+    // A request at random.
+    fn next_request(&mut self) -> Asked {
+        let count = 1 + self.below(16);
+        let places = (PAGES - DATA_PAGE) * (PAGE / 512) - count;
+        Asked {
+            writes: self.below(2) == 0,
+            sector: self.below(SECTORS - count + 1),
+            count,
+            header: iova_of(HEADER_PAGE).wrapping_add(16 * self.below(PAGE / 16)),
+            data: iova_of(DATA_PAGE).wrapping_add(512 * self.below(places + 1)),
+            status: iova_of(STATUS_PAGE).wrapping_add(self.below(PAGE)),
+        }
+    }
+
+    fn put(&self, host: &mut Host, bytes: &[u8], address: u64) -> anyhow::Result<()> {
+        if !host.holds(&self.memory) {
+            bail!("the host holds no such memory");
+        }
+        self.memory.write_slice(host, bytes, GuestAddress(address))?;
+        Ok(())
+    }
+
+    // Writes a request to guest memory, and publishes it.
+    fn publish(&mut self, host: &mut Host, asked: Asked, data: &[u8]) -> anyhow::Result<()> {
+        let count = asked.count.clamp(1, 16);
+        let len = count as u32 * 512;
+        let front = self.below(count) as u32 * 512;
+        let flags = if asked.writes { 0 } else { VRING_DESC_F_WRITE };
+        let next = VRING_DESC_F_NEXT;
+        let parts = [
+            (asked.header, 16, next),
+            (asked.data, front, flags | next),
+            (
+                asked.data.wrapping_add(u64::from(front)),
+                len.wrapping_sub(front),
+                flags | next,
+            ),
+            (asked.status, 1, VRING_DESC_F_WRITE),
+        ];
+        let head = self.below(u64::from(QUEUE_SIZE) - 3) as u16;
+        self.put(host, &header_of(asked), asked.header)?;
+        self.put(host, data, asked.data)?;
+        self.put(host, &[255], asked.status)?;
+        let mut index = head;
+        for (addr, len, flags) in parts {
+            if !host.holds(&self.memory) {
+                bail!("the host holds no such memory");
+            }
+            let next = index.wrapping_add(1);
+            let descriptor = Descriptor {
+                addr,
+                len,
+                flags,
+                next,
+            };
+            self.driver
+                .put_descriptor(&self.memory, host, index, descriptor)?;
+            index = next;
+        }
+        if !host.holds(&self.memory) {
+            bail!("the host holds no such memory");
+        }
+        self.driver.publish(&self.memory, host, head)?;
+        Ok(())
+    }
+
+    // What came of a request: its status, and its data.
+    fn collect(&mut self, host: &mut Host, asked: Asked) -> anyhow::Result<(u8, Vec<u8>)> {
+        let len = (asked.count as usize).saturating_mul(512);
+        let mut data = vec![in self.alloc; 0u8; len]?;
+        let mut status = [0];
+        if !host.holds(&self.memory) {
+            bail!("the host holds no such memory");
+        }
+        if self.driver.take_used(&self.memory, host)?.is_none() {
+            bail!("the device returned nothing");
+        }
+        self.memory
+            .read_slice(host, &mut status, GuestAddress(asked.status))?;
+        self.memory
+            .read_slice(host, data.as_mut_slice(), GuestAddress(asked.data))?;
+        Ok((status[0], data))
+    }
+
+    // Compares what was read with what was written, or takes what was written for the disk's.
+    fn compare(&mut self, asked: Asked, data: &[u8]) {
+        let from = (asked.sector as usize).saturating_mul(512);
+        let Some(disk) = self
+            .disk
+            .as_mut_slice()
+            .get_mut(from..from.saturating_add(data.len()))
+        else {
+            self.seen.wrong = self.seen.wrong.saturating_add(1);
+            return;
+        };
+        for (place, byte) in disk.iter_mut().zip(data) {
+            if asked.writes {
+                *place = *byte;
+            } else if *place != *byte {
+                self.seen.wrong = self.seen.wrong.saturating_add(1);
+            }
+        }
+        if !asked.writes {
+            self.seen.bytes = self.seen.bytes.saturating_add(data.len() as u64);
+        }
+    }
+
+    // What goes wrong with a request, which has to be taken back before.
+    fn next_trouble(&mut self, asked: Asked) -> anyhow::Result<Trouble> {
+        let page = asked.data.wrapping_sub(IOVA) / PAGE;
+        let trouble = match self.below(40) {
+            0 => Trouble::Refused(page),
+            1 => Trouble::Forbidden(page),
+            _ => return Ok(Trouble::None),
+        };
+        self.take_back(page, 1)?;
+        Ok(trouble)
+    }
+
+    // Makes one request.
+    fn request<W: Wait>(&mut self, rt: &W, lock: &Mutex<Host>) -> anyhow::Result<()> {
+        self.stir(rt, lock, PAGES)?;
+        let asked = self.next_request();
+        let trouble = self.next_trouble(asked)?;
+        let len = (asked.count as usize).saturating_mul(512);
+        let mut data = vec![in self.alloc; 0u8; len]?;
+        self.rng.fill_bytes(data.as_mut_slice());
+        self.publish(&mut lock.lock(rt), asked, data.as_slice())?;
+        let kick = Header {
+            request: KICK,
+            flags: VERSION,
+            size: 0,
+        };
+        self.tell_header(kick, &[])?;
+        self.wait_for_call(rt, lock, trouble)?;
+        let (status, found) = self.collect(&mut lock.lock(rt), asked)?;
+        match (status, trouble) {
+            (VIRTIO_BLK_S_OK, Trouble::None) => self.compare(asked, found.as_slice()),
+            (VIRTIO_BLK_S_IOERR, Trouble::Refused(page) | Trouble::Forbidden(page)) => {
+                self.seen.failed = self.seen.failed.saturating_add(1);
+                self.take_back(page, 1)?;
+            }
+            _ => bail!("the status is {status}"),
+        }
+        self.seen.requests = self.seen.requests.saturating_add(1);
+        Ok(())
+    }
+
+    /// Makes so many requests, moves and takes back pages meanwhile, and closes the channels.
+    pub fn run<W: Wait>(
+        mut self,
+        rt: &W,
+        lock: &Mutex<Host>,
+        requests: u64,
+    ) -> anyhow::Result<Seen> {
+        for _ in 0..requests {
+            self.request(rt, lock)?;
+        }
+        Ok(self.seen)
+    }
+}
+
+/// Maps a page of I/O addresses to a page of guest memory, in the guest's table.
+pub fn map_page(host: &mut Host, table: TlbId, page: u64, frame: u64) -> anyhow::Result<()> {
+    if page >= PAGES || frame >= FRAMES || !host.shape().has_table(table) {
+        bail!("there is no such page");
+    }
+    host.table_mut(table).set_mapping(
+        GuestAddress(IOVA + page * PAGE),
+        GuestAddress(frame * PAGE),
+        PAGE as usize,
+        Permissions::ReadWrite,
+    )?;
+    Ok(())
+}

@@ -1,0 +1,203 @@
+//! A front end and a back end of vhost, in two threads that share guest memory under a lock. The front end has a guest's
+//! I/O table and its driver. The back end serves a block device behind a table of few ranges, which it fills by asking.
+//! It prints what they did, and whether each byte that was read is the one that was written.
+#![tactic(auto)]
+
+mod back;
+mod front;
+mod hostile;
+mod world;
+
+use anyhow::bail;
+use back::{BackEnd, Done};
+use clap::{Arg, ArgAction, Command, value_parser};
+use front::{End, FrontEnd, NOTHING, Pages, Seen, map_page};
+use rand_core::SeedableRng;
+use rand_xoshiro::Xoshiro256PlusPlus;
+use std::alloc::Global;
+use std::net::Net;
+use std::os::unix::net::UnixStream;
+use std::sync::{Mutex, Wait};
+use std::thread::Threads;
+use std::time::Duration;
+use std::{env, thread};
+use vhost_iotlb::{DeviceIotlb, DeviceTable, Incoming, Limits};
+use virtio_blk::MemoryDisk;
+use vm_memory::TlbId;
+use world::{FRAMES, Host, PAGES, SECTORS, announced, behind, driver_queue, make_host};
+
+// What the arguments ask for.
+#[derive(Clone, Copy)]
+struct Options {
+    limit: usize,
+    seed: u64,
+    requests: u64,
+    hostile: bool,
+}
+
+// The options, or none where the arguments ask for help.
+fn read_options(rt: &HostRuntime) -> anyhow::Result<Option<Options>> {
+    let alloc = rt.alloc();
+    let words: Vec<String> = env::args(rt)?.collect(alloc)?;
+    let command = Command::new(alloc, "vmmem_vhost")
+        .about("Serves a block device behind an I/O table that is filled by vhost messages")
+        .arg(
+            Arg::new(alloc, "limit")
+                .long("limit")
+                .value_parser(value_parser!(u32)),
+        )?
+        .arg(
+            Arg::new(alloc, "seed")
+                .long("seed")
+                .value_parser(value_parser!(u64)),
+        )?
+        .arg(
+            Arg::new(alloc, "requests")
+                .long("requests")
+                .value_parser(value_parser!(u64)),
+        )?
+        .arg(
+            Arg::new(alloc, "hostile")
+                .long("hostile")
+                .action(ArgAction::SetTrue),
+        )?;
+    let matches = match command.try_get_matches_from(words.as_slice()) {
+        Ok(matches) => matches,
+        Err(error) => {
+            error.print(rt)?;
+            if error.use_stderr() {
+                bail!("these are no arguments");
+            }
+            return Ok(None);
+        }
+    };
+    Ok(Some(Options {
+        limit: matches.get_one::<u32>("limit").unwrap_or(8) as usize,
+        seed: matches.get_one::<u64>("seed").unwrap_or(1),
+        requests: matches.get_one::<u64>("requests").unwrap_or(1000),
+        hostile: matches.get_flag("hostile"),
+    }))
+}
+
+type Ends = (FrontEnd<UnixStream>, BackEnd<UnixStream, UnixStream>);
+
+// The back end's sockets give up a read after a while, to look at the other one.
+fn channels<R: Net>(rt: &R) -> anyhow::Result<[UnixStream; 4]> {
+    let (front, coming) = UnixStream::pair(rt)?;
+    let (own, back) = UnixStream::pair(rt)?;
+    let wait = Some(Duration::from_millis(1));
+    coming.set_read_timeout(wait)?;
+    back.set_read_timeout(wait)?;
+    Ok([front, coming, own, back])
+}
+
+// The guest's table, in which each page leads to a frame.
+fn make_pages(alloc: Global, host: &mut Host) -> anyhow::Result<(TlbId, Pages)> {
+    let table = host.new_table()?;
+    let mut frames = [0; PAGES as usize];
+    for (page, frame) in (0..PAGES).zip(frames.iter_mut()) {
+        *frame = page.wrapping_mul(7).wrapping_add(5) % FRAMES;
+        map_page(host, table, page, *frame)?;
+    }
+    let mut free = Vec::new(alloc);
+    for frame in 0..FRAMES {
+        if !frames.contains(&frame) {
+            free.push(frame)?;
+        }
+    }
+    let pages = Pages {
+        frames,
+        free,
+        told: [false; PAGES as usize],
+    };
+    Ok((table, pages))
+}
+
+// Makes both ends, over a host with guest memory.
+fn make_ends<R: Net>(rt: &R, alloc: Global, options: Options) -> anyhow::Result<(Host, Ends)> {
+    let [front, coming, own, back] = channels(rt)?;
+    let (mut host, layout) = make_host(alloc)?;
+    let (table, pages) = make_pages(alloc, &mut host)?;
+    let space = host.new_space(())?;
+    let limit = options.limit.max(1);
+    let bounded = DeviceTable::new(alloc, &mut host, limit, announced(alloc)?)?;
+    let behind_bounded = behind(alloc, &layout, bounded.table, space)?;
+    let driver = driver_queue()?;
+    let len = SECTORS as usize * 512;
+    let limits = Limits {
+        tries: 100_000,
+        looks: 1_000_000,
+    };
+    let back_end = BackEnd::new(
+        alloc,
+        DeviceIotlb::new(bounded, coming, back, limits),
+        behind_bounded,
+        driver.queue()?,
+        MemoryDisk::new(vec![in alloc; 0u8; len]?),
+    )?;
+    let front_end = FrontEnd {
+        alloc,
+        rng: Xoshiro256PlusPlus::seed_from_u64(options.seed),
+        hostile: options.hostile,
+        memory: behind(alloc, &layout, table, space)?,
+        layout,
+        table,
+        pages,
+        driver,
+        front: End {
+            stream: front,
+            coming: Incoming::new(),
+        },
+        own: End {
+            stream: own,
+            coming: Incoming::new(),
+        },
+        disk: vec![in alloc; 0u8; len]?,
+        seen: NOTHING,
+    };
+    Ok((host, (front_end, back_end)))
+}
+
+// Runs both ends at once, each in a thread.
+fn run<R: Sync + Threads + Wait>(
+    rt: &R,
+    host: Host,
+    ends: Ends,
+    requests: u64,
+) -> anyhow::Result<(Seen, Done)> {
+    let (front, back) = ends;
+    let lock = Mutex::new(host);
+    let (seen, done) = thread::join(
+        rt,
+        || front.run(rt, &lock, requests),
+        || back.run(rt, &lock),
+    );
+    Ok((seen?, done?))
+}
+
+fn report<R: Print>(rt: &R, seen: &Seen, done: &Done) -> anyhow::Result<()> {
+    println!(rt; "requests served: {}", done.served)?;
+    println!(rt; "misses asked: {}", seen.misses)?;
+    println!(rt; "evictions: {}", seen.evictions)?;
+    println!(rt; "invalidations: {}", seen.invalidations)?;
+    println!(rt; "failed accesses: {}", seen.failed)?;
+    println!(rt; "of these forbidden: {}", seen.forbidden)?;
+    println!(rt; "malformed messages refused: {}", seen.refused)?;
+    if seen.requests != done.served || seen.failed != done.given_up {
+        bail!("the two ends tell otherwise");
+    }
+    if seen.wrong > 0 {
+        bail!("{} bytes are not what was written", seen.wrong);
+    }
+    println!(rt; "each of {} bytes read was the one written", seen.bytes)?;
+    Ok(())
+}
+
+fn main(rt: HostRuntime) -> anyhow::Result<()> {
+    let Some(options) = read_options(&rt)? else {
+        return Ok(());
+    };
+    let (host, ends) = make_ends(&rt, rt.alloc(), options)?;
+    let (seen, done) = run(&rt, host, ends, options.requests)?;
+    report(&rt, &seen, &done)
+}
