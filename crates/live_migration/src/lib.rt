@@ -6,6 +6,7 @@ mod frame;
 mod header;
 pub mod laws;
 mod placing;
+mod policy;
 mod receiver;
 mod refusal;
 mod reply;
@@ -14,6 +15,7 @@ mod stream;
 
 pub use frame::{Frame, MOST_PAGE_BYTES};
 pub use header::{BlockEntry, MOST_BLOCKS, decode_header, encode_header};
+pub use policy::Policy;
 pub use receiver::{Guest, Progress, Receiver, Section, Stage};
 pub use refusal::Refusal;
 pub use reply::Reply;

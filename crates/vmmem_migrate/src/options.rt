@@ -3,6 +3,7 @@ ghost use Rattle.std.specs.Prelude.{◌≡◌, ◌+◌, ◌<◌, ◌≤◌, ◌�
 
 use anyhow::{Context, Result, bail};
 use clap::{Arg, ArgAction, ArgMatches, Command, value_parser};
+use live_migration::Policy;
 use std::alloc::{AllocError, Global};
 
 /// The guest that is sent.
@@ -18,24 +19,6 @@ pub struct Load {
     pub rate: u64,
     /// What decides the bytes of its memory and which pages are written.
     pub seed: u64,
-}
-
-/// When the guest stops.
-#[derive(Clone, Copy)]
-pub struct Policy {
-    /// How many rounds there are at most, with the last one, in which the guest stands.
-    pub max_rounds: u64,
-    /// The guest stops where fewer pages than these are dirty.
-    pub stop_below: usize,
-}
-
-impl Policy {
-    /// Whether the guest stands in the round of this number, from 0, when so many pages are left.
-    pub fn is_last(&self, number: u64, left: usize) -> bool
-        ensures { IsTrue result ↔ ((self.now.max_rounds ≤ number + 1) ⊎ (left < self.now.stop_below)) }
-    {
-        number >= self.max_rounds.saturating_sub(1) || left < self.stop_below
-    }
 }
 
 /// What is asked of the sending end.
