@@ -1,14 +1,14 @@
 -- What is encoded is decoded as it was.
-use Rattle.std.proofs.Common.{◌≡◌, Bool, true, false, cond, eqb, ltb, ℕ, ◌+◌, ◌-◌, ◌^◌, ◌<◌, ◌≤◌, List, [], ◌∷◌, ◌++◌, take, drop, slice_index, Result, Ok, Err, refl, sym, ap, subst, ◌∙◌, arith}
+use Rattle.std.proofs.Common.{◌≡◌, Bool, true, false, cond, eqb, ℕ, ◌+◌, ◌-◌, ◌^◌, ◌<◌, Result, Ok, Err, refl, sym, ap, subst, ◌∙◌, arith}
 use Rattle.std.specs.Prelude.{IfOk}
 use Rattle.std.specs.Int.{w32, w64, from_le_bytes, to_le_bytes}
-use Rattle.std.proofs.lemmas.Bool.{eqb-true, eqb-false, eq-eqb, ne_eqb, ltb-false, le-ltb, cond-true, cond-false}
+use Rattle.std.proofs.lemmas.Bool.{eqb-true, eqb-false, ne_eqb, ltb-false, le-ltb, cond-false}
 use Rattle.std.proofs.lemmas.Nat.{from_le_bytes-to_le_bytes_4, from_le_bytes-to_le_bytes_8}
 use Rattle.vm_memory_base.specs.Table.{overruns}
 use Rattle.vm_memory_base.specs.declared.iotlb.Permissions.{Permissions}
 use Rattle.vm_memory_base.specs.declared.iotlb.Permissions.TheVariants.{No, Read, Write, ReadWrite}
 use Rattle.vhost_iotlb.specs.Header.{IsHeader, header_bytes, header_in}
-use Rattle.vhost_iotlb.specs.Message.{◌>>=◌, IsAccess, IsMessage, IsRange, Spells, fields_in, fields_of, message_in, number_of, payload_bytes, permissions_in, range_in}
+use Rattle.vhost_iotlb.specs.Message.{◌>>=◌, IsAccess, IsMessage, IsRange, Spells, fields_in, fields_of, message_in, payload_bytes, permissions_in, range_in}
 use Rattle.vhost_iotlb.specs.declared.header.Header.{Header}
 use Rattle.vhost_iotlb.specs.declared.malformed.Malformed.{Malformed}
 use Rattle.vhost_iotlb.specs.declared.malformed.Malformed.TheVariants as malformed

@@ -1,24 +1,22 @@
 -- What messages make of a table, as a run of a machine's commands.
-use Rattle.std.proofs.Common.{◌≡◌, ◌⊎◌, Bool, true, false, cond, eqb, ℕ, List, [], ◌∷◌, ◌++◌, map, slice_get, Option, Some, None, Result, Ok, Err, refl, sym, ap, subst, ◌∙◌, inl, inr}
+use Rattle.std.proofs.Common.{◌≡◌, Bool, true, false, cond, eqb, ℕ, List, [], ◌∷◌, ◌++◌, Option, Some, None, Result, Ok, Err, refl, sym, ap, subst, ◌∙◌, inl, inr}
 use Rattle.std.proofs.lemmas.Bool.{cond-true, eq-eqb}
 use Rattle.vm_memory_base.specs.Pages.{PageSet}
 use Rattle.vm_memory_base.specs.Table as table
 use Rattle.vm_memory_base.specs.Table.{Table, TableEvent, changed, events_of, overruns}
 use Rattle.vm_memory_base.specs.declared.address.GuestAddress.{GuestAddress}
 use Rattle.vm_memory_base.specs.declared.iotlb.Permissions.{Permissions}
-use Rattle.vm_memory_guest.specs.Host.{Host, with_table_at}
+use Rattle.vm_memory_guest.specs.Host.{Host}
 use Rattle.vm_memory.specs.Commands.{table_call}
 use Rattle.vm_memory.specs.History.{table_calls, table_events}
 use Rattle.vm_memory.specs.Machine.{Step, Run}
 use Rattle.vm_memory.specs.State.{State}
 use Rattle.vm_memory.specs.Tables.{changed_table, changes}
-use Rattle.vm_memory.specs.declared.machine.command.Command.{Command}
 use Rattle.vm_memory.specs.declared.machine.command.Reply.{Reply}
 use Rattle.vm_memory.specs.declared.machine.command.Reply.TheVariants as reply
-use Rattle.vhost_iotlb.specs.Changes.{Applies, Changes, DoneFor, Handles, Makes, call_of, set_to}
+use Rattle.vhost_iotlb.specs.Changes.{Applies, Changes, DoneFor, Handles, call_of, set_to}
 use Rattle.vhost_iotlb.specs.Commands.{IsAmong, all_done, command_of, commands_of, done_by}
 use Rattle.vhost_iotlb.specs.UserMemory.{guest_of}
-use Rattle.vhost_iotlb.specs.declared.malformed.Malformed.{Malformed}
 use Rattle.vhost_iotlb.specs.declared.malformed.Malformed.TheVariants as malformed
 use Rattle.vhost_iotlb.specs.declared.message.IotlbMessage.{IotlbMessage}
 use Rattle.vhost_iotlb.specs.declared.message.IotlbMessage.TheVariants.{Miss, Update, Invalidate, AccessFail}

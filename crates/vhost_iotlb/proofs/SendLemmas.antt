@@ -1,5 +1,5 @@
 -- Bytes that go out in two calls.
-use Rattle.std.proofs.Common.{◌≡◌, ℕ, List, ◌++◌, Option, Some, None, ap, ◌∙◌, append_assoc}
+use Rattle.std.proofs.Common.{ℕ, List, ◌++◌, Option, Some, None, ap, ◌∙◌, append_assoc}
 use Rattle.std.specs.Io.KnownBytes.{Appends}
 
 pub both : (a b c : Option (List ℕ)) (first second : List ℕ) → Appends a b first → Appends b c second

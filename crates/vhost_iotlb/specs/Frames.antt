@@ -1,5 +1,5 @@
 -- Messages as they come: a header, and the first 32 bytes of a payload.
-use Rattle.std.specs.Prelude.{ℕ, ◌&&◌, ◌==◌, if◌then◌else◌, List, take, Option, Some, None, Result, Ok, Err}
+use Rattle.std.specs.Prelude.{ℕ, ◌&&◌, ◌==◌, if◌then◌else◌, List, take, Option, Some, None, Result, Err}
 use Rattle.std.specs.Int.{w64, from_le_bytes}
 use Rattle.vhost_iotlb.specs.Header.{is_reply, version_of}
 use Rattle.vhost_iotlb.specs.Message.{fields_in, message_in}

@@ -1,5 +1,5 @@
 -- The header of a message. All numbers have their lowest byte first.
-use Rattle.std.specs.Prelude.{ℕ, ◌+◌, ◌/◌, ◌%◌, ◌^◌, ◌<◌, ◌==◌, Bool, List, ◌++◌, take, drop}
+use Rattle.std.specs.Prelude.{ℕ, ◌/◌, ◌%◌, ◌^◌, ◌<◌, ◌==◌, Bool, List, ◌++◌, take, drop}
 use Rattle.std.specs.Int.{w32, to_le_bytes, from_le_bytes}
 use Rattle.vhost_iotlb.specs.declared.header.Header.{Header}
 

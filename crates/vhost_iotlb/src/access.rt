@@ -1,5 +1,5 @@
 //! Accesses of guest memory that can be tried again.
-ghost use Rattle.std.specs.Prelude.{◌≡◌, ◌≤◌, ◌-◌, length, map, min, vec_len};
+ghost use Rattle.std.specs.Prelude.{◌≡◌, ◌≤◌, length, map, vec_len};
 ghost use Rattle.vm_memory_base.specs.Lookup.{range_in};
 ghost use Rattle.vm_memory_base.specs.Table.{says};
 ghost use Rattle.vhost_iotlb.specs.Reaches.{Reaches, first_of, front_of, stopped_at};

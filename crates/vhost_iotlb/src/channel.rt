@@ -1,9 +1,8 @@
 //! Messages as they come over a channel, and go over it.
-ghost use Rattle.std.specs.Prelude.{◌≡◌, ◌<◌, ◌≤◌, ◌++◌, ℕ, length, IfOk, OnOk, Result};
+ghost use Rattle.std.specs.Prelude.{◌≡◌, ◌≤◌, ◌++◌, length, IfOk, OnOk};
 ghost use Rattle.std.specs.Io.KnownBytes.{Appends};
 ghost use Rattle.vhost_iotlb.specs.Header.{header_bytes};
 ghost use Rattle.vhost_iotlb.specs.Frames.{message_of, reply_of};
-ghost use Rattle.vhost_iotlb.specs.declared.channel.Frame.{Frame};
 
 use crate::header::{Header, VERSION, VHOST_USER_BACKEND_IOTLB_MSG};
 use crate::malformed::Malformed;

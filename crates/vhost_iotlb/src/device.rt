@@ -1,5 +1,5 @@
 //! The I/O table of a device, as its front end fills it.
-ghost use Rattle.std.specs.Prelude.{◌≡◌, ◌+◌, ◌^◌, ◌<◌, OnOk, IfOk, MatchResult};
+ghost use Rattle.std.specs.Prelude.{◌≡◌, ◌^◌, ◌<◌, OnOk, IfOk, MatchResult};
 ghost use Rattle.std.specs.Io.KnownBytes.{Appends};
 ghost use Rattle.vhost_iotlb.specs.Handling.{Handles, Serves, Settles, answer_to, reply_bytes, value_of};
 ghost use Rattle.vhost_iotlb.specs.declared.device.Handled.{Handled};

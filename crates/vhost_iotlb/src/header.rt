@@ -1,5 +1,5 @@
 //! The header of a message.
-ghost use Rattle.std.specs.Prelude.{◌≡◌, List, ℕ};
+ghost use Rattle.std.specs.Prelude.{◌≡◌};
 ghost use Rattle.vhost_iotlb.specs.Header.{IsHeader, header_bytes, header_in, is_reply, needs_reply, version_of};
 ghost use Rattle.vhost_iotlb.specs.declared.header.Header.{Header};
 

@@ -1,5 +1,5 @@
 //! Messages on a device's I/O table, as payloads.
-ghost use Rattle.std.specs.Prelude.{◌≡◌, ◌^◌, ◌<◌, ◌≤◌, ℕ, List, length, take, drop, IfOk, Result, Ok, Err};
+ghost use Rattle.std.specs.Prelude.{◌≡◌, ◌≤◌, length, take, drop, IfOk, Ok};
 ghost use Rattle.std.specs.Int.{w64, from_le_bytes};
 ghost use Rattle.vhost_iotlb.specs.Message.{IsMessage, Spells, fields_in, fields_of, message_in, number_of, payload_bytes, permissions_in, range_in};
 ghost use Rattle.vhost_iotlb.specs.declared.message.IotlbMessage.{IotlbMessage};

@@ -1,7 +1,6 @@
 //! Replies.
-ghost use Rattle.std.specs.Prelude.{◌≡◌, ◌+◌, ◌^◌, ◌<◌, ℕ, ◌++◌};
+ghost use Rattle.std.specs.Prelude.{◌≡◌, ◌^◌, ◌<◌, ℕ};
 ghost use Rattle.std.specs.Int.{w64, to_le_bytes};
-ghost use Rattle.vhost_iotlb.specs.Header.{header_bytes};
 
 /// The payload of a reply: 0 where it was done.
 pub fn encode_reply(value: u64) -> [u8; 8]

@@ -1,5 +1,5 @@
 //! The memory that a front end announced.
-ghost use Rattle.std.specs.Prelude.{◌≡◌, ◌≤◌, Option};
+ghost use Rattle.std.specs.Prelude.{◌≡◌, ◌≤◌};
 ghost use Rattle.vhost_iotlb.specs.UserMemory.{guest_address, guest_of, has_range};
 
 use std::marker::Model;

@@ -1,4 +1,4 @@
-use Rattle.std.proofs.Common.{◌≡◌, ℕ, List, sym, subst}
+use Rattle.std.proofs.Common.{◌≡◌, List, sym, subst}
 use Rattle.vm_memory_base.specs.Table.{TableEvent, says, says_after_all}
 use Rattle.vm_memory.specs.History.{IsLast}
 use Rattle.vhost_iotlb.specs.Commands.{all_done, bare, commands_of}
