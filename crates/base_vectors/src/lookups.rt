@@ -47,7 +47,7 @@ fn write_refusal(
     Ok(())
 }
 
-/// Fails where a look-up, of either kind, tells something else.
+/// Fails where a look-up tells something else, or an access of the range gets other pieces or another error.
 pub fn expect_look_up(
     alloc: Global,
     case: usize,
@@ -67,13 +67,35 @@ pub fn expect_look_up(
     }
     expect_text(case, text.as_str(), wanted)?;
     text.clear();
-    match table.lookup_all(GuestAddress(first), len, access) {
+    match table.resolve(GuestAddress(first), len, access) {
         Ok(pieces) => {
             for piece in &pieces {
                 write!(text, " {:#x}+{:#x}", piece.base.0, piece.length)?;
             }
+            expect_text(case, text.as_str(), wanted)
         }
-        Err(error) => write_refusal(&mut text, error, case, len)?,
+        Err(error) => {
+            write!(text, "{error}")?;
+            expect_text(
+                case,
+                text.as_str(),
+                refusal(alloc, (first, len), wanted)?.as_str(),
+            )
+        }
     }
-    expect_text(case, text.as_str(), wanted)
+}
+
+// The error of an access that is refused, of which a look-up tells these misses and failures.
+fn refusal(alloc: Global, (first, len): (u64, usize), wanted: &str) -> Result<String, Fail> {
+    let reason = if wanted.starts_with("misses access") {
+        "access not allowed"
+    } else {
+        "missing mapping"
+    };
+    let mut text = String::new(alloc);
+    write!(
+        text,
+        "Cannot translate I/O virtual address range {first:#x}+{len}: {reason}"
+    )?;
+    Ok(text)
 }

@@ -261,7 +261,7 @@ fn many_ranges(rt: HostRuntime) -> Result<(), Fail> {
         table.set_mapping(from, to, 0x1000, Permissions::Read)?;
     }
     assert!(rt; table.num_ranges() == 70_000);
-    let found = table.lookup_all(GuestAddress(0), 70_000 * 0x1000, Permissions::Read)?;
+    let found = table.resolve(GuestAddress(0), 70_000 * 0x1000, Permissions::Read)?;
     assert!(rt; found.len() == 70_000);
     for (number, piece) in found.iter().enumerate() {
         assert!(rt; piece.base.0 == (number as u64).wrapping_mul(0x2000) && piece.length == 0x1000);

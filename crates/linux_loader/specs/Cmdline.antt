@@ -5,9 +5,9 @@ use Rattle.vm_memory_base.specs.declared.iotlb.Permissions.TheVariants as permis
 use Rattle.vm_memory_guest.specs.Answer.{Outcome, told}
 use Rattle.vm_memory_guest.specs.Error.{error_of}
 use Rattle.vm_memory_guest.specs.Host.{Host}
-use Rattle.vm_memory_guest.specs.Memory.{Memory, NeedsTranslation}
+use Rattle.vm_memory_guest.specs.Memory.{Memory}
 use Rattle.vm_memory_guest.specs.Transfer.{all_of, ended}
-use Rattle.vm_memory_guest.specs.Walk.{reached}
+use Rattle.vm_memory_guest.specs.Walk.{NeedsPieces, reached}
 use Rattle.vm_memory_guest.specs.Window.{Writes, span}
 use Rattle.vm_memory_guest.specs.declared.region.error.GuestMemoryError.{GuestMemoryError}
 use Rattle.vm_memory_guest.specs.declared.region.error.GuestMemoryError.TheVariants as access
@@ -70,7 +70,7 @@ module _ {B : Type 0} (marks : B → ℕ → ℕ → B → Type 0) (m : Memory) 
   Puts a bytes old answer new = let n = length bytes in
       let r = told error_of (reached m old.tables a n permissions.Write) in
       (put : Result (Unit {0}) GuestMemoryError)
-      × Outcome access.Memory (NeedsTranslation m n)
+      × Outcome access.Memory (NeedsPieces m old.tables a n permissions.Write)
       (all_of access.PartialBuffer n (ended (span r.windows) r.fault)) (new ≡ old)
       (Writes marks r.windows bytes old new) put
       × (answer ≡ error.told put)

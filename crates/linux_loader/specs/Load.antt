@@ -6,9 +6,9 @@ use Rattle.vm_memory_base.specs.declared.iotlb.Permissions.TheVariants as permis
 use Rattle.vm_memory_guest.specs.Answer.{told}
 use Rattle.vm_memory_guest.specs.Error.{error_of, of_window}
 use Rattle.vm_memory_guest.specs.Host.{Host}
-use Rattle.vm_memory_guest.specs.Memory.{Memory, NeedsTranslation}
+use Rattle.vm_memory_guest.specs.Memory.{Memory}
 use Rattle.vm_memory_guest.specs.Transfer.{Fills, Transfers, UntilWhole, all_of}
-use Rattle.vm_memory_guest.specs.Walk.{reached}
+use Rattle.vm_memory_guest.specs.Walk.{NeedsPieces, reached}
 use Rattle.vm_memory_guest.specs.declared.region.error.GuestMemoryError.{GuestMemoryError}
 use Rattle.vm_memory_guest.specs.declared.region.error.GuestMemoryError.TheVariants as access
 use Rattle.linux_loader.specs.Error as error
@@ -27,7 +27,7 @@ module _ {S B : Type 0} (source : S → Option (List Next)) (reads : S → List 
     (known : S → Option ℕ) (marks : B → ℕ → ℕ → B → Type 0) (m : Memory) where
   abbrev pub Receives : ℕ → ℕ → S × Host B → Result (Unit {0}) GuestMemoryError → S × Host B → Type 0
   Receives a count old answer new =
-      Transfers access.Memory (NeedsTranslation m count) of_window
+      Transfers access.Memory (NeedsPieces m old.1.tables a count permissions.Write) of_window
       (told error_of (reached m old.1.tables a count permissions.Write))
       (Fills source reads known marks UntilWhole) (all_of access.PartialBuffer count) old answer new
 

@@ -7,9 +7,10 @@ use Rattle.vm_memory_guest.specs.Answer.{Outcome}
 use Rattle.vm_memory_guest.specs.Dirt.{path_cells}
 use Rattle.vm_memory_guest.specs.Error.{error_of}
 use Rattle.vm_memory_guest.specs.Host.{Host, bytes_at}
-use Rattle.vm_memory_guest.specs.Memory.{Memory, IsOn, NeedsTranslation}
+use Rattle.vm_memory_guest.specs.Memory.{Memory, IsOn}
 use Rattle.vm_memory_guest.specs.Transfer.{all_of, ended}
 use Rattle.vm_memory_guest.specs.Typed.{answered, given, place_of, typed_path}
+use Rattle.vm_memory_guest.specs.Walk.{NeedsPieces}
 use Rattle.vm_memory_guest.specs.Window.{Window, Writes, cells, cells_of, span}
 use Rattle.vm_memory_guest.specs.declared.region.error.GuestMemoryError.{GuestMemoryError}
 use Rattle.vm_memory_guest.specs.declared.region.error.GuestMemoryError.TheVariants as errors
@@ -37,7 +38,7 @@ pub word_answers : {B : Type 0} (m : Memory) (host : Host B) (base offset a : �
     → (let x = reached_at m host a 2 permissions.Read in
     answered (λ w. bytes_at host.blocks (cells_of w)) (place_of 2 x)
     ≡ answered (λ xs. bytes_at host.blocks (path_cells xs)) (typed_path 2 x))
-    → Outcome errors.Memory (NeedsTranslation m 2)
+    → Outcome errors.Memory (NeedsPieces m host.tables a 2 permissions.Read)
     (answered (λ w. from_le_bytes w16 (bytes_at host.blocks (cells_of w)))
     (place_of 2 (reached_at m host a 2 permissions.Read)))
     (Unit {0}) (Unit {0}) r
@@ -47,7 +48,7 @@ word_answers m host base offset a p r placed at bytes outcome =
     let value = from_le_bytes w16 in
     let same : answered (λ w. value (bytes_at host.blocks (cells_of w))) window ≡ answered value (loaded m host a 2) =
     answered_then (λ w. bytes_at host.blocks (cells_of w)) value window ∙ ap (answered value) bytes in
-    let given = access_answers _ r (λ (n : NeedsTranslation m 2). n.0) outcome in
+    let given = access_answers _ r (λ (n : NeedsPieces m host.tables a 2 permissions.Read). n.0) outcome in
     rw (← placed, at) (subst (λ e. Answers (IsOn m) (told e) (told r)) same given)
 
 -- a read of a descriptor
@@ -56,7 +57,7 @@ pub descriptor_answers : {B : Type 0} (m : Memory) (host : Host B) (table i a : 
     → (let xs = (reached_at m host a 16 permissions.Read).path in
     (span (windows xs) ≡ length xs) × (cells (windows xs) ≡ path_cells xs))
     → (let x = reached_at m host a 16 permissions.Read in
-    Outcome errors.Memory (NeedsTranslation m 16)
+    Outcome errors.Memory (NeedsPieces m host.tables a 16 permissions.Read)
     (answered (λ _. descriptor_of (bytes_at host.blocks (cells (windows x.path))))
     (all_of errors.PartialBuffer 16 (ended (span (windows x.path)) (option_map error_of x.fault))))
     (Unit {0}) (Unit {0}) r)
@@ -71,29 +72,29 @@ descriptor_answers m host table i a p r placed at (count, same_cells) outcome =
     (all_of errors.PartialBuffer 16 (ended n (option_map error_of x.fault)))) count
     ∙ ap (λ cs. answered (λ (u : Unit {0}). descriptor_of (bytes_at host.blocks cs)) whole) same_cells
     ∙ answered_then (λ (u : Unit {0}). bytes_at host.blocks (path_cells x.path)) descriptor_of whole in
-    let given = access_answers _ r (λ (n : NeedsTranslation m 16). n.0) outcome in
+    let given = access_answers _ r (λ (n : NeedsPieces m host.tables a 16 permissions.Read). n.0) outcome in
     rw (← placed, at) (subst (λ e. Answers (IsOn m) (told e) (told r)) same given)
 
 -- a store of a number of 16 bits
 module _ {B : Type 0} (marks : B → ℕ → ℕ → B → Type 0) (m : Memory) (base offset value : ℕ) (old new : Host B) where
-  stored_in : (w : Result Window GuestMemoryError) → word_window m old base offset ≡ told w
+  stored_in : (a : ℕ) (w : Result Window GuestMemoryError) → word_window m old base offset ≡ told w
       → (r : Result (Unit {0}) GuestMemoryError)
-      → Outcome errors.Memory (NeedsTranslation m 2) (answered (λ _. tt {0}) w) (new ≡ old)
+      → Outcome errors.Memory (NeedsPieces m old.tables a 2 permissions.Write) (answered (λ _. tt {0}) w) (new ≡ old)
       (Writes marks (given w) (to_le_bytes w16 value) old new) r
       → StoresWord marks m base offset value old (told r) new
-  stored_in (Ok w) is (Ok u) (answer, writes) = (w, is, writes)
-  stored_in (Ok w) is (Err e) (inl (wanted, wants, same)) = (inr (ap of_access wanted, wants.0), same)
-  stored_in (Ok w) is (Err e) (inr (answer, writes)) = absurd (cc)
-  stored_in (Err d) is (Ok u) (answer, writes) = absurd (cc)
-  stored_in (Err d) is (Err e) (inl (wanted, wants, same)) = (inr (ap of_access wanted, wants.0), same)
-  stored_in (Err d) is (Err e) (inr (answer, writes)) =
+  stored_in a (Ok w) is (Ok u) (answer, writes) = (w, is, writes)
+  stored_in a (Ok w) is (Err e) (inl (wanted, wants, same)) = (inr (ap of_access wanted, wants.0), same)
+  stored_in a (Ok w) is (Err e) (inr (answer, writes)) = absurd (cc)
+  stored_in a (Err d) is (Ok u) (answer, writes) = absurd (cc)
+  stored_in a (Err d) is (Err e) (inl (wanted, wants, same)) = (inr (ap of_access wanted, wants.0), same)
+  stored_in a (Err d) is (Err e) (inr (answer, writes)) =
       let same : e ≡ d = cc in (inl (is ∙ ap (λ x. Err (of_access x)) (sym same)), writes)
 
   pub word_stores : (a : ℕ) (p : Result ℕ QueueError) → p ≡ place base offset 2 → p ≡ Ok a
       → (r : Result (Unit {0}) GuestMemoryError)
       → (let w = place_of 2 (reached_at m old a 2 permissions.Write) in
-      Outcome errors.Memory (NeedsTranslation m 2) (answered (λ _. tt {0}) w) (new ≡ old)
+      Outcome errors.Memory (NeedsPieces m old.tables a 2 permissions.Write) (answered (λ _. tt {0}) w) (new ≡ old)
       (Writes marks (given w) (to_le_bytes w16 value) old new) r)
       → StoresWord marks m base offset value old (told r) new
   word_stores a p placed at r outcome =
-      stored_in (place_of 2 (reached_at m old a 2 permissions.Write)) (rw (← placed, at) refl) r outcome
+      stored_in a (place_of 2 (reached_at m old a 2 permissions.Write)) (rw (← placed, at) refl) r outcome

@@ -9,7 +9,8 @@ use Rattle.vm_memory_guest.specs.Answer.{Outcome, filled_buffer}
 use Rattle.vm_memory_guest.specs.Dirt.{bytes_read}
 use Rattle.vm_memory_guest.specs.Error.{error_of}
 use Rattle.vm_memory_guest.specs.Host.{Cell, Host, bytes_at}
-use Rattle.vm_memory_guest.specs.Memory.{Memory, NeedsTranslation, route}
+use Rattle.vm_memory_guest.specs.Memory.{Memory, route}
+use Rattle.vm_memory_guest.specs.Walk.{NeedsPieces}
 use Rattle.vm_memory_guest.specs.Region.{IsRegion}
 use Rattle.vm_memory_guest.specs.Transfer.{all_of, ended}
 use Rattle.vm_memory_guest.specs.Window.{cells}
@@ -67,11 +68,12 @@ module _ (m : Memory) (host : Host PageSet) (a : ℕ) (buffer : List ℕ) (each 
   -- what is told of its answer
   pub read_is : take (length reached.path) after ≡ bytes_read reached.path host → (new : List ℕ)
       → (r : Result ℕ GuestMemoryError)
-      → Outcome errors.Memory (NeedsTranslation m (length buffer)) (access_result reached) (new ≡ buffer)
-      (new ≡ after) r
+      → Outcome errors.Memory (NeedsPieces m host.tables a (length buffer) permissions.Read)
+      (access_result reached) (new ≡ buffer) (new ≡ after) r
       → ((replied (λ (count : ℕ). Bytes (take count new)) (refused_as r) ≡ reads m host a (length buffer))
       × (new ≡ filled_from (Some m) host a buffer))
-      ⊎ ((refused_as r ≡ Err refusal.Memory) × NeedsTranslation m (length buffer) × (new ≡ buffer))
+      ⊎ ((refused_as r ≡ Err refusal.Memory) × NeedsPieces m host.tables a (length buffer) permissions.Read
+      × (new ≡ buffer))
   read_is front new (Ok count) (is, effect) =
       let told : Result ℕ GuestMemoryError → Reply = reply_of (λ (n : ℕ). Bytes (bytes_read reached.path host)) in
       let all = ended_is (length reached.path) (option_map error_of reached.fault) count is in
@@ -90,11 +92,12 @@ module _ (m : Memory) (host : Host PageSet) (a : ℕ) (buffer : List ℕ) (each 
   pub fill_is : take (length reached.path) after ≡ bytes_read reached.path host → (new : List ℕ)
       → length new ≡ length buffer
       → (r : Result (Unit {0}) GuestMemoryError)
-      → Outcome errors.Memory (NeedsTranslation m (length buffer))
+      → Outcome errors.Memory (NeedsPieces m host.tables a (length buffer) permissions.Read)
       (all_moved (length buffer) (access_result reached)) (new ≡ buffer) (new ≡ after) r
       → ((replied (λ (u : Unit {0}). Bytes new) (refused_as r) ≡ reads_whole m host a (length buffer))
       × (new ≡ filled_from (Some m) host a buffer))
-      ⊎ ((refused_as r ≡ Err refusal.Memory) × NeedsTranslation m (length buffer) × (new ≡ buffer))
+      ⊎ ((refused_as r ≡ Err refusal.Memory) × NeedsPieces m host.tables a (length buffer) permissions.Read
+      × (new ≡ buffer))
   fill_is front new len (Ok u) (is, effect) =
       let told : Result (Unit {0}) GuestMemoryError → Reply =
       reply_of (λ (v : Unit {0}). Bytes (bytes_read reached.path host)) in

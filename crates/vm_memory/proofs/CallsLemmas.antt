@@ -1,8 +1,8 @@
 -- Calls of a machine, as the steps of their commands.
-use Rattle.std.proofs.Common.{◌≡◌, ◌⊎◌, ◌<◌, ◌∙◌, refl, sym, ap, inl, inr, lit<, ℕ, List, map, slice_get, Option, Some, None, option_map, IsSomeAnd, Result, Ok, Err}
+use Rattle.std.proofs.Common.{◌≡◌, ◌⊎◌, ◌∙◌, refl, sym, ap, subst, inl, inr, ℕ, List, length, map, slice_get, Option, Some, None, option_map, Result, Ok, Err}
 use Rattle.std.proofs.lemmas.Option.{slice_get-map}
 use Rattle.std.specs.Int as int
-use Rattle.std.specs.Int.{byte_len, from_le_bytes}
+use Rattle.std.specs.Int.{byte_len, from_le_bytes, to_le_bytes}
 use Rattle.vm_memory_base.specs.Pages.{PageSet}
 use Rattle.vm_memory_base.specs.declared.address.GuestAddress.{GuestAddress}
 use Rattle.vm_memory_base.specs.declared.iotlb.Permissions.TheVariants as permissions
@@ -10,10 +10,10 @@ use Rattle.vm_memory_guest.specs.Access.{Reached}
 use Rattle.vm_memory_guest.specs.Dirt.{bytes_read}
 use Rattle.vm_memory_guest.specs.Host.{Host}
 use Rattle.vm_memory_guest.specs.Memory as guest
-use Rattle.vm_memory_guest.specs.Memory.{NeedsTranslation}
 use Rattle.vm_memory_guest.specs.Typed.{answered}
+use Rattle.vm_memory_guest.specs.Walk.{NeedsPieces}
 use Rattle.vm_memory_guest.specs.declared.region.error.GuestMemoryError.{GuestMemoryError}
-use Rattle.vm_memory.specs.Calls.{AreIntegers, CallsOf, IsInteger, SendsAs, SentBy, loaded}
+use Rattle.vm_memory.specs.Calls.{AreIntegers, IsInteger, SendsAs, SentBy, WritesOf, loaded}
 use Rattle.vm_memory.specs.Commands.{MayTranslate, MayWant}
 use Rattle.vm_memory.specs.Effect.{apply, if_there, leaves, Replies}
 use Rattle.vm_memory.specs.Machine.{Step, outcome}
@@ -36,57 +36,53 @@ pub there_meant : {X Y : Type 0} (f : X → Y) (xs : List X) (i : ℕ) (x : X) �
 there_meant {X} f xs i x is = slice_get-map f xs i ∙ ap (λ (o : Option X). option_map f o) is
 
 -- a call that changes the host by a memory that is there
-pub changes_are_step : (old : State) (memory : ℕ) (m : guest.Memory) → slice_get old.memories memory ≡ Some m → (n : ℕ)
+pub changes_are_step : (old : State) (memory : ℕ) (m : guest.Memory) → slice_get old.memories memory ≡ Some m
+    → (a n : ℕ)
     (does : guest.Memory → Host PageSet → Reply × Host PageSet) {T : Type 0} (told : T → Reply)
     (result : Result T Refusal) (after : Host PageSet)
     → ((replied told result, after) ≡ does m old.host)
-    ⊎ ((result ≡ Err refusal.Memory) × NeedsTranslation m n × (after ≡ old.host))
-    → CallsOf old memory n does (replied told result) (record old { host = after })
-changes_are_step old memory m there n does told result after (inl is) =
+    ⊎ ((result ≡ Err refusal.Memory) × NeedsPieces m old.host.tables a n permissions.Write × (after ≡ old.host))
+    → WritesOf old memory a n does (replied told result) (record old { host = after })
+changes_are_step old memory m there a n does told result after (inl is) =
     inl (rw there (ap (λ (p : Reply × Host PageSet). (p.0, record old { host = p.1 })) is))
-changes_are_step old memory m there n does {T} told result after (inr (is, wants, same)) = inr (
+changes_are_step old memory m there a n does {T} told result after (inr (is, wants, same)) = inr (
   ap (λ (r : Result T Refusal). replied told r) is,
   rw there wants,
   ap (λ (h : Host PageSet). record old { host = h }) same,
 )
 
 -- a call that sends the bytes of a memory that is there
-pub sends_are_step : (now : State) (m : guest.Memory) (n : ℕ) (c : Command) (expected : Reply)
-    → outcome now c ≡ (expected, now) → (NeedsTranslation m n → MayWant now c) → (taken : Option (List ℕ)) (r : Reply)
-    → SentBy expected (NeedsTranslation m n) taken r → SendsAs now c taken r
-sends_are_step now m n c expected out may taken r (bytes, took, inl is) =
+pub sends_are_step : (now : State) (wants : Type 0) (c : Command) (expected : Reply)
+    → outcome now c ≡ (expected, now) → (wants → MayWant now c) → (taken : Option (List ℕ)) (r : Reply)
+    → SentBy expected wants taken r → SendsAs now c taken r
+sends_are_step now wants c expected out may taken r (bytes, took, inl is) =
     (bytes, took, inl (ap (λ (x : Reply). (x, now)) is ∙ sym out))
-sends_are_step now m n c expected out may taken r (bytes, took, inr (is, wants)) =
-    (bytes, took, inr (ap (λ (x : Reply). beside_taken bytes x) is, may wants, refl))
+sends_are_step now wants c expected out may taken r (bytes, took, inr (is, want)) =
+    (bytes, took, inr (ap (λ (x : Reply). beside_taken bytes x) is, may want, refl))
 
--- an integer takes a byte at least
-some_bytes : (width : Width) → 0 < byte_len (integer_of width)
-some_bytes One = lit< tt
-some_bytes Two = lit< tt
-some_bytes Four = lit< tt
-some_bytes Eight = lit< tt
-
--- an access that is translated is so for any number of bytes
-translates : (m : Option guest.Memory) (n k : ℕ) → 0 < k → IsSomeAnd m (λ x. NeedsTranslation x n)
-    → IsSomeAnd m (λ x. NeedsTranslation x k)
-translates None n k some may = absurd may
-translates (Some x) n k some may = (may.0, some)
+-- a number is stored in the bytes of its width
+spelled : (width : Width) (number : ℕ)
+    → length (to_le_bytes (integer_of width) number) ≡ byte_len (integer_of width)
+spelled One number = refl
+spelled Two number = refl
+spelled Four number = refl
+spelled Eight number = refl
 
 -- a store of a number's bytes is the step of its command
-pub stored_is_step : (old : State) (memory : ℕ) (addr : GuestAddress) (bytes : List ℕ) (n : ℕ) (r : Reply)
-    (new : State) → CallsOf old memory n (λ m host. stores_bytes m host addr.0 bytes) r new
+pub stored_is_step : (old : State) (memory : ℕ) (addr : GuestAddress) (bytes : List ℕ) (r : Reply)
+    (new : State) → WritesOf old memory addr.0 (length bytes) (λ m host. stores_bytes m host addr.0 bytes) r new
     → (width : Width) (number : ℕ) → IsInteger bytes width number
     → Step old (command.Store memory width addr number) r new
-stored_is_step old memory addr bytes n r new (inl is) width number (fits, same) =
+stored_is_step old memory addr bytes r new (inl is) width number (fits, same) =
     inl (is ∙ go (slice_get old.memories memory))
   where
     go : (m : Option guest.Memory) → apply old (if_there m (λ x. leaves (stores_bytes x old.host addr.0 bytes)))
         ≡ apply old (if_there m (λ x. leaves (stores x old.host addr.0 (integer_of width) number)))
     go None = refl
     go (Some x) = rw (same, fits) refl
-stored_is_step old memory addr bytes n r new (inr (is, may, kept)) width number (fits, same) = inr (
+stored_is_step old memory addr bytes r new (inr (is, may, kept)) width number (fits, same) = inr (
   is,
-  (translates (slice_get old.memories memory) n (byte_len (integer_of width)) (some_bytes width) may, fits),
+  (subst (λ k. MayTranslate old memory addr.0 k permissions.Write) (ap length same ∙ spelled width number) may, fits),
   kept,
 )
 
@@ -94,7 +90,7 @@ stored_is_step old memory addr bytes n r new (inr (is, may, kept)) width number 
 pub loaded_is_step : {T : Type 0} (now : State) (memory : ℕ) (addr : GuestAddress) (value : List ℕ → T) (n : ℕ)
     (result : Result T Refusal)
     → (result ≡ loaded value (slice_get now.memories memory) now.host addr.0 n)
-    ⊎ ((result ≡ Err refusal.Memory) × MayTranslate now memory n)
+    ⊎ ((result ≡ Err refusal.Memory) × MayTranslate now memory addr.0 n permissions.Read)
     → (width : Width) (number : T → ℕ) → AreIntegers n value width number
     → Step now (command.Load memory width addr) (replied (λ v. reply.Value (number v)) result) now
 loaded_is_step {T} now memory addr value n result (inl is) width number (size, numbers) =
@@ -121,6 +117,6 @@ loaded_is_step {T} now memory addr value n result (inl is) width number (size, n
         (taken_by x now.host.tables addr.0 k permissions.Read)) size)
 loaded_is_step {T} now memory addr value n result (inr (is, may)) width number (size, numbers) = inr (
   ap (λ (r : Result T Refusal). replied (λ v. reply.Value (number v)) r) is,
-  translates (slice_get now.memories memory) n (byte_len (integer_of width)) (some_bytes width) may,
+  subst (λ k. MayTranslate now memory addr.0 k permissions.Read) size may,
   refl,
 )

@@ -9,7 +9,8 @@ use Rattle.vm_memory_base.specs.declared.iotlb.Permissions.{Permissions}
 use Rattle.vm_memory_guest.specs.Access.{Access, AccessFault, Reached, windows}
 use Rattle.vm_memory_guest.specs.Answer.{Outcome}
 use Rattle.vm_memory_guest.specs.Error.{error_of}
-use Rattle.vm_memory_guest.specs.Memory.{IsOn, Memory, NeedsTranslation, route}
+use Rattle.vm_memory_guest.specs.Memory.{IsOn, Memory, route}
+use Rattle.vm_memory_guest.specs.Walk.{NeedsPieces}
 use Rattle.vm_memory_guest.specs.Transfer.{ended}
 use Rattle.vm_memory_guest.specs.Window.{span}
 use Rattle.vm_memory_guest.specs.declared.region.error.GuestMemoryError.{GuestMemoryError}
@@ -74,8 +75,8 @@ abbrev pub Accessed : Memory → List Table → Permissions → ℕ → ℕ → 
     → Type 0
 Accessed m tables access a n unchanged effect moved =
     let x = reached_by m tables a n access in
-    Outcome errors.Memory (NeedsTranslation m n) (ended (span (windows x.path)) (option_map error_of x.fault)) unchanged
-    effect moved
+    Outcome errors.Memory (NeedsPieces m tables a n access)
+    (ended (span (windows x.path)) (option_map error_of x.fault)) unchanged effect moved
 
 module _ (m : Memory) (tables : List Table) (access : Permissions) (before : List Entry) (most : ℕ) where
   -- a call came so far: each access reached all, the place is behind them, and this was done of what they reached

@@ -1,6 +1,7 @@
 -- Memory behind an IOMMU: what a host holds of it, and its accesses.
-use Rattle.std.proofs.Common.{◌≡◌, ◌<◌, ℕ, Bool, true, List, [], ◌∷◌, ◌++◌, map, slice_get, Option, Some, IsSome, refl, sym, ap, subst, inl, inr, ◌⊎◌, ◌∙◌}
+use Rattle.std.proofs.Common.{◌≡◌, ℕ, Bool, true, List, [], ◌∷◌, ◌++◌, map, slice_get, Option, Some, IsSome, refl, sym, ap, subst, inl, inr, ◌⊎◌, ◌∙◌}
 use Rattle.vm_memory_base.proofs.TableLaws.{is_allowed-each, same_mapping_tests_equality}
+use Rattle.vm_memory_base.specs.Lookup.{Translates, RefusesTranslation}
 use Rattle.vm_memory_base.specs.Table.{Table, says}
 use Rattle.vm_memory_base.specs.declared.iotlb.IommuError.{IommuError}
 use Rattle.vm_memory_base.specs.declared.iotlb.Permissions.{Permissions}
@@ -14,10 +15,9 @@ use Rattle.vm_memory_guest.specs.Pieces.{marking, walk_of_pieces}
 use Rattle.vm_memory_guest.specs.Region.{Region}
 use Rattle.vm_memory_guest.specs.Walk.{reach_of, GivesAccess, RefusesAccess, WantsMemory}
 use Rattle.vm_memory_guest.specs.declared.region.error.GuestMemoryError.{GuestMemoryError}
-use Rattle.vm_memory_base.specs.declared.iotlb.IommuError.TheVariants as iommu
 use Rattle.vm_memory_guest.proofs.HoldsLemmas.{Holds-left, Holds-right}
 use Rattle.vm_memory_guest.proofs.PieceLemmas.{pieces-access}
-use Rattle.vm_memory.specs.Iommu.{Translates, RefusesTranslation, behind, of_translation}
+use Rattle.vm_memory.specs.Iommu.{behind, of_translation}
 
 -- a host that holds what a memory behind an IOMMU names holds what its backend and its IOMMU name
 module _ (shape : Shape) (backend iommu : List Name) (space : ℕ) where
@@ -47,25 +47,19 @@ module _ {R : Type 0} (region : R → Region) (rs : List R) (table space : ℕ) 
         ∙ sym (ap (λ (w : Route). reach_of (access_of (map region rs) w a n access)) route-on))),
   )
 
-  refuses-on : (e : IommuError) → RefusesTranslation (says t) a n access e
-      → RefusesAccess (behind (map region rs) table space on) tables a n access (of_translation e)
-  refuses-on e refused = (
-    ap (λ (w : Route). allowed w a n access) route-on ∙ refused.0,
-    ap of_translation refused.1 ∙ sym (ap (λ (w : Route). error_of (refusal w a n)) route-on),
-  )
-
-  wants-on : (e : IommuError) → (e ≡ iommu.Memory) × (0 < n)
-      → WantsMemory (behind (map region rs) table space on) n (of_translation e)
-  wants-on e (is, some) = (
-    ap of_translation is,
-    (subst (λ (b : Bool). IsSome (behind_if b (record { table = table; space = space }))) (sym is_on) refl, some),
-  )
-
-  pub fails-on : (e : IommuError) → (((e ≡ iommu.Memory) × (0 < n)) ⊎ RefusesTranslation (says t) a n access e)
+  pub fails-on : (e : IommuError) → RefusesTranslation (says t) a n access e
       → (d : GuestMemoryError) → d ≡ of_translation e
-      → WantsMemory (behind (map region rs) table space on) n d
+      → WantsMemory (behind (map region rs) table space on) tables a n access d
       ⊎ RefusesAccess (behind (map region rs) table space on) tables a n access d
-  fails-on e why d is = rw is (elim why [
-    | inl wanted ↦ inl (wants-on e wanted)
-    | inr refused ↦ inr (refuses-on e refused)
-  ])
+  fails-on e (inl (may, some, want)) d is = inl (
+    is ∙ ap of_translation want,
+    (
+      subst (λ (b : Bool). IsSome (behind_if b (record { table = table; space = space }))) (sym is_on) refl,
+      some,
+      ap (λ (w : Route). allowed w a n access) route-on ∙ may,
+    ),
+  )
+  fails-on e (inr refused) d is = inr (
+    ap (λ (w : Route). allowed w a n access) route-on ∙ refused.0,
+    is ∙ ap of_translation refused.1 ∙ sym (ap (λ (w : Route). error_of (refusal w a n)) route-on),
+  )

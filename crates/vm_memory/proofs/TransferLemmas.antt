@@ -18,7 +18,8 @@ use Rattle.vm_memory_guest.specs.Dirt.{bytes_read}
 use Rattle.vm_memory_guest.specs.Error.{of_window}
 use Rattle.vm_memory_guest.specs.Host.{Cell, Host, bytes_at}
 use Rattle.vm_memory_guest.specs.Lent.{fails_as}
-use Rattle.vm_memory_guest.specs.Memory.{Memory, NeedsTranslation, route}
+use Rattle.vm_memory_guest.specs.Memory.{Memory, route}
+use Rattle.vm_memory_guest.specs.Walk.{NeedsPieces}
 use Rattle.vm_memory_guest.specs.Region.{IsRegion}
 use Rattle.vm_memory_guest.specs.Window.{cells}
 use Rattle.vm_memory_guest.specs.declared.region.error.GuestMemoryError.{GuestMemoryError}
@@ -111,10 +112,10 @@ module _ (whole : Bool) (m : Memory) (host : Host PageSet) (a n : ℕ) {T : Type
   -- from a source that does what a script says
   pub received_is : (steps : List SourceStep) (after : Host PageSet)
       → let dealt = dealt_to whole m host a n steps in
-      ((r ≡ Err errors.Memory) × NeedsTranslation m n × (after ≡ host))
+      ((r ≡ Err errors.Memory) × NeedsPieces m host.tables a n permissions.Write × (after ≡ host))
       ⊎ ((total : Result ℕ GuestMemoryError) × (r ≡ told total) × (total ≡ dealt.answer) × (after ≡ dealt.host))
       → ((replied reply (refused_as r), after) ≡ receives whole m host a n steps)
-      ⊎ ((refused_as r ≡ Err refusal.Memory) × NeedsTranslation m n × (after ≡ host))
+      ⊎ ((refused_as r ≡ Err refusal.Memory) × NeedsPieces m host.tables a n permissions.Write × (after ≡ host))
   received_is steps after (inl (is, wants, same)) = inr (wanted_so is, wants, same)
   received_is steps after (inr (total, is, dealt, left)) =
       inl (ap₂ (λ (x : Reply) (h : Host PageSet). (x, h))
@@ -123,11 +124,12 @@ module _ (whole : Bool) (m : Memory) (host : Host PageSet) (a n : ℕ) {T : Type
   -- to a sink that does what a script says, and keeps what it takes
   pub sent_is : All IsRegion m.regions → (steps : List SinkStep) (taken : Option (List ℕ))
       → let reached = reached_by m host.tables a n permissions.Read in let given = given_by reached n steps in
-      ((r ≡ Err errors.Memory) × NeedsTranslation m n × (taken ≡ Some []))
+      ((r ≡ Err errors.Memory) × NeedsPieces m host.tables a n permissions.Read × (taken ≡ Some []))
       ⊎ ((total : Result ℕ GuestMemoryError) × (r ≡ told total) × (total ≡ given.answer)
       × ((count : ℕ) × (given.taken ≡ 0 + count)
       × (taken ≡ Some ([] ++ take count (bytes_at host.blocks (cells (windows reached.path)))))))
-      → SentBy (sends whole m host a n steps) (NeedsTranslation m n) taken (replied reply (refused_as r))
+      → SentBy (sends whole m host a n steps) (NeedsPieces m host.tables a n permissions.Read) taken
+      (replied reply (refused_as r))
   sent_is each steps taken (inl (is, wants, none)) =
       ([], none, inr (ap (λ (x : Result T GuestMemoryError). replied reply (refused_as x)) is, wants))
   sent_is each steps taken (inr (total, is, answer, (count, counts, took))) =

@@ -1,5 +1,5 @@
 -- Replies to stores and loads of values.
-use Rattle.std.proofs.Common.{◌≡◌, ◌⊎◌, ℕ, List, length, Result, Ok, Err, refl, ap, ◌∙◌, inl, inr}
+use Rattle.std.proofs.Common.{◌≡◌, ◌⊎◌, ℕ, List, length, Result, Ok, Err, refl, ap, ◌∙◌, inl, inr, subst, sym}
 use Rattle.vm_memory_base.specs.Pages.{PageSet}
 use Rattle.vm_memory_base.specs.declared.iotlb.Permissions.TheVariants as permissions
 use Rattle.vm_memory_guest.specs.Access.{Reached}
@@ -56,13 +56,13 @@ module _ (m : memories.Memory) (host new : Host PageSet) (a n : ℕ) (bytes : Li
       → (reply_of_error e, new) ≡ stores_bytes m host a bytes
   not_stored is e h = rw (len, is, ← error_told (λ xs. tt {0}) (λ xs. Done) taken e h) refl
 
-  pub store_is : {Wants Stays Writes : Type 0} {expected : Result (Unit {0}) GuestMemoryError}
+  pub store_is : (Wants : ℕ → Type 0) {Stays Writes : Type 0} {expected : Result (Unit {0}) GuestMemoryError}
       → expected ≡ answered (λ xs. tt {0}) taken → (Writes → left) → (Stays → new ≡ host)
-      → (r : Result (Unit {0}) GuestMemoryError) → Outcome errors.Memory Wants expected Stays Writes r
+      → (r : Result (Unit {0}) GuestMemoryError) → Outcome errors.Memory (Wants n) expected Stays Writes r
       → ((replied as_done (refused_as r), new) ≡ stores_bytes m host a bytes)
-      ⊎ ((refused_as r ≡ Err refusal.Memory) × Wants × (new ≡ host))
-  store_is told writes stays (Ok u) (is, effect) = inl (stored (writes effect) u (is ∙ told))
-  store_is told writes stays (Err e) (inl (is, wants, same)) =
-      inr (ap (λ (d : GuestMemoryError). Err (refusal_of d)) is, wants, stays same)
-  store_is told writes stays (Err e) (inr (is, effect)) =
+      ⊎ ((refused_as r ≡ Err refusal.Memory) × Wants (length bytes) × (new ≡ host))
+  store_is Wants told writes stays (Ok u) (is, effect) = inl (stored (writes effect) u (is ∙ told))
+  store_is Wants told writes stays (Err e) (inl (is, wants, same)) =
+      inr (ap (λ (d : GuestMemoryError). Err (refusal_of d)) is, subst Wants (sym len) wants, stays same)
+  store_is Wants told writes stays (Err e) (inr (is, effect)) =
       inl (not_stored (writes effect) e (is ∙ told))

@@ -12,9 +12,10 @@ use Rattle.vm_memory_guest.specs.Answer.{Reach}
 use Rattle.vm_memory_guest.specs.Dirt.{bytes_read}
 use Rattle.vm_memory_guest.specs.Error.{error_of, of_window}
 use Rattle.vm_memory_guest.specs.Host.{Host}
-use Rattle.vm_memory_guest.specs.Memory.{Memory, NeedsTranslation}
+use Rattle.vm_memory_guest.specs.Memory.{Memory}
 use Rattle.vm_memory_guest.specs.Transfer.{Transfers}
 use Rattle.vm_memory_guest.specs.Typed.{answered}
+use Rattle.vm_memory_guest.specs.Walk.{NeedsPieces}
 use Rattle.vm_memory_guest.specs.Window.{Window}
 use Rattle.vm_memory_guest.specs.declared.region.error.GuestMemoryError.{GuestMemoryError}
 use Rattle.vm_memory_guest.specs.declared.region.error.GuestMemoryError.TheVariants as errors
@@ -32,11 +33,12 @@ use Rattle.vm_memory.specs.declared.machine.command.Width.{Width}
 use Rattle.vm_memory.specs.declared.machine.refusal.Refusal.{Refusal}
 use Rattle.vm_memory.specs.declared.machine.refusal.Refusal.TheVariants as refusal
 
--- a call of n bytes of a memory replies and leaves what is said of the memory of this number and of the host. Or it
--- wants memory for a translation, and changes nothing
-abbrev pub CallsOf : State → ℕ → ℕ → (Memory → Host PageSet → Reply × Host PageSet) → Reply → State → Type 0
-CallsOf old memory n does r new = ((r, new) ≡ apply old (changes_by old memory does))
-    ⊎ ((r ≡ reply.Memory) × MayTranslate old memory n × (new ≡ old))
+-- a call that writes n bytes at an address of a memory replies and leaves what is said of the memory of this number and
+-- of the host. Or it wants memory for the pieces of a translation, and changes nothing
+abbrev pub WritesOf : State → ℕ → ℕ → ℕ → (Memory → Host PageSet → Reply × Host PageSet) → Reply → State
+    → Type 0
+WritesOf old memory a n does r new = ((r, new) ≡ apply old (changes_by old memory does))
+    ⊎ ((r ≡ reply.Memory) × MayTranslate old memory a n permissions.Write × (new ≡ old))
 
 -- a buffer after the bytes that a read of it reaches came to its front
 abbrev pub filled_from : Option Memory → Host PageSet → ℕ → List ℕ → List ℕ
@@ -49,12 +51,13 @@ abbrev pub buffer_after : State → ℕ → ℕ → List ℕ → List ℕ
 buffer_after old memory a buffer = filled_from (slice_get old.memories memory) old.host a buffer
 
 -- a read into a buffer answers what its command replies, and the bytes that it reaches are in the buffer then. Or it
--- wants memory for a translation, and the buffer stays
+-- wants memory for the pieces of a translation, and the buffer stays
 abbrev pub ReadsInto : {T : Type 0} → State → ℕ → ℕ → Command → (T → Reply) → List ℕ → Result T Refusal → List ℕ
     → Type 0
 ReadsInto now memory a c told buffer result new =
     (((replied told result, now) ≡ outcome now c) × (new ≡ buffer_after now memory a buffer))
-    ⊎ ((result ≡ Err refusal.Memory) × MayTranslate now memory (length buffer) × (new ≡ buffer))
+    ⊎ ((result ≡ Err refusal.Memory) × MayTranslate now memory a (length buffer) permissions.Read
+    × (new ≡ buffer))
 
 -- what a load of n bytes at a answers: the value of the bytes that it takes, or why there is none
 abbrev pub loaded : {T : Type 0} → (List ℕ → T) → Option Memory → Host PageSet → ℕ → ℕ → Result T Refusal
@@ -85,8 +88,8 @@ abbrev pub TransfersOf : {T X : Type 0} → Option Memory → Host PageSet → �
 TransfersOf None host a n access Moves told old result new = (result ≡ Err refusal.NoSuch) × (new ≡ old)
 TransfersOf {T} (Some m) host a n access Moves told old result new =
     (answer : Result T GuestMemoryError) × (result ≡ refused_as answer)
-    × Transfers errors.Memory (NeedsTranslation m n) of_window (transfer_reach m host a n access) Moves told old answer
-    new
+    × Transfers errors.Memory (NeedsPieces m host.tables a n access) of_window (transfer_reach m host a n access)
+    Moves told old answer new
 
 -- a sink that keeps what it takes has nothing yet, and does what these steps say, with room for n bytes and without
 -- memory
@@ -96,7 +99,8 @@ pub record IsEmptySink {S : Type 0} (sink : S → Option Sink) (taken : S → Op
   pub empty : taken s ≡ Some []
   pub needs_none : wants s → ⊥
 
--- a transfer out to a sink that keeps what it takes replies so of what it took. Or it wants memory for a translation
+-- a transfer out to a sink that keeps what it takes replies so of what it took. Or it wants memory for the pieces of a
+-- translation
 abbrev pub SentBy : Reply → Type 0 → Option (List ℕ) → Reply → Type 0
 SentBy expected may_want taken r = (bytes : List ℕ) × (taken ≡ Some bytes)
     × ((beside_taken bytes r ≡ expected) ⊎ ((r ≡ reply.Memory) × may_want))

@@ -6,9 +6,11 @@ use Rattle.vm_memory_base.specs.Pages.{dirty_pages, cleaned}
 use Rattle.vm_memory_base.specs.Table as table
 use Rattle.vm_memory_base.specs.Table.{TableEvent, says, overruns}
 use Rattle.vm_memory_base.specs.declared.bitmap.BitmapId.{BitmapId}
+use Rattle.vm_memory_base.specs.declared.iotlb.Permissions.{Permissions}
+use Rattle.vm_memory_base.specs.declared.iotlb.Permissions.TheVariants as permissions
 use Rattle.vm_memory_guest.specs.Layout.{inserted, removed}
-use Rattle.vm_memory_guest.specs.Memory.{NeedsTranslation}
 use Rattle.vm_memory_guest.specs.Region.{layout_error}
+use Rattle.vm_memory_guest.specs.Walk.{NeedsPieces}
 use Rattle.vm_memory_guest.specs.Window.{bitmap_of, with_bitmap}
 use Rattle.vm_memory.specs.Iommu.{behind}
 use Rattle.vm_memory.specs.State.{State, plain, named}
@@ -79,16 +81,18 @@ effect old (InvalidateAll number) = leaves (changes old.host number 0 0 table.In
 effect old (Lookup number iova len access) =
     if_there (slice_get old.host.tables number) (λ t. Replies (looks_up (says t) iova.0 len access))
 
--- an access of n bytes of a memory that is there goes through a translation
-abbrev pub MayTranslate : State → ℕ → ℕ → Type 0
-MayTranslate old memory n = IsSomeAnd (slice_get old.memories memory) (λ m. NeedsTranslation m n)
+-- an access of n bytes at a of a memory that is there takes the pieces of a translation
+abbrev pub MayTranslate : State → ℕ → ℕ → ℕ → Permissions → Type 0
+MayTranslate old memory a n access =
+    IsSomeAnd (slice_get old.memories memory) (λ m. NeedsPieces m old.host.tables a n access)
 
 -- a bitmap that is there has a dirty page
 abbrev pub HasDirtyPage : State → BitmapId → Type 0
 HasDirtyPage old id = IsSomeAnd (bitmap_of old.host id) (λ set. dirty_pages set ≢ [])
 
 -- where memory may be wanting: for what is made, for a range that is mapped or no longer is, for the bytes, the pages
--- and the ranges that a reply lists, for the room of a sink, and for a translation. For nothing it is not wanting
+-- and the ranges that a reply lists, for the room of a sink, and for the pieces of a translation that is allowed. For
+-- nothing it is not wanting
 abbrev pub MayWant : State → Command → Type 0
 MayWant old (FromRegions numbers) = IsSome (named old.regions numbers)
 MayWant old (Insert layout region) =
@@ -102,17 +106,19 @@ MayWant old (ReplaceBackend memory layout) =
     IsSomeAnd (slice_get old.memories memory) (λ m. IsSome m.iommu) × IsSome (slice_get old.layouts layout)
 MayWant old (Enable memory on) = ⊥
 MayWant old (Read memory addr n) = IsSome (slice_get old.memories memory) × (0 < n)
-MayWant old (Write memory addr bytes) = MayTranslate old memory (length bytes)
+MayWant old (Write memory addr bytes) = MayTranslate old memory addr.0 (length bytes) permissions.Write
 MayWant old (ReadSlice memory addr n) = IsSome (slice_get old.memories memory) × (0 < n)
-MayWant old (WriteSlice memory addr bytes) = MayTranslate old memory (length bytes)
+MayWant old (WriteSlice memory addr bytes) = MayTranslate old memory addr.0 (length bytes) permissions.Write
 MayWant old (Store memory width addr value) =
-    MayTranslate old memory (byte_len (integer_of width)) × IsTrue (fits_width (integer_of width) value)
-MayWant old (Load memory width addr) = MayTranslate old memory (byte_len (integer_of width))
-MayWant old (ReadFrom memory addr n source) = MayTranslate old memory n
-MayWant old (ReadExactFrom memory addr n source) = MayTranslate old memory n
+    MayTranslate old memory addr.0 (byte_len (integer_of width)) permissions.Write
+    × IsTrue (fits_width (integer_of width) value)
+MayWant old (Load memory width addr) =
+    MayTranslate old memory addr.0 (byte_len (integer_of width)) permissions.Read
+MayWant old (ReadFrom memory addr n source) = MayTranslate old memory addr.0 n permissions.Write
+MayWant old (ReadExactFrom memory addr n source) = MayTranslate old memory addr.0 n permissions.Write
 MayWant old (WriteTo memory addr n sink) = IsSome (slice_get old.memories memory) × (0 < n)
 MayWant old (WriteAllTo memory addr n sink) = IsSome (slice_get old.memories memory) × (0 < n)
-MayWant old (CheckRange memory addr n access) = MayTranslate old memory n
+MayWant old (CheckRange memory addr n access) = MayTranslate old memory addr.0 n access
 MayWant old (Dirty id) = HasDirtyPage old id
 MayWant old (Harvest id) = HasDirtyPage old id
 MayWant old (Copy from to) = ⊥

@@ -1,27 +1,14 @@
--- Memory behind an IOMMU, and what an IOMMU answers.
-use Rattle.std.specs.Prelude.{◌≡◌, ℕ, Bool, true, false, List, [], ◌∷◌, ◌++◌, flat_map, Some}
+-- Memory behind an IOMMU, and what it answers where a translation is refused.
+use Rattle.std.specs.Prelude.{◌≡◌, ℕ, Bool, List, [], ◌∷◌, ◌++◌, flat_map, Some}
 use Rattle.std.proofs.Common.{ap₂}
-use Rattle.vm_memory_base.specs.Lookup.{mapped_ranges}
-use Rattle.vm_memory_base.specs.Table.{Says, is_allowed, pieces, reason}
 use Rattle.vm_memory_base.specs.declared.iotlb.IommuError.{IommuError}
 use Rattle.vm_memory_base.specs.declared.iotlb.IommuError.TheVariants.{CannotResolve, Fragmented, IommuMisconfigured}
 use Rattle.vm_memory_base.specs.declared.iotlb.IommuError.TheVariants as iommu
-use Rattle.vm_memory_base.specs.declared.iotlb.Permissions.{Permissions}
-use Rattle.vm_memory_base.specs.declared.iotlb.lookup.MappedRange.{MappedRange}
 use Rattle.vm_memory_guest.specs.Host.{Name, Space, Tlb}
 use Rattle.vm_memory_guest.specs.Memory.{Memory}
 use Rattle.vm_memory_guest.specs.Region.{Region, region_names}
 use Rattle.vm_memory_guest.specs.declared.region.error.GuestMemoryError.{GuestMemoryError}
 use Rattle.vm_memory_guest.specs.declared.region.error.GuestMemoryError.TheVariants as errors
-
--- a translation that is allowed gives the pieces of a look-up
-abbrev pub Translates : Says → ℕ → ℕ → Permissions → List MappedRange → Type 0
-Translates f a n access found = (is_allowed f a n access ≡ true) × (found ≡ mapped_ranges (pieces f a n))
-
--- one that is not allowed is refused with the whole range, and why
-abbrev pub RefusesTranslation : Says → ℕ → ℕ → Permissions → IommuError → Type 0
-RefusesTranslation f a n access e = (is_allowed f a n access ≡ false)
-    × (e ≡ CannotResolve (record { base = record { 0 = a }; length = n }) (reason f a n))
 
 -- the error of guest memory for that of a translation: want of memory is a kind of its own
 abbrev pub of_translation : IommuError → GuestMemoryError

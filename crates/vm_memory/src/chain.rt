@@ -4,9 +4,9 @@
 //! that it writes. A [`ChainReader`] gives the bytes of the readable segments one after the other, and a
 //! [`ChainWriter`] fills the writable ones, over any guest memory, with an IOMMU or without.
 //!
-//! Behind an IOMMU that is on, each access allocates for its translation. Where this fails behind the first access
-//! of a call, the call ends with a short count. Nothing tells that count from one that ends at an address with no
-//! byte.
+//! Behind an IOMMU that is on, each access that it allows allocates for its translation. Where this fails behind the
+//! first access of a call, the call ends with a short count. Nothing tells that count from one that ends at an address
+//! with no byte.
 ghost use Rattle.std.specs.Prelude.{◌≡◌, ◌<◌, ◌^◌, length, min, drop, None, Some, MatchResult};
 ghost use Rattle.vm_memory_guest.specs.Host.{shape_of, Holds};
 ghost use Rattle.vm_memory.specs.Chain.{ReadsText, WritesText, chain_fault, readable, text, writable};

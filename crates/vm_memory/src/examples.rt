@@ -203,7 +203,7 @@ pub fn images_that_mirror_a_block()
 {}
 
 /// An allocation may fail for what is made, for the bytes and the pages that are replied, for ranges of a table, and
-/// for a translation. Where there is nothing of these, none does.
+/// for the pieces of a translation that is allowed. Where there is nothing of these, none does.
 pub fn who_may_want_memory()
     ensures layout { MayWant machine (FromRegions (0 ∷ [])) }
     ensures memory { MayWant machine (Plain 0) }
@@ -212,10 +212,12 @@ pub fn who_may_want_memory()
     ensures translated_read_of_nothing { MayWant machine (Read 1 (at 0) 0) → ⊥ }
     ensures write { MayWant machine (Write 0 (at 0) (9 ∷ [])) → ⊥ }
     ensures transfer_out_of_nothing { MayWant machine (WriteTo 0 (at 0) 0 []) → ⊥ }
-    ensures translated_write { MayWant machine (Write 1 (at 0) (9 ∷ [])) }
+    ensures translated_write { MayWant machine (Write 1 (at 16) (9 ∷ [])) }
+    ensures write_without_a_mapping { MayWant machine (Write 1 (at 0) (9 ∷ [])) → ⊥ }
+    ensures write_that_is_not_allowed { MayWant machine (Write 1 (at 20) (9 ∷ [])) → ⊥ }
     ensures translated_write_of_nothing { MayWant machine (Write 1 (at 0) []) → ⊥ }
     ensures write_that_is_off { MayWant machine (Write 2 (at 0) (9 ∷ [])) → ⊥ }
-    ensures translated_store { MayWant machine (Store 1 One (at 0) 9) }
+    ensures translated_store { MayWant machine (Store 1 One (at 16) 9) }
     ensures store_too_great { MayWant machine (Store 1 One (at 0) 256) → ⊥ }
     ensures copy { MayWant machine (Copy (in_block 0 0 1) (in_block 1 0 1)) → ⊥ }
     ensures no_region { MayWant machine (FromRegions (0 ∷ 3 ∷ [])) → ⊥ }

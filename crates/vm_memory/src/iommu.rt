@@ -1,17 +1,14 @@
 //! Guest memory behind an IOMMU.
 ghost use Rattle.std.specs.Prelude.{◌≡◌, ◌⊎◌, ◌<◌, ◌∷◌, ◌++◌, [], ℕ, IfOk, MatchResult, map};
+ghost use Rattle.vm_memory_base.specs.Lookup.{Translates, RefusesTranslation};
 ghost use Rattle.vm_memory_base.specs.Table.{says};
 ghost use Rattle.vm_memory_guest.specs.Host as names;
-ghost use Rattle.vm_memory.specs.Iommu.{Translates, RefusesTranslation, behind, of_translation};
+ghost use Rattle.vm_memory.specs.Iommu.{behind, of_translation};
 
 use std::alloc::{AllocError, Global};
 use std::marker::Model;
 use std::sync::Arc;
-use vm_memory_base::laws::table::reason_of_a_refusal;
-use vm_memory_base::{
-    Bitmap, GuestAddress, IommuError, Iotlb, IovaRange, IovaRangeList, LookupError, MappedRange,
-    Permissions, Reason,
-};
+use vm_memory_base::{Bitmap, GuestAddress, IommuError, Iotlb, MappedRange, Permissions};
 use vm_memory_guest::laws::host::names_are_held_one_by_one;
 use vm_memory_guest::{
     GuestMemory, GuestMemoryBackend, GuestMemoryError, GuestMemoryResult, HostMemory, HostShape,
@@ -35,8 +32,8 @@ pub trait Iommu: Named + Drop {
 
     /// Where `length` addresses from `iova` on lead, as pieces in order, for an access: those of a look-up in
     /// the table. `CannotResolve` where the table does not allow it, with the whole range: `MissingMapping`
-    /// where an address is not mapped or the end is no address, otherwise `AccessNotAllowed`. `Memory` where
-    /// the allocation of the answer fails; for no address it allocates nothing. No other error comes.
+    /// where an address is not mapped or the end is no address, otherwise `AccessNotAllowed`. `Memory` where the
+    /// table allows the access, of an address or more, but the allocation of the pieces fails. No other error comes.
     fn translate(
         &self,
         alloc: Global,
@@ -47,7 +44,7 @@ pub trait Iommu: Named + Drop {
     ) -> Result<Vec<MappedRange>, IommuError>
         ensures { MatchResult result
             (λ found. Translates (says table.now) iova.0 length access found.items)
-            (λ e. ((e ≡ IommuError.Memory) × (0 < length)) ⊎ RefusesTranslation (says table.now) iova.0 length access e) };
+            (RefusesTranslation (says table.now) iova.0 length access) };
 
     /// It names its table.
     ghost names_table: { (iommu : Self) → Self.names iommu ≡ names.Tlb (number iommu) ∷ [] };
@@ -104,30 +101,10 @@ impl Iommu for TableIommu {
         length: usize,
         access: Permissions,
     ) -> Result<Vec<MappedRange>, IommuError> {
-        reason_of_a_refusal();
-        match table.lookup_all(iova, length, access) {
-            Ok(found) => Ok(found),
-            Err(LookupError::Fails(fails)) => Err(IommuError::CannotResolve {
-                iova_range: IovaRange { base: iova, length },
-                reason: reason_of(&fails.misses),
-            }),
-            Err(LookupError::Memory) => Err(IommuError::Memory),
-        }
+        table.resolve(iova, length, access)
     }
 
     ghost names_table = { λ iommu. refl };
-}
-
-// Why a look-up failed that missed these ranges.
-fn reason_of(misses: &IovaRangeList) -> Reason
-    ensures missing { (misses.now ≡ [] → ⊥) → result ≡ Reason.MissingMapping }
-    ensures not_allowed { misses.now ≡ [] → result ≡ Reason.AccessNotAllowed }
-{
-    if misses.as_slice().is_empty() {
-        Reason::AccessNotAllowed
-    } else {
-        Reason::MissingMapping
-    }
 }
 
 // The error of guest memory for that of a translation: a failed allocation is a kind of its own.
@@ -293,8 +270,7 @@ impl<M: GuestMemoryBackend, I: Iommu> GuestMemory for IommuMemory<M, I> {
         count: usize,
         access: Permissions,
     ) -> GuestMemoryResult<IommuMemorySliceIterator<'_, M>> {
-        // That the regions are a layout is what this call tells.
-        let _ = self.backend.num_regions();
+        self.backend.known();
         if !self.use_iommu {
             return GuestMemory::get_slices(&self.backend, host, addr, count, access);
         }

@@ -1,5 +1,5 @@
 -- Look-ups in the runs of a table.
-use Rattle.std.proofs.Common.{◌≡◌, ℕ, ◌+◌, ◌-◌, ◌^◌, ◌<◌, ◌≤◌, min, max, Bool, true, false, cond, ◌&&◌, ◌||◌, ltb, leb, List, [], ◌∷◌, ◌++◌, length, map, Some, None, refl, sym, ap, subst, inl, inr, ◌⊎◌, ◌∙◌, arith}
+use Rattle.std.proofs.Common.{◌≡◌, if◌then◌else◌, ℕ, ◌+◌, ◌-◌, ◌^◌, ◌<◌, ◌≤◌, min, max, Bool, true, false, cond, ◌&&◌, ◌||◌, ltb, leb, List, [], ◌∷◌, ◌++◌, length, map, Some, None, refl, sym, ap, subst, inl, inr, ◌⊎◌, ◌∙◌, arith}
 use Rattle.std.proofs.lemmas.Bool.{lt-ltb, le-ltb, leb-true, and_parts, cases_lt, cases_Bool, or_cases}
 use Rattle.std.proofs.lemmas.List.{append-nil}
 use Rattle.std.specs.Iterator.{MakesProgress, item_count}
@@ -8,15 +8,16 @@ use Rattle.vm_memory_base.specs.Address.{is_within}
 use Rattle.vm_memory_base.specs.Change.{EndBelow, StartFrom, IsKept, granted, gaps}
 use Rattle.vm_memory_base.specs.Permissions.{allow}
 use Rattle.vm_memory_base.specs.Runs.{AddressRun, IsCanonical, runs, value_at, cut_onto, cut_to}
-use Rattle.vm_memory_base.specs.Table.{Mapping, same_mapping, target, Says, pieces, piece_of, grants, overruns, is_allowed, if_missing, forbids, range_of, misses, failures}
+use Rattle.vm_memory_base.specs.Table.{Mapping, same_mapping, target, Says, pieces, piece_of, grants, overruns, is_allowed, if_missing, forbids, range_of, misses, failures, reason}
 use Rattle.vm_memory_base.specs.Walk.{HeadEndsAfter, IsWalk, pieces_left}
 use Rattle.vm_memory_base.specs.declared.iotlb.Permissions.{Permissions}
 use Rattle.vm_memory_base.specs.declared.iotlb.Permissions.TheVariants.{No}
+use Rattle.vm_memory_base.specs.declared.iotlb.Reason.TheVariants.{MissingMapping, AccessNotAllowed}
 use Rattle.vm_memory_base.proofs.ChangeLemmas.{StartFrom-weaker, tail_starts, canonical_gap, cut_to-append, cut_to-before, cut_to-behind}
 use Rattle.vm_memory_base.proofs.RunsLaws.{run, canonical_pos, canonical_tail, within_or_not, is_within-in, is_within-below, is_within-above, none_below, value_at_in, value_at_past, same_from_values, canonical_runs, value_at-runs}
 use Rattle.vm_memory_base.proofs.CutLaws.{runs-of_list}
 use Rattle.vm_memory_base.proofs.SideLemmas.{canonical_prefix, canonical_suffix}
-use Rattle.vm_memory_base.proofs.TableLaws.{same_mapping_tests_equality, is_allowed-each, failures-runs, pieces-kept}
+use Rattle.vm_memory_base.proofs.TableLaws.{same_mapping_tests_equality, is_allowed-each, failures-runs, pieces-kept, reason-by_no_access}
 
 -- ---- whether a look-up succeeds
 
@@ -409,6 +410,14 @@ module _ (rs front asked behind : List (AddressRun Mapping)) (is : rs ≡ front 
     decided ∙ g,
     walk_of_granted a end access asked canonical (omega arith) g head,
     ap (map piece_of) (cut (end - a) (omega arith)) ∙ sym (pieces-kept rs a n k.canonical),
+  )
+
+  pub refused : granted a end access asked ≡ false → (is_allowed (value_at rs) a n access ≡ false)
+      × (reason (value_at rs) a n ≡ (if granted a end No asked then AccessNotAllowed else MissingMapping))
+  refused g = (
+    decided ∙ g,
+    reason-by_no_access (value_at rs) a n some no_overrun (granted a end No asked)
+        (rw sum (allowed_is_granted rs asked a n No same canonical head some fits)),
   )
 
   pub looked_up_in_vain : granted a end access asked ≡ false → (is_allowed (value_at rs) a n access ≡ false)

@@ -1,9 +1,8 @@
 -- The laws of permissions.
-use Rattle.std.proofs.Common.{◌≡◌, ◌-◌, Bool, true, false, not, ◌&&◌, ◌||◌, refl, ◌↔◌}
+use Rattle.std.proofs.Common.{◌≡◌, Bool, true, false, not, ◌&&◌, ◌||◌, refl, ◌↔◌}
 use Rattle.std.proofs.lemmas.Bool.{and_parts, and_from}
 use Rattle.vm_memory_base.specs.Permissions.{has_read, has_write, union, intersection, allow, same}
 use Rattle.vm_memory_base.specs.Runs.{TestsEquality}
-use Rattle.vm_memory_base.specs.Table.{each}
 use Rattle.vm_memory_base.specs.declared.iotlb.Permissions.{Permissions}
 use Rattle.vm_memory_base.specs.declared.iotlb.Permissions.TheVariants.{No, Read, Write, ReadWrite}
 

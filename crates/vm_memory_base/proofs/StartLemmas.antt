@@ -1,12 +1,12 @@
 -- Runs by where they start.
-use Rattle.std.proofs.Common.{◌≡◌, ℕ, ◌+◌, ◌-◌, ◌<◌, ◌≤◌, Bool, true, false, ltb, leb, List, [], ◌∷◌, ◌++◌, refl, ap, inl, inr, ◌∙◌, arith}
+use Rattle.std.proofs.Common.{◌≡◌, ℕ, ◌+◌, ◌<◌, ◌≤◌, Bool, true, false, ltb, leb, List, [], ◌∷◌, ◌++◌, refl, ap, inl, inr, ◌∙◌, arith}
 use Rattle.std.proofs.lemmas.Bool.{lt-ltb, le-ltb, cases_lt, cases_Bool}
 use Rattle.std.proofs.lemmas.List.{append-nil}
 use Rattle.std.proofs.lemmas.List.Elements.{filter-append}
 use Rattle.vm_memory_base.specs.Change.{StartFrom, AreAscending, runs_below, runs_from}
 use Rattle.vm_memory_base.specs.Runs.{AddressRun, IsCanonical}
 use Rattle.vm_memory_base.proofs.ChangeLemmas.{StartFrom-weaker, tail_starts}
-use Rattle.vm_memory_base.proofs.RunsLaws.{run, canonical_pos, canonical_tail}
+use Rattle.vm_memory_base.proofs.RunsLaws.{canonical_pos, canonical_tail}
 
 -- each run starts below a limit
 abbrev pub StartsBelow : {K : Type 0} → ℕ → List (AddressRun K) → Type 0

@@ -1,5 +1,5 @@
 -- The laws of I/O tables and look-ups.
-use Rattle.std.proofs.Common.{◌≡◌, ℕ, zero, suc, ◌+◌, ◌-◌, ◌^◌, ◌<◌, ◌≤◌, Bool, true, false, not, cond, ◌&&◌, ◌||◌, eqb, List, [], ◌∷◌, ◌++◌, map, Option, Some, None, is_some, refl, sym, ap, inl, inr, ◌⊎◌, ◌↔◌, ◌∙◌, add-one, arith}
+use Rattle.std.proofs.Common.{◌≡◌, if◌then◌else◌, ℕ, zero, suc, ◌+◌, ◌-◌, ◌^◌, ◌<◌, ◌≤◌, Bool, true, false, not, cond, ◌&&◌, ◌||◌, eqb, List, [], ◌∷◌, ◌++◌, map, Option, Some, None, is_some, refl, sym, ap, inl, inr, ◌⊎◌, ◌↔◌, ◌∙◌, add-one, arith}
 use Rattle.std.proofs.lemmas.Bool.{or_left, ltb-false, or_cases, or_right, not-true, not_from_false, le-ltb, and_parts, and_from, cases_order, cases_Bool, eqb-true, eq-eqb}
 use Rattle.std.proofs.lemmas.List.Sums.{sum_by-cons}
 use Rattle.std.specs.List.{All, filter, flat_map, sum_by}
@@ -9,10 +9,11 @@ use Rattle.vm_memory_base.specs.Permissions.{allow, same}
 use Rattle.vm_memory_base.specs.Runs.{AddressRun, TestsEquality, with_address, with_value, runs, IsCanonical, value_at, cut_to}
 use Rattle.vm_memory_base.specs.Table.{Mapping, same_mapping, target, Says, Table, says, TableEvent, Set, Invalidate, InvalidateAll, Evict, covers, says_after, says_after_all, new_table_after, canonical_list, grants, each, overruns, is_allowed, reason, Range, piece_of, pieces, addresses, target_if_any, forbids, range_of, if_missing, if_forbidden, misses, failures}
 use Rattle.vm_memory_base.specs.declared.iotlb.Permissions.{Permissions}
+use Rattle.vm_memory_base.specs.declared.iotlb.Permissions.TheVariants.{No}
 use Rattle.vm_memory_base.specs.declared.iotlb.Reason.TheVariants.{MissingMapping, AccessNotAllowed}
 use Rattle.vm_memory_base.proofs.RunsLaws.{is_within-in, is_within-above, is_within-join, is_within-none, within_or_not, same_from_values, canonical_runs, value_at-runs, runs_agree, agree_from_runs, runs-value_at, none_past}
 use Rattle.vm_memory_base.proofs.CutLaws.{runs-of_list, runs-part, runs-none, none_from_runs, keep, runs-keep, total_len, total_len-value, within_run, numbers-runs}
-use Rattle.vm_memory_base.proofs.PermissionsLaws.{same_decides, same_itself}
+use Rattle.vm_memory_base.proofs.PermissionsLaws.{same_decides, same_itself, allow-No}
 
 -- ---- what calls make of what a table says
 
@@ -332,6 +333,26 @@ reason-miss f a n h =
             | inl e ↦ absurd (h ((misses-none f a n).1 (t, e)))
             | inr e ↦ rw (t, e)
           ]
+    ]
+
+grants_no_access : (m : Option Mapping) → grants No m ≡ is_some m
+grants_no_access None = refl
+grants_no_access (Some m) = allow-No m.permissions
+
+each_is_mapped : (f : Says) (a n : ℕ) → each (grants No) f a n ≡ each is_some f a n
+unfolding each
+each_is_mapped f a zero = refl
+each_is_mapped f a (suc n) = rw (grants_no_access (f a), each_is_mapped f (a + 1) n) refl
+
+-- no access at all is refused where a mapping is missing, and nowhere else
+pub reason-by_no_access : (f : Says) (a n : ℕ) → 0 < n → overruns a n ≡ false → (b : Bool) → is_allowed f a n No ≡ b
+    → reason f a n ≡ (if b then AccessNotAllowed else MissingMapping)
+reason-by_no_access f a n some o b h =
+    let z : eqb n 0 ≡ false = grind (arith) in
+    let e : each is_some f a n ≡ b = rw (z, o, each_is_mapped f a n) at h in
+    elim (cases_Bool b) [
+      | inl t ↦ rw (o, e, t) refl
+      | inr t ↦ rw (o, e, t) refl
     ]
 
 forbidden_is_kept : (access : Permissions) (v : Option Mapping) → if_forbidden access v ≡ keep (forbids access) v

@@ -10,10 +10,10 @@ use Rattle.vm_memory_base.specs.declared.iotlb.Permissions.{Permissions}
 use Rattle.vm_memory_guest.specs.Access.{AccessFault, Access, path, first_fault, meets, windows, stretches, allowed, refusal, access_of}
 use Rattle.vm_memory_guest.specs.Answer.{Reach, Outcome, filled_buffer, told}
 use Rattle.vm_memory_guest.specs.Error.{error_of}
-use Rattle.vm_memory_guest.specs.Walk.{error_item, items_of, windows_before, reached, GivesAccess, RefusesAccess, WantsMemory}
+use Rattle.vm_memory_guest.specs.Walk.{error_item, items_of, windows_before, reached, GivesAccess, NeedsPieces, RefusesAccess, WantsMemory}
 use Rattle.vm_memory_guest.specs.Transfer.{ended}
 use Rattle.vm_memory_guest.specs.Host.{Host, Shape, Cell, Name, Holds, shape_of, bytes_at}
-use Rattle.vm_memory_guest.specs.Memory.{Memory, Switched, NeedsTranslation, behind_if, behind_of, route, route_behind, switched_names, memory_names}
+use Rattle.vm_memory_guest.specs.Memory.{Memory, Switched, behind_if, behind_of, route, route_behind, switched_names, memory_names}
 use Rattle.vm_memory_guest.specs.Region.{IsRegion}
 use Rattle.vm_memory_guest.specs.Window.{window_names, span, cells, cells_of, Writes, Window}
 use Rattle.vm_memory_guest.specs.declared.region.error.GuestMemoryError.{GuestMemoryError}
@@ -342,10 +342,12 @@ module _ (memory : Memory) (tables : List Table) (a n : ℕ) (access : Permissio
   pub outcome-walk : (r : Result ℕ GuestMemoryError) (unchanged : Type 0) (Effect : List Window → Type 0)
       → r ≡ ended (span walk.windows) (option_map error_of walk.fault) → Effect walk.windows
       → let x = told error_of (reached memory tables a n access) in
-      Outcome errors.Memory (NeedsTranslation memory n) (ended (span x.windows) x.fault) unchanged (Effect x.windows) r
+      Outcome errors.Memory (NeedsPieces memory tables a n access) (ended (span x.windows) x.fault) unchanged
+      (Effect x.windows) r
   outcome-walk r unchanged Effect answer done =
       let x = told error_of (reached memory tables a n access) in
-      outcome errors.Memory (NeedsTranslation memory n) r (ended (span x.windows) x.fault) unchanged (Effect x.windows)
+      outcome errors.Memory (NeedsPieces memory tables a n access) r (ended (span x.windows) x.fault) unchanged
+      (Effect x.windows)
       (subst (λ (y : Reach AccessFault). r ≡ ended (span y.windows) (option_map error_of y.fault)) gives.1 answer)
       (subst (λ (y : Reach AccessFault). Effect y.windows) gives.1 done)
 
@@ -357,9 +359,9 @@ module _ (memory : Memory) (tables : List Table) (a n : ℕ) (access : Permissio
 -- the outcome of an access without a walk
 pub outcome-refused : (memory : Memory) (tables : List Table) (a n : ℕ) (access : Permissions) (unchanged : Type 0)
     (Effect : List Window → Type 0) (e : GuestMemoryError)
-    → (WantsMemory memory n e ⊎ RefusesAccess memory tables a n access e) → unchanged → Effect []
+    → (WantsMemory memory tables a n access e ⊎ RefusesAccess memory tables a n access e) → unchanged → Effect []
     → let x = told error_of (reached memory tables a n access) in
-    Outcome {T = ℕ} errors.Memory (NeedsTranslation memory n) (ended (span x.windows) x.fault) unchanged
+    Outcome {T = ℕ} errors.Memory (NeedsPieces memory tables a n access) (ended (span x.windows) x.fault) unchanged
     (Effect x.windows) (Err e)
 outcome-refused memory tables a n access unchanged Effect e why kept done = elim why [
   | inl wanted ↦ inl (wanted.0, wanted.1, kept)

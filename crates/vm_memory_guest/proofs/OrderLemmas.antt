@@ -8,9 +8,9 @@ use Rattle.vm_memory_guest.specs.Answer.{Reach, told}
 use Rattle.vm_memory_guest.specs.Error.{error_of, of_window}
 use Rattle.vm_memory_base.specs.Table.{Table}
 use Rattle.vm_memory_base.specs.declared.iotlb.Permissions.{Permissions}
-use Rattle.vm_memory_guest.specs.Memory.{Memory, NeedsTranslation}
+use Rattle.vm_memory_guest.specs.Memory.{Memory}
 use Rattle.vm_memory_guest.specs.Transfer.{InOrder, Transfers, all_of, ended, only}
-use Rattle.vm_memory_guest.specs.Walk.{reached, GivesAccess, RefusesAccess, WantsMemory}
+use Rattle.vm_memory_guest.specs.Walk.{reached, GivesAccess, NeedsPieces, RefusesAccess, WantsMemory}
 use Rattle.std.specs.Result.{result_map_both}
 use Rattle.vm_memory_base.specs.declared.io.VolatileMemoryError.TheVariants.{PartialBuffer}
 use Rattle.vm_memory_base.specs.declared.io.VolatileMemoryError.TheVariants as window
@@ -135,12 +135,12 @@ order_none failure Moves x e r is =
 module _ (memory : Memory) (tables : List Table) (a n : ℕ) (access : Permissions) {X T : Type 0}
     (Moves : Window → X → Answer → X → Type 0) (how : Result ℕ GuestMemoryError → Result T GuestMemoryError) where
   abbrev pub Moved-all : X → Result T GuestMemoryError → X → Type 0
-  Moved-all = Transfers errors.Memory (NeedsTranslation memory n) of_window
+  Moved-all = Transfers errors.Memory (NeedsPieces memory tables a n access) of_window
       (told error_of (reached memory tables a n access)) Moves how
 
   -- without a walk nothing was moved
   pub transfers-refused : (x : X) (e : GuestMemoryError) → Err e ≡ how (Err e)
-      → (WantsMemory memory n e ⊎ RefusesAccess memory tables a n access e) → Moved-all x (Err e) x
+      → (WantsMemory memory tables a n access e ⊎ RefusesAccess memory tables a n access e) → Moved-all x (Err e) x
   transfers-refused x e tells (inl wanted) = inl (ap (λ (f : GuestMemoryError). Err f) wanted.0, wanted.1, refl)
   transfers-refused x e tells (inr refused) =
       inr (Err e, tells, order_none of_window Moves x e _ (accessed-refused memory tables a n access e refused))

@@ -10,10 +10,10 @@ use Rattle.vm_memory_guest.specs.Access.{AccessFault, access_of}
 use Rattle.vm_memory_guest.specs.Answer.{Reach, Outcome, filled_buffer, told}
 use Rattle.vm_memory_guest.specs.Error.{error_of}
 use Rattle.vm_memory_guest.specs.Host.{Host, bytes_at}
-use Rattle.vm_memory_guest.specs.Memory.{Memory, NeedsTranslation, route}
+use Rattle.vm_memory_guest.specs.Memory.{Memory, route}
 use Rattle.vm_memory_guest.specs.Transfer.{all_of, ended}
 use Rattle.vm_memory_guest.specs.Typed.{answered, given, first_aligned, place_of}
-use Rattle.vm_memory_guest.specs.Walk.{reached, GivesAccess, RefusesAccess, WantsMemory}
+use Rattle.vm_memory_guest.specs.Walk.{reached, GivesAccess, NeedsPieces, RefusesAccess, WantsMemory}
 use Rattle.vm_memory_guest.specs.Window.{Window, Writes, cells, cells_of, span}
 use Rattle.vm_memory_guest.specs.declared.region.error.GuestMemoryError.{GuestMemoryError}
 use Rattle.vm_memory_guest.specs.declared.region.error.GuestMemoryError.TheVariants as errors
@@ -38,9 +38,10 @@ first-held P size (w ∷ ws) fault v is each =
 module _ (memory : Memory) (tables : List Table) (a n : ℕ) (access : Permissions) where
   -- a load or a store that is refused changes nothing, and tells why
   pub typed-refused : {T : Type 0} (f : Window → T) (unchanged : Type 0) (Effect : List Window → Type 0)
-      (e : GuestMemoryError) → (WantsMemory memory n e ⊎ RefusesAccess memory tables a n access e) → unchanged
+      (e : GuestMemoryError) → (WantsMemory memory tables a n access e ⊎ RefusesAccess memory tables a n access e)
+      → unchanged
       → Effect [] → let w = place_of n (access_of memory.regions (route memory tables) a n access) in
-      Outcome errors.Memory (NeedsTranslation memory n) (answered f w) unchanged (Effect (given w)) (Err e)
+      Outcome errors.Memory (NeedsPieces memory tables a n access) (answered f w) unchanged (Effect (given w)) (Err e)
   typed-refused {T} f unchanged Effect e why kept done = elim why [
     | inl wanted ↦ inl (wanted.0, wanted.1, kept)
     | inr refused ↦
@@ -80,10 +81,10 @@ module _ (memory : Memory) (tables : List Table) (a n : ℕ) (access : Permissio
   -- an access of a value that is refused changes nothing, and tells why
   pub value-refused : {T : Type 0} (expected : Reach GuestMemoryError → Result T GuestMemoryError) (unchanged : Type 0)
       (Effect : List Window → Type 0) (e : GuestMemoryError)
-      → (WantsMemory memory n e ⊎ RefusesAccess memory tables a n access e)
+      → (WantsMemory memory tables a n access e ⊎ RefusesAccess memory tables a n access e)
       → expected (record { windows = []; fault = Some e }) ≡ Err e → unchanged → Effect []
       → let x = told error_of (reached memory tables a n access) in
-      Outcome errors.Memory (NeedsTranslation memory n) (expected x) unchanged (Effect x.windows) (Err e)
+      Outcome errors.Memory (NeedsPieces memory tables a n access) (expected x) unchanged (Effect x.windows) (Err e)
   value-refused {T} expected unchanged Effect e why tells kept done = elim why [
     | inl wanted ↦ inl (wanted.0, wanted.1, kept)
     | inr refused ↦

@@ -1,5 +1,5 @@
 -- Guest memory: its regions, and the translation that its accesses go through.
-use Rattle.std.specs.Prelude.{ℕ, ◌+◌, ◌<◌, Bool, true, false, List, [], ◌∷◌, ◌++◌, flat_map, slice_get, Option, Some, None, IsSome}
+use Rattle.std.specs.Prelude.{ℕ, ◌+◌, Bool, true, false, List, [], ◌∷◌, ◌++◌, flat_map, slice_get, Option, Some, None, IsSome}
 use Rattle.vm_memory_base.specs.Address.{step}
 use Rattle.vm_memory_base.specs.Table.{Table, Says, says, says_nothing, Mapping, target}
 use Rattle.vm_memory_guest.specs.Host as host
@@ -33,10 +33,6 @@ behind_of (Some s) = behind_if s.on s.behind
 -- a memory has an IOMMU that is on
 abbrev pub IsOn : Memory → Type 0
 IsOn memory = IsSome (behind_of memory.iommu)
-
--- an access of n bytes is translated: a memory has an IOMMU that is on, and there are bytes
-abbrev pub NeedsTranslation : Memory → ℕ → Type 0
-NeedsTranslation memory n = IsOn memory × (0 < n)
 
 -- how addresses become physical: as they are, or by what a table says of them, and then writes mark a space
 pub data Route : Type 0 where

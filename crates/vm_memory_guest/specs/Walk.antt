@@ -1,11 +1,11 @@
 -- Walks: the windows of an access, one after the other, and then the error of what stops it.
-use Rattle.std.specs.Prelude.{◌≡◌, ℕ, true, false, List, [], ◌∷◌, ◌++◌, map, Option, Some, None, Result, Ok, Err}
+use Rattle.std.specs.Prelude.{◌≡◌, ◌<◌, ℕ, true, false, List, [], ◌∷◌, ◌++◌, map, Option, Some, None, Result, Ok, Err}
 use Rattle.vm_memory_base.specs.Table.{Table}
 use Rattle.vm_memory_base.specs.declared.iotlb.Permissions.{Permissions}
 use Rattle.vm_memory_guest.specs.Access.{AccessFault, Access, windows, path, first_fault, meets, access_of, allowed, refusal}
 use Rattle.vm_memory_guest.specs.Answer.{Reach}
 use Rattle.vm_memory_guest.specs.Error.{error_of}
-use Rattle.vm_memory_guest.specs.Memory.{Memory, NeedsTranslation, Direct, route}
+use Rattle.vm_memory_guest.specs.Memory.{Memory, IsOn, Direct, route}
 use Rattle.vm_memory_guest.specs.Region.{Region}
 use Rattle.vm_memory_guest.specs.Window.{Window}
 use Rattle.vm_memory_guest.specs.declared.region.error.GuestMemoryError.{GuestMemoryError}
@@ -54,6 +54,11 @@ abbrev pub RefusesAccess : Memory → List Table → ℕ → ℕ → Permissions
 RefusesAccess memory tables a n access e =
     (allowed (route memory tables) a n access ≡ false) × (e ≡ error_of (refusal (route memory tables) a n))
 
--- there was no memory for the translation of an access of n bytes
-abbrev pub WantsMemory : Memory → ℕ → GuestMemoryError → Type 0
-WantsMemory memory n e = (e ≡ errors.Memory) × NeedsTranslation memory n
+-- an access of n bytes takes the pieces of a translation: there are bytes, the memory has an IOMMU that is on, and it
+-- allows the access
+abbrev pub NeedsPieces : Memory → List Table → ℕ → ℕ → Permissions → Type 0
+NeedsPieces memory tables a n access = IsOn memory × (0 < n) × (allowed (route memory tables) a n access ≡ true)
+
+-- there was no memory for these pieces
+abbrev pub WantsMemory : Memory → List Table → ℕ → ℕ → Permissions → GuestMemoryError → Type 0
+WantsMemory memory tables a n access e = (e ≡ errors.Memory) × NeedsPieces memory tables a n access

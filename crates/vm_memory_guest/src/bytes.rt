@@ -41,8 +41,8 @@ pub trait Bytes<A>: Named {
     /// The error of a failed allocation. Nothing changed then, unless a source or a sink had moved bytes.
     ghost no_memory: { Self.E };
 
-    /// When a call for some bytes may fail to allocate.
-    ghost may_want: { Self → ℕ → Type 0 };
+    /// When an access of some bytes at an address may fail to allocate, in a host with these tables.
+    ghost may_want: { Self → List Table → A → ℕ → Permissions → Type 0 };
 
     /// The windows that a transfer of at most some bytes at an address moves, in a host with these tables, and what
     /// keeps it from moving more.
@@ -62,8 +62,8 @@ pub trait Bytes<A>: Named {
 
     /// Writes the beginning of the buffer that fits, and answers how many bytes that is. Where no byte fits, the error
     /// says why. An empty buffer answers 0, but for a region without host bytes, which refuses it. Behind an IOMMU
-    /// that is on, an access of a byte or more allocates. Where that fails, the error is `Memory`, and nothing
-    /// changes.
+    /// that is on, an access of a byte or more that it allows allocates. Where that fails, the error is `Memory`, and
+    /// nothing changes.
     fn write<B: Bitmap>(
         &self,
         host: &mut HostMemory<B>,
@@ -72,7 +72,7 @@ pub trait Bytes<A>: Named {
     ) -> Result<usize, Self::E>
         requires { Holds (shape_of host.old) (Self.names self.now) }
         ensures answer { let r = reach self.now host.old.tables addr (length buf.now) Write in
-            Outcome no_memory (may_want self.now (length buf.now))
+            Outcome no_memory (may_want self.now host.old.tables addr (length buf.now) Write)
             (ended (span r.windows) r.fault) (host.new ≡ host.old)
             (Writes B.marks r.windows buf.now host.old host.new) result }
         ensures at_most { IfOk result (λ count. count ≤ length buf.now) }
@@ -87,7 +87,7 @@ pub trait Bytes<A>: Named {
     ) -> Result<usize, Self::E>
         requires { Holds (shape_of host.now) (Self.names self.now) }
         ensures answer { let r = reach self.now host.now.tables addr (length buf.old) Read in
-            Outcome no_memory (may_want self.now (length buf.old))
+            Outcome no_memory (may_want self.now host.now.tables addr (length buf.old) Read)
             (ended (span r.windows) r.fault) (buf.new ≡ buf.old)
             (buf.new ≡ filled_buffer host.now.blocks (cells r.windows) buf.old) result }
         ensures at_most { IfOk result (λ count. count ≤ length buf.old) };
@@ -102,7 +102,7 @@ pub trait Bytes<A>: Named {
     ) -> Result<(), Self::E>
         requires { Holds (shape_of host.old) (Self.names self.now) }
         ensures answer { let r = reach self.now host.old.tables addr (length buf.now) Write in
-            Outcome no_memory (may_want self.now (length buf.now))
+            Outcome no_memory (may_want self.now host.old.tables addr (length buf.now) Write)
             (all_of partial (length buf.now) (ended (span r.windows) r.fault)) (host.new ≡ host.old)
             (Writes B.marks r.windows buf.now host.old host.new) result }
         ensures shape { shape_of host.new ≡ shape_of host.old };
@@ -117,7 +117,7 @@ pub trait Bytes<A>: Named {
     ) -> Result<(), Self::E>
         requires { Holds (shape_of host.now) (Self.names self.now) }
         ensures answer { let r = reach self.now host.now.tables addr (length buf.old) Read in
-            Outcome no_memory (may_want self.now (length buf.old))
+            Outcome no_memory (may_want self.now host.now.tables addr (length buf.old) Read)
             (all_of partial (length buf.old) (ended (span r.windows) r.fault)) (buf.new ≡ buf.old)
             (buf.new ≡ filled_buffer host.now.blocks (cells r.windows) buf.old) result };
 
@@ -130,7 +130,7 @@ pub trait Bytes<A>: Named {
     ) -> Result<(), Self::E>
         requires { Holds (shape_of host.old) (Self.names self.now) }
         ensures answer { T.width < 2 ^ 64 → let r = reach self.now host.old.tables addr T.width Write in
-            Outcome no_memory (may_want self.now T.width)
+            Outcome no_memory (may_want self.now host.old.tables addr T.width Write)
             (all_of partial T.width (ended (span r.windows) r.fault)) (host.new ≡ host.old)
             (Writes B.marks r.windows (T.bytes val) host.old host.new) result }
         ensures shape { shape_of host.new ≡ shape_of host.old };
@@ -143,7 +143,7 @@ pub trait Bytes<A>: Named {
     ) -> Result<T, Self::E>
         requires { Holds (shape_of host.now) (Self.names self.now) }
         ensures { T.width < 2 ^ 64 → let r = reach self.now host.now.tables addr T.width Read in
-            Outcome no_memory (may_want self.now T.width)
+            Outcome no_memory (may_want self.now host.now.tables addr T.width Read)
             (answered (λ _. T.value_of (bytes_at host.now.blocks (cells r.windows)))
             (all_of partial T.width (ended (span r.windows) r.fault)))
             (Unit {0}) (Unit {0}) result };
@@ -161,7 +161,8 @@ pub trait Bytes<A>: Named {
     ) -> Result<(), Self::E>
         requires { Holds (shape_of host.old) (Self.names self.now) }
         ensures answer { let w = place self.now host.old.tables addr T.width Write in
-            Outcome no_memory (may_want self.now T.width) (answered (λ _. tt) w) (host.new ≡ host.old)
+            Outcome no_memory (may_want self.now host.old.tables addr T.width Write)
+            (answered (λ _. tt) w) (host.new ≡ host.old)
             (Writes B.marks (given w) (T.bytes val) host.old host.new) result }
         ensures shape { shape_of host.new ≡ shape_of host.old };
 
@@ -175,7 +176,7 @@ pub trait Bytes<A>: Named {
     ) -> Result<T, Self::E>
         requires { Holds (shape_of host.now) (Self.names self.now) }
         ensures { let w = place self.now host.now.tables addr T.width Read in
-            Outcome no_memory (may_want self.now T.width)
+            Outcome no_memory (may_want self.now host.now.tables addr T.width Read)
             (answered (λ v. T.value_of (bytes_at host.now.blocks (cells_of v))) w)
             (Unit {0}) (Unit {0}) result };
 
@@ -192,7 +193,8 @@ pub trait Bytes<A>: Named {
     ) -> Result<usize, Self::E>
         requires { Holds (shape_of host.old) (Self.names self.now) }
         ensures answer { let r = moved self.now host.old.tables addr count Write in
-            Transfers no_memory (may_want self.now count) failure r (Fills F.source F.reads F.known_left B.marks Once)
+            Transfers no_memory (may_want self.now host.old.tables addr count Write) failure r
+            (Fills F.source F.reads F.known_left B.marks Once)
             (λ total. total) (beside src.old host.old) result (beside src.new host.new) }
         ensures at_most { IfOk result (λ total. total ≤ count) }
         ensures shape { shape_of host.new ≡ shape_of host.old };
@@ -209,7 +211,7 @@ pub trait Bytes<A>: Named {
     ) -> Result<(), Self::E>
         requires { Holds (shape_of host.old) (Self.names self.now) }
         ensures answer { let r = moved_whole self.now host.old.tables addr count Write in
-            Transfers no_memory (may_want self.now count) failure r
+            Transfers no_memory (may_want self.now host.old.tables addr count Write) failure r
             (Fills F.source F.reads F.known_left B.marks filling)
             (all_of partial count) (beside src.old host.old) result (beside src.new host.new) }
         ensures shape { shape_of host.new ≡ shape_of host.old };
@@ -226,8 +228,9 @@ pub trait Bytes<A>: Named {
     ) -> Result<usize, Self::E>
         requires { Holds (shape_of host.now) (Self.names self.now) }
         ensures answer { let r = moved self.now host.now.tables addr count Read in
-            Transfers no_memory (may_want self.now count) failure r
-            (Takes F.sink F.taken F.may_want F.writes host.now.blocks sending) (λ total. total) dst.old result dst.new }
+            Transfers no_memory (may_want self.now host.now.tables addr count Read) failure r
+            (Takes F.sink F.taken F.may_want F.writes host.now.blocks sending)
+            (λ total. total) dst.old result dst.new }
         ensures at_most { IfOk result (λ total. total ≤ count) };
 
     /// Offers a sink `count` bytes until it has taken them. In guest memory, where the memory ends behind the first
@@ -242,7 +245,7 @@ pub trait Bytes<A>: Named {
     ) -> Result<(), Self::E>
         requires { Holds (shape_of host.now) (Self.names self.now) }
         ensures answer { let r = moved_whole self.now host.now.tables addr count Read in
-            Transfers no_memory (may_want self.now count) failure r
+            Transfers no_memory (may_want self.now host.now.tables addr count Read) failure r
             (Takes F.sink F.taken F.may_want F.writes host.now.blocks UntilWhole) (all_of partial count)
             dst.old result dst.new };
 

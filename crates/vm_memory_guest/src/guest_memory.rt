@@ -115,7 +115,7 @@ pub trait GuestMemory: Named {
 
     /// The windows of `count` bytes from an address on, and then the error of the first that is not there. An
     /// access that the translation does not allow is refused at once with `IommuError`, also where its end passes
-    /// 2^64 - 1. `Memory` comes only with an IOMMU that is on, and never for an access of no byte.
+    /// 2^64 - 1. `Memory` comes only with an IOMMU that is on and allows the access, and never for one of no byte.
     fn get_slices<B: Bitmap>(
         &self,
         host: &HostMemory<B>,
@@ -126,7 +126,7 @@ pub trait GuestMemory: Named {
         requires { Holds (shape_of host.now) (Self.names self.now) }
         ensures answer { MatchResult result
             (GivesAccess (memory self.now) host.now.tables addr.0 count access)
-            (λ e. WantsMemory (memory self.now) count e
+            (λ e. WantsMemory (memory self.now) host.now.tables addr.0 count access e
             ⊎ RefusesAccess (memory self.now) host.now.tables addr.0 count access e) }
         ensures layout { IsLayout (memory self.now).regions };
 
@@ -143,7 +143,8 @@ pub trait GuestMemory: Named {
         requires { Holds (shape_of host.now) (Self.names self.now) }
         ensures { let m = memory self.now in
             let reached = access_of m.regions (route m host.now.tables) addr.0 count access in
-            MatchResult result (λ all. all ≡ is_whole reached.path count) (WantsMemory m count) }
+            MatchResult result (λ all. all ≡ is_whole reached.path count)
+            (WantsMemory m host.now.tables addr.0 count access) }
     {
         match self.get_slices(host, addr, count, access) {
             Ok(walk) => Ok(ends_well(walk)),
@@ -185,8 +186,7 @@ impl<M: GuestMemoryBackend> GuestMemory for M {
         count: usize,
         _access: Permissions,
     ) -> GuestMemoryResult<IommuMemorySliceIterator<'_, M>> {
-        // That the regions are a layout is what this call tells.
-        let _ = self.num_regions();
+        self.known();
         Ok(IommuMemorySliceIterator {
             walk: GuestMemoryBackend::get_slices(self, addr, count),
             behind: None,

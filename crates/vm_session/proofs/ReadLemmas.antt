@@ -3,8 +3,11 @@ use Rattle.std.proofs.Common.{◌≡◌, ◌∙◌, ◌⊎◌, ◌<◌, ◌≤�
 use Rattle.std.proofs.Math.Nat.{lt_irrefl}
 use Rattle.std.specs.Int.{to_le_bytes}
 use Rattle.vm_memory_base.specs.declared.address.GuestAddress.{GuestAddress}
+use Rattle.vm_memory_base.specs.Table.{Table}
 use Rattle.vm_memory_base.specs.declared.iotlb.Permissions.{Permissions}
-use Rattle.vm_memory_guest.specs.Memory.{Memory, NeedsTranslation}
+use Rattle.vm_memory_base.specs.declared.iotlb.Permissions.TheVariants as permissions
+use Rattle.vm_memory_guest.specs.Memory.{Memory}
+use Rattle.vm_memory_guest.specs.Walk.{NeedsPieces}
 use Rattle.vm_memory.specs.Calls.{ReadsInto, buffer_after}
 use Rattle.vm_memory.specs.Machine.{Step, outcome}
 use Rattle.vm_memory.specs.Effect.{apply, if_there, leaves, Replies}
@@ -22,9 +25,10 @@ use Rattle.vm_session.specs.Session.{Does, FillsFrom}
 use Rattle.vm_session.specs.declared.call.Answer.{Answer}
 
 -- a memory that is translated for some bytes is there, and there are bytes
-translated : (m : Option Memory) (n : ℕ) → IsSomeAnd m (λ x. NeedsTranslation x n) → IsSome m × (0 < n)
-translated None n h = absurd h
-translated (Some m) n h = (refl, h.1)
+translated : (m : Option Memory) (tables : List Table) (a n : ℕ) (access : Permissions)
+    → IsSomeAnd m (λ x. NeedsPieces x tables a n access) → IsSome m × (0 < n)
+translated None tables a n access h = absurd h
+translated (Some m) tables a n access h = (refl, h.1)
 
 counted_as : (result : Result ℕ Refusal) (buf : List ℕ) → IfOk result (λ count. count ≤ length buf)
     → answer_of (replied reply.Count result) ≡ answer_of (replied (λ count. reply.Bytes (take count buf)) result)
@@ -63,7 +67,8 @@ read_does now memory addr n out buf result a within same reads most told =
         inr (
           ap (replied (λ count. reply.Bytes (take count buf))) (h.0),
           subst (λ k. IsSome (slice_get now.memories memory) × (0 < k)) (length-take-le n out within)
-              (translated (slice_get now.memories memory) (length (take n out)) (h.1)),
+              (translated (slice_get now.memories memory) now.host.tables addr.0 (length (take n out))
+              permissions.Read (h.1)),
           refl,
         )
 
@@ -97,7 +102,8 @@ fill_does now memory addr n out buf u a within same (inr h) told = absurd (never
 asked : (now : State) (addr : GuestAddress) (access : Permissions) (o : Option Memory) (result : Result Bool Refusal)
     → ((replied reply.Truth result, now)
     ≡ apply now (if_there o (λ m. Replies (checks m now.host addr.0 0 access))))
-    ⊎ ((replied reply.Truth result ≡ reply.Memory) × IsSomeAnd o (λ m. NeedsTranslation m 0) × (now ≡ now))
+    ⊎ ((replied reply.Truth result ≡ reply.Memory)
+    × IsSomeAnd o (λ m. NeedsPieces m now.host.tables addr.0 0 access) × (now ≡ now))
     → is_ok result ≡ is_some o
 asked now addr access None (Ok b) (inl e) = absurd (never (ap (λ (p : Reply × State). p.0) e))
   where

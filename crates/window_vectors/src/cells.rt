@@ -46,7 +46,7 @@ impl Bytes<u16> for Cells {
 
     ghost no_memory = { Memory };
 
-    ghost may_want = { λ c count. ⊥ };
+    ghost may_want = { λ c tables cell count access. ⊥ };
 
     ghost moved = { λ c tables cell count access. cut_of c.window (4 * cell) count };
 

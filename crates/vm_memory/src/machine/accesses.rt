@@ -1,8 +1,10 @@
 //! The calls that read, write and check memories.
 ghost use Rattle.std.specs.Prelude.{◌≡◌, ◌⊎◌, ◌≤◌, true, false, length, take, IfOk, Err, Some};
+ghost use Rattle.vm_memory_base.specs.declared.iotlb.Permissions.TheVariants as permissions;
 ghost use Rattle.vm_memory_guest.specs.Dirt.{with_pages};
 ghost use Rattle.vm_memory_guest.specs.Host.{shape_of, Holds};
-ghost use Rattle.vm_memory_guest.specs.Memory.{NeedsTranslation, memory_names};
+ghost use Rattle.vm_memory_guest.specs.Memory.{memory_names};
+ghost use Rattle.vm_memory_guest.specs.Walk.{NeedsPieces};
 ghost use Rattle.vm_memory.specs.Calls.{ReadsInto, filled_from};
 ghost use Rattle.vm_memory.specs.Machine.{Step};
 ghost use Rattle.vm_memory.specs.Memories.{memory_meant};
@@ -119,7 +121,8 @@ fn read_of<R: GuestMemoryRegion, I: Iommu, B: ExactBitmap>(
     ensures answer { let m = memory_meant R.region I.number memory.now in let before = with_pages B.pages host.now in
         ((replied (λ count. reply.Bytes (take count buf.new)) result ≡ reads m before addr.0 (length buf.old))
         × (buf.new ≡ filled_from (Some m) before addr.0 buf.old))
-        ⊎ ((result ≡ Err refusal.Memory) × NeedsTranslation m (length buf.old) × (buf.new ≡ buf.old)) }
+        ⊎ ((result ≡ Err refusal.Memory) × NeedsPieces m before.tables addr.0 (length buf.old) permissions.Read
+        × (buf.new ≡ buf.old)) }
     ensures at_most { IfOk result (λ count. count ≤ length buf.old) }
 {
     match memory {
@@ -140,7 +143,8 @@ fn fill_of<R: GuestMemoryRegion, I: Iommu, B: ExactBitmap>(
     ensures { let m = memory_meant R.region I.number memory.now in let before = with_pages B.pages host.now in
         ((replied (λ filled. reply.Bytes buf.new) result ≡ reads_whole m before addr.0 (length buf.old))
         × (buf.new ≡ filled_from (Some m) before addr.0 buf.old))
-        ⊎ ((result ≡ Err refusal.Memory) × NeedsTranslation m (length buf.old) × (buf.new ≡ buf.old)) }
+        ⊎ ((result ≡ Err refusal.Memory) × NeedsPieces m before.tables addr.0 (length buf.old) permissions.Read
+        × (buf.new ≡ buf.old)) }
 {
     match memory {
         MachineMemory::Plain(layout) => fill_any(layout, host, addr, buf),
@@ -160,7 +164,8 @@ fn write_to<R: GuestMemoryRegion, I: Iommu, B: ExactBitmap>(
     ensures written { let m = memory_meant R.region I.number memory.now in let before = with_pages B.pages host.old in
         let after = with_pages B.pages host.new in
         ((replied reply.Count result, after) ≡ writes false m before addr.0 buf.now)
-        ⊎ ((result ≡ Err refusal.Memory) × NeedsTranslation m (length buf.now) × (after ≡ before)) }
+        ⊎ ((result ≡ Err refusal.Memory) × NeedsPieces m before.tables addr.0 (length buf.now) permissions.Write
+        × (after ≡ before)) }
     ensures shape { shape_of host.new ≡ shape_of host.old }
 {
     match memory {
@@ -181,7 +186,8 @@ fn write_whole_to<R: GuestMemoryRegion, I: Iommu, B: ExactBitmap>(
     ensures written { let m = memory_meant R.region I.number memory.now in let before = with_pages B.pages host.old in
         let after = with_pages B.pages host.new in
         ((replied as_done result, after) ≡ writes true m before addr.0 buf.now)
-        ⊎ ((result ≡ Err refusal.Memory) × NeedsTranslation m (length buf.now) × (after ≡ before)) }
+        ⊎ ((result ≡ Err refusal.Memory) × NeedsPieces m before.tables addr.0 (length buf.now) permissions.Write
+        × (after ≡ before)) }
     ensures shape { shape_of host.new ≡ shape_of host.old }
 {
     match memory {
@@ -202,7 +208,8 @@ fn read_any<M: GuestMemory, B: ExactBitmap>(
     ensures answer { let m = M.memory memory.now in let before = with_pages B.pages host.now in
         ((replied (λ count. reply.Bytes (take count buf.new)) result ≡ reads m before addr.0 (length buf.old))
         × (buf.new ≡ filled_from (Some m) before addr.0 buf.old))
-        ⊎ ((result ≡ Err refusal.Memory) × NeedsTranslation m (length buf.old) × (buf.new ≡ buf.old)) }
+        ⊎ ((result ≡ Err refusal.Memory) × NeedsPieces m before.tables addr.0 (length buf.old) permissions.Read
+        × (buf.new ≡ buf.old)) }
     ensures at_most { IfOk result (λ count. count ≤ length buf.old) }
 {
     accesses_are_by_bytes::<B>();
@@ -224,7 +231,8 @@ fn fill_any<M: GuestMemory, B: ExactBitmap>(
     ensures { let m = M.memory memory.now in let before = with_pages B.pages host.now in
         ((replied (λ filled. reply.Bytes buf.new) result ≡ reads_whole m before addr.0 (length buf.old))
         × (buf.new ≡ filled_from (Some m) before addr.0 buf.old))
-        ⊎ ((result ≡ Err refusal.Memory) × NeedsTranslation m (length buf.old) × (buf.new ≡ buf.old)) }
+        ⊎ ((result ≡ Err refusal.Memory) × NeedsPieces m before.tables addr.0 (length buf.old) permissions.Read
+        × (buf.new ≡ buf.old)) }
 {
     accesses_are_by_bytes::<B>();
     match memory.read_slice(host, buf, addr) {
@@ -245,7 +253,8 @@ fn write_any<M: GuestMemory, B: ExactBitmap>(
     ensures written { let m = M.memory memory.now in let before = with_pages B.pages host.old in
         let after = with_pages B.pages host.new in
         ((replied reply.Count result, after) ≡ writes false m before addr.0 buf.now)
-        ⊎ ((result ≡ Err refusal.Memory) × NeedsTranslation m (length buf.now) × (after ≡ before)) }
+        ⊎ ((result ≡ Err refusal.Memory) × NeedsPieces m before.tables addr.0 (length buf.now) permissions.Write
+        × (after ≡ before)) }
     ensures shape { shape_of host.new ≡ shape_of host.old }
 {
     accesses_are_by_bytes::<B>();
@@ -267,7 +276,8 @@ fn write_whole_any<M: GuestMemory, B: ExactBitmap>(
     ensures written { let m = M.memory memory.now in let before = with_pages B.pages host.old in
         let after = with_pages B.pages host.new in
         ((replied as_done result, after) ≡ writes true m before addr.0 buf.now)
-        ⊎ ((result ≡ Err refusal.Memory) × NeedsTranslation m (length buf.now) × (after ≡ before)) }
+        ⊎ ((result ≡ Err refusal.Memory) × NeedsPieces m before.tables addr.0 (length buf.now) permissions.Write
+        × (after ≡ before)) }
     ensures shape { shape_of host.new ≡ shape_of host.old }
 {
     accesses_are_by_bytes::<B>();
@@ -288,7 +298,7 @@ fn check_in<M: GuestMemory, B: ExactBitmap>(
     requires { Holds (shape_of host.now) (M.names memory.now) }
     ensures { let m = M.memory memory.now in let before = with_pages B.pages host.now in
         (replied reply.Truth result ≡ checks m before addr.0 count access)
-        ⊎ ((result ≡ Err refusal.Memory) × NeedsTranslation m count) }
+        ⊎ ((result ≡ Err refusal.Memory) × NeedsPieces m before.tables addr.0 count access) }
 {
     match memory.check_range(host, addr, count, access) {
         Ok(all) => Ok(all),

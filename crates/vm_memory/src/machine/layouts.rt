@@ -15,7 +15,7 @@ use crate::iommu::Iommu;
 use std::alloc::{AllocError, Global};
 use std::sync::Arc;
 use vm_memory_base::{ExactBitmap, GuestAddress, GuestUsize};
-use vm_memory_guest::{GuestMemoryRegion, GuestRegionCollection};
+use vm_memory_guest::{GuestMemoryBackend, GuestMemoryRegion, GuestRegionCollection};
 
 impl<R: GuestMemoryRegion, I: Iommu, B: ExactBitmap> Machine<R, I, B> {
     /// Makes the layout of these regions of the pool, and answers its number. `NoSuch` where a number names no region.
@@ -85,8 +85,7 @@ impl<R: GuestMemoryRegion, I: Iommu, B: ExactBitmap> Machine<R, I, B> {
             × (self.new ≡ record self.old { layouts = self.old.layouts ++ layout ∷ [] }))
             ⊎ ((result ≡ Err refusal.Memory) × (self.new ≡ self.old)) }
     {
-        // That the regions are a layout is what this call tells.
-        let _ = layout.num_regions();
+        layout.known();
         let number = self.layouts.len();
         if self.layouts.push(layout).is_err() {
             return Err(Refusal::Memory);

@@ -9,8 +9,8 @@ use crate::iommu::{Iommu, IommuMemory};
 use vm_memory_base::{Bitmap, GuestAddress, Permissions};
 use vm_memory_guest::laws::host::names_are_held_one_by_one;
 use vm_memory_guest::{
-    GuestMemory, GuestMemoryRegion, GuestMemoryResult, GuestRegionCollection, HostMemory,
-    HostShape, IommuMemorySliceIterator, Named,
+    GuestMemory, GuestMemoryBackend, GuestMemoryRegion, GuestMemoryResult, GuestRegionCollection,
+    HostMemory, HostShape, IommuMemorySliceIterator, Named,
 };
 
 /// A memory of a machine. Each access of a machine is one of guest memory, of either kind.
@@ -35,14 +35,13 @@ impl<R: GuestMemoryRegion, I: Iommu> MachineMemory<R, I> {
     }
 
     // Does nothing, and tells that the regions are a layout.
-    pub(super) fn tells_layout(&self)
+    pub(super) fn known(&self)
         ensures { IsLayout (memory_meant R.region I.number self.now).regions }
     {
-        let layout = match self {
-            MachineMemory::Plain(layout) => layout,
-            MachineMemory::Translated(memory) => memory.get_backend(),
-        };
-        let _ = layout.num_regions();
+        match self {
+            MachineMemory::Plain(layout) => layout.known(),
+            MachineMemory::Translated(memory) => memory.get_backend().known(),
+        }
     }
 }
 

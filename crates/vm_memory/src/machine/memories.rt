@@ -104,7 +104,7 @@ impl<R: GuestMemoryRegion, I: Iommu, B: ExactBitmap> Machine<R, I, B> {
             × (self.new ≡ record self.old { memories = self.old.memories ++ memory ∷ [] }))
             ⊎ ((result ≡ Err refusal.Memory) × (self.new ≡ self.old)) }
     {
-        memory.tells_layout();
+        memory.known();
         let number = self.memories.len();
         if self.memories.push(memory).is_err() {
             return Err(Refusal::Memory);

@@ -3,7 +3,6 @@ ghost use Rattle.std.specs.Prelude.{◌≡◌, length, IsOk, IfOk};
 ghost use Rattle.vm_memory.specs.Machine.{Step};
 ghost use Rattle.vm_memory.specs.Parts.{state_of};
 ghost use Rattle.vm_memory.specs.Reply.{replied};
-ghost use Rattle.vm_memory.specs.Transfers.{beside_taken};
 ghost use Rattle.vm_memory.specs.declared.machine.command.Command.TheVariants as command;
 ghost use Rattle.vm_memory.specs.declared.machine.command.Reply.TheVariants as reply;
 
@@ -184,8 +183,13 @@ impl<R: GuestMemoryRegion, I: Iommu, B: ExactBitmap> Machine<R, I, B> {
         let Ok(mut sink) = ScriptSink::new(self.alloc, steps, count) else {
             return Reply::Memory;
         };
-        let answer = counted(self.write_volatile_to(memory, addr, &mut sink, count));
-        with_taken(answer, sink.into_taken())
+        let ending = match self.write_volatile_to(memory, addr, &mut sink, count) {
+            Ok(count) => Ending::Count(count),
+            Err(Refusal::Fault(fault)) => Ending::Fault(fault),
+            Err(refusal) => return refused(refusal),
+        };
+        let taken = ByteList::from_vec(sink.into_taken());
+        Reply::Sent { ending, taken }
     }
 
     // Sends all of these bytes.
@@ -205,8 +209,13 @@ impl<R: GuestMemoryRegion, I: Iommu, B: ExactBitmap> Machine<R, I, B> {
         let Ok(mut sink) = ScriptSink::new(self.alloc, steps, count) else {
             return Reply::Memory;
         };
-        let answer = done(self.write_all_volatile_to(memory, addr, &mut sink, count));
-        with_taken(answer, sink.into_taken())
+        let ending = match self.write_all_volatile_to(memory, addr, &mut sink, count) {
+            Ok(()) => Ending::Done,
+            Err(Refusal::Fault(fault)) => Ending::Fault(fault),
+            Err(refusal) => return refused(refusal),
+        };
+        let taken = ByteList::from_vec(sink.into_taken());
+        Reply::Sent { ending, taken }
     }
 
     // The dirty pages of a bitmap.
@@ -232,20 +241,6 @@ impl<R: GuestMemoryRegion, I: Iommu, B: ExactBitmap> Machine<R, I, B> {
             Err(refusal) => refused(refusal),
         }
     }
-}
-
-// The reply to a transfer out, beside the bytes that its sink took.
-fn with_taken(reply: Reply, taken: Vec<u8>) -> Reply
-    ensures { result ≡ beside_taken taken.items reply }
-{
-    let ending = match reply {
-        Reply::Count(count) => Ending::Count(count),
-        Reply::Done => Ending::Done,
-        Reply::Fault(fault) => Ending::Fault(fault),
-        other => return other,
-    };
-    let taken = ByteList::from_vec(taken);
-    Reply::Sent { ending, taken }
 }
 
 fn zeroed(alloc: Global, count: usize) -> Result<Vec<u8>, AllocError>

@@ -6,7 +6,7 @@ ghost use Rattle.vm_memory_base.specs.declared.io.scripted.SourceStep as sources
 ghost use Rattle.vm_memory_base.specs.declared.iotlb.Permissions.TheVariants as permissions;
 ghost use Rattle.vm_memory_guest.specs.Dirt.{with_pages};
 ghost use Rattle.vm_memory_guest.specs.Host.{shape_of, Holds};
-ghost use Rattle.vm_memory_guest.specs.Memory.{NeedsTranslation};
+ghost use Rattle.vm_memory_guest.specs.Walk.{NeedsPieces};
 ghost use Rattle.vm_memory_guest.specs.Transfer.{Fills, Once, Takes, UntilWhole, all_of, beside};
 ghost use Rattle.vm_memory_guest.specs.declared.region.error.GuestMemoryError.TheVariants as errors;
 ghost use Rattle.vm_memory.specs.Calls.{IsEmptySink, SendsAs, SentBy, TransfersOf};
@@ -142,7 +142,8 @@ fn receive<F: ReadVolatile, M: GuestMemory, B: ExactBitmap>(
         let after = with_pages B.pages host.new in
         (steps : List sources.SourceStep) → F.source src.old ≡ Some (map next_of steps)
         → ((replied reply.Count result, after) ≡ receives false m before addr.0 count steps)
-        ⊎ ((result ≡ Err refusal.Memory) × NeedsTranslation m count × (after ≡ before)) }
+        ⊎ ((result ≡ Err refusal.Memory) × NeedsPieces m before.tables addr.0 count permissions.Write
+        × (after ≡ before)) }
     ensures shape { shape_of host.new ≡ shape_of host.old }
 {
     transfers_in_are_computed::<F, B>();
@@ -168,7 +169,8 @@ fn receive_whole<F: ReadVolatile, M: GuestMemory, B: ExactBitmap>(
         let after = with_pages B.pages host.new in
         (steps : List sources.SourceStep) → F.source src.old ≡ Some (map next_of steps)
         → ((replied as_done result, after) ≡ receives true m before addr.0 count steps)
-        ⊎ ((result ≡ Err refusal.Memory) × NeedsTranslation m count × (after ≡ before)) }
+        ⊎ ((result ≡ Err refusal.Memory) × NeedsPieces m before.tables addr.0 count permissions.Write
+        × (after ≡ before)) }
     ensures shape { shape_of host.new ≡ shape_of host.old }
 {
     transfers_in_are_computed::<F, B>();
@@ -192,8 +194,8 @@ fn send<F: WriteVolatile, M: GuestMemory, B: ExactBitmap>(
         dst.old result dst.new }
     ensures step { let m = M.memory memory.now in let before = with_pages B.pages host.now in
         (steps : List sinks.SinkStep) → IsEmptySink F.sink F.taken F.may_want steps count dst.old
-        → SentBy (sends false m before addr.0 count steps) (NeedsTranslation m count) (F.taken dst.new)
-        (replied reply.Count result) }
+        → SentBy (sends false m before addr.0 count steps) (NeedsPieces m before.tables addr.0 count permissions.Read)
+        (F.taken dst.new) (replied reply.Count result) }
 {
     transfers_out_are_computed::<F>();
     sinks_take_what_is_computed::<F>();
@@ -217,8 +219,8 @@ fn send_whole<F: WriteVolatile, M: GuestMemory, B: ExactBitmap>(
         (all_of errors.PartialBuffer count) dst.old result dst.new }
     ensures step { let m = M.memory memory.now in let before = with_pages B.pages host.now in
         (steps : List sinks.SinkStep) → IsEmptySink F.sink F.taken F.may_want steps count dst.old
-        → SentBy (sends true m before addr.0 count steps) (NeedsTranslation m count) (F.taken dst.new)
-        (replied as_done result) }
+        → SentBy (sends true m before addr.0 count steps) (NeedsPieces m before.tables addr.0 count permissions.Read)
+        (F.taken dst.new) (replied as_done result) }
 {
     transfers_out_are_computed::<F>();
     sinks_take_what_is_computed::<F>();

@@ -1,9 +1,11 @@
 //! The calls that store and load values.
-ghost use Rattle.std.specs.Prelude.{◌≡◌, ◌⊎◌, ℕ, Err, Some, slice_get};
+ghost use Rattle.std.specs.Prelude.{◌≡◌, ◌⊎◌, ℕ, Err, Some, length, slice_get};
+ghost use Rattle.vm_memory_base.specs.declared.iotlb.Permissions.TheVariants as permissions;
 ghost use Rattle.vm_memory_guest.specs.Dirt.{with_pages};
 ghost use Rattle.vm_memory_guest.specs.Host.{shape_of, Holds};
-ghost use Rattle.vm_memory_guest.specs.Memory.{NeedsTranslation, memory_names};
-ghost use Rattle.vm_memory.specs.Calls.{AreIntegers, CallsOf, IsInteger, loaded};
+ghost use Rattle.vm_memory_guest.specs.Memory.{memory_names};
+ghost use Rattle.vm_memory_guest.specs.Walk.{NeedsPieces};
+ghost use Rattle.vm_memory.specs.Calls.{AreIntegers, IsInteger, WritesOf, loaded};
 ghost use Rattle.vm_memory.specs.Commands.{MayTranslate};
 ghost use Rattle.vm_memory.specs.Machine.{Step};
 ghost use Rattle.vm_memory.specs.Memories.{memory_meant};
@@ -35,8 +37,8 @@ impl<R: GuestMemoryRegion, I: Iommu, B: ExactBitmap> Machine<R, I, B> {
         value: T,
     ) -> Result<(), Refusal>
         ensures stored { let before = state_of R.region I.number B.pages self.old in
-            CallsOf before memory T.width (λ m host. stores_bytes m host addr.0 (T.bytes value))
-            (replied as_done result) (state_of R.region I.number B.pages self.new) }
+            WritesOf before memory addr.0 (length (T.bytes value))
+            (λ m host. stores_bytes m host addr.0 (T.bytes value)) (replied as_done result) (state_of R.region I.number B.pages self.new) }
         ensures integer { let before = state_of R.region I.number B.pages self.old in
             (width : widths.Width) (number : ℕ) → IsInteger (T.bytes value) width number
             → Step before (command.Store memory width addr number) (replied as_done result)
@@ -54,7 +56,7 @@ impl<R: GuestMemoryRegion, I: Iommu, B: ExactBitmap> Machine<R, I, B> {
     pub fn load<T: AtomicAccess>(&self, memory: usize, addr: GuestAddress) -> Result<T, Refusal>
         ensures value { let now = state_of R.region I.number B.pages self.now in
             (result ≡ loaded T.value_of (slice_get now.memories memory) now.host addr.0 T.width)
-            ⊎ ((result ≡ Err refusal.Memory) × MayTranslate now memory T.width) }
+            ⊎ ((result ≡ Err refusal.Memory) × MayTranslate now memory addr.0 T.width permissions.Read) }
         ensures integer { let now = state_of R.region I.number B.pages self.now in
             (width : widths.Width) (number : T → ℕ) → AreIntegers T.width T.value_of width number
             → Step now (command.Load memory width addr) (replied (λ v. reply.Value (number v)) result) now }
@@ -78,7 +80,8 @@ fn store_to<T: AtomicAccess, R: GuestMemoryRegion, I: Iommu, B: ExactBitmap>(
     ensures stored { let m = memory_meant R.region I.number memory.now in let before = with_pages B.pages host.old in
         let after = with_pages B.pages host.new in
         ((replied as_done result, after) ≡ stores_bytes m before addr.0 (T.bytes value))
-        ⊎ ((result ≡ Err refusal.Memory) × NeedsTranslation m T.width × (after ≡ before)) }
+        ⊎ ((result ≡ Err refusal.Memory) × NeedsPieces m before.tables addr.0 (length (T.bytes value)) permissions.Write
+        × (after ≡ before)) }
     ensures shape { shape_of host.new ≡ shape_of host.old }
 {
     match memory {
@@ -97,7 +100,7 @@ fn load_of<T: AtomicAccess, R: GuestMemoryRegion, I: Iommu, B: ExactBitmap>(
     requires { Holds (shape_of host.now) (memory_names (memory_meant R.region I.number memory.now)) }
     ensures { let m = memory_meant R.region I.number memory.now in let before = with_pages B.pages host.now in
         (result ≡ loaded T.value_of (Some m) before addr.0 T.width)
-        ⊎ ((result ≡ Err refusal.Memory) × NeedsTranslation m T.width) }
+        ⊎ ((result ≡ Err refusal.Memory) × NeedsPieces m before.tables addr.0 T.width permissions.Read) }
 {
     match memory {
         MachineMemory::Plain(layout) => load_any(layout, host, addr),
@@ -117,7 +120,8 @@ fn store_any<T: AtomicAccess, M: GuestMemory, B: ExactBitmap>(
     ensures stored { let m = M.memory memory.now in let before = with_pages B.pages host.old in
         let after = with_pages B.pages host.new in
         ((replied as_done result, after) ≡ stores_bytes m before addr.0 (T.bytes value))
-        ⊎ ((result ≡ Err refusal.Memory) × NeedsTranslation m T.width × (after ≡ before)) }
+        ⊎ ((result ≡ Err refusal.Memory) × NeedsPieces m before.tables addr.0 (length (T.bytes value)) permissions.Write
+        × (after ≡ before)) }
     ensures shape { shape_of host.new ≡ shape_of host.old }
 {
     loads_and_stores_are_by_bytes::<B>();
@@ -138,7 +142,7 @@ fn load_any<T: AtomicAccess, M: GuestMemory, B: ExactBitmap>(
     requires { Holds (shape_of host.now) (M.names memory.now) }
     ensures { let m = M.memory memory.now in let before = with_pages B.pages host.now in
         (result ≡ loaded T.value_of (Some m) before addr.0 T.width)
-        ⊎ ((result ≡ Err refusal.Memory) × NeedsTranslation m T.width) }
+        ⊎ ((result ≡ Err refusal.Memory) × NeedsPieces m before.tables addr.0 T.width permissions.Read) }
 {
     loads_and_stores_are_by_bytes::<B>();
     match Bytes::load(memory, host, addr, Ordering::SeqCst) {

@@ -78,8 +78,7 @@ pub enum LookupError {
     /// A part of the range is not mapped, or its mapping does not permit the access.
     #[error("lookup failed")]
     Fails(IotlbFails),
-    /// The allocation of the answer failed: of the parts that fail, or, in `lookup_all`, of the
-    /// pieces.
+    /// The allocation of the parts that fail was refused.
     #[error("out of memory")]
     Memory,
 }

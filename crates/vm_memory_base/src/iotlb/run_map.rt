@@ -496,7 +496,7 @@ impl RunMap {
     }
 
     // The run that has an address.
-    #[inline]
+    #[inline(always)]
     fn holder(&self, at: u64) -> Option<MappedRun>
         requires { IsCanonical same_mapping self.now }
         ensures none { IfNone result (EndBelow (at + 1) (runs_below (at + 1) self.now)) }

@@ -1,12 +1,14 @@
 //! The table of an IOMMU.
-ghost use Rattle.std.specs.Prelude.{◌≡◌, ℕ, ◌+◌, ◌-◌, ◌^◌, ◌<◌, ◌≤◌, ◌⊎◌, ◌∷◌, [], true, false, Some, None, map, OnOk, IfOk, IfErr, IfSome, MatchResult};
+ghost use Rattle.std.specs.Prelude.{◌≡◌, if◌then◌else◌, ℕ, ◌+◌, ◌-◌, ◌^◌, ◌<◌, ◌≤◌, ◌⊎◌, ◌∷◌, [], true, false, Some, None, map, OnOk, IfOk, IfErr, IfSome, MatchResult};
 ghost use Rattle.std.specs.List.{filter};
-ghost use Rattle.vm_memory_base.specs.Change.{gaps};
-ghost use Rattle.vm_memory_base.specs.Lookup.{mapped_ranges};
+ghost use Rattle.vm_memory_base.specs.Change.{gaps, granted};
+ghost use Rattle.vm_memory_base.specs.Lookup.{Translates, RefusesTranslation, mapped_ranges};
 ghost use Rattle.vm_memory_base.specs.Runs.{cut_to};
 ghost use Rattle.vm_memory_base.specs.Table as table;
 ghost use Rattle.vm_memory_base.specs.Table.{target, Set, Invalidate, InvalidateAll, covers, says, says_after, says_after_all, events, canonical_list, changed, range_count, is_allowed, pieces, failures, same_mapping, range_of, forbids};
 ghost use Rattle.vm_memory_base.specs.Walk.{IsWalk, pieces_left};
+ghost use Rattle.vm_memory_base.specs.declared.iotlb.Permissions.TheVariants.{No};
+ghost use Rattle.vm_memory_base.specs.declared.iotlb.Reason.TheVariants.{MissingMapping, AccessNotAllowed};
 
 use super::lookup::{
     IotlbFails, IotlbIterator, IovaRangeList, LookupError, MappedRange, access_fails, are_granted,
@@ -14,7 +16,7 @@ use super::lookup::{
 };
 use super::mapped_run::MappedRun;
 use super::run_map::{RunMap, Runs};
-use super::{IommuError, IovaRange, Permissions};
+use super::{IommuError, IovaRange, Permissions, Reason};
 use crate::address::GuestAddress;
 use std::alloc::Global;
 use std::marker::Model;
@@ -209,36 +211,55 @@ impl Iotlb {
         Err(refusal(self.ranges.alloc(), asked, iova.0, end, access))
     }
 
-    /// The pieces of a look-up, as a vector. It allocates them, and nothing for a length of 0.
+    /// The pieces of a look-up, as a vector, or why the access is refused. It allocates the pieces, and nothing for a
+    /// length of 0 or for a refusal.
     ///
-    /// `Fails` where the look-up fails, with its parts. `Memory` where the allocation of the answer fails.
-    pub fn lookup_all(
+    /// `CannotResolve` where the table does not allow the access, with the whole range: `MissingMapping` where an
+    /// address is not mapped or the end is no address, otherwise `AccessNotAllowed`. `Memory` where the table allows
+    /// the access, but the allocation of the pieces fails.
+    pub fn resolve(
         &self,
         iova: GuestAddress,
         length: usize,
         access: Permissions,
-    ) -> Result<Vec<MappedRange>, LookupError>
-        ensures found { IfOk result (λ found. (is_allowed (says self.now) iova.0 length access ≡ true)
-            × (found.items ≡ mapped_ranges (pieces (says self.now) iova.0 length))) }
-        ensures refused { IfErr result (λ e. ((e ≡ LookupError.Memory) × (0 < length))
-            ⊎ ((is_allowed (says self.now) iova.0 length access ≡ false) × (e ≡ LookupError.Fails (record {
-              misses = table.misses (says self.now) iova.0 length;
-              access_fails = failures (says self.now) iova.0 length access;
-            })))) }
+    ) -> Result<Vec<MappedRange>, IommuError>
+        ensures { MatchResult result
+            (λ found. Translates (says self.now) iova.0 length access found.items)
+            (RefusesTranslation (says self.now) iova.0 length access) }
     {
-        let alloc = self.ranges.alloc();
         if let Some((run, _)) = self.run_of(iova, length, access) {
             let base = GuestAddress(run.target(iova.0));
-            return only(alloc, MappedRange { base, length });
+            return only(self.ranges.alloc(), MappedRange { base, length });
         }
-        let found = self.lookup_parts(iova, length, access)?;
+        self.resolve_parts(iova, length, access)
+    }
+
+    // The pieces of any range, run by run, or why there are none.
+    fn resolve_parts(
+        &self,
+        iova: GuestAddress,
+        length: usize,
+        access: Permissions,
+    ) -> Result<Vec<MappedRange>, IommuError>
+        ensures { MatchResult result
+            (λ found. Translates (says self.now) iova.0 length access found.items)
+            (RefusesTranslation (says self.now) iova.0 length access) }
+    {
+        let iova_range = IovaRange { base: iova, length };
+        let Some(end) = iova.0.checked_add(length as u64) else {
+            let reason = Reason::MissingMapping;
+            return Err(IommuError::CannotResolve { iova_range, reason });
+        };
         if length == 0 {
-            return Ok(Vec::new(alloc));
+            return Ok(Vec::new(self.ranges.alloc()));
         }
-        match found.collect(alloc) {
-            Ok(pieces) => Ok(pieces),
-            Err(_) => Err(LookupError::Memory),
+        let asked = self.ranges.asked(iova.0, end);
+        if are_granted(asked.again(), iova.0, end, access) {
+            let walk = IotlbIterator::new(asked, iova.0, end);
+            return all_of(self.ranges.alloc(), walk);
         }
+        let reason = why(asked, iova.0, end);
+        Err(IommuError::CannotResolve { iova_range, reason })
     }
 
     // The run that has all of a range, if there is one and it permits the access, and where the range ends.
@@ -278,12 +299,30 @@ impl Iotlb {
 
 // A vector of the one piece.
 #[inline(always)]
-fn only(alloc: Global, piece: MappedRange) -> Result<Vec<MappedRange>, LookupError>
-    ensures { MatchResult result (λ found. found.items ≡ piece ∷ []) (λ e. e ≡ LookupError.Memory) }
+fn only(alloc: Global, piece: MappedRange) -> Result<Vec<MappedRange>, IommuError>
+    ensures { MatchResult result (λ found. found.items ≡ piece ∷ []) (λ e. e ≡ IommuError.Memory) }
 {
-    match Vec::from_slice(alloc, &[piece]) {
+    Vec::from_slice(alloc, &[piece]).map_err(|_| IommuError::Memory)
+}
+
+// A vector of all pieces.
+fn all_of(alloc: Global, walk: IotlbIterator<'_>) -> Result<Vec<MappedRange>, IommuError>
+    ensures { MatchResult result (λ found. found.items ≡ mapped_ranges walk.entry) (λ e. e ≡ IommuError.Memory) }
+{
+    match walk.collect(alloc) {
         Ok(found) => Ok(found),
-        Err(_) => Err(LookupError::Memory),
+        Err(_) => Err(IommuError::Memory),
+    }
+}
+
+// Why an access from one address up to another is refused, by the runs that have any of them.
+fn why(runs: Runs<'_>, start: u64, end: u64) -> Reason
+    ensures { result ≡ if granted start end No runs.entry then AccessNotAllowed else MissingMapping }
+{
+    if are_granted(runs, start, end, Permissions::No) {
+        Reason::AccessNotAllowed
+    } else {
+        Reason::MissingMapping
     }
 }
 

@@ -5,11 +5,11 @@ ghost use Rattle.vm_memory_guest.specs.Access.{access_of, windows};
 ghost use Rattle.vm_memory_guest.specs.Host.{shape_of, Holds};
 ghost use Rattle.vm_memory_guest.specs.Answer.{filled_buffer, told};
 ghost use Rattle.vm_memory_guest.specs.Error.{error_of, of_window};
-ghost use Rattle.vm_memory_guest.specs.Memory.{NeedsTranslation, route};
+ghost use Rattle.vm_memory_guest.specs.Memory.{route};
 ghost use Rattle.vm_memory_guest.specs.Transfer.{UntilWhole, ended};
 ghost use Rattle.vm_memory_guest.specs.Typed.{first_aligned, place_of};
 ghost use Rattle.vm_memory_guest.specs.lemmas.TypedFacts.{first-sized};
-ghost use Rattle.vm_memory_guest.specs.Walk.{reached, GivesAccess, RefusesAccess, WantsMemory};
+ghost use Rattle.vm_memory_guest.specs.Walk.{reached, GivesAccess, NeedsPieces, RefusesAccess, WantsMemory};
 ghost use Rattle.vm_memory_guest.specs.Window.{span, cells, window_names, Writes};
 ghost use Rattle.vm_memory_guest.specs.declared.region.error.GuestMemoryError.TheVariants as errors;
 
@@ -37,7 +37,7 @@ impl<T: GuestMemory> Bytes<GuestAddress> for T {
 
     ghost no_memory = { errors.Memory };
 
-    ghost may_want = { λ m n. NeedsTranslation (T.memory m) n };
+    ghost may_want = { λ m tables addr n access. NeedsPieces (T.memory m) tables addr.0 n access };
 
     ghost moved = { λ m tables addr n access. told error_of (reached (T.memory m) tables addr.0 n access) };
 
@@ -211,7 +211,8 @@ fn windows_of<'m, M: GuestMemory, B: Bitmap>(
     requires { Holds (shape_of host.now) (M.names memory.now) }
     ensures answer { let m = M.memory memory.now in MatchResult result
         (GivesAccess m host.now.tables addr.0 count access)
-        (λ e. WantsMemory m count e ⊎ RefusesAccess m host.now.tables addr.0 count access e) }
+        (λ e. WantsMemory m host.now.tables addr.0 count access e
+        ⊎ RefusesAccess m host.now.tables addr.0 count access e) }
     ensures held { IfOk result
         (λ walk. AllByRecursion (λ w. Holds (shape_of host.now) (window_names w)) walk.windows) }
     ensures fits { IfOk result (λ walk. span walk.windows ≤ count) }

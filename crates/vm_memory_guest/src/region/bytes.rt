@@ -37,7 +37,7 @@ impl<R: GuestMemoryRegionBytes> Bytes<MemoryRegionAddress> for R {
 
     ghost no_memory = { errors.Memory };
 
-    ghost may_want = { λ r n. ⊥ };
+    ghost may_want = { λ r tables addr n access. ⊥ };
 
     ghost moved = { λ r tables addr n access. moved_in (slice_of (R.region r) 0 (R.region r).len)
         (λ w. cut_of w addr.0 n) };

@@ -300,7 +300,7 @@ impl Bytes<usize> for VolatileSlice {
 
     ghost no_memory = { Memory };
 
-    ghost may_want = { λ w n. ⊥ };
+    ghost may_want = { λ w tables offset n access. ⊥ };
 
     ghost moved = { λ w tables offset count access. cut_of w offset count };
 

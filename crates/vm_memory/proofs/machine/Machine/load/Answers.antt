@@ -1,4 +1,5 @@
 use Rattle.std.proofs.Common.{◌≡◌, ◌⊎◌, Some, Err, slice_get, sym}
+use Rattle.vm_memory_base.specs.declared.iotlb.Permissions.TheVariants as permissions
 use Rattle.vm_memory.specs.Calls.{loaded}
 use Rattle.vm_memory.specs.Commands.{MayTranslate}
 use Rattle.vm_memory.specs.Memories.{memory_meant}
@@ -17,6 +18,6 @@ returns-clause-integer g c = λ width number are.
     let memory = c.args.memory in
     let there : slice_get m.memories memory ≡ Some c.in-Some.memory.now = sym c.in-Some.ensures.found in
     let told : (c.load_of.result ≡ loaded value (slice_get now.memories memory) now.host c.args.addr.0 n)
-    ⊎ ((c.load_of.result ≡ Err refusal.Memory) × MayTranslate now memory n) =
+    ⊎ ((c.load_of.result ≡ Err refusal.Memory) × MayTranslate now memory c.args.addr.0 n permissions.Read) =
     rw (there_meant meant m.memories memory c.in-Some.memory.now there, ← c.self.view_is) c.load_of.ensures in
     loaded_is_step now memory c.args.addr value n c.load_of.result told width number are

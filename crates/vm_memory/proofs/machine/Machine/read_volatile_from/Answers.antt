@@ -31,6 +31,7 @@ returns-clause-step g c = λ steps tells.
     (ltb-true c.args.memory (length m.memories) (sym seen.0)) seen.1 in
     rw (← c.self.view_is)
     (changes_are_step (state_of g.R.GuestMemoryRegion.region g.I.Iommu.number pages m) c.args.memory
-    (meant c.in-Some.memory.now) (there_meant meant m.memories c.args.memory c.in-Some.memory.now there) c.args.count
+    (meant c.in-Some.memory.now) (there_meant meant m.memories c.args.memory c.in-Some.memory.now there)
+    c.args.addr.0 c.args.count
     (λ x host. receives false x host c.args.addr.0 c.args.count steps) (λ k. reply.Count k) c.receive.result
     (with_pages pages c.receive.new.host) (c.receive.ensures.step steps tells))

@@ -3,8 +3,9 @@ use Rattle.vm_memory_base.specs.declared.iotlb.Permissions.TheVariants as permis
 use Rattle.vm_memory_guest.specs.Access.{access_of}
 use Rattle.vm_memory_guest.specs.Dirt.{path_cells}
 use Rattle.vm_memory_guest.specs.Host.{bytes_at}
-use Rattle.vm_memory_guest.specs.Memory.{NeedsTranslation, route}
+use Rattle.vm_memory_guest.specs.Memory.{route}
 use Rattle.vm_memory_guest.specs.Typed.{answered, place_of, typed_path}
+use Rattle.vm_memory_guest.specs.Walk.{NeedsPieces}
 use Rattle.vm_memory_guest.specs.Window.{cells_of}
 use Rattle.vm_memory.proofs.TypedLemmas.{answered_then, load_is}
 use Rattle.vm_memory.proofs.machine.typed.load_any.Goals as goal
@@ -24,7 +25,7 @@ returns-in-Ok g c =
     answered_then (λ w. bytes_at host.blocks (cells_of w)) value (place_of n access)
     ∙ ap (answered value) bytes
     ∙ sym (answered_then (λ xs. bytes_at host.blocks (path_cells xs)) value (typed_path n access)) in
-    load_is (NeedsTranslation m n) same (Ok c.in-Ok.value) c.in-Ok.ensures
+    load_is (NeedsPieces m host.tables a n permissions.Read) same (Ok c.in-Ok.value) c.in-Ok.ensures
 
 pub returns-in-Err : goal.returns-in-Err
 returns-in-Err g c =
@@ -41,4 +42,5 @@ returns-in-Err g c =
     answered_then (λ w. bytes_at host.blocks (cells_of w)) value (place_of n access)
     ∙ ap (answered value) bytes
     ∙ sym (answered_then (λ xs. bytes_at host.blocks (path_cells xs)) value (typed_path n access)) in
-    rw c.from.ensures (load_is (NeedsTranslation m n) same (Err c.in-Err.error) c.in-Err.ensures)
+    rw c.from.ensures
+    (load_is (NeedsPieces m host.tables a n permissions.Read) same (Err c.in-Err.error) c.in-Err.ensures)

@@ -1,4 +1,4 @@
-use Rattle.std.proofs.Common.{◌≡◌, ℕ, ◌+◌, ◌-◌, ◌^◌, ◌<◌, ◌≤◌, ◌++◌, List, Option, Some, None, length, IsSomeAnd, sym, ap, subst, ◌∙◌, arith}
+use Rattle.std.proofs.Common.{◌≡◌, ℕ, ◌+◌, ◌-◌, ◌^◌, ◌<◌, ◌≤◌, ◌++◌, List, Option, Some, None, length, IsSomeAnd, sym, ap, subst, arith}
 use Rattle.vm_memory_base.specs.Change.{IsKept, runs_below, runs_from, start_or, without_range}
 use Rattle.vm_memory_base.specs.Runs.{AddressRun}
 use Rattle.vm_memory_base.specs.Site.{IsFront, IsLastBelow, IsReplaced, CutsInFront}

@@ -1,4 +1,4 @@
-use Rattle.std.proofs.Common.{◌≡◌, ◌+◌, ap, refl, ◌∙◌}
+use Rattle.std.proofs.Common.{◌≡◌, refl, ◌∙◌}
 use Rattle.vm_memory_base.proofs.PutLemmas.{put_two, taken_back, gone_behind}
 use Rattle.vm_memory_base.proofs.SideLemmas.{clear_kept}
 use Rattle.vm_memory_base.proofs.ChangeLemmas.{on_ok, on_err}

@@ -1,5 +1,5 @@
-use Rattle.std.proofs.Common.{◌≡◌, ◌+◌, ◌-◌, ◌++◌, List, ap, subst, ◌∙◌, arith}
-use Rattle.vm_memory_base.specs.Change.{runs_below, runs_from}
+use Rattle.std.proofs.Common.{◌≡◌, ◌+◌, ◌-◌, ◌++◌, List, ap, ◌∙◌, arith}
+use Rattle.vm_memory_base.specs.Change.{runs_below}
 use Rattle.vm_memory_base.specs.Runs.{AddressRun}
 use Rattle.vm_memory_base.specs.Table.{Mapping}
 use Rattle.vm_memory_base.proofs.iotlb.run_map.RunMap.take_out.Goals as goal

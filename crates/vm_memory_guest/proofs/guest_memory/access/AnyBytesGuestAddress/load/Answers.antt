@@ -16,7 +16,7 @@ returns-in_err-walk g c =
     let e = c.in_err-walk.field-0.0 in
     let width : c.size-size.result ≡ g.V.ByteSized.width =
     omega (arith, c.size-size.ensures, g.met.V.AtomicAccess.fits_word.1) in
-    let why = subst (λ n. WantsMemory memory n e
+    let why = subst (λ n. WantsMemory memory host.tables c.args.addr.0 n Read e
     ⊎ RefusesAccess memory host.tables c.args.addr.0 n Read e) width c.in_err-walk.ensures.answer in
     rw (p.1, p.2) (typed-refused memory host.tables c.args.addr.0 g.V.ByteSized.width Read
     (λ w. g.V.ByteValued.value_of (bytes_at host.blocks (cells_of w))) (Unit {0}) (λ ws. Unit {0}) e why tt tt)

@@ -18,7 +18,7 @@ returns-in_err-walk g c short =
     let host = c.args.host.now in
     let e = c.in_err-walk.field-0.0 in
     let width : c.size.result ≡ g.V.ByteSized.width = omega (arith, c.size.ensures) in
-    let why = subst (λ n. WantsMemory memory n e
+    let why = subst (λ n. WantsMemory memory host.tables c.args.addr.0 n Read e
     ⊎ RefusesAccess memory host.tables c.args.addr.0 n Read e) width c.in_err-walk.ensures.answer in
     rw (p.1, p.2) (value-refused memory host.tables c.args.addr.0 g.V.ByteSized.width Read
     (λ r. answered (λ done. g.V.ByteValued.value_of (bytes_at host.blocks (cells r.windows)))

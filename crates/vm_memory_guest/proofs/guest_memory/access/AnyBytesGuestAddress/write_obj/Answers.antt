@@ -16,7 +16,7 @@ returns-in_err-walk-clause-answer g c short =
     let host = c.args.host.now in
     let e = c.in_err-walk.field-0.0 in
     let width : c.size.result ≡ g.V.ByteSized.width = omega (arith, c.size.ensures) in
-    let why = subst (λ n. WantsMemory memory n e
+    let why = subst (λ n. WantsMemory memory host.tables c.args.addr.0 n Write e
     ⊎ RefusesAccess memory host.tables c.args.addr.0 n Write e) width c.in_err-walk.ensures.answer in
     rw (p.1, p.2) (value-refused memory host.tables c.args.addr.0 g.V.ByteSized.width Write
     (λ r. all_of PartialBuffer g.V.ByteSized.width (ended (span r.windows) r.fault)) (host ≡ host)
