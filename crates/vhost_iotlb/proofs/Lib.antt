@@ -3,4 +3,5 @@ pub mod CodecLemmas
 pub mod CommandLemmas
 pub mod HandlingLemmas
 pub mod SendLemmas
+pub mod StreamLemmas
 pub mod TableLemmas
