@@ -104,6 +104,28 @@ pub record Looks {R : Type 0} (gives : R → Given → R → Type 0) (old : Pend
   pub most : length gave ≤ 3
   pub answers : Answers (come old (bytes_of gave)) gave answer new
 
+-- ---- whole streams
+
+-- bytes are these messages, one behind the other, and what is kept of one more
+abbrev pub IsCut : Pending → List Frame → List ℕ → Pending → Type 0
+IsCut p [] bytes q = IsPart (come p bytes) × (q ≡ come p bytes)
+IsCut p (f ∷ fs) bytes q = (first rest : List ℕ) × (bytes ≡ first ++ rest) × IsWhole (come p first)
+    × (f ≡ frame_in (come p first).kept) × IsCut (behind (come p first).kept) fs rest q
+
+-- looks were made one after the other, with these answers
+abbrev pub AllLook : {R : Type 0} → (R → Given → R → Type 0) → Pending → R
+    → List (Result (Option Frame) ChannelError) → Pending → R → Type 0
+AllLook gives old before [] new after = (new ≡ old) × (after ≡ before)
+AllLook {R} gives old before (a ∷ answers) new after =
+    (p : Pending) × (mid : R) × Looks gives old before a p mid × AllLook gives p mid answers new after
+
+-- the messages of answers
+abbrev pub frames_of : List (Result (Option Frame) ChannelError) → List Frame
+frames_of [] = []
+frames_of (Ok (Some f) ∷ answers) = f ∷ frames_of answers
+frames_of (Ok None ∷ answers) = frames_of answers
+frames_of (Err e ∷ answers) = frames_of answers
+
 -- ---- what is always so of what is kept
 
 -- no more is kept than a message, and nothing while bytes are to be passed over
