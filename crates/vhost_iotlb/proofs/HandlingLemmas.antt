@@ -1,34 +1,37 @@
 -- A message that came was served.
-use Rattle.std.proofs.Common.{◌≡◌, subst, Result, Ok, Err, MatchResult}
-use Rattle.vhost_iotlb.specs.Handling.{Handles, Serves}
+use Rattle.std.proofs.Common.{◌≡◌, ℕ, List, Option, Some, Result, Ok, Err, MatchResult, refl, subst}
+use Rattle.std.specs.Prelude.{IfOk}
+use Rattle.std.specs.Io.KnownBytes.{Appends}
+use Rattle.vhost_iotlb.specs.Handling.{Device, Handles, Serves, answer_to}
+use Rattle.vhost_iotlb.specs.Stream.{Given, Looks, Pending}
 use Rattle.vhost_iotlb.specs.declared.channel.ChannelError.{ChannelError}
 use Rattle.vhost_iotlb.specs.declared.channel.Frame.{Frame}
 use Rattle.vhost_iotlb.specs.declared.device.Handled.{Handled}
-use Rattle.vhost_iotlb.specs.declared.device.Handled.TheVariants.{Nothing, Applied, Refused, Other}
 use Rattle.vhost_iotlb.specs.declared.message.IotlbMessage.{IotlbMessage}
 use Rattle.vhost_iotlb.specs.declared.table.DeviceTable.{DeviceTable}
 use Rattle.vhost_iotlb.specs.declared.table.Refusal.{Refusal}
 
-module _ {H : Type 0} (applies : H → DeviceTable → IotlbMessage → Result (Unit {0}) Refusal → H → Type 0)
-    (table : DeviceTable) (frame : Frame) (old new : H) where
-  handled : (h : Handled) → Serves applies table frame old h new → Handles applies table old h new
-  handled Nothing s = absurd s.1
-  handled (Applied m) s = (frame, s)
-  handled (Refused e) s = (frame, s)
-  handled (Other other) s = (frame, s)
-
-  served : (r : Result Handled ChannelError)
+module _ {F H : Type 0} (gives : F → Given → F → Type 0) (contents : F → Option (List ℕ))
+    (applies : H → DeviceTable → IotlbMessage → Result (Unit {0}) Refusal → H → Type 0)
+    (table : DeviceTable) (before mid after : F) (had has : Pending) (frame : Frame) (old new : H) where
+  served : (r : Result Handled ChannelError) → Looks gives had before (Ok (Some frame)) has mid
       → MatchResult r (λ h. Serves applies table frame old h new)
       (λ e. (h : Handled) × Serves applies table frame old h new)
-      → MatchResult r (λ h. Handles applies table old h new) (λ e. (h : Handled) × Handles applies table old h new)
-  served (Ok h) s = handled h s
-  served (Err e) s = (s.0, handled s.0 s.1)
+      → IfOk r (λ h. Appends (contents mid) (contents after) (answer_to frame h))
+      → Handles gives contents applies (record { table = table; front = before; coming = had }) old r
+      (record { table = table; front = after; coming = has }) new
+  served (Ok h) l s sent = record { looked = Ok (Some frame); front = mid; looks = l; comes = (s, sent); table = refl }
+  served (Err e) l s sent = record { looked = Ok (Some frame); front = mid; looks = l; comes = s; table = refl }
 
-  -- with the table as it lies in a device's
-  pub handled_all : (inside : DeviceTable) (r : Result Handled ChannelError) → inside ≡ table
-      → MatchResult r (λ h. Serves applies inside frame old h new)
-      (λ e. (h : Handled) × Serves applies inside frame old h new)
-      → MatchResult r (λ h. Handles applies table old h new) (λ e. (h : Handled) × Handles applies table old h new)
-  handled_all inside r same s =
-      served r (subst (λ (t : DeviceTable). MatchResult r (λ h. Serves applies t frame old h new)
-      (λ e. (h : Handled) × Serves applies t frame old h new)) same s)
+  -- of a device that is opened, and a look whose answer is known by its parts
+  pub served_all : (r : Result Handled ChannelError) (device : Device F) (o : Option Frame)
+      → record { table = table; front = before; coming = had } ≡ device → o ≡ Some frame
+      → Looks gives had before (Ok o) has mid
+      → MatchResult r (λ h. Serves applies table frame old h new)
+      (λ e. (h : Handled) × Serves applies table frame old h new)
+      → IfOk r (λ h. Appends (contents mid) (contents after) (answer_to frame h))
+      → Handles gives contents applies device old r (record { table = table; front = after; coming = has }) new
+  served_all r device o e found l s sent =
+      subst (λ (d : Device F). Handles gives contents applies d old r
+      (record { table = table; front = after; coming = has }) new) e
+      (served r (subst (λ (p : Option Frame). Looks gives had before (Ok p) has mid) found l) s sent)

@@ -5,4 +5,5 @@ pub mod Handling
 pub mod Header
 pub mod Message
 pub mod Reaches
+pub mod Stream
 pub mod UserMemory

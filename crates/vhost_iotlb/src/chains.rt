@@ -6,16 +6,43 @@ use crate::access::reach;
 use crate::request::{Outcome, Request};
 use vm_memory::{
     Bitmap, Chain, ChainReader, ChainWriter, GuestMemory, GuestMemoryError, HostMemory, IommuError,
-    IovaRange, Permissions, TlbId,
+    Permissions, TlbId,
 };
 
-// The range whose translation was refused, if one was.
-fn refused_range(error: &GuestMemoryError) -> Option<IovaRange> {
-    match error {
-        GuestMemoryError::IommuError(IommuError::CannotResolve { iova_range, .. }) => {
-            Some(*iova_range)
-        }
-        _ => None,
+// How many of so many bytes an access may move that was refused for this error: those in front of the first address
+// that the table misses or forbids, if there are some.
+fn front_of<B: Bitmap>(
+    host: &HostMemory<B>,
+    table: TlbId,
+    error: &GuestMemoryError,
+    len: usize,
+    access: Permissions,
+) -> Result<usize, Outcome>
+    requires { table.0 < length host.now.tables }
+    ensures { IfOk result (λ n. n ≤ len) }
+{
+    let GuestMemoryError::IommuError(IommuError::CannotResolve { iova_range, .. }) = error else {
+        return Err(Outcome::Failed);
+    };
+    let (count, outcome) = reach(
+        host.table(table),
+        iova_range.base.0,
+        iova_range.length,
+        access,
+    );
+    match count.min(len) {
+        0 => Err(outcome),
+        front => Ok(front),
+    }
+}
+
+// What a try came to that moved so many of so many bytes: none of some is a failure.
+fn some_of(count: usize, len: usize) -> Result<usize, Outcome>
+    ensures { IfOk result (λ n. n ≤ len) }
+{
+    match count.min(len) {
+        0 => Err(Outcome::Failed),
+        moved => Ok(moved),
     }
 }
 
@@ -43,27 +70,13 @@ fn read_some<M: GuestMemory, B: Bitmap>(
     ensures most { IfOk result (λ n. n ≤ length bytes.old) }
 {
     let len = bytes.len();
-    let range = match reader.read(memory, host, bytes) {
-        Ok(0) => return Err(Outcome::Failed),
-        Ok(count) => return Ok(count.min(len)),
-        Err(error) => match refused_range(&error) {
-            Some(range) => range,
-            None => return Err(Outcome::Failed),
-        },
+    let front = match reader.read(memory, host, bytes) {
+        Ok(count) => return some_of(count, len),
+        Err(error) => front_of(host, table, &error, len, Permissions::Read)?,
     };
-    let (count, outcome) = reach(
-        host.table(table),
-        range.base.0,
-        range.length,
-        Permissions::Read,
-    );
-    let front = count.min(len);
-    if front == 0 {
-        return Err(outcome);
-    }
     match reader.read(memory, host, &mut bytes[..front]) {
-        Ok(0) | Err(_) => Err(Outcome::Failed),
-        Ok(count) => Ok(count.min(len)),
+        Ok(count) => some_of(count, len),
+        Err(_) => Err(Outcome::Failed),
     }
 }
 
@@ -81,27 +94,13 @@ fn write_some<M: GuestMemory, B: Bitmap>(
     ensures shape { shape_of host.new ≡ shape_of host.old }
 {
     let len = bytes.len();
-    let range = match writer.write(memory, host, bytes) {
-        Ok(0) => return Err(Outcome::Failed),
-        Ok(count) => return Ok(count.min(len)),
-        Err(error) => match refused_range(&error) {
-            Some(range) => range,
-            None => return Err(Outcome::Failed),
-        },
+    let front = match writer.write(memory, host, bytes) {
+        Ok(count) => return some_of(count, len),
+        Err(error) => front_of(host, table, &error, len, Permissions::Write)?,
     };
-    let (count, outcome) = reach(
-        host.table(table),
-        range.base.0,
-        range.length,
-        Permissions::Write,
-    );
-    let front = count.min(len);
-    if front == 0 {
-        return Err(outcome);
-    }
     match writer.write(memory, host, &bytes[..front]) {
-        Ok(0) | Err(_) => Err(Outcome::Failed),
-        Ok(count) => Ok(count.min(len)),
+        Ok(count) => some_of(count, len),
+        Err(_) => Err(Outcome::Failed),
     }
 }
 

@@ -1,13 +1,16 @@
 //! Messages as they come over a channel, and go over it.
-ghost use Rattle.std.specs.Prelude.{◌≡◌, ◌≤◌, ◌++◌, length, IfOk, OnOk};
+ghost use Rattle.std.specs.Prelude.{◌≡◌, ℕ, ◌-◌, ◌<◌, ◌≤◌, List, ◌++◌, length, take, slice_range, Result, IfOk, OnOk, MatchOption};
 ghost use Rattle.std.specs.Io.KnownBytes.{Appends};
-ghost use Rattle.vhost_iotlb.specs.Header.{header_bytes};
+ghost use Rattle.vhost_iotlb.specs.Header.{header_bytes, header_in};
 ghost use Rattle.vhost_iotlb.specs.Frames.{message_of, reply_of};
+ghost use Rattle.vhost_iotlb.specs.declared.channel.ChannelError.{ChannelError};
+ghost use Rattle.vhost_iotlb.specs.Stream.{GivenOf, IsPart, IsWhole, Looks, ReadsOn, behind, frame_in, given, nothing_yet, wanted};
 
 use crate::header::{Header, VERSION, VHOST_USER_BACKEND_IOTLB_MSG};
 use crate::malformed::Malformed;
 use crate::message::{IotlbMessage, PAYLOAD_LEN};
 use std::io::{ErrorKind, Read, Write};
+use std::marker::Model;
 use thiserror::Error;
 
 const HEADER_LEN: usize = 12;
@@ -70,33 +73,80 @@ impl Frame {
     }
 }
 
-/// What has come of the next message on a channel.
+/// Where the bytes of a channel come from. Each reader of the standard library is one: there `WouldBlock`, `TimedOut`
+/// and `Interrupted` say that nothing is there yet.
+///
+/// Its ghost member names what a read gave. So a contract can say of any channel which message its bytes are, and that
+/// a read found nothing.
+pub trait Receive {
+    /// What a read may give: the channel, the bytes that it gave or why no more comes, and the channel afterwards.
+    ghost gives: { Self → Result (List ℕ) ChannelError → Self → Type 0 };
+
+    /// Reads once, and answers how many bytes came, to the front of the buffer: 0 where none are there yet. `Ended`
+    /// where the other end closed the channel, and `Failed` where it cannot be read.
+    fn receive(&mut self, buf: &mut [u8]) -> Result<usize, ChannelError>
+        requires room { 0 < length buf.old }
+        ensures most { IfOk result (λ count. count ≤ length buf.old) }
+        ensures gives { gives self.old (given result buf.new) self.new };
+}
+
+impl<R: Read> Receive for R {
+    ghost gives = { λ old g new. GivenOf (R.remaining old) g (R.remaining new) };
+
+    fn receive(&mut self, buf: &mut [u8]) -> Result<usize, ChannelError> {
+        match self.read(buf) {
+            Ok(0) => Err(ChannelError::Ended),
+            Ok(count) => Ok(count),
+            Err(error) => match error.kind() {
+                ErrorKind::WouldBlock | ErrorKind::TimedOut | ErrorKind::Interrupted => Ok(0),
+                _ => Err(ChannelError::Failed),
+            },
+        }
+    }
+}
+
+// Reads once, to these places of a buffer.
+fn receive_at<R: Receive>(
+    reader: &mut R,
+    bytes: &mut [u8; FRAME_LEN],
+    from: usize,
+    to: usize,
+) -> Result<usize, ChannelError>
+    requires some { from < to }
+    requires inside { to ≤ 44 }
+    ensures most { IfOk result (λ count. count ≤ to - from) }
+    ensures gives { R.gives reader.old (given result (slice_range bytes.new from to)) reader.new }
+    ensures before { take from bytes.new ≡ take from bytes.old }
+{
+    reader.receive(&mut bytes[from..to])
+}
+
+/// What has come of the next message on a channel. Contracts see the bytes that are kept of it, and how many of the
+/// last message are still to be passed over: those behind the first 32 of its payload.
 #[derive(Debug, Drop)]
 pub struct Incoming {
     bytes: [u8; FRAME_LEN],
     filled: usize,
-    // How many bytes of the last message are passed over: those behind the first 32 of its payload.
     skipped: u32,
-    ghost in_range: { filled ≤ 44 },
 }
 
-// Reads once, into a buffer that has room, and answers how many bytes came: none where none are there yet.
-fn read_some<R: Read>(reader: &mut R, buf: &mut [u8]) -> Result<usize, ChannelError>
-    ensures { IfOk result (λ n. n ≤ length buf.new) }
-{
-    match reader.read(buf) {
-        Ok(0) => Err(ChannelError::Ended),
-        Ok(count) => Ok(count),
-        Err(error) => match error.kind() {
-            ErrorKind::WouldBlock | ErrorKind::TimedOut | ErrorKind::Interrupted => Ok(0),
-            _ => Err(ChannelError::Failed),
-        },
-    }
+impl Model for Incoming {
+    ghost use Rattle.std.specs.Prelude.{◌≤◌, take};
+    ghost use Rattle.vhost_iotlb.specs.Stream.{Pending, IsPending};
+
+    ghost Value = { Pending };
+
+    ghost view = { λ s. record { skipped = s.skipped; kept = take s.filled s.bytes } };
+
+    ghost invariant = { λ s. (s.filled ≤ 44)
+        × IsPending (record { skipped = s.skipped; kept = take s.filled s.bytes }) };
 }
 
 impl Incoming {
     /// Nothing has come yet.
-    pub fn new() -> Incoming {
+    pub fn new() -> Incoming
+        ensures { result ≡ nothing_yet }
+    {
         Incoming {
             bytes: [0; FRAME_LEN],
             filled: 0,
@@ -104,17 +154,19 @@ impl Incoming {
         }
     }
 
-    fn header(&self) -> Header {
-        let b = &self.bytes;
-        Header::decode(&[
-            b[0], b[1], b[2], b[3], b[4], b[5], b[6], b[7], b[8], b[9], b[10], b[11],
-        ])
+    // The header of the message, of which all has come.
+    fn header(&self) -> Header
+        requires { 12 ≤ length self.now.kept }
+        ensures { result ≡ header_in self.now.kept }
+    {
+        let mut header = [0; HEADER_LEN];
+        header.copy_from_slice(&self.bytes[..HEADER_LEN]);
+        Header::decode(&header)
     }
 
-    // How many bytes the message has, as far as it is known, and of these the ones that are kept.
+    // How many bytes are kept of the message, as far as that is known.
     fn wanted(&self) -> usize
-        ensures least { 12 ≤ result }
-        ensures most { result ≤ 44 }
+        ensures { result ≡ wanted self.now.kept }
     {
         if self.filled < HEADER_LEN {
             return HEADER_LEN;
@@ -122,55 +174,58 @@ impl Incoming {
         HEADER_LEN + self.header().size.min(PAYLOAD_LEN as u32) as usize
     }
 
-    // Reads once. It answers whether more may be there.
-    fn read_on<R: Read>(&mut self, reader: &mut R) -> Result<bool, ChannelError> {
+    // Reads once. It answers whether some bytes came.
+    fn read_on<R: Receive>(&mut self, reader: &mut R) -> Result<bool, ChannelError>
+        requires { IsPart self.old }
+        ensures { (g : Result (List ℕ) ChannelError) × R.gives reader.old g reader.new
+            × ReadsOn self.old g result self.new }
+    {
         if self.skipped > 0 {
             let count = self.skipped.min(FRAME_LEN as u32) as usize;
             let mut passed = [0; FRAME_LEN];
-            let read = read_some(reader, &mut passed[..count])?;
+            let read = receive_at(reader, &mut passed, 0, count)?;
             self.skipped -= read as u32;
             return Ok(read > 0);
         }
         let wanted = self.wanted();
-        if self.filled >= wanted {
-            return Ok(false);
-        }
         let from = self.filled;
-        let read = read_some(reader, &mut self.bytes[from..wanted])?;
+        let read = receive_at(reader, &mut self.bytes, from, wanted)?;
         self.filled = from + read;
         Ok(read > 0)
     }
 
     // The message that is there, if it is whole.
-    fn take(&mut self) -> Option<Frame> {
+    fn take(&mut self) -> Option<Frame>
+        ensures { MatchOption result (IsPart self.old × (self.new ≡ self.old))
+            (λ frame. IsWhole self.old × (frame ≡ frame_in self.old.kept) × (self.new ≡ behind self.old.kept)) }
+    {
         if self.filled < self.wanted() {
             return None;
         }
         let header = self.header();
         let mut payload = [0; PAYLOAD_LEN];
-        let len = header.size.min(PAYLOAD_LEN as u32) as usize;
+        let len = self.filled - HEADER_LEN;
         payload[..len].copy_from_slice(&self.bytes[HEADER_LEN..HEADER_LEN + len]);
         self.filled = 0;
-        self.skipped = header.size - len as u32;
+        self.skipped = header.size.saturating_sub(PAYLOAD_LEN as u32);
         Some(Frame { header, payload })
     }
 
-    /// The next message, if all of it has come. It reads at most three times, and waits no longer than the reader
-    /// does: `WouldBlock`, `TimedOut` and `Interrupted` say that nothing has come yet. Of a payload longer than 32
-    /// bytes the rest is passed over, by later calls.
-    pub fn look<R: Read>(&mut self, reader: &mut R) -> Result<Option<Frame>, ChannelError> {
-        for _ in 0..3 {
-            if self.skipped == 0 {
-                if let Some(frame) = self.take() {
-                    return Ok(Some(frame));
-                }
+    /// The next message, if all of it has come: the one that is spelled by the bytes that are kept and those that the
+    /// channel gives now. What it gives of a message that is not whole is kept for later calls.
+    ///
+    /// It reads at most three times, and waits no longer than the channel does. Of a payload longer than 32 bytes the
+    /// rest is passed over, by later calls.
+    pub fn look<R: Receive>(&mut self, reader: &mut R) -> Result<Option<Frame>, ChannelError>
+        ensures { Looks R.gives self.old reader.old result self.new reader.new }
+    {
+        for _read in 0..3u32 {
+            if let Some(frame) = self.take() {
+                return Ok(Some(frame));
             }
             if !self.read_on(reader)? {
                 return Ok(None);
             }
-        }
-        if self.skipped > 0 {
-            return Ok(None);
         }
         Ok(self.take())
     }

@@ -2,9 +2,10 @@
 ghost use Rattle.std.specs.Prelude.{◌≡◌, ◌^◌, ◌<◌, OnOk, IfOk, MatchResult};
 ghost use Rattle.std.specs.Io.KnownBytes.{Appends};
 ghost use Rattle.vhost_iotlb.specs.Handling.{Handles, Serves, Settles, answer_to, reply_bytes, value_of};
+ghost use Rattle.vhost_iotlb.specs.Stream.{nothing_yet};
 ghost use Rattle.vhost_iotlb.specs.declared.device.Handled.{Handled};
 
-use crate::channel::{ChannelError, Frame, Incoming, send};
+use crate::channel::{ChannelError, Frame, Incoming, Receive, send};
 use crate::header::{
     Header, VERSION, VHOST_USER_BACKEND_IOTLB_MSG, VHOST_USER_IOTLB_MSG, VHOST_USER_NEED_REPLY,
     VHOST_USER_REPLY,
@@ -14,7 +15,7 @@ use crate::message::{IotlbMessage, PAYLOAD_LEN};
 use crate::reply::encode_reply;
 use crate::request::{Outcome, Request};
 use crate::table::{DeviceTable, Refusal};
-use std::io::{Read, Write};
+use std::io::Write;
 use std::marker::Model;
 use thiserror::Error;
 
@@ -85,11 +86,11 @@ pub struct DeviceIotlb<F, O> {
 }
 
 impl<F, O> Model for DeviceIotlb<F, O> {
-    ghost use Rattle.vhost_iotlb.specs.declared.table.DeviceTable.{DeviceTable};
+    ghost use Rattle.vhost_iotlb.specs.Handling.{Device};
 
-    ghost Value = { DeviceTable };
+    ghost Value = { Device F };
 
-    ghost view = { λ d. d.table };
+    ghost view = { λ d. record { table = d.table; front = d.front; coming = d.coming } };
 }
 
 // The header of a reply.
@@ -159,10 +160,10 @@ fn serve<F: Write, H: SharedHost>(
     Ok(handled)
 }
 
-impl<F: Read + Write, O: Read + Write> DeviceIotlb<F, O> {
+impl<F: Receive + Write, O: Receive + Write> DeviceIotlb<F, O> {
     /// A table of a host, the front end's channel, and the back end's own.
     pub fn new(table: DeviceTable, front: F, own: O, limits: Limits) -> DeviceIotlb<F, O>
-        ensures { result ≡ table }
+        ensures { result ≡ record { table = table; front = front; coming = nothing_yet } }
     {
         DeviceIotlb {
             table,
@@ -178,19 +179,22 @@ impl<F: Read + Write, O: Read + Write> DeviceIotlb<F, O> {
 
     /// Its table.
     pub fn table(&self) -> &DeviceTable
-        ensures { result.now ≡ self.now }
+        ensures { result.now ≡ self.now.table }
     {
         &self.table
     }
 
     /// The front end's channel.
-    pub fn front(&self) -> &F {
+    pub fn front(&self) -> &F
+        ensures { result.now ≡ self.now.front }
+    {
         &self.front
     }
 
     /// The table, the front end's channel and the back end's own, of one that is done with.
     pub fn into_parts(self) -> (DeviceTable, F, O)
-        ensures { result.0 ≡ self }
+        ensures table { result.0 ≡ self.table }
+        ensures front { result.1 ≡ self.front }
     {
         (self.table, self.front, self.own)
     }
@@ -215,15 +219,13 @@ impl<F: Read + Write, O: Read + Write> DeviceIotlb<F, O> {
         send(&mut self.own, header, &message.encode())
     }
 
-    /// Looks once at the front end's channel, and serves what came there: a message is applied to the table and then
-    /// answered, where the front end asks for that, by 0 if it was applied and by 1 if it was refused.
+    /// Looks at the front end's channel for the next message, and serves it if all of it has come: it is applied to the
+    /// table and then answered, where the front end asks for that, by 0 if it was applied and by 1 if it was refused.
+    /// It is the message that is spelled by what had come before and what the channel gives now, byte after byte.
     ///
     /// Where the reply cannot be sent, the message was applied or refused all the same.
     pub fn handle<H: SharedHost>(&mut self, host: &mut H) -> Result<Handled, ChannelError>
-        ensures handled { MatchResult result
-            (λ handled. Handles H.applies self.old host.old handled host.new)
-            (λ e. (handled : Handled) × Handles H.applies self.old host.old handled host.new) }
-        ensures table { self.new ≡ self.old }
+        ensures { Handles F.gives F.contents H.applies self.old host.old result self.new host.new }
     {
         match self.coming.look(&mut self.front)? {
             Some(frame) => serve(&self.table, &mut self.front, host, &frame),
@@ -233,7 +235,7 @@ impl<F: Read + Write, O: Read + Write> DeviceIotlb<F, O> {
 
     /// Answers a message of another request, where it asks for that: 0 where it was done.
     pub fn reply(&mut self, frame: &Frame, value: u64) -> Result<(), ChannelError>
-        ensures { self.new ≡ self.old }
+        ensures { self.new ≡ record self.old { front = self.new.front } }
     {
         if !frame.header.needs_reply() {
             return Ok(());
@@ -285,7 +287,7 @@ impl<F: Read + Write, O: Read + Write> DeviceIotlb<F, O> {
 
     // Looks once at both channels while a mapping is missed: it answers whether one came.
     fn wait<H: SharedHost>(&mut self, host: &mut H) -> Result<bool, MissError>
-        ensures { self.new ≡ self.old }
+        ensures { self.new.table ≡ self.old.table }
     {
         match self.handle(host).map_err(MissError::Channel)? {
             Handled::Applied(IotlbMessage::Update { .. }) => return Ok(true),
@@ -310,7 +312,7 @@ impl<F: Read + Write, O: Read + Write> DeviceIotlb<F, O> {
         message: IotlbMessage,
         looks: u32,
     ) -> Result<u32, MissError>
-        ensures { self.new ≡ self.old }
+        ensures { self.new.table ≡ self.old.table }
     {
         // One more than comes, so that no backlog stays.
         self.catch_up().map_err(MissError::Channel)?;
@@ -339,7 +341,7 @@ impl<F: Read + Write, O: Read + Write> DeviceIotlb<F, O> {
         request: &mut R,
     ) -> Result<(), MissError>
         ensures done { OnOk result (R.is_done request.new) }
-        ensures table { self.new ≡ self.old }
+        ensures table { self.new.table ≡ self.old.table }
     {
         let mut looks = self.limits.looks;
         for _ in 0..self.limits.tries {

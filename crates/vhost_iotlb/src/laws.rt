@@ -1,6 +1,6 @@
-//! What holds of every list of messages: each function here is a theorem, and does nothing. It calls the theorems that
-//! it follows from.
-ghost use Rattle.std.specs.Prelude.{◌≡◌, ◌+◌, ◌-◌, ◌^◌, ◌<◌, ℕ, true, List, Some, None, slice_get, Ok};
+//! What holds of every stream and every list of messages: each function here is a theorem, and does nothing. It calls
+//! the theorems that it follows from.
+ghost use Rattle.std.specs.Prelude.{◌≡◌, ◌+◌, ◌-◌, ◌^◌, ◌<◌, ℕ, true, List, Option, Some, None, slice_get, Result, Ok};
 ghost use Rattle.vm_memory_base.specs.Address.{step};
 ghost use Rattle.vm_memory_base.specs.Pages.{PageSet};
 ghost use Rattle.vm_memory_base.specs.Permissions.{allow};
@@ -18,11 +18,15 @@ ghost use Rattle.vm_memory.specs.State.{State};
 ghost use Rattle.vhost_iotlb.specs.Changes.{Handles};
 ghost use Rattle.vhost_iotlb.specs.Commands.{IsAmong, all_done, commands_of};
 ghost use Rattle.vhost_iotlb.specs.Message.{IsMessage, Spells, fields_in, fields_of, message_in, payload_bytes};
+ghost use Rattle.vhost_iotlb.specs.Stream.{AllLook, Given, IsCut, IsPart, Pending, Reads, bytes_of, frames_of};
 ghost use Rattle.vhost_iotlb.specs.UserMemory.{guest_of};
+ghost use Rattle.vhost_iotlb.specs.declared.channel.ChannelError.{ChannelError};
+ghost use Rattle.vhost_iotlb.specs.declared.channel.Frame.{Frame};
 ghost use Rattle.vhost_iotlb.specs.declared.message.IotlbMessage.{IotlbMessage};
 ghost use Rattle.vhost_iotlb.specs.declared.message.IotlbMessage.TheVariants.{Update};
 ghost use Rattle.vhost_iotlb.specs.declared.user_memory.UserRegion.{UserRegion};
 
+use crate::channel::Receive;
 use vm_memory::laws::machine::{
     accesses_go_through_what_was_set_last, tables_say_what_was_set_last,
 };
@@ -34,6 +38,20 @@ pub fn messages_come_back()
         → message_in (fields_in (payload_bytes (fields_of m))) ≡ Ok m }
     ensures one { (payload : List ℕ) (m n : IotlbMessage) → Spells (fields_in payload) m
         → Spells (fields_in payload) n → m ≡ n }
+{}
+
+/// The bytes of a stream decide its messages, and what is left of it: there is one way to cut it.
+pub fn streams_are_cut_one_way()
+    ensures { (p q r : Pending) (fs gs : List Frame) (bytes : List ℕ) → IsCut p fs bytes q → IsCut p gs bytes r
+        → (fs ≡ gs) × (q ≡ r) }
+{}
+
+/// However many looks are made at a channel, one after the other, and whatever the pieces in which it gives its bytes:
+/// what they find are the messages of these bytes, all of them and in order, and what is kept is what is left of them.
+pub fn looks_cut_streams<R: Receive>()
+    ensures { (answers : List (Result (Option Frame) ChannelError)) (old new : Pending) (before after : R) → IsPart old
+        → AllLook R.gives old before answers new after
+        → (gave : List Given) × Reads R.gives gave before after × IsCut old (frames_of answers) (bytes_of gave) new }
 {}
 
 /// What messages make of a table of a host are commands of a machine, each of which is done. So what holds of every

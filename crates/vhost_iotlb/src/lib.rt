@@ -18,7 +18,7 @@ mod user_memory;
 
 pub use access::{ReadBytes, WriteBytes, reach};
 pub use chains::{ReadChain, WriteChain};
-pub use channel::{ChannelError, Frame, Incoming, send};
+pub use channel::{ChannelError, Frame, Incoming, Receive, send};
 pub use device::{DeviceIotlb, Handled, Limits, MissError};
 pub use header::{
     Header, VERSION, VHOST_USER_BACKEND_IOTLB_MSG, VHOST_USER_IOTLB_MSG, VHOST_USER_NEED_REPLY,

@@ -28,18 +28,18 @@ type Case = (usize, Ask, &'static str, &'static str, &'static str);
 
 const CASES: [Case; 29] = [
     // The page is there before.
-    (2, Ask::Read(8, 16), "+u0", "", "Ok;;"),
+    (2, NEAR, "+u0", "", "Ok;;"),
     // A miss of the first byte, and of one behind a page that is there.
-    (2, Ask::Read(8, 16), "u0", "0", "Ok; miss0.8r;"),
-    (2, Ask::Read(0xff8, 16), "+u0 u1", "0", "Ok; miss1.0r;"),
+    (2, NEAR, "u0", "0", "Ok; miss0.8r;"),
+    (2, ACROSS, "+u0 u1", "0", "Ok; miss1.0r;"),
     (2, Ask::Write(8, 1), "u0", "0", "Ok; miss0.8w;"),
     // The mapping comes before the reply, behind it, and without one.
-    (2, Ask::Read(8, 16), "u0", "", "Ok; miss0.8r;"),
+    (2, NEAR, "u0", "", "Ok; miss0.8r;"),
     // A miss at each of eight pages.
-    (64, Ask::Read(0, 0x8000), EACH, "", EIGHT),
-    (2, Ask::Read(0, 0x8000), EACH, "", EIGHT),
-    (1, Ask::Read(0, 0x8000), EACH, "", EIGHT),
-    (1, Ask::Read(0, 0x8000), EACH, "0 0 0 0 0 0 0 0", EIGHT),
+    (64, ALL, EACH, "", EIGHT),
+    (2, ALL, EACH, "", EIGHT),
+    (1, ALL, EACH, "", EIGHT),
+    (1, ALL, EACH, "0 0 0 0 0 0 0 0", EIGHT),
     (
         1,
         Ask::Write(5, 0x1ffe),
@@ -48,47 +48,23 @@ const CASES: [Case; 29] = [
         "Ok; miss0.5w miss1.0w miss2.0w;",
     ),
     // Nothing comes.
-    (2, Ask::Read(8, 16), "", "", "Deadline; miss0.8r;"),
-    (2, Ask::Read(8, 16), "", "0", "Deadline; miss0.8r;"),
-    (
-        2,
-        Ask::Read(8, 16),
-        "!i0 !i0",
-        "0",
-        "Deadline; miss0.8r; 0 0",
-    ),
+    (2, NEAR, "", "", "Deadline; miss0.8r;"),
+    (2, NEAR, "", "0", "Deadline; miss0.8r;"),
+    (2, NEAR, "!i0 !i0", "0", "Deadline; miss0.8r; 0 0"),
     // Another range comes, once, and as often as the request may be tried.
-    (
-        2,
-        Ask::Read(8, 16),
-        "!u5 u0",
-        "0 0",
-        "Ok; miss0.8r miss0.8r; 0",
-    ),
+    (2, NEAR, "!u5 u0", "0 0", "Ok; miss0.8r miss0.8r; 0"),
     (
         1,
-        Ask::Read(8, 16),
+        NEAR,
         "u5 u5 u5 u5 u5 u5 u5 u5 u5 u5",
         "",
         "Tries; miss0.8r miss0.8r miss0.8r miss0.8r miss0.8r miss0.8r miss0.8r miss0.8r miss0.8r miss0.8r;",
     ),
     // The front end refuses.
-    (2, Ask::Read(8, 16), "", "1", "Refused(1); miss0.8r;"),
-    (
-        2,
-        Ask::Read(0xff8, 16),
-        "u0",
-        "0 7",
-        "Refused(7); miss0.ff8r miss1.0r;",
-    ),
+    (2, NEAR, "", "1", "Refused(1); miss0.8r;"),
+    (2, ACROSS, "u0", "0 7", "Refused(7); miss0.ff8r miss1.0r;"),
     // What it takes back while the request waits is taken back then, and answered.
-    (
-        2,
-        Ask::Read(0xff8, 16),
-        "+u0 +u5 !i5 !i0 u1",
-        "0",
-        "Ok; miss1.0r; 0 0",
-    ),
+    (2, ACROSS, "+u0 +u5 !i5 !i0 u1", "0", "Ok; miss1.0r; 0 0"),
     (
         2,
         Ask::Read(8, 0x1000),
@@ -105,32 +81,27 @@ const CASES: [Case; 29] = [
         "0 0",
         "Forbidden; miss0.ff8w miss1.0w fail1.0w; 0",
     ),
-    (2, Ask::Read(8, 16), "r0", "", "Ok; miss0.8r;"),
+    (2, NEAR, "r0", "", "Ok; miss0.8r;"),
     // Malformed messages come meanwhile.
-    (
-        2,
-        Ask::Read(8, 16),
-        "!e0 !v0 !a0 e0 u0",
-        "0",
-        "Ok; miss0.8r; 1 1 1",
-    ),
+    (2, NEAR, "!e0 !v0 !a0 e0 u0", "0", "Ok; miss0.8r; 1 1 1"),
     // Another request comes meanwhile.
-    (2, Ask::Read(8, 16), "k u0", "0", "Ok; miss0.8r; other"),
+    (2, NEAR, "k u0", "0", "Ok; miss0.8r; other"),
     // A message that is no reply comes in place of one, and one too many.
-    (2, Ask::Read(8, 16), "", "?", "Channel(NoReply); miss0.8r;"),
-    (
-        2,
-        Ask::Read(8, 16),
-        "",
-        "early 0 0",
-        "Channel(NoReply); miss0.8r;",
-    ),
+    (2, NEAR, "", "?", "Channel(NoReply); miss0.8r;"),
+    (2, NEAR, "", "early 0 0", "Channel(NoReply); miss0.8r;"),
     // The front end is gone.
-    (2, Ask::Read(8, 16), "end", "", "Channel(Ended); miss0.8r;"),
+    (2, NEAR, "end", "", "Channel(Ended); miss0.8r;"),
     // There is no memory where the mapping leads.
-    (2, Ask::Read(8, 16), "p0", "0", "Failed; miss0.8r;"),
+    (2, NEAR, "p0", "0", "Failed; miss0.8r;"),
     (2, Ask::Read(8, 0), "", "", "Ok;;"),
 ];
+
+// 16 bytes within the first page, 16 of which 8 lie in the second, and all eight pages.
+const NEAR: Ask = Ask::Read(8, 16);
+
+const ACROSS: Ask = Ask::Read(0xff8, 16);
+
+const ALL: Ask = Ask::Read(0, 0x8000);
 
 const EACH: &str = "u0 u1 u2 u3 u4 u5 u6 u7";
 

@@ -1,6 +1,6 @@
-//! A front end and a back end of vhost, in two threads that share guest memory under a lock. The front end has a guest's
-//! I/O table and its driver. The back end serves a block device behind a table of few ranges, which it fills by asking.
-//! It prints what they did, and whether each byte that was read is the one that was written.
+//! A front end and a back end of vhost, in two threads that share guest memory under a lock. The front end has a
+//! guest's I/O table and its driver. The back end serves a block device behind a table of few ranges, which it fills
+//! by asking. It prints what they did, and whether each byte that was read is the one that was written.
 #![tactic(auto)]
 
 mod back;

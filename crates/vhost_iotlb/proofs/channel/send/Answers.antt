@@ -10,4 +10,5 @@ returns-in-Ok g c =
     let mid = g.W.Write.contents c.write_all.new.self in
     let new = g.W.Write.contents c.write_all-2.new.self in
     both old mid new (header_bytes c.args.header) c.args.payload.now
-    (subst (λ (bytes : List ℕ). Appends old mid bytes) c.encode.ensures c.in_default.ensures.bytes) c.in-Ok.ensures.bytes
+    (subst (λ (bytes : List ℕ). Appends old mid bytes) c.encode.ensures c.in_default.ensures.bytes)
+    c.in-Ok.ensures.bytes

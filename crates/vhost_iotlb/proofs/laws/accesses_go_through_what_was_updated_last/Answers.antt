@@ -15,12 +15,12 @@ returns c =
           subst (λ (es : List TableEvent).
           GoesThrough m.regions (a + i) (says_after_all es (a + i) (says t (a + i))) access x)
           (commands.events b.table regions ms calls old new t h)
-          (gone.all (bare old) (bare new) (commands_of b.table calls) (all_done calls) m b t a n i access x run on there
-          reached);
+          (gone.all (bare old) (bare new) (commands_of b.table calls) (all_done calls) m b t a n i access x run on
+          there reached);
       updated = λ regions ms calls old new m b t a n i iova to len access perm x h on there reached is.
           let run = commands.run b.table regions ms calls old new (bare old) h in
-          gone.set (bare old) (bare new) (commands_of b.table calls) (all_done calls) m b t a n i iova to len access perm
-          x run on there reached
+          gone.set (bare old) (bare new) (commands_of b.table calls) (all_done calls) m b t a n i iova to len access
+          perm x run on there reached
           (subst (λ (es : List TableEvent). IsLast (a + i) es (table.Set iova to len perm))
           (sym (commands.events b.table regions ms calls old new t h)) is);
       taken_back = λ regions ms calls old new m b t a n i access x call h on there reached is none.

@@ -11,7 +11,8 @@ returns c =
     record {
       all = λ number x regions ms calls old new t h there fits.
           let run = commands.run number regions ms calls old new (bare old) h in
-          let u = said.all (bare old) (bare new) (commands_of number calls) (all_done calls) number x t run there fits in (
+          let done = all_done calls in
+          let u = said.all (bare old) (bare new) (commands_of number calls) done number x t run there fits in (
             u.0,
             u.1,
             subst (λ (es : List TableEvent). says u.0 x ≡ says_after_all es x (says t x))
@@ -19,8 +20,7 @@ returns c =
           );
       last = λ number x regions ms calls old new t u call h there after fits is.
           let run = commands.run number regions ms calls old new (bare old) h in
+          let events = commands.events number regions ms calls old new t h in
           said.last (bare old) (bare new) (commands_of number calls) (all_done calls) number x t u call run there after
-          fits
-          (subst (λ (es : List TableEvent). IsLast x es call) (sym (commands.events number regions ms calls old new t h))
-          is);
+          fits (subst (λ (es : List TableEvent). IsLast x es call) (sym events) is);
     }

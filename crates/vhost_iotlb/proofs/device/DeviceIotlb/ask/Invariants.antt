@@ -3,4 +3,4 @@ use Rattle.vhost_iotlb.proofs.device.DeviceIotlb.ask.Given as goal
 
 -- the table is the one that it was
 abbrev pub invariant-loop-left : goal.invariant-loop-left
-invariant-loop-left g l = l.self ≡ l.fn.self
+invariant-loop-left g l = l.self.table ≡ l.fn.self.table
