@@ -5,8 +5,8 @@ use std::io::ErrorKind;
 use std::test::Fail;
 use vm_memory_base::ByteValued;
 
-// A value of many times the bytes that go to a writer or come from a reader at once, and a short one, also with a reader
-// that ends before the value, and with a writer that has no room for it.
+// A value of many times the bytes that go to a writer or come from a reader at once, and a short one, also with a
+// reader that ends before the value, and with a writer that has no room for it.
 #[test]
 fn values_go_through_streams(rt: HostRuntime) -> Result<(), Fail> {
     let mut long = [0u32; 256];

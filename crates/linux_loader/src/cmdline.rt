@@ -129,8 +129,8 @@ fn line_of(alloc: Global, text: &[u8], more: &[u8]) -> Result<Vec<u8>, AllocErro
 }
 
 impl Cmdline {
-    /// An empty line that has room for so many bytes, of which the last is the terminating zero. `InvalidCapacity` where
-    /// that is 0, and `Memory` where the allocation fails.
+    /// An empty line that has room for so many bytes, of which the last is the terminating zero. `InvalidCapacity`
+    /// where that is 0, and `Memory` where the allocation fails.
     pub fn new(alloc: Global, capacity: usize) -> Result<Cmdline, CmdlineError>
         ensures { MatchResult result
             (λ line. (line ≡ record { bytes = 0 ∷ []; capacity = capacity }) × (0 < capacity))

@@ -225,7 +225,8 @@ pub fn who_may_want_memory()
     ensures no_remove { MayWant machine (Remove 0 (at 0) 2) → ⊥ }
     ensures dirty { MayWant marked_machine (Dirty (Block 0)) }
     ensures clean { MayWant machine (Harvest (Block 0)) → ⊥ }
-    ensures untracked { MayWant (record machine { host = record host { bitmaps = None ∷ [] } }) (Harvest (Block 0)) → ⊥ }
+    ensures untracked { MayWant (record machine { host = record host { bitmaps = None ∷ [] } }) (Harvest (Block 0))
+        → ⊥ }
     ensures no_bitmap { MayWant machine (Harvest (Block 2)) → ⊥ }
     ensures set { MayWant machine (Set 0 (at 16) (at 2) 4 permissions.Read) }
     ensures set_of_nothing { MayWant machine (Set 0 (at 16) (at 2) 0 permissions.Read) → ⊥ }

@@ -189,8 +189,8 @@ pub struct GuestMemoryReader<M: GuestMemory + Drop> {
 impl<M: GuestMemory + Drop> GuestMemoryReader<M> {
     /// Lends the snapshot that the reader keeps, once it is of the last memory: where the memory was replaced since the
     /// last call, a new snapshot takes the place of the old one first. Only then may it wait, for a replacement that
-    /// is being made. So each replacement that was made before the call is seen, and never an older memory after a newer
-    /// one.
+    /// is being made. So each replacement that was made before the call is seen, and never an older memory after a
+    /// newer one.
     ///
     /// What is lent stays as it is for as long as it is lent. Its clone stays longer, and may be kept while the reader
     /// goes on. `AllocError` where the new memory has 2^63 - 1 owners. Then the reader keeps the old snapshot, and the

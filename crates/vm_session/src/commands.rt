@@ -281,8 +281,8 @@ fn read_slice(machine: &ScriptMachine, call: &Call, output: &mut [u8], answer: &
 // Writes the bytes of the input that fit.
 #[inline(never)]
 fn write(machine: &mut ScriptMachine, call: &Call, input: &[u8], answer: &mut Answer)
-    ensures { (out : List ℕ) → Does (state_made machine.old) (command_at Kind.Write call.now input.now) out answer.new out
-        (state_made machine.new) }
+    ensures { (out : List ℕ) → Does (state_made machine.old) (command_at Kind.Write call.now input.now) out answer.new
+        out (state_made machine.new) }
 {
     moved(
         machine.write(call.first, GuestAddress(call.address), input),

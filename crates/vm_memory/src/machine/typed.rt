@@ -38,7 +38,8 @@ impl<R: GuestMemoryRegion, I: Iommu, B: ExactBitmap> Machine<R, I, B> {
     ) -> Result<(), Refusal>
         ensures stored { let before = state_of R.region I.number B.pages self.old in
             WritesOf before memory addr.0 (length (T.bytes value))
-            (λ m host. stores_bytes m host addr.0 (T.bytes value)) (replied as_done result) (state_of R.region I.number B.pages self.new) }
+            (λ m host. stores_bytes m host addr.0 (T.bytes value)) (replied as_done result)
+            (state_of R.region I.number B.pages self.new) }
         ensures integer { let before = state_of R.region I.number B.pages self.old in
             (width : widths.Width) (number : ℕ) → IsInteger (T.bytes value) width number
             → Step before (command.Store memory width addr number) (replied as_done result)

@@ -93,7 +93,8 @@ impl Iotlb {
         requires { iova.0 + length < 2 ^ 64 }
         ensures ok { OnOk result (self.new ≡ changed (Set iova.0 map_to.0 length perm) self.old) }
         ensures says { OnOk result ((x : ℕ) → x < 2 ^ 64
-            → says self.new x ≡ says_after_all (events (Set iova.0 map_to.0 length perm) self.old) x (says self.old x)) }
+            → says self.new x
+            ≡ says_after_all (events (Set iova.0 map_to.0 length perm) self.old) x (says self.old x)) }
         ensures set { OnOk result ((x : ℕ) → covers (Set iova.0 map_to.0 length perm) x ≡ true
             → says self.new x ≡ says_after (Set iova.0 map_to.0 length perm) x None) }
         ensures limit { IfSome self.new.limit (λ n. range_count self.new ≤ n) }
