@@ -4,6 +4,8 @@
 #[cfg(test)]
 mod calls;
 #[cfg(test)]
+mod edges;
+#[cfg(test)]
 mod moved;
 #[cfg(test)]
 mod runs;

@@ -1,14 +1,11 @@
-//! The calls of a machine, each beside its command on an equal machine.
+//! The calls of a machine, each told as the reply of its command.
 
-use crate::calls::{ROUNDS, SIZE, bare_machine, round_of};
-use std::alloc::{AllocError, Global};
+use std::alloc::Global;
 use std::slice;
 use std::test::Fail;
-use test_machines::write_of;
 use vm_memory::{
-    BitmapId, BlockRange, ByteList, Command, Ending, ExactBitmap, Fault, GuestAddress,
-    GuestMemoryRegion, Iommu, Machine, NumberList, Permissions, Refusal, Reply, ScriptSink,
-    ScriptSource, SinkList, SinkStep, SourceList, SourceStep, Width, run,
+    ByteList, Command, Ending, ExactBitmap, Fault, GuestMemoryRegion, Iommu, Machine, NumberList,
+    Refusal, Reply, ScriptSink, ScriptSource, Width, run,
 };
 
 // What stands in a buffer before it is read into.
@@ -324,8 +321,8 @@ fn reply_of<R: GuestMemoryRegion, I: Iommu, B: ExactBitmap>(
     }
 }
 
-// Runs a command on one machine, and makes its call on the other. Fails where the answers differ.
-fn expect_same<R: GuestMemoryRegion, I: Iommu, B: ExactBitmap>(
+/// Runs a command on one machine, and makes its call on the other. Fails where the answers differ.
+pub fn expect_same<R: GuestMemoryRegion, I: Iommu, B: ExactBitmap>(
     alloc: Global,
     machine: &mut Machine<R, I, B>,
     called: &mut Machine<R, I, B>,
@@ -341,214 +338,6 @@ fn expect_same<R: GuestMemoryRegion, I: Iommu, B: ExactBitmap>(
     Ok(())
 }
 
-// Commands that are refused or done in part, each with a number that names nothing, a hole, or a range too long. The
-// regions have the addresses below 0x1388 and from 0x10000 on; memory 0 is plain, and memory 1 behind the IOMMU, whose
-// table maps 0x5000 to 0 for reads alone.
-fn edges(alloc: Global, memory: usize) -> Result<Vec<Command>, AllocError> {
-    let mut commands = Vec::new(alloc);
-    for (addr, count) in [
-        (0x1380, 0x10),
-        (0x1388, 4),
-        (0x5380, 0x100),
-        (0x5ff0, 0x20),
-        (0xfff8, 0x10),
-        (0x1_0000, 0x10),
-        (u64::MAX, 3),
-        (0x10, 0),
-    ] {
-        let addr = GuestAddress(addr);
-        commands.push(Command::Read {
-            memory,
-            addr,
-            count,
-        })?;
-        commands.push(Command::ReadSlice {
-            memory,
-            addr,
-            count,
-        })?;
-        commands.push(write_of(alloc, memory, addr.0, &[1, 2, 3, 4, 5, 6, 7, 8, 9])?)?;
-        let bytes = ByteList::from_vec(Vec::from_slice(alloc, &[9, 8, 7, 6, 5, 4, 3, 2, 1])?);
-        commands.push(Command::WriteSlice {
-            memory,
-            addr,
-            bytes,
-        })?;
-        for width in [Width::One, Width::Two, Width::Four, Width::Eight] {
-            commands.push(Command::Store {
-                memory,
-                width,
-                addr,
-                value: 0x81,
-            })?;
-            commands.push(Command::Load {
-                memory,
-                width,
-                addr,
-            })?;
-        }
-        commands.push(Command::CheckRange {
-            memory,
-            addr,
-            count,
-            access: Permissions::Read,
-        })?;
-    }
-    Ok(commands)
-}
-
-fn nothing(alloc: Global) -> ByteList {
-    ByteList::from_vec(Vec::new(alloc))
-}
-
-// Transfers whose sources and sinks fail, end or are interrupted.
-fn failing(alloc: Global, memory: usize) -> Result<Vec<Command>, AllocError> {
-    let mut commands = Vec::new(alloc);
-    for addr in [0x10, 0x1384, 0x53fc, 0x2000] {
-        let addr = GuestAddress(addr);
-        let given = ByteList::from_vec(Vec::from_slice(alloc, &[3, 1, 4])?);
-        let source = vec![in alloc; SourceStep::Give(given), SourceStep::Fail(nothing(alloc))]?;
-        commands.push(Command::ReadExactFrom {
-            memory,
-            addr,
-            count: 6,
-            source: SourceList::from_vec(source),
-        })?;
-        let given = ByteList::from_vec(Vec::from_slice(alloc, &[1, 5])?);
-        let source = vec![in alloc;
-            SourceStep::Interrupted(nothing(alloc)),
-            SourceStep::Give(given),
-        ]?;
-        commands.push(Command::ReadFrom {
-            memory,
-            addr,
-            count: 6,
-            source: SourceList::from_vec(source),
-        })?;
-        let sink = vec![in alloc; SinkStep::Take(2), SinkStep::Interrupted, SinkStep::Take(1)]?;
-        commands.push(Command::WriteTo {
-            memory,
-            addr,
-            count: 6,
-            sink: SinkList::from_vec(sink),
-        })?;
-        let sink = vec![in alloc; SinkStep::Take(3), SinkStep::Fail]?;
-        commands.push(Command::WriteAllTo {
-            memory,
-            addr,
-            count: 8,
-            sink: SinkList::from_vec(sink),
-        })?;
-    }
-    Ok(commands)
-}
-
-// A mapping of 0x400 addresses, and a range that passes 2^64 - 1.
-fn mapped(perm: Permissions) -> [Command; 2] {
-    [
-        Command::Set {
-            table: 0,
-            iova: GuestAddress(0x5000),
-            map_to: GuestAddress(0),
-            length: 0x400,
-            perm,
-        },
-        Command::Set {
-            table: 0,
-            iova: GuestAddress(u64::MAX),
-            map_to: GuestAddress(0),
-            length: 1,
-            perm,
-        },
-    ]
-}
-
-// Calls that name nothing, or whose range is too long.
-fn absent() -> [Command; 13] {
-    let from = BlockRange {
-        block: 0,
-        offset: SIZE,
-        len: 0,
-    };
-    let long = BlockRange {
-        block: 0,
-        offset: SIZE,
-        len: 1,
-    };
-    let none = BlockRange {
-        block: 9,
-        offset: 0,
-        len: 0,
-    };
-    let iova = GuestAddress(0x5000);
-    [
-        Command::Insert {
-            layout: 0,
-            region: 9,
-        },
-        Command::Remove {
-            layout: 0,
-            base: GuestAddress(0),
-            size: 1,
-        },
-        Command::ReplaceBackend {
-            memory: 0,
-            layout: 0,
-        },
-        Command::Enable {
-            memory: 0,
-            on: true,
-        },
-        Command::NewMemory {
-            layout: 0,
-            translator: 9,
-            space: 0,
-            on: true,
-        },
-        Command::Copy { from, to: long },
-        Command::Copy { from, to: none },
-        Command::Dirty(BitmapId::Block(9)),
-        Command::Harvest(BitmapId::Space(9)),
-        Command::Invalidate {
-            table: 0,
-            iova: GuestAddress(u64::MAX),
-            length: 1,
-        },
-        Command::InvalidateAll(9),
-        Command::Lookup {
-            table: 9,
-            iova,
-            length: 1,
-            access: Permissions::Read,
-        },
-        Command::Lookup {
-            table: 0,
-            iova,
-            length: 0x500,
-            access: Permissions::ReadWrite,
-        },
-    ]
-}
-
-// What is left at the end.
-fn last() -> [Command; 4] {
-    [
-        Command::Read {
-            memory: 0,
-            addr: GuestAddress(0),
-            count: SIZE,
-        },
-        Command::Harvest(BitmapId::Block(0)),
-        Command::Harvest(BitmapId::Space(0)),
-        Command::Lookup {
-            table: 0,
-            iova: GuestAddress(0),
-            length: 0x6000,
-            access: Permissions::Read,
-        },
-    ]
-}
-
 fn is_short(command: &Command) -> bool {
     match command {
         Command::Read { count, .. } => *count <= MOST,
@@ -556,7 +345,8 @@ fn is_short(command: &Command) -> bool {
     }
 }
 
-fn expect_all<R: GuestMemoryRegion, I: Iommu, B: ExactBitmap>(
+/// Does so with each command but those that read more than a buffer of a test has.
+pub fn expect_all<R: GuestMemoryRegion, I: Iommu, B: ExactBitmap>(
     alloc: Global,
     machine: &mut Machine<R, I, B>,
     called: &mut Machine<R, I, B>,
@@ -567,55 +357,5 @@ fn expect_all<R: GuestMemoryRegion, I: Iommu, B: ExactBitmap>(
             expect_same(alloc, machine, called, command)?;
         }
     }
-    Ok(())
-}
-
-#[test]
-fn calls_of_a_machine_answer_as_their_commands(rt: HostRuntime) -> Result<(), Fail> {
-    let alloc = rt.alloc();
-    let mut machine = bare_machine(alloc)?;
-    let mut called = bare_machine(alloc)?;
-    for round in 0..ROUNDS {
-        let commands = round_of(alloc, round)?;
-        expect_all(alloc, &mut machine, &mut called, commands.as_slice())?;
-    }
-    for perm in [Permissions::Read, Permissions::ReadWrite] {
-        expect_all(alloc, &mut machine, &mut called, &mapped(perm))?;
-        for memory in [0, 1, usize::MAX] {
-            let commands = edges(alloc, memory)?;
-            expect_all(alloc, &mut machine, &mut called, commands.as_slice())?;
-            let commands = failing(alloc, memory)?;
-            expect_all(alloc, &mut machine, &mut called, commands.as_slice())?;
-        }
-        expect_all(alloc, &mut machine, &mut called, &absent())?;
-    }
-    expect_all(alloc, &mut machine, &mut called, &last())
-}
-
-// A source and a sink that follow no script: bytes, and a vector.
-#[test]
-fn calls_move_bytes_of_any_source_and_to_any_sink(rt: HostRuntime) -> Result<(), Fail> {
-    let alloc = rt.alloc();
-    let mut machine = bare_machine(alloc)?;
-    let layout = machine.from_regions(&[0, 1]);
-    assert_eq!(rt; layout, Ok(0));
-    assert_eq!(rt; machine.plain(0), Ok(0));
-    let mut source: &[u8] = &[1, 2, 3, 4, 5, 6, 7, 8, 9, 10];
-    let addr = GuestAddress(0x1384);
-    assert_eq!(rt; machine.read_volatile_from(0, addr, &mut source, 6), Ok(4));
-    assert_eq!(rt; source, [5, 6, 7, 8, 9, 10].as_slice());
-    let exact = machine.read_exact_volatile_from(0, GuestAddress(0x1_0000), &mut source, 6);
-    assert_eq!(rt; exact, Ok(()));
-    assert_eq!(rt; source.len(), 0);
-    let mut sink = Vec::new(alloc);
-    assert_eq!(rt; machine.write_volatile_to(0, addr, &mut sink, 8), Ok(4));
-    assert_eq!(rt; sink.as_slice(), [1, 2, 3, 4].as_slice());
-    // The first bytes of both regions are the same bytes.
-    let all = machine.write_all_volatile_to(0, GuestAddress(0), &mut sink, 3);
-    assert_eq!(rt; all, Ok(()));
-    assert_eq!(rt; sink.as_slice(), [1, 2, 3, 4, 5, 6, 7].as_slice());
-    let none = machine.write_volatile_to(1, addr, &mut sink, 8);
-    assert_eq!(rt; none, Err(Refusal::NoSuch));
-    assert_eq!(rt; sink.len(), 7);
     Ok(())
 }

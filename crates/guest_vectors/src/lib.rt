@@ -1,8 +1,6 @@
-//! Tests of guest memory, with their expected values as data.
+//! Tests of values in guest memory, of transfers from and to lists, and of the texts of errors.
 #![tactic(auto)]
 
-#[cfg(test)]
-mod answers;
 #[cfg(test)]
 mod lists;
 #[cfg(test)]

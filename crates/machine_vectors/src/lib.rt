@@ -1,10 +1,8 @@
-//! Tests of machines, of snapshots, of memory behind an IOMMU and of chains.
+//! Tests of machines, of snapshots, and of memory behind an IOMMU.
 #![tactic(auto)]
 
 #[cfg(test)]
 mod atomic;
-#[cfg(test)]
-mod chain;
 #[cfg(test)]
 mod iommu;
 #[cfg(test)]

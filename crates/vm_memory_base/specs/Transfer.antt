@@ -289,12 +289,21 @@ offered n sink = offered_next n sink.next sink.room
 abbrev pub TakesAs : Type 0 → Option Sink → ℕ → Answer → Option Sink → Type 0
 TakesAs may_want sink n answer after = IfSome sink (λ before.
     let o = offered n before in
-    ((answer ≡ Err Memory) × (0 < n) × may_want × (after ≡ Some before)) ⊎ ((answer ≡ o.answer) × (after ≡ Some o.left)))
+    ((answer ≡ Err Memory) × (0 < n) × may_want × (after ≡ Some before))
+    ⊎ ((answer ≡ o.answer) × (after ≡ Some o.left)))
 
 -- a sink that keeps what it takes has taken the first bytes of what it was offered
 abbrev pub Keeps : Option (List ℕ) → List ℕ → ℕ → Option (List ℕ) → Type 0
 Keeps None bytes count after = Unit {0}
 Keeps (Some before) bytes count after = after ≡ Some (before ++ take count bytes)
+
+-- one write of a sink: of the bytes that it was offered, its answer, and the sink before and after it
+module _ {S : Type 0} (sink : S → Option Sink) (taken : S → Option (List ℕ)) (may_want : S → Type 0)
+    (writes : S → List ℕ → Answer → S → Type 0) where
+  abbrev pub TakesOnce : List ℕ → S → Answer → S → Type 0
+  TakesOnce bytes old answer new = TakesAs (may_want old) (sink old) (length bytes) answer (sink new)
+      × Keeps (taken old) bytes (count_of answer) (taken new) × (may_want new → may_want old)
+      × writes old bytes answer new
 
 -- a sink that tells what it does next was offered n bytes by tries. Or it wanted memory, where it may
 abbrev pub OffersAs : Type 0 → Option Sink → ℕ → Answer → Option Sink → Type 0
@@ -321,8 +330,8 @@ SendsAs may_want sink n count answer after = IfSome sink (λ before.
     ⊎ ((answer ≡ sent_as s.stop) × (count ≡ s.count) × (after ≡ Some s.left)))
 
 -- bytes were sent to a sink by tries of what is left of them, until all are taken or the sink takes none
-abbrev pub SendsBy : {S : Type 0} → (S → List ℕ → Answer → S → Type 0) → S → List ℕ → ℕ
+abbrev pub SendsBy : {S : Type 0} → (List ℕ → S → Answer → S → Type 0) → S → List ℕ → ℕ
     → Result (Unit {0}) VolatileMemoryError → S → Type 0
-SendsBy writes old bytes count answer after = (stop : Stop)
-    × WholeOf (λ done. Again (λ sink. writes sink (drop done bytes))) (length bytes) old count stop after
+SendsBy Try old bytes count answer after = (stop : Stop)
+    × WholeOf (λ done. Again (Try (drop done bytes))) (length bytes) old count stop after
     × (answer ≡ sent_as stop)

@@ -4,5 +4,6 @@ pub mod ByteCodes
 pub mod NewPages
 pub mod OptionalPages
 pub mod PairCodes
+pub mod Told
 pub mod Turns
 pub mod Vectors

@@ -1,8 +1,8 @@
 //! Sources and sinks of bytes, and what accesses of windows answer.
 ghost use Rattle.std.specs.Prelude.{◌≡◌, ℕ, ◌≤◌, List, length, Option, IfOk, IfErr, OnOk, if◌then◌else◌, ⊤};
 ghost use Rattle.std.specs.IoError.{error_kind};
-ghost use Rattle.vm_memory_base.specs.Transfer.{Answer, Next, ReadsAs, FillsAs, FillsBy, is_short};
-ghost use Rattle.vm_memory_base.specs.Transfer.{Sink, TakesAs, SendsAs, SendsBy, Keeps, count_of};
+ghost use Rattle.vm_memory_base.specs.Transfer.{Answer, Next, ReadsAs, FillsBy, is_short};
+ghost use Rattle.vm_memory_base.specs.Transfer.{Sink, TakesAs, TakesOnce, SendsBy, Keeps, count_of};
 
 mod in_memory;
 mod scripted;
@@ -153,8 +153,6 @@ pub trait ReadVolatile {
     /// 65th interruption is answered, and any other error at once. `UnexpectedEof` where the source ends before.
     final fn read_exact_volatile(&mut self, buf: &mut [u8]) -> Result<(), ReadExactFault>
         ensures touched { IfErr result (λ fault. fault.touched ≤ length buf.old) }
-        ensures tells { FillsAs (known_left self.old) (source self.old) buf.old result buf.new
-            (source self.new) }
         ensures reads { FillsBy source reads known_left self.old buf.old result buf.new self.new }
     {
         let all = buf.len();
@@ -239,10 +237,7 @@ pub trait WriteVolatile {
     /// bytes that are left.
     final fn write_all_volatile(&mut self, buf: &[u8]) -> VolatileMemoryResult<()>
         ensures sends { (count : ℕ) × (count ≤ length buf.now) × OnOk result (count ≡ length buf.now)
-            × Keeps (taken self.old) buf.now count (taken self.new)
-            × SendsAs (may_want self.old) (sink self.old) (length buf.now) count result (sink self.new)
-            × SendsBy writes self.old buf.now count result self.new }
-        ensures wants { may_want self.new → may_want self.old }
+            × SendsBy (TakesOnce sink taken may_want writes) self.old buf.now count result self.new }
     {
         let mut done = 0;
         while done < buf.len() {

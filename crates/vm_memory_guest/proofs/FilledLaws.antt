@@ -116,7 +116,7 @@ module _ (test : VolatileMemoryError → Bool) where
     pub sends_told : (w : Window) (x z : S) (a : Answer) → Takes sink taken wants writes blocks UntilWhole w x a z
         → Told a
     sends_told w x z a l =
-        let turns = rest_told (λ done x z a t. again_told (λ x z a u. each x z _ a u) t) l.written_by.1 in
+        let turns = rest_told (λ done x z a t. again_told (λ x z a u. each x z _ a u.3) t) l.written_by.1 in
         subst Told (sym (l.told ∙ ap (answered (λ all. w.size)) l.written_by.2))
         (sent_told w.size l.count l.written_by.0 turns)
 

@@ -4,6 +4,7 @@ use Rattle.std.proofs.lemmas.Bool.Decides.{nat_tests}
 use Rattle.vm_memory_base.specs.Transfer.{Answer, Sink, Keeps, Made, SendsAs, sent, sent_as}
 use Rattle.vm_memory_base.specs.declared.io.VolatileMemoryError.{VolatileMemoryError}
 use Rattle.vm_memory_base.specs.declared.io.VolatileMemoryError.TheVariants.{Memory}
+use Rattle.vm_memory_base.specs.lemmas.Told.{sends_tell}
 use Rattle.vm_memory_base.specs.lemmas.Turns.{Does}
 use Rattle.vm_memory_guest.specs.Dealt.{after_move, given_out, in_order, sent_whole}
 use Rattle.vm_memory_guest.specs.Transfer.{InOrder, Sends, ended}
@@ -26,6 +27,14 @@ module _ {S E : Type 0} (sink : S → Option Sink) (taken : S → Option (List �
   abbrev Moves : Window → S → Answer → S → Type 0
   Moves = Sends sink taken wants writes blocks
 
+  -- what the sink tells of a window that it was sent
+  tells_of : (w : Window) (x z : S) (moved : Answer) (m : Moves w x moved z)
+      → SendsAs (wants x) (sink x) w.size m.count m.sent (sink z)
+      × Keeps (taken x) (bytes_at blocks (cells_of w)) m.count (taken z) × (wants z → wants x)
+  tells_of w x z moved m =
+      let t = sends_tell sink taken wants writes (bytes_at blocks (cells_of w)) x z m.count m.sent m.written_by in
+      (subst (λ (n : ℕ). SendsAs (wants x) (sink x) n m.count m.sent (sink z)) (length-bytes blocks w) t.0, t.1, t.2)
+
   -- the same as is computed
   abbrev IsGiven : S → Sink × ℕ → Type 0
   IsGiven x y = sink x ≡ Some y.0
@@ -33,7 +42,8 @@ module _ {S E : Type 0} (sink : S → Option Sink) (taken : S → Option (List �
   sends_does : (w : Window) (x z : S) (moved : Answer) (y : Sink × ℕ) → IsGiven x y → Moves w x moved z
       → Does IsGiven wants x moved z (sent_whole w y)
   sends_does w x z moved y like m =
-      elim (subst (λ (o : Option Sink). SendsAs (wants x) o w.size m.count m.sent (sink z)) like m.tried) [
+      let told = (tells_of w x z moved m).0 in
+      elim (subst (λ (o : Option Sink). SendsAs (wants x) o w.size m.count m.sent (sink z)) like told) [
         | inl wanted ↦ inl (m.told ∙ ap (answered (λ all. w.size)) wanted.0, wanted.2)
         | inr is ↦ inr (m.told ∙ ap (answered (λ all. w.size)) is.0, is.2)
       ]
@@ -45,7 +55,7 @@ module _ {S E : Type 0} (sink : S → Option Sink) (taken : S → Option (List �
       (Wanted answer old ⊎ ((answer ≡ g.answer) × (sink new ≡ Some g.left)))
   given_is ws total state old answer new tells h =
       order_does failure fault IsGiven wants Moves sent_whole sends_does
-      (λ w x z moved m. m.wanted) ws total old answer new
+      (λ w x z moved m. (tells_of w x z moved m).2) ws total old answer new
       (state, total) tells h
 
   -- ---- what the sink took
@@ -126,7 +136,8 @@ module _ {S E : Type 0} (sink : S → Option Sink) (taken : S → Option (List �
         ap taken h.1 ∙ has ∙ ap (λ (bs : List ℕ). Some (before ++ bs)) (sym (part_of_first w ws k within)),
         failed_count answer (failure e) (total + k) h.0,
         λ y tells here.
-            elim (subst (λ (o : Option Sink). SendsAs (wants old) o w.size k m.sent (sink mid)) tells m.tried) [
+            elim (subst (λ (o : Option Sink). SendsAs (wants old) o w.size k m.sent (sink mid)) tells
+            (tells_of w old mid moved m).0) [
               | inl wanted ↦
                   (let same : e ≡ Memory = cc in
                   inl (h.0 ∙ ap (λ (f : VolatileMemoryError). Err (failure f)) same, wanted.2))
@@ -144,13 +155,14 @@ module _ {S E : Type 0} (sink : S → Option Sink) (taken : S → Option (List �
         t.2 ∙ ap (λ (bs : List ℕ). Some bs) (and_more w ws before t.0),
         ok_count answer total w.size t.0 t.3,
         λ y tells here.
-            elim (subst (λ (o : Option Sink). SendsAs (wants old) o w.size m.count m.sent (sink mid)) tells m.tried) [
+            elim (subst (λ (o : Option Sink). SendsAs (wants old) o w.size m.count m.sent (sink mid)) tells
+            (tells_of w old mid moved m).0) [
               | inl wanted ↦ absurd (cc)
               | inr does ↦ rw (sym does.0 ∙ is, same) (
                   let s = sent w.size y.0 in
                   let now : y.1 + s.count ≡ total + w.size = let a = does.1 in omega arith in
                   elim (t.4 (s.left, y.1 + s.count) does.2 now) [
-                    | inl want ↦ inl (want.0, m.wanted want.1)
+                    | inl want ↦ inl (want.0, (tells_of w old mid moved m).2 want.1)
                     | inr counts ↦ inr (let a = counts in omega arith)
                   ])
             ],
@@ -170,7 +182,7 @@ module _ {S E : Type 0} (sink : S → Option Sink) (taken : S → Option (List �
   taken_is (w ∷ ws) total before old answer new keeps h =
       let m = h.2 in
       let has = subst (λ (o : Option (List ℕ)). Keeps o (bytes_at blocks (cells_of w)) m.count
-      (taken h.1)) keeps m.keeps in
+      (taken h.1)) keeps (tells_of w old h.1 h.0 m).1 in
       took_on w ws before total old h.1 answer new h.0 m has
       (λ now at k. taken_is ws (total + w.size) now h.1 answer new at k) m.sent refl m.whole
       (subst (λ (r : Answer). Then failure fault Moves w ws total h.1 answer new r) m.told h.3)

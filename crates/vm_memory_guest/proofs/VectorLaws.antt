@@ -4,7 +4,7 @@ use Rattle.std.proofs.lemmas.Bool.Decides.{nat_tests}
 use Rattle.vm_memory_base.specs.InMemory.{HasAllOrNone, WritesWhole}
 use Rattle.vm_memory_base.specs.Transfer.{Answer, Sink}
 use Rattle.vm_memory_base.specs.declared.io.VolatileMemoryError.{VolatileMemoryError}
-use Rattle.vm_memory_base.specs.lemmas.Vectors.{sends_whole}
+use Rattle.vm_memory_base.specs.lemmas.Vectors.{takes_whole}
 use Rattle.vm_memory_guest.specs.Host.{bytes_at}
 use Rattle.vm_memory_guest.specs.Transfer.{InOrder, Sends}
 use Rattle.vm_memory_guest.specs.Typed.{answered}
@@ -68,5 +68,6 @@ module _ {S E : Type 0} (items : S → List ℕ) (sink : S → Option Sink) (tak
   windows_whole (w ∷ ws) total old answer new h =
       let m = h.2 in
       next w ws total old h.1 answer new (λ rest. windows_whole ws (total + w.size) h.1 answer new rest) m.sent
-      (sends_whole items writes each (bytes_at blocks (cells_of w)) old h.1 m.count m.sent m.written_by)
+      (takes_whole items sink taken wants writes each (bytes_at blocks (cells_of w)) old h.1 m.count m.sent
+      m.written_by)
       (subst (λ (r : Answer). Then failure fault Moves w ws total h.1 answer new r) m.told h.3)

@@ -1,6 +1,6 @@
 -- Transfers between windows of a host and sources or sinks of bytes.
 use Rattle.std.specs.Prelude.{◌≡◌, ◌⊎◌, ℕ, ◌+◌, ◌-◌, ◌≤◌, ◌==◌, Bool, true, false, if◌then◌else◌, min, List, [], ◌∷◌, length, Option, Some, None, Result, Ok, Err, OnOk, IfOk, MatchBool, MatchResult}
-use Rattle.vm_memory_base.specs.Transfer.{Answer, Next, ReadsAs, FillsAs, FillsBy, Sink, OffersAs, SendsAs, SendsBy, Keeps, count_of, Stop, counted_as, Again, WholeOf}
+use Rattle.vm_memory_base.specs.Transfer.{Answer, Next, ReadsAs, FillsBy, Sink, TakesOnce, SendsBy, Stop, counted_as, Again, WholeOf}
 use Rattle.vm_memory_base.specs.declared.io.ReadExactFault.{ReadExactFault}
 use Rattle.vm_memory_base.specs.declared.io.VolatileMemoryError.{VolatileMemoryError}
 use Rattle.vm_memory_guest.specs.Answer.{Reach}
@@ -69,7 +69,6 @@ module _ {S B : Type 0} (source : S → Option (List Next)) (reads : S → List 
     pub bytes : List ℕ
     pub filled : Result (Unit {0}) ReadExactFault
     pub size : length bytes ≡ w.size
-    pub tried : FillsAs (known old.0) (source old.0) (bytes_at old.1.blocks (cells_of w)) filled bytes (source new.0)
     pub read : FillsBy source reads known old.0 (bytes_at old.1.blocks (cells_of w)) filled bytes new.0
     pub told : answer ≡ filled_of w.size filled
     pub marked : MarksWindow marks (front w (touched_of w.size filled))
@@ -86,10 +85,7 @@ module _ {S : Type 0} (sink : S → Option Sink) (taken : S → Option (List ℕ
   -- by one try
   pub record Offers (w : Window) (old : S) (answer : Answer) (new : S) : Type 0 where
     pub within : IfOk answer (λ count. count ≤ w.size)
-    pub tried : OffersAs (wants old) (sink old) w.size answer (sink new)
-    pub written_by : Again (λ s. writes s (bytes_at blocks (cells_of w))) old answer new
-    pub keeps : Keeps (taken old) (bytes_at blocks (cells_of w)) (count_of answer) (taken new)
-    pub wanted : wants new → wants old
+    pub written_by : Again (TakesOnce sink taken wants writes (bytes_at blocks (cells_of w))) old answer new
 
   -- until all are taken
   pub record Sends (w : Window) (old : S) (answer : Answer) (new : S) : Type 0 where
@@ -97,11 +93,8 @@ module _ {S : Type 0} (sink : S → Option Sink) (taken : S → Option (List ℕ
     pub sent : Result (Unit {0}) VolatileMemoryError
     pub within : count ≤ w.size
     pub whole : OnOk sent (count ≡ w.size)
-    pub tried : SendsAs (wants old) (sink old) w.size count sent (sink new)
-    pub written_by : SendsBy writes old (bytes_at blocks (cells_of w)) count sent new
-    pub keeps : Keeps (taken old) (bytes_at blocks (cells_of w)) count (taken new)
+    pub written_by : SendsBy (TakesOnce sink taken wants writes) old (bytes_at blocks (cells_of w)) count sent new
     pub told : answer ≡ answered (λ all. w.size) sent
-    pub wanted : wants new → wants old
 
   abbrev pub Takes : Moving → Window → S → Answer → S → Type 0
   Takes Once = Offers

@@ -50,7 +50,8 @@ module _ {X : Type 0} where
 
   pub rest_is : {Turn Other : ℕ → X → Answer → X → Type 0} {n : ℕ}
       → ((done : ℕ) (x z : X) (a : Answer) → Turn done x a z → Other done x a z)
-      → {done total : ℕ} {x z : X} {stop : Stop} → RestOf Turn n done x total stop z → RestOf Other n done x total stop z
+      → {done total : ℕ} {x z : X} {stop : Stop} → RestOf Turn n done x total stop z
+      → RestOf Other n done x total stop z
   rest_is each (AllMoved full) = AllMoved full
   rest_is each (NoneMoved some t) = NoneMoved some (each _ _ _ _ t)
   rest_is each (TurnFailed some t) = TurnFailed some (each _ _ _ _ t)
@@ -79,24 +80,26 @@ module _ {X Y : Type 0} (Like : X → Y → Type 0) (Wants : X → Type 0) where
     unfolding again_upto
     again_does {x = x} {z = z} {answer = answer} (Last t) y like = each x z answer y like t
     again_does {more = zero} {x = x} {z = z} {answer = answer} (Done t is) y like = each x z answer y like t
-    again_does {more = suc more} {x = x} {z = z} {answer = answer} (Done t is) y like = elim (each x z answer y like t) [
-      | inl wanted ↦ inl wanted
-      | inr does ↦ rw (told false answer y does.0 is) (inr does)
-    ]
-    again_does {more = suc more} {x = x} {z = z} {answer = answer} (Retry {y = mid} {tried = tried} t is rest) y like = elim (each x mid tried y like t) [
-      | inl wanted ↦
-          absurd (true≢false (sym is ∙ ap (λ (r : Answer). is_interrupted r) wanted.0))
-      | inr does ↦ rw (told true tried y does.0 is) (elim (again_does rest (try y).left does.1) [
-        | inl wanted ↦ inl (wanted.0, back x mid tried t wanted.1)
-        | inr others ↦ inr others
-      ])
-    ]
+    again_does {more = suc more} {x = x} {z = z} {answer = answer} (Done t is) y like =
+        elim (each x z answer y like t) [
+          | inl wanted ↦ inl wanted
+          | inr does ↦ rw (told false answer y does.0 is) (inr does)
+        ]
+    again_does {more = suc more} {x = x} (Retry {y = mid} {tried = tried} t is rest) y like =
+        elim (each x mid tried y like t) [
+          | inl wanted ↦ absurd (true≢false (sym is ∙ ap (λ (r : Answer). is_interrupted r) wanted.0))
+          | inr does ↦ rw (told true tried y does.0 is) (elim (again_does rest (try y).left does.1) [
+            | inl wanted ↦ inl (wanted.0, back x mid tried t wanted.1)
+            | inr others ↦ inr others
+          ])
+        ]
 
   module _ (Turn : ℕ → X → Answer → X → Type 0) (turn : ℕ → Y → Made VolatileMemoryError Y) (n : ℕ)
       (each : (done : ℕ) (x z : X) (answer : Answer) (y : Y) → done < n → Like x y → Turn done x answer z
       → Does x answer z (turn done y))
       (back : (done : ℕ) (x z : X) (answer : Answer) → Turn done x answer z → Wants z → Wants x) where
-    ends : (turns done : ℕ) (y : Y) → n ≤ done → rest_of turn n turns done y ≡ record { count = done; stop = Whole; left = y }
+    ends : (turns done : ℕ) (y : Y) → n ≤ done
+        → rest_of turn n turns done y ≡ record { count = done; stop = Whole; left = y }
     unfolding rest_of
     ends zero done y full = refl
     ends (suc turns) done y full =
@@ -114,17 +117,18 @@ module _ {X Y : Type 0} (Like : X → Y → Type 0) (Wants : X → Type 0) where
     pub rest_does : {done total : ℕ} {x z : X} {stop : Stop} → RestOf Turn n done x total stop z → (turns : ℕ)
         → n - done ≤ turns → (y : Y) → Like x y → DoesWhole x total stop z (rest_of turn n turns done y)
     rest_does {done = done} (AllMoved full) turns enough y like = rw (ends turns done y full) (inr (refl, refl, like))
-    rest_does {done = done} {x = x} {z = z} (NoneMoved some t) turns enough y like = elim (each done x z (Ok 0) y some like t) [
-      | inl wanted ↦ absurd (cc)
-      | inr does ↦ rw (goes_on turns done y (Ok 0) some enough does.0) (inr (refl, refl, does.1))
-    ]
+    rest_does {done = done} {x = x} {z = z} (NoneMoved some t) turns enough y like =
+        elim (each done x z (Ok 0) y some like t) [
+          | inl wanted ↦ absurd (cc)
+          | inr does ↦ rw (goes_on turns done y (Ok 0) some enough does.0) (inr (refl, refl, does.1))
+        ]
     rest_does {done = done} {x = x} {z = z} (TurnFailed {error = error} some t) turns enough y like =
         elim (each done x z (Err error) y some like t) [
           | inl wanted ↦ inl (cc, wanted.1)
           | inr does ↦ rw (goes_on turns done y (Err error) some enough does.0) (inr (refl, refl, does.1))
         ]
     rest_does (SomeMoved {count = zero} some t moved rest) turns enough y like = absurd (omega arith)
-    rest_does {done = done} {x = x} {z = z} (SomeMoved {count = suc more} {y = mid} some t moved rest) turns enough y like =
+    rest_does {done = done} {x = x} (SomeMoved {count = suc more} {y = mid} some t moved rest) turns enough y like =
         elim (each done x mid (Ok (suc more)) y some like t) [
           | inl wanted ↦ absurd (cc)
           | inr does ↦ rw (goes_on turns done y (Ok (suc more)) some enough does.0) (

@@ -1,9 +1,9 @@
 -- What a vector has more after bytes were sent to it: all of them, or none.
-use Rattle.std.proofs.Common.{◌≡◌, ℕ, ◌≤◌, true, List, [], ◌∷◌, ◌++◌, length, drop, Result, Ok, Err, append-nil, refl, sym, ap, ◌∙◌, arith}
+use Rattle.std.proofs.Common.{◌≡◌, ℕ, ◌≤◌, true, List, [], ◌∷◌, ◌++◌, length, drop, Option, Result, Ok, Err, append-nil, refl, sym, ap, ◌∙◌, arith}
 use Rattle.std.proofs.lemmas.List.{length-drop}
 use mathlib.Core.Bool.{true≢false}
 use Rattle.vm_memory_base.specs.InMemory.{HasAllOrNone, WritesWhole}
-use Rattle.vm_memory_base.specs.Transfer.{Answer, is_interrupted, is_interrupted_by, Stop, AgainUpto, Last, Done, Retry, Again, RestOf, AllMoved, NoneMoved, TurnFailed, SomeMoved, sent_as, SendsBy}
+use Rattle.vm_memory_base.specs.Transfer.{Answer, is_interrupted, is_interrupted_by, Stop, AgainUpto, Last, Done, Retry, Again, RestOf, AllMoved, NoneMoved, TurnFailed, SomeMoved, sent_as, SendsBy, Sink, TakesOnce}
 use Rattle.vm_memory_base.specs.declared.io.VolatileMemoryError.{VolatileMemoryError}
 
 not_interrupted : (old bytes : List ℕ) (answer : Answer) (new : List ℕ) → WritesWhole old bytes answer new
@@ -16,12 +16,12 @@ nothing_more old [] none = sym (append-nil old)
 nothing_more old (b ∷ bs) none = absurd (omega arith)
 
 -- a sink that holds bytes, and each of whose writes takes all or none
-module _ {S : Type 0} (items : S → List ℕ) (writes : S → List ℕ → Answer → S → Type 0)
-    (each : (s t : S) (bytes : List ℕ) (answer : Answer) → writes s bytes answer t
+module _ {S : Type 0} (items : S → List ℕ) (Try : List ℕ → S → Answer → S → Type 0)
+    (each : (s t : S) (bytes : List ℕ) (answer : Answer) → Try bytes s answer t
     → WritesWhole (items s) bytes answer (items t)) where
   -- it is never tried again
   tries_whole : (bytes : List ℕ) {more : ℕ} {x z : S} {answer : Answer}
-      → AgainUpto (λ s. writes s bytes) more x answer z → WritesWhole (items x) bytes answer (items z)
+      → AgainUpto (Try bytes) more x answer z → WritesWhole (items x) bytes answer (items z)
   tries_whole bytes {x = x} {z = z} {answer = answer} (Last t) = each x z bytes answer t
   tries_whole bytes {x = x} {z = z} {answer = answer} (Done t is) = each x z bytes answer t
   tries_whole bytes {x = x} (Retry {y = y} {tried = tried} t is rest) =
@@ -29,7 +29,7 @@ module _ {S : Type 0} (items : S → List ℕ) (writes : S → List ℕ → Answ
 
   module _ (bytes : List ℕ) where
     abbrev Turns : ℕ → S → Answer → S → Type 0
-    Turns done = Again (λ s. writes s (drop done bytes))
+    Turns done = Again (Try (drop done bytes))
 
     full_stays : {done total : ℕ} {x z : S} {stop : Stop} → length bytes ≤ done
         → RestOf Turns (length bytes) done x total stop z → (sent_as stop ≡ Ok tt) × (items z ≡ items x)
@@ -57,6 +57,18 @@ module _ {S : Type 0} (items : S → List ℕ) (writes : S → List ℕ → Answ
         rw over.0 (over.1 ∙ w.1 ∙ ap (λ (n : ℕ). items x ++ drop n bytes) none)
 
   -- all bytes are taken, or none
-  pub sends_whole : (bytes : List ℕ) (old new : S) (count : ℕ) (answer : Result (Unit {0}) VolatileMemoryError)
-      → SendsBy writes old bytes count answer new → HasAllOrNone (items old) bytes answer (items new)
+  sends_whole : (bytes : List ℕ) (old new : S) (count : ℕ) (answer : Result (Unit {0}) VolatileMemoryError)
+      → SendsBy Try old bytes count answer new → HasAllOrNone (items old) bytes answer (items new)
   sends_whole bytes old new count answer h = rw h.2 (turns_whole bytes refl h.1)
+
+-- the same of a sink whose writes do so
+pub takes_whole : {S : Type 0} (items : S → List ℕ) (sink : S → Option Sink) (taken : S → Option (List ℕ))
+    (wants : S → Type 0) (writes : S → List ℕ → Answer → S → Type 0)
+    (each : (s t : S) (bytes : List ℕ) (answer : Answer) → writes s bytes answer t
+    → WritesWhole (items s) bytes answer (items t))
+    (bytes : List ℕ) (old new : S) (count : ℕ) (answer : Result (Unit {0}) VolatileMemoryError)
+    → SendsBy (TakesOnce sink taken wants writes) old bytes count answer new
+    → HasAllOrNone (items old) bytes answer (items new)
+takes_whole items sink taken wants writes each bytes old new count answer h =
+    sends_whole items (TakesOnce sink taken wants writes) (λ s t bytes answer k. each s t bytes answer k.3) bytes old
+    new count answer h

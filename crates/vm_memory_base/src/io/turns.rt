@@ -1,6 +1,6 @@
 //! Tries again after interruptions.
 ghost use Rattle.std.specs.Prelude.{◌≡◌, ◌≤◌, length, IfOk};
-ghost use Rattle.vm_memory_base.specs.Transfer.{is_interrupted, Reads, Again, OffersAs, Keeps, count_of};
+ghost use Rattle.vm_memory_base.specs.Transfer.{is_interrupted, Reads, Again, TakesOnce};
 
 use super::{ReadVolatile, VolatileMemoryError, VolatileMemoryResult, WriteVolatile};
 use std::io::ErrorKind;
@@ -60,10 +60,7 @@ pub(super) fn read_again<S: ReadVolatile>(
 /// is answered, and any other error at once.
 pub fn offer_again<S: WriteVolatile>(sink: &mut S, buf: &[u8]) -> VolatileMemoryResult<usize>
     ensures count { IfOk result (λ count. count ≤ length buf.now) }
-    ensures tells { OffersAs (S.may_want sink.old) (S.sink sink.old) (length buf.now) result (S.sink sink.new) }
-    ensures keeps { Keeps (S.taken sink.old) buf.now (count_of result) (S.taken sink.new) }
-    ensures wants { S.may_want sink.new → S.may_want sink.old }
-    ensures writes { Again (λ s. S.writes s buf.now) sink.old result sink.new }
+    ensures writes { Again (TakesOnce S.sink S.taken S.may_want S.writes buf.now) sink.old result sink.new }
 {
     let mut left = RETRIES;
     while left > 0 {

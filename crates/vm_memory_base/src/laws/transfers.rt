@@ -1,14 +1,16 @@
 //! Sources and sinks in small cases, by computation.
 #![tactic(auto, unfolding(crate::specs::Transfer::again_upto, crate::specs::Transfer::rest_of))]
 
-ghost use Rattle.std.specs.Prelude.{◌≡◌, ℕ, ◌++◌, false, List, [], ◌∷◌, replicate, Result, Some, None};
+ghost use Rattle.std.specs.Prelude.{◌≡◌, ℕ, ◌++◌, false, List, [], ◌∷◌, length, replicate, Result, Some, None};
 ghost use Rattle.vm_memory_base.specs.InMemory.{HasAllOrNone};
-ghost use Rattle.vm_memory_base.specs.Transfer.{Gives, Fails, tried, again, lending, lent_once, filled_whole, Takes, Refuses, offered, Whole, Dry, sent, sent_as, SendsBy};
+ghost use Rattle.vm_memory_base.specs.Transfer.{Gives, Fails, tried, again, lending, lent_once, filled_whole, Takes, Refuses, offered, Whole, Dry, sent, sent_as};
+ghost use Rattle.vm_memory_base.specs.Transfer.{Answer, Again, FillsAs, FillsBy, Keeps, OffersAs, SendsAs, SendsBy, TakesOnce, count_of};
+ghost use Rattle.vm_memory_base.specs.declared.io.ReadExactFault.{ReadExactFault};
 ghost use Rattle.vm_memory_base.specs.declared.io.VolatileMemoryError.TheVariants.{IOError};
 ghost use Rattle.vm_memory_base.specs.declared.io.VolatileMemoryError.{VolatileMemoryError};
 ghost use Rattle.std.specs.declared.io.ErrorKind.TheVariants.{Interrupted, Other, UnexpectedEof, WriteZero};
 
-use crate::io::WriteVolatile;
+use crate::io::{ReadVolatile, WriteVolatile};
 
 /// What a source does not give at one try it gives at the next, and after a failure its scribble stays. 64
 /// interruptions in a row are tried again, and the 65th is answered. A buffer is filled by tries in turn. Where the
@@ -71,9 +73,35 @@ pub fn what_sinks_take()
         (again (offered 2) (record { next = next; room = None })).answer ≡ Err (IOError Interrupted) }
 {}
 
+/// Where a source tells what it does next, a buffer that it fills by reads in turn is computed, and so are the answer
+/// and what it does then.
+pub fn fills_are_computed<S: ReadVolatile>()
+    ensures { (old new : _) (buf after : List ℕ) (answer : Result (Unit {0}) ReadExactFault)
+        → FillsBy S.source S.reads S.known_left old buf answer after new
+        → FillsAs (S.known_left old) (S.source old) buf answer after (S.source new) }
+{}
+
+/// Where a sink tells what it does next, what comes of bytes that are offered by tries is computed, or its allocation
+/// failed, and what it keeps are the first bytes. A sink that may want no memory does not come to want some.
+pub fn offers_are_computed<S: WriteVolatile>()
+    ensures { (old new : _) (bytes : List ℕ) (answer : Answer)
+        → Again (TakesOnce S.sink S.taken S.may_want S.writes bytes) old answer new
+        → OffersAs (S.may_want old) (S.sink old) (length bytes) answer (S.sink new)
+        × Keeps (S.taken old) bytes (count_of answer) (S.taken new) × (S.may_want new → S.may_want old) }
+{}
+
+/// The same of bytes that are sent by tries of what is left of them.
+pub fn sends_are_computed<S: WriteVolatile>()
+    ensures { (old new : _) (bytes : List ℕ) (count : ℕ) (answer : Result (Unit {0}) VolatileMemoryError)
+        → SendsBy (TakesOnce S.sink S.taken S.may_want S.writes) old bytes count answer new
+        → SendsAs (S.may_want old) (S.sink old) (length bytes) count answer (S.sink new)
+        × Keeps (S.taken old) bytes count (S.taken new) × (S.may_want new → S.may_want old) }
+{}
+
 /// A vector that is sent bytes has all of them more, or none where their allocation failed. So it holds whole pieces.
 pub fn vectors_take_whole_pieces()
     ensures { let w = ⟦<Vec<u8> as WriteVolatile>⟧ in (old new : _) (bytes : List ℕ) (count : ℕ)
-        (answer : Result (Unit {0}) VolatileMemoryError) → SendsBy w.writes old bytes count answer new
+        (answer : Result (Unit {0}) VolatileMemoryError)
+        → SendsBy (TakesOnce w.sink w.taken w.may_want w.writes) old bytes count answer new
         → HasAllOrNone old.items bytes answer new.items }
 {}

@@ -1,6 +1,6 @@
 //! Windows that are lent to sources of bytes.
 ghost use Rattle.std.specs.Prelude.{◌≡◌, ℕ, ◌+◌, ◌<◌, ◌≤◌, List, length, IfOk, IfErr};
-ghost use Rattle.vm_memory_base.specs.Transfer.{ReadsAs, FillsAs, FillsBy, Again};
+ghost use Rattle.vm_memory_base.specs.Transfer.{ReadsAs, FillsBy, Again};
 ghost use Rattle.vm_memory_guest.specs.Host.{shape_of, Holds, block_at, bytes_at, cells_from, written};
 ghost use Rattle.vm_memory_guest.specs.Inside.{blocks_of};
 ghost use Rattle.vm_memory_guest.specs.Transfer.{LendsWindow, LendsRest, LendsWhole, Fills, filling, marked_of, touched_of};
@@ -42,8 +42,6 @@ fn fill_in<S: ReadVolatile>(
     requires within { at.offset + at.len ≤ length (block_at (blocks_of blocks.old) at.block) }
     ensures touched { IfErr result (λ fault. fault.touched ≤ at.len) }
     ensures tried { let cells = cells_from at.block at.offset at.len in (bytes : List ℕ) × (length bytes ≡ at.len)
-        × FillsAs (S.known_left source.old) (S.source source.old)
-        (bytes_at (blocks_of blocks.old) cells) result bytes (S.source source.new)
         × FillsBy S.source S.reads S.known_left source.old
         (bytes_at (blocks_of blocks.old) cells) result bytes source.new
         × (blocks_of blocks.new ≡ written cells bytes (blocks_of blocks.old)) }
@@ -177,8 +175,6 @@ impl<B> HostMemory<B> {
         requires { Holds (shape_of self.old) (window_names window.now) }
         ensures touched { IfErr result (λ fault. fault.touched ≤ window.now.size) }
         ensures tried { (bytes : List ℕ) × (length bytes ≡ window.now.size)
-            × FillsAs (S.known_left source.old) (S.source source.old)
-            (bytes_at self.old.blocks (cells_of window.now)) result bytes (S.source source.new)
             × FillsBy S.source S.reads S.known_left source.old (bytes_at self.old.blocks (cells_of window.now))
             result bytes source.new
             × (self.new ≡ record self.old { blocks = written (cells_of window.now) bytes self.old.blocks }) }

@@ -1,6 +1,6 @@
 use Rattle.std.proofs.Common.{◌≡◌, ◌∙◌, ℕ, false, length, refl, sym, ap, Ok, arith}
 use Rattle.vm_memory_base.specs.Transfer.{is_short, AllMoved, NoneMoved, TurnFailed, Whole, Dry, Failed}
-use Rattle.vm_memory_base.proofs.TransferLemmas.{reads_behind, fills_as, fills_by, length-placed}
+use Rattle.vm_memory_base.proofs.TransferLemmas.{reads_behind, fills_by, length-placed}
 use Rattle.vm_memory_base.specs.lemmas.Turns.{rest_more}
 use Rattle.vm_memory_base.proofs.io.ReadVolatile.read_exact_volatile.Goals as goal
 use Rattle.vm_memory_base.proofs.io.ReadVolatile.read_exact_volatile.Given.{Over}
@@ -28,20 +28,6 @@ loop-done-preserved g c =
           (reads_behind source reads l.done l.buf read.ensures.reads c.in-Ok.is) c.in-Ok.count-test.1;
     }
 
-pub returns-in-Ok-eq0-clause-tells : goal.returns-in-Ok-eq0-clause-tells
-returns-in-Ok-eq0-clause-tells g c =
-    let source = g.Self.ReadVolatile.source in
-    let reads = g.Self.ReadVolatile.reads in
-    let l = c.loop-done in
-    let read = c.read_again in
-    let none = c.in-Ok-eq0.is ∙ ap (λ (n : ℕ). Ok n) c.in-Ok-eq0.field-0-test in
-    rw (c.ended-in-Ok-eq0.ensures, c.touched.ensures) (
-    fills_as source reads _ c.args.self.now read.new.source c.args.buf.now _ read.new.interrupted l.done Dry _
-    (long g (goal.at.returns-in-Ok-eq0-clause-tells g c).At-loop-done)
-    (l.invariant.rest _ _ _
-    (NoneMoved c.loop-done-test.true (reads_behind source reads l.done l.buf read.ensures.reads none)))
-    refl)
-
 pub returns-in-Ok-eq0-clause-reads : goal.returns-in-Ok-eq0-clause-reads
 returns-in-Ok-eq0-clause-reads g c =
     let source = g.Self.ReadVolatile.source in
@@ -57,19 +43,6 @@ returns-in-Ok-eq0-clause-reads g c =
     (NoneMoved c.loop-done-test.true (reads_behind source reads l.done l.buf read.ensures.reads none)))
     refl)
 
-pub returns-in-Err-clause-tells : goal.returns-in-Err-clause-tells
-returns-in-Err-clause-tells g c =
-    let source = g.Self.ReadVolatile.source in
-    let reads = g.Self.ReadVolatile.reads in
-    let l = c.loop-done in
-    let read = c.read_again in
-    fills_as source reads _ c.args.self.now read.new.source c.args.buf.now _ read.new.interrupted l.done
-    (Failed c.in-Err.error) _
-    (long g (goal.at.returns-in-Err-clause-tells g c).At-loop-done)
-    (l.invariant.rest _ _ _
-    (TurnFailed c.loop-done-test.true (reads_behind source reads l.done l.buf read.ensures.reads c.in-Err.is)))
-    refl
-
 pub returns-in-Err-clause-reads : goal.returns-in-Err-clause-reads
 returns-in-Err-clause-reads g c =
     let source = g.Self.ReadVolatile.source in
@@ -83,14 +56,6 @@ returns-in-Err-clause-reads g c =
     (l.invariant.rest _ _ _
     (TurnFailed c.loop-done-test.true (reads_behind source reads l.done l.buf read.ensures.reads c.in-Err.is)))
     refl
-
-pub returns-clause-tells : goal.returns-clause-tells
-returns-clause-tells g c =
-    let l = c.loop-done in
-    fills_as g.Self.ReadVolatile.source g.Self.ReadVolatile.reads _ c.args.self.now l.self c.args.buf.now l.buf
-    l.interrupted l.done Whole _
-    (long g (goal.at.returns-clause-tells g c).At-loop-done)
-    (l.invariant.rest _ _ _ (AllMoved c.loop-done-test.false)) refl
 
 pub returns-clause-reads : goal.returns-clause-reads
 returns-clause-reads g c =

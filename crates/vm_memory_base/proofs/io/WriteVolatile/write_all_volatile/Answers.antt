@@ -1,7 +1,6 @@
 use Rattle.std.proofs.Common.{◌≡◌, ◌-◌, ◌≤◌, ℕ, List, length, take, drop, refl, ap, subst, ◌∙◌, Ok, Err, arith}
 use Rattle.std.proofs.lemmas.List.{length-drop, take_rest}
-use Rattle.vm_memory_base.specs.Transfer.{Answer, AllMoved, NoneMoved, TurnFailed, Whole, Dry, Failed}
-use Rattle.vm_memory_base.proofs.TransferLemmas.{OffersOf, OffersBehind, sends_of}
+use Rattle.vm_memory_base.specs.Transfer.{Answer, Again, TakesOnce, AllMoved, NoneMoved, TurnFailed, Whole, Dry, Failed}
 use Rattle.vm_memory_base.specs.lemmas.Turns.{rest_more}
 use Rattle.vm_memory_base.proofs.io.WriteVolatile.write_all_volatile.Goals as goal
 use Rattle.vm_memory_base.proofs.io.WriteVolatile.write_all_volatile.Given.{Over}
@@ -10,19 +9,14 @@ use Rattle.vm_memory_base.proofs.io.WriteVolatile.write_all_volatile.Goals.{Afte
 -- what was offered is what is left of the buffer
 turn : (g : Over) (c : After-offer_again g) (answer : Answer) → c.offer_again.result ≡ answer
     → let w = g.Self.WriteVolatile in
-    OffersBehind w.sink w.taken w.may_want w.writes c.args.buf.now c.loop-done.done c.loop-done.self answer
+    Again (TakesOnce w.sink w.taken w.may_want w.writes (drop c.loop-done.done c.args.buf.now)) c.loop-done.self answer
     c.offer_again.new.sink
 turn g c answer is =
     let w = g.Self.WriteVolatile in
     let offer = c.offer_again in
-    let here = subst (λ (bs : List ℕ). OffersOf w.sink w.taken w.may_want w.writes bs c.loop-done.self offer.result
-    offer.new.sink)
-    (take_rest c.args.buf.now c.loop-done.done) (
-      offer.ensures.tells,
-      offer.ensures.keeps,
-      offer.ensures.wants,
-      offer.ensures.writes,
-    ) in
+    let here = subst (λ (bs : List ℕ). Again (TakesOnce w.sink w.taken w.may_want w.writes bs) c.loop-done.self
+    offer.result offer.new.sink)
+    (take_rest c.args.buf.now c.loop-done.done) offer.ensures.writes in
     rw is at here
 
 pub loop-done-init : goal.loop-done-init
@@ -43,31 +37,25 @@ loop-done-preserved g c =
 
 pub returns-in-Ok-eq0 : goal.returns-in-Ok-eq0
 returns-in-Ok-eq0 g c =
-    let w = g.Self.WriteVolatile in
     let l = c.loop-done in
     let none = c.in-Ok-eq0.is ∙ ap (λ (n : ℕ). Ok n) c.in-Ok-eq0.field-0-test in
     let t = turn g (goal.at.returns-in-Ok-eq0 g c).After-offer_again (Ok 0) none in
-    let o = sends_of w.sink w.taken w.may_want w.writes c.args.buf.now c.args.self.now _ l.done Dry _
-    (l.invariant.rest _ _ _ (NoneMoved c.loop-done-test.true t)) refl in
-    rw c.refused.ensures (record { sends = (l.done, l.invariant.within, tt, o.0, o.1, o.2); wants = o.3 })
+    let whole = l.invariant.rest _ _ _ (NoneMoved c.loop-done-test.true t) in
+    rw c.refused.ensures (record { sends = (l.done, l.invariant.within, tt, (Dry, whole, refl)) })
 
 pub returns-in-Err : goal.returns-in-Err
 returns-in-Err g c =
-    let w = g.Self.WriteVolatile in
     let l = c.loop-done in
     let e = c.in-Err.error in
     let t = turn g (goal.at.returns-in-Err g c).After-offer_again (Err e) c.in-Err.is in
-    let o = sends_of w.sink w.taken w.may_want w.writes c.args.buf.now c.args.self.now _ l.done (Failed e) _
-    (l.invariant.rest _ _ _ (TurnFailed c.loop-done-test.true t)) refl in
-    record { sends = (l.done, l.invariant.within, tt, o.0, o.1, o.2); wants = o.3 }
+    let whole = l.invariant.rest _ _ _ (TurnFailed c.loop-done-test.true t) in
+    record { sends = (l.done, l.invariant.within, tt, (Failed e, whole, refl)) }
 
 pub returns : goal.returns
 returns g c =
-    let w = g.Self.WriteVolatile in
     let l = c.loop-done in
     let full : l.done ≡ length c.args.buf.now = let a = l.invariant.within in
     let b = c.loop-done-test.false in
     omega arith in
-    let o = sends_of w.sink w.taken w.may_want w.writes c.args.buf.now c.args.self.now l.self l.done Whole _
-    (l.invariant.rest _ _ _ (AllMoved c.loop-done-test.false)) refl in
-    record { sends = (l.done, l.invariant.within, full, o.0, o.1, o.2); wants = o.3 }
+    let whole = l.invariant.rest _ _ _ (AllMoved c.loop-done-test.false) in
+    record { sends = (l.done, l.invariant.within, full, (Whole, whole, refl)) }

@@ -1,14 +1,15 @@
-use Rattle.std.proofs.Common.{◌-◌, ◌≤◌, length}
-use Rattle.vm_memory_base.proofs.TransferLemmas.{OffersBehind}
+use Rattle.std.proofs.Common.{◌-◌, ◌≤◌, length, drop}
+use Rattle.vm_memory_base.specs.Transfer.{Again, TakesOnce}
 use Rattle.vm_memory_base.specs.lemmas.Turns.{RestLeft}
 use Rattle.vm_memory_base.proofs.io.WriteVolatile.write_all_volatile.Given as goal
 
 abbrev pub invariant-loop-done : goal.invariant-loop-done
 invariant-loop-done g l =
+    let w = g.Self.WriteVolatile in
     record {
       within : l.done ≤ length l.buf;
-      rest : RestLeft (OffersBehind g.Self.WriteVolatile.sink g.Self.WriteVolatile.taken g.Self.WriteVolatile.may_want
-          g.Self.WriteVolatile.writes l.buf) (length l.buf) l.initial.self l.done l.self;
+      rest : RestLeft (λ done. Again (TakesOnce w.sink w.taken w.may_want w.writes (drop done l.buf))) (length l.buf)
+          l.initial.self l.done l.self;
     }
 
 abbrev pub decreases-loop-done : goal.decreases-loop-done

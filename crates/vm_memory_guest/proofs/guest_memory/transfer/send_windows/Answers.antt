@@ -23,7 +23,7 @@ sent g c =
     let call = c.write_all_volatile in
     sends_of g.S.WriteVolatile.sink g.S.WriteVolatile.taken g.S.WriteVolatile.may_want g.S.WriteVolatile.writes
     c.args.host.now.blocks c.in-Ok.window
-    c.loop-item.sink call.new.self c.bytes.result.now call.result c.bytes.ensures call.ensures.sends call.ensures.wants
+    c.loop-item.sink call.new.self c.bytes.result.now c.bytes.ensures call.result call.ensures.sends
 
 pub loop-item-init : goal.loop-item-init
 loop-item-init g c = rw c.into_iter-item-iterator.ensures.into_iter_gives

@@ -10,7 +10,7 @@ invariant_of-self g c =
     let host = c.self.inside in
     let put = c.fill_in.ensures.tried in
     sound-written (cells_from w.block w.offset w.len) put.0 (blocks_of host.blocks)
-    (blocks_of c.fill_in.new.blocks) put.4
+    (blocks_of c.fill_in.new.blocks) put.3
     host.bitmaps.items host.spaces.items host.tables.items host.shape c.self.invariant
 
 pub returns-clause-tried : goal.returns-clause-tried
@@ -21,11 +21,10 @@ returns-clause-tried g c =
       put.0,
       put.1,
       put.2,
-      put.3,
       ap (λ (bs : List (List ℕ)). record {
         blocks = bs;
         bitmaps = host.bitmaps.items;
         spaces = host.spaces.items;
         tables = host.tables.items;
-      }) put.4,
+      }) put.3,
     )

@@ -19,9 +19,8 @@ returns-in-Err-clause-lends g c =
       bytes = put.0;
       filled = c.fill_place-filled.result;
       size = put.1;
-      tried = put.2;
-      read = put.3;
+      read = put.2;
       told = sym (ap (filled_of w.size) c.in-Err.is);
       marked = subst (λ host. MarksWindow marks (front w (touched_of w.size c.fill_place-filled.result)) host after)
-          put.4 there;
+          put.3 there;
     }

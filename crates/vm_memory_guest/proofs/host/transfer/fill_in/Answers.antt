@@ -1,6 +1,6 @@
 use Rattle.std.proofs.Common.{ℕ, List, arith, subst, ◌∙◌}
 use Rattle.std.proofs.lemmas.Grind.{common_steps}
-use Rattle.vm_memory_base.specs.Transfer.{FillsAs, FillsBy}
+use Rattle.vm_memory_base.specs.Transfer.{FillsBy}
 use Rattle.vm_memory_guest.proofs.TypedLemmas.{place}
 use Rattle.vm_memory_guest.proofs.host.transfer.fill_in.Goals as goal
 
@@ -13,10 +13,6 @@ returns-clause-tried g c =
     let new = c.read_exact_volatile.new.buf in (
       new,
       c.read_exact_volatile.auto.buf ∙ p.long,
-      subst (λ (bytes : List ℕ). FillsAs (g.S.ReadVolatile.known_left c.args.source.now)
-          (source c.args.source.now) bytes
-          c.read_exact_volatile.result new
-          (source c.read_exact_volatile.new.self)) p.lent c.read_exact_volatile.ensures.tells,
       subst (λ (bytes : List ℕ). FillsBy source g.S.ReadVolatile.reads g.S.ReadVolatile.known_left
           c.args.source.now bytes c.read_exact_volatile.result new c.read_exact_volatile.new.self)
           p.lent c.read_exact_volatile.ensures.reads,

@@ -18,6 +18,6 @@ returns-in-Some c =
     × (commanding after ≡ after_command s c.serve.new.answer x)) stands (
       after,
       c.serve.ensures,
-      running before c.args.kind c.args.call.now c.args.input.now c.args.output.now c.serve.new.answer c.serve.new.output
-          after c.serve.ensures,
+      running before c.args.kind c.args.call.now c.args.input.now c.args.output.now c.serve.new.answer
+          c.serve.new.output after c.serve.ensures,
     )

@@ -21,8 +21,8 @@ returns g c =
     let size = size-given c.args.self.now w c.args.addr c.args.count c.subslice.result c.subslice.ensures
     c.in_ok-window.was in
     let sends = sends_of g.F.WriteVolatile.sink g.F.WriteVolatile.taken g.F.WriteVolatile.may_want
-    g.F.WriteVolatile.writes c.args.host.now.blocks w c.args.dst.now sent.new.self c.bytes.result.now sent.result
-    c.bytes.ensures sent.ensures.sends sent.ensures.wants in
+    g.F.WriteVolatile.writes c.args.host.now.blocks w c.args.dst.now sent.new.self c.bytes.result.now c.bytes.ensures
+    sent.result sent.ensures.sends in
     record {
       answer = part_moved _ _ _ w c.args.dst.now sent.new.self (answered (λ all. w.size) sent.result) _
           (ap only (sym c.subslice.ensures ∙ c.in_ok-window.was)) sends (all_of_sent c.args.count w sent.result size);

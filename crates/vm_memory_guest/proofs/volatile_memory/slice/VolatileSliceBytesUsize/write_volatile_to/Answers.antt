@@ -17,8 +17,7 @@ returns-clause-answer g c =
     let offer = c.offer_again in
     let offers = offers_of g.F.WriteVolatile.sink g.F.WriteVolatile.taken g.F.WriteVolatile.may_want
     g.F.WriteVolatile.writes c.args.host.now.blocks c.in_ok-window.window c.args.dst.now offer.new.sink
-    c.bytes.result.now offer.result c.bytes.ensures offer.ensures.count offer.ensures.tells offer.ensures.writes
-    offer.ensures.keeps offer.ensures.wants in
+    c.bytes.result.now c.bytes.ensures offer.result offer.ensures.count offer.ensures.writes in
     part_moved _ _ _ c.in_ok-window.window c.args.dst.now offer.new.sink offer.result offer.result
     (sym c.cut.ensures.cut ∙ ap only c.in_ok-window.was) offers refl
 

@@ -1,6 +1,6 @@
 //! A bitmap that several threads mark while one harvests.
 ghost use Rattle.std.specs.Prelude.{◌≤◌, IfSome};
-ghost use Rattle.base_vectors.specs.Markers.{IsMarkerOf, IsHarvesterOf, AreNewOf};
+ghost use Rattle.bitmap_vectors.specs.Markers.{IsMarkerOf, IsHarvesterOf, AreNewOf};
 
 use std::alloc::Global;
 use std::num::NonZeroUsize;

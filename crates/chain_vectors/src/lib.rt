@@ -1,0 +1,5 @@
+//! Tests of chains of descriptors.
+#![tactic(auto)]
+
+#[cfg(test)]
+mod chain;
