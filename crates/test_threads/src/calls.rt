@@ -7,12 +7,12 @@ use std::sync::Wait;
 use std::sync::atomic::AtomicUsize;
 use std::test::Fail;
 use std::thread::{self, Threads};
-use test_machines::{
-    TestJournal, TestMachine, TestShared, layout_of, machine_of, read_of, run_on, write_of,
-};
+use test_machines::{TestMachine, TestShared, layout_of, machine_of, read_of, run_on, write_of};
 use test_regions::Place;
 use test_text::expect_text;
-use vm_memory::{Command, Journal, Reply, SharedMachine};
+use vm_memory::{
+    Command, ExactBitmap, GuestMemoryRegion, Iommu, Journal, Machine, Reply, SharedMachine, run,
+};
 
 // How many commands a thread calls.
 const CALLS: u8 = 250;
@@ -47,6 +47,7 @@ fn answers_of<R: Wait>(
     Ok(answers)
 }
 
+// What two threads are answered, of which the first has this number.
 fn answers_of_two<R: Sync + Threads + Wait>(
     rt: &R,
     alloc: Global,
@@ -62,9 +63,9 @@ fn answers_of_two<R: Sync + Threads + Wait>(
 }
 
 // Fails where the entries of the answers do not follow one another, or have other commands or replies.
-fn expect_answered(
+fn expect_answered<R: GuestMemoryRegion, I: Iommu, B: ExactBitmap>(
     alloc: Global,
-    journal: &TestJournal,
+    journal: &Journal<R, I, B>,
     caller: u8,
     answers: &[(usize, Reply)],
 ) -> Result<(), Fail> {
@@ -89,6 +90,55 @@ fn expect_answered(
     Ok(())
 }
 
+// Fails where the answers of one of the four threads are not those of its commands, or the journal has more entries.
+fn expect_each_answered<R: GuestMemoryRegion, I: Iommu, B: ExactBitmap>(
+    alloc: Global,
+    journal: &Journal<R, I, B>,
+    answers: [Answers; 4],
+) -> Result<(), Fail> {
+    let mut caller = 0u8;
+    for answers in answers {
+        expect_answered(alloc, journal, caller, answers?.as_slice())?;
+        caller = caller.wrapping_add(1);
+    }
+    if journal.len() != 4 * usize::from(CALLS) {
+        return Err(Fail::new(format_args!("{} entries", journal.len())));
+    }
+    Ok(())
+}
+
+// Fails where the commands of a journal, run by another machine, have other replies.
+fn expect_run_again<R: GuestMemoryRegion, I: Iommu, B: ExactBitmap>(
+    alloc: Global,
+    journal: &Journal<R, I, B>,
+    machine: &mut Machine<R, I, B>,
+) -> Result<(), Fail> {
+    let mut replies = Vec::new(alloc);
+    for number in 0..journal.len() {
+        let command = journal.command(number).ok_or("a command")?;
+        run(machine, slice::from_ref(command), &mut replies)?;
+        let told = format!(in alloc; "{:?}", journal.reply(number))?;
+        let wanted = format!(in alloc; "{:?}", replies.last())?;
+        expect_text(number, told.as_str(), wanted.as_str())?;
+    }
+    Ok(())
+}
+
+// What four threads are answered that call one machine at once.
+fn answers_of_four<R: Sync + Threads + Wait>(
+    rt: &R,
+    alloc: Global,
+    machine: &TestShared,
+) -> [Answers; 4] {
+    let gate = AtomicUsize::new(0);
+    let ((a, b), (c, d)) = thread::join(
+        rt,
+        || answers_of_two(rt, alloc, machine, 0, &gate),
+        || answers_of_two(rt, alloc, machine, 2, &gate),
+    );
+    [a, b, c, d]
+}
+
 /// A machine with a memory of one region of so many bytes.
 pub fn set_up(alloc: Global, size: usize) -> Result<TestMachine, Fail> {
     let mut machine = machine_of(alloc, &[Place::Block(0, size)])?;
@@ -101,31 +151,8 @@ pub fn set_up(alloc: Global, size: usize) -> Result<TestMachine, Fail> {
 /// commands of the journal, run again, have other replies.
 pub fn expect_calls<R: Sync + Threads + Wait>(rt: &R, alloc: Global) -> Result<(), Fail> {
     let machine = SharedMachine::new(Journal::new(set_up(alloc, 0x20)?));
-    let gate = AtomicUsize::new(0);
-    let ((a, b), (c, d)) = thread::join(
-        rt,
-        || answers_of_two(rt, alloc, &machine, 0, &gate),
-        || answers_of_two(rt, alloc, &machine, 2, &gate),
-    );
+    let answers = answers_of_four(rt, alloc, &machine);
     let journal = machine.into_journal();
-    let mut caller = 0u8;
-    for answers in [a, b, c, d] {
-        expect_answered(alloc, &journal, caller, answers?.as_slice())?;
-        caller = caller.wrapping_add(1);
-    }
-    if journal.len() != 4 * usize::from(CALLS) {
-        return Err(Fail::new(format_args!("{} entries", journal.len())));
-    }
-    let mut machine = set_up(alloc, 0x20)?;
-    let mut replies = Vec::new(alloc);
-    for number in 0..journal.len() {
-        let command = journal.command(number).ok_or("a command")?;
-        run_on(&mut machine, slice::from_ref(command), &mut replies)?;
-        let reply = journal.reply(number).ok_or("a reply")?;
-        let told = format!(in alloc; "{reply:?}")?;
-        let again = replies.pop().ok_or("a reply")?;
-        let wanted = format!(in alloc; "{again:?}")?;
-        expect_text(number, told.as_str(), wanted.as_str())?;
-    }
-    Ok(())
+    expect_each_answered(alloc, &journal, answers)?;
+    expect_run_again(alloc, &journal, &mut set_up(alloc, 0x20)?)
 }

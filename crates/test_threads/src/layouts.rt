@@ -104,28 +104,63 @@ fn seen_while_replaced<R: Sync + Threads + Wait>(
     Ok([one, other])
 }
 
+// A layout of two regions, and one of three more.
+fn two_and_five(
+    alloc: Global,
+    host: &mut HostMemory<()>,
+) -> Result<(GuestMemoryMmap, GuestMemoryMmap), Fail> {
+    let two = GuestMemoryMmap::from_ranges(alloc, host, &TWO)?;
+    let mut five = two.clone()?;
+    for start in [0x8000, 0x4000, 0xc000] {
+        let page = GuestRegionMmap::from_range(host, GuestAddress(start), 0x1000)?;
+        five = five.insert_region(Arc::new(alloc, page)?)?;
+    }
+    Ok((two, five))
+}
+
+// Fails where a reader saw a snapshot that is wrong, or one of the layouts alone.
+fn expect_both(seen: Seen) -> Result<(), Fail> {
+    if seen.wrong > 0 || seen.twos == 0 || seen.fives == 0 {
+        return Err(Fail::new(format_args!(
+            "{} snapshots have two regions, {} five, and {} are wrong",
+            seen.twos, seen.fives, seen.wrong
+        )));
+    }
+    Ok(())
+}
+
+// Fails where the layout that there is has another number of regions.
+fn expect_regions<R: Wait>(
+    rt: &R,
+    alloc: Global,
+    space: &Space,
+    wanted: usize,
+) -> Result<(), Fail> {
+    let count = space.memory(rt, alloc)?.num_regions();
+    if count != wanted {
+        return Err(Fail::new(format_args!("there are {count} regions, not {wanted}")));
+    }
+    Ok(())
+}
+
+fn expect_seen<R: Sync + Threads + Wait>(
+    rt: &R,
+    alloc: Global,
+    two: &GuestMemoryMmap,
+    five: &GuestMemoryMmap,
+) -> Result<(), Fail> {
+    let space = GuestMemoryAtomic::new(alloc, two.clone()?)?;
+    let [one, other] = seen_while_replaced(rt, alloc, &space, two, five)?;
+    expect_both(one)?;
+    expect_both(other)?;
+    expect_regions(rt, alloc, &space, 2)
+}
+
 /// Fails where a layout that is replaced is seen in part, is never seen, or changes in a snapshot.
 pub fn expect_layouts<R: Sync + Threads + Wait>(rt: &R, alloc: Global) -> Result<(), Fail> {
     let mut host: HostMemory<()> = HostMemory::new(alloc);
-    let two = GuestMemoryMmap::from_ranges(alloc, &mut host, &TWO)?;
-    let mut five = two.clone()?;
-    for start in [0x8000, 0x4000, 0xc000] {
-        let page = GuestRegionMmap::from_range(&mut host, GuestAddress(start), 0x1000)?;
-        five = five.insert_region(Arc::new(alloc, page)?)?;
-    }
-    let space = GuestMemoryAtomic::new(alloc, two.clone()?)?;
-    for seen in seen_while_replaced(rt, alloc, &space, &two, &five)? {
-        if seen.wrong > 0 || seen.twos == 0 || seen.fives == 0 {
-            return Err(Fail::new(format_args!(
-                "{} snapshots have two regions, {} five, and {} are wrong",
-                seen.twos, seen.fives, seen.wrong
-            )));
-        }
-    }
-    if space.memory(rt, alloc)?.num_regions() != 2 {
-        return Err(Fail::new("the layout is the last one"));
-    }
-    Ok(())
+    let (two, five) = two_and_five(alloc, &mut host)?;
+    expect_seen(rt, alloc, &two, &five)
 }
 
 // Where the second regions of numbered layouts begin.
@@ -181,19 +216,21 @@ fn replace_each<R: Wait>(
     Ok(())
 }
 
+// The number of the layout that a reader lends.
+fn lent_number<R: Wait>(rt: &R, reader: &mut Reader) -> Option<u64> {
+    let layout = reader.memory(rt).ok()?;
+    number_of(layout.lend())
+}
+
 // Asks a reader until no more replacements are made, and once more. Whether each layout that it lends is whole, no
 // older than the one before, no older than the last whose replacement was told before the call, and at most one newer
 // than the last that was told after the call.
-fn asks_well<R: Wait>(rt: &R, mut reader: Reader, progress: &Progress) -> bool {
-    meet(&progress.gate, 4);
+fn lends_well<R: Wait>(rt: &R, reader: &mut Reader, progress: &Progress) -> bool {
     let mut last = 0;
     for _ in 0..u64::MAX {
         let is_over = progress.is_over.load(Ordering::SeqCst);
         let before = progress.made.load(Ordering::SeqCst);
-        let Ok(layout) = reader.memory(rt) else {
-            return false;
-        };
-        let Some(number) = number_of(layout.lend()) else {
+        let Some(number) = lent_number(rt, reader) else {
             return false;
         };
         let next = progress.made.load(Ordering::SeqCst).saturating_add(1);
@@ -206,6 +243,33 @@ fn asks_well<R: Wait>(rt: &R, mut reader: Reader, progress: &Progress) -> bool {
         last = number;
     }
     false
+}
+
+// Whether a reader lends well, once the others have come.
+fn asks_well<R: Wait>(rt: &R, mut reader: Reader, progress: &Progress) -> bool {
+    meet(&progress.gate, 4);
+    lends_well(rt, &mut reader, progress)
+}
+
+// Whether three readers ask well at once.
+fn three_ask_well<R: Sync + Threads + Wait>(
+    rt: &R,
+    readers: [Reader; 3],
+    progress: &Progress,
+) -> [bool; 3] {
+    let [first, second, third] = readers;
+    let (one, (two, three)) = thread::join(
+        rt,
+        || asks_well(rt, first, progress),
+        || {
+            thread::join(
+                rt,
+                || asks_well(rt, second, progress),
+                || asks_well(rt, third, progress),
+            )
+        },
+    );
+    [one, two, three]
 }
 
 // Whether three readers ask well while a thread replaces the layout so many times.
@@ -221,32 +285,27 @@ fn ask_well_while_replaced<R: Sync + Threads + Wait>(
         made: AtomicU64::new(0),
         is_over: AtomicBool::new(false),
     };
-    let first = space.reader(rt)?;
-    let second = space.reader(rt)?;
-    let third = space.reader(rt)?;
-    let (replaced, (one, (two, three))) = thread::join(
+    let readers = [space.reader(rt)?, space.reader(rt)?, space.reader(rt)?];
+    let (replaced, asked) = thread::join(
         rt,
         || {
             let replaced = replace_each(rt, alloc, space, host, count, &progress);
             progress.is_over.store(true, Ordering::SeqCst);
             replaced
         },
-        || {
-            thread::join(
-                rt,
-                || asks_well(rt, first, &progress),
-                || {
-                    thread::join(
-                        rt,
-                        || asks_well(rt, second, &progress),
-                        || asks_well(rt, third, &progress),
-                    )
-                },
-            )
-        },
+        || three_ask_well(rt, readers, &progress),
     );
     replaced?;
-    Ok([one, two, three])
+    Ok(asked)
+}
+
+// Fails where a reader lends another layout than that of a number.
+fn expect_last<R: Wait>(rt: &R, reader: &mut Reader, number: u64) -> Result<(), Fail> {
+    let last = lent_number(rt, reader);
+    if last != Some(number) {
+        return Err(Fail::new(format_args!("after {number} replacements a reader lends {last:?}")));
+    }
+    Ok(())
 }
 
 /// Fails where one of three readers lends a layout in part or an older one after a newer one, or misses one of so many
@@ -259,17 +318,11 @@ pub fn expect_readers<R: Sync + Threads + Wait>(
     let mut host: HostMemory<()> = HostMemory::new(alloc);
     let space = GuestMemoryAtomic::new(alloc, numbered(alloc, &mut host, 0)?)?;
     let mut late = space.reader(rt)?;
-    let [one, two, three] = ask_well_while_replaced(rt, alloc, &space, host, count)?;
-    if !(one && two && three) {
-        return Err(Fail::new(format_args!(
-            "that the readers ask well is {one}, {two} and {three}"
-        )));
+    let asked = ask_well_while_replaced(rt, alloc, &space, host, count)?;
+    if asked != [true; 3] {
+        return Err(Fail::new(format_args!("that the readers ask well is {asked:?}")));
     }
-    let last = number_of(late.memory(rt)?.lend());
-    if last != Some(count) {
-        return Err(Fail::new(format_args!("after {count} replacements a reader lends {last:?}")));
-    }
-    Ok(())
+    expect_last(rt, &mut late, count)
 }
 
 // Adds each region to the layout that there is, in a turn of its own.
@@ -325,9 +378,5 @@ pub fn expect_added<R: Sync + Threads + Wait>(rt: &R, alloc: Global) -> Result<(
     );
     one?;
     other?;
-    let count = space.memory(rt, alloc)?.num_regions();
-    if count != 402 {
-        return Err(Fail::new(format_args!("there are {count} regions")));
-    }
-    Ok(())
+    expect_regions(rt, alloc, &space, 402)
 }
