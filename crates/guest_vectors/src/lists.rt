@@ -2,12 +2,10 @@
 
 use std::alloc::{AllocError, Global};
 use std::test::Fail;
-use test_regions::{AROUND_A_HOLE, Place, TestRegion, memory_of};
+use test_regions::{AROUND_A_HOLE, Place, memory_of};
 use test_text::expect_text;
 use vm_memory_base::GuestAddress;
-use vm_memory_guest::{Bytes, GuestRegionCollection, HostMemory};
-
-type Layout = GuestRegionCollection<TestRegion>;
+use vm_memory_guest::{Bytes, GuestMemory, HostMemory};
 
 const TOUCHING: [Place; 2] = [Place::Block(0, 0x40), Place::Block(0x40, 0x40)];
 
@@ -59,10 +57,10 @@ fn pattern(alloc: Global, first: usize, count: usize) -> Result<Vec<u8>, AllocEr
 
 // What transfers from two lists of bytes answer, and how many of these they leave. Fails where the memory does not
 // have the bytes of the list then.
-fn come(
+fn come<M: GuestMemory>(
     alloc: Global,
     host: &mut HostMemory<()>,
-    memory: &Layout,
+    memory: &M,
     at: GuestAddress,
     bytes: &[u8],
 ) -> Result<String, Fail> {
@@ -92,10 +90,10 @@ fn come(
 
 // What transfers of as many bytes to lists that grow answer, of some and of all, and how many these took. Fails
 // where these are others than the beginning of the bytes.
-fn go(
+fn go<M: GuestMemory>(
     alloc: Global,
     host: &HostMemory<()>,
-    memory: &Layout,
+    memory: &M,
     at: GuestAddress,
     bytes: &[u8],
 ) -> Result<String, Fail> {
@@ -138,37 +136,60 @@ fn lists_of_bytes_come_and_go(rt: HostRuntime) -> Result<(), Fail> {
     Ok(())
 }
 
-// The bytes at 0x1000, once 0x1001 bytes were written from 0 on, of which the last is 9.
+// Fails where a write of 0x1001 bytes from 0 on, of which the last is 9, leaves other bytes at 0x1000.
+fn expect_one_block<M: GuestMemory>(
+    alloc: Global,
+    host: &mut HostMemory<()>,
+    memory: &M,
+) -> Result<(), Fail> {
+    if !host.holds(memory) {
+        return Err(Fail::new("the host holds the memory"));
+    }
+    let mut bytes = vec![in alloc; 1u8; 0x1000]?;
+    bytes.push(9)?;
+    let count = memory.write(host, bytes.as_slice(), GuestAddress(0))?;
+    bytes.truncate(0x1000);
+    memory.read_slice(host, bytes.as_mut_slice(), GuestAddress(0x1000))?;
+    let (first, rest) = bytes.as_slice().split_first().ok_or("there are bytes")?;
+    if count != 0x1001
+        || *first != 9
+        || rest.len() != 0xfff
+        || !rest.iter().all(|byte| *byte == 1)
+    {
+        return Err(Fail::new("the last byte lies where the first was"));
+    }
+    Ok(())
+}
+
 #[test]
 fn a_block_at_two_addresses_is_written_once(rt: HostRuntime) -> Result<(), Fail> {
     let mut host = HostMemory::new(rt.alloc());
     let places = [Place::Block(0, 0x1000), Place::Again(0x1000)];
     let memory = memory_of(rt.alloc(), &mut host, &places)?;
-    let mut bytes = vec![in rt.alloc(); 1u8; 0x1000]?;
-    bytes.push(9)?;
-    assert!(rt; host.holds(&memory));
-    let count = memory.write(&mut host, bytes.as_slice(), GuestAddress(0))?;
-    bytes.truncate(0x1000);
-    memory.read_slice(&host, bytes.as_mut_slice(), GuestAddress(0x1000))?;
-    assert!(rt; count == 0x1001 && bytes.len() == 0x1000);
-    assert!(rt; bytes.as_slice().first().copied() == Some(9));
-    assert!(rt; bytes.iter().skip(1).all(|byte| *byte == 1));
-    Ok(())
+    expect_one_block(rt.alloc(), &mut host, &memory)
 }
 
 // A value, the value that a source puts in its place, and the bytes that a sink takes of this.
+fn expect_replaced<M: GuestMemory>(host: &mut HostMemory<()>, memory: &M) -> Result<(), Fail> {
+    if !host.holds(memory) {
+        return Err(Fail::new("the host holds the memory"));
+    }
+    let mut out = [9u8; 4];
+    let at = GuestAddress(0x1010);
+    memory.write_obj(host, !0u32, at)?;
+    let before = memory.read_obj::<u32, ()>(host, at)?;
+    memory.read_exact_volatile_from(host, at, &mut &[0u8, 0, 7, 0][..], 4)?;
+    let after = memory.read_obj::<u32, ()>(host, at)?;
+    memory.write_all_volatile_to(host, at, &mut &mut out[..], 4)?;
+    if before != 0xffff_ffff || after != 0x0007_0000 || out != [0, 0, 7, 0] {
+        return Err(Fail::new(format_args!("{before:#x}, {after:#x}, {out:?}")));
+    }
+    Ok(())
+}
+
 #[test]
 fn a_source_replaces_a_value(rt: HostRuntime) -> Result<(), Fail> {
     let mut host = HostMemory::new(rt.alloc());
     let memory = memory_of(rt.alloc(), &mut host, &AROUND_A_HOLE)?;
-    assert!(rt; host.holds(&memory));
-    let mut out = [9u8; 4];
-    let at = GuestAddress(0x1010);
-    memory.write_obj(&mut host, !0u32, at)?;
-    let before = memory.read_obj::<u32, ()>(&host, at)?;
-    memory.read_exact_volatile_from(&mut host, at, &mut &[0u8, 0, 7, 0][..], 4)?;
-    let after = memory.read_obj::<u32, ()>(&host, at)?;
-    memory.write_all_volatile_to(&host, at, &mut &mut out[..], 4)?;
-    assert!(rt; before == 0xffff_ffff && after == 0x0007_0000 && out == [0, 0, 7, 0]);
-    Ok(())
+    expect_replaced(&mut host, &memory)
 }

@@ -1,13 +1,12 @@
 //! Values of a type in guest memory: loads and stores, and values that lie over two blocks.
 
+use std::alloc::Global;
 use std::sync::atomic::Ordering;
 use std::test::Fail;
-use test_regions::{Place, TestRegion, memory_of};
+use test_regions::{Place, memory_of};
 use test_text::expect_text;
 use vm_memory_base::{ByteValued, GuestAddress};
-use vm_memory_guest::{Bytes, GuestMemoryResult, GuestRegionCollection, HostMemory};
-
-type Layout = GuestRegionCollection<TestRegion>;
+use vm_memory_guest::{Bytes, GuestMemory, GuestMemoryResult, HostMemory};
 
 const TWO_BLOCKS: [Place; 2] = [Place::Block(0, 0x400), Place::Block(0x400, 0x400)];
 
@@ -68,50 +67,70 @@ const VALUES: [(u64, &str, &str, [u8; 12], &str); 7] = [
     ),
 ];
 
+// What a store and a load of 0x01020304 tell, what is told of a value of eight bytes written and read, what twelve
+// bytes at 0x3fc are after the store, and what is told of eight bytes at the address after the value, with these.
+fn told_of_values<M: GuestMemory>(
+    alloc: Global,
+    host: &mut HostMemory<()>,
+    memory: &M,
+    at: GuestAddress,
+) -> Result<String, Fail> {
+    if !host.holds(memory) {
+        return Err(Fail::new("the host holds the memory"));
+    }
+    memory.write_slice(host, &[9; 12], GuestAddress(0x3fc))?;
+    let stored = memory.store(host, 0x0102_0304u32, at, Ordering::SeqCst);
+    let loaded = memory.load::<u32, ()>(host, at, Ordering::SeqCst);
+    let mut seen = [0; 12];
+    memory.read_slice(host, &mut seen, GuestAddress(0x3fc))?;
+    let wrote = memory.write_obj(host, 0x0807_0605_0403_0201u64, at);
+    let had = memory.read_obj::<u64, ()>(host, at);
+    let mut eight = [0; 8];
+    let count = memory.read(host, &mut eight, at);
+    Ok(format!(in alloc; "{stored:?} {loaded:?} {wrote:?} {had:?} {seen:?} {count:?} {eight:?}")?)
+}
+
+// The bytes of an aligned address lie in two blocks: what a store and a load there tell, and all bytes then.
+fn told_of_split_store<M: GuestMemory>(
+    alloc: Global,
+    host: &mut HostMemory<()>,
+    memory: &M,
+) -> Result<String, Fail> {
+    if !host.holds(memory) {
+        return Err(Fail::new("the host holds the memory"));
+    }
+    let stored = memory.store(host, 7u32, GuestAddress(4), Ordering::SeqCst);
+    let loaded = memory.load::<u32, ()>(host, GuestAddress(4), Ordering::SeqCst);
+    let mut bytes = [9; 12];
+    memory.read_slice(host, &mut bytes, GuestAddress(0))?;
+    Ok(format!(in alloc; "{stored:?} {loaded:?} {bytes:?}")?)
+}
+
 #[test]
 fn a_store_takes_one_window_and_a_value_any_number(rt: HostRuntime) -> Result<(), Fail> {
-    let mut host = HostMemory::new(rt.alloc());
-    let memory = memory_of(rt.alloc(), &mut host, &TWO_BLOCKS)?;
+    let alloc = rt.alloc();
+    let mut host = HostMemory::new(alloc);
+    let memory = memory_of(alloc, &mut host, &TWO_BLOCKS)?;
     for (case, (addr, stores, values, left, bytes)) in VALUES.iter().enumerate() {
-        assert!(rt; host.holds(&memory));
-        let at = GuestAddress(*addr);
-        memory.write_slice(&mut host, &[9; 12], GuestAddress(0x3fc))?;
-        let stored = memory.store(&mut host, 0x0102_0304u32, at, Ordering::SeqCst);
-        let loaded = memory.load::<u32, ()>(&host, at, Ordering::SeqCst);
-        let mut seen = [0; 12];
-        memory.read_slice(&host, &mut seen, GuestAddress(0x3fc))?;
-        let wrote = memory.write_obj(&mut host, 0x0807_0605_0403_0201u64, at);
-        let had = memory.read_obj::<u64, ()>(&host, at);
-        let mut eight = [0; 8];
-        let count = memory.read(&host, &mut eight, at);
-        let text = format!(in rt.alloc();
-            "{stored:?} {loaded:?} {wrote:?} {had:?} {seen:?} {count:?} {eight:?}"
-        )?;
-        let wanted = format!(in rt.alloc(); "{stores} {values} {left:?} {bytes}")?;
-        expect_text(case, text.as_str(), wanted.as_str())?;
+        let told = told_of_values(alloc, &mut host, &memory, GuestAddress(*addr))?;
+        let wanted = format!(in alloc; "{stores} {values} {left:?} {bytes}")?;
+        expect_text(case, told.as_str(), wanted.as_str())?;
         // A value without a byte is there at any address.
         assert!(rt; comes_back(&mut host, &memory, [0u32; 0], *addr, &[])?);
     }
-    // The bytes of an aligned address lie in two blocks.
-    let memory = memory_of(rt.alloc(), &mut host, &SIX_AND_SIX)?;
-    assert!(rt; host.holds(&memory));
-    let stored = memory.store(&mut host, 7u32, GuestAddress(4), Ordering::SeqCst);
-    let loaded = memory.load::<u32, ()>(&host, GuestAddress(4), Ordering::SeqCst);
-    let text = format!(in rt.alloc(); "{stored:?} {loaded:?}")?;
-    let mut bytes = [9; 12];
-    memory.read_slice(&host, &mut bytes, GuestAddress(0))?;
-    assert!(rt; bytes == [0; 12]);
+    let memory = memory_of(alloc, &mut host, &SIX_AND_SIX)?;
+    let told = told_of_split_store(alloc, &mut host, &memory)?;
     expect_text(
         0,
-        text.as_str(),
-        "Err(InvalidBackendAddress) Err(InvalidBackendAddress)",
+        told.as_str(),
+        "Err(InvalidBackendAddress) Err(InvalidBackendAddress) [0, 0, 0, 0, 0, 0, 0, 0, 0, 0, 0, 0]",
     )
 }
 
 // Whether a value that is written at an address has these bytes there and is read back, and is read of these bytes.
-fn comes_back<T: ByteValued + PartialEq>(
+fn comes_back<M: GuestMemory, T: ByteValued + PartialEq>(
     host: &mut HostMemory<()>,
-    memory: &Layout,
+    memory: &M,
     value: T,
     addr: u64,
     bytes: &[u8],
@@ -133,39 +152,70 @@ fn comes_back<T: ByteValued + PartialEq>(
     Ok(has_bytes && back == value && again == value)
 }
 
-// What is told of a value that fills a block, and of one that ends past the memory, written and read.
+// The bytes of a memory at an address.
+fn bytes_at<M: GuestMemory>(
+    alloc: Global,
+    host: &HostMemory<()>,
+    memory: &M,
+    addr: u64,
+    count: usize,
+) -> Result<Vec<u8>, Fail> {
+    if !host.holds(memory) {
+        return Err(Fail::new("the host holds the memory"));
+    }
+    let mut bytes = vec![in alloc; 0u8; count]?;
+    memory.read_slice(host, bytes.as_mut_slice(), GuestAddress(addr))?;
+    Ok(bytes)
+}
+
+// Bytes of which each is its number modulo 251.
+fn numbered<const N: usize>() -> [u8; N] {
+    let mut bytes = [0u8; N];
+    for (index, byte) in bytes.iter_mut().enumerate() {
+        *byte = (index % 251) as u8;
+    }
+    bytes
+}
+
+// What is told of a value that fills a block, and of one that ends past the memory, written and read, and then the
+// last two bytes of the memory.
 const LONG_VALUES: &str = "Ok(true)
 Err(PartialBuffer { expected: 1024, completed: 256 })
 Err(PartialBuffer { expected: 1024, completed: 256 })
+[3, 4]
 ";
+
+fn told_of_long_values<M: GuestMemory>(
+    alloc: Global,
+    host: &mut HostMemory<()>,
+    memory: &M,
+) -> Result<String, Fail> {
+    let long = numbered::<1024>();
+    let whole = comes_back(host, memory, long, 0, &long);
+    let wrote = comes_back(host, memory, long, 0x700, &long);
+    let mut text = format!(in alloc; "{whole:?}\n{wrote:?}\n")?;
+    if !host.holds(memory) {
+        return Err(Fail::new("the host holds the memory"));
+    }
+    let had = memory.read_obj::<[u8; 1024], ()>(host, GuestAddress(0x700));
+    writeln!(text, "{had:?}")?;
+    let last = memory.read_obj::<[u8; 2], ()>(host, GuestAddress(0x7fe))?;
+    writeln!(text, "{last:?}")?;
+    Ok(text)
+}
 
 #[test]
 fn a_value_lies_over_two_blocks(rt: HostRuntime) -> Result<(), Fail> {
-    let mut host = HostMemory::new(rt.alloc());
-    let memory = memory_of(rt.alloc(), &mut host, &TWO_BLOCKS)?;
-    let mut long = [0u8; 1024];
-    for (index, byte) in long.iter_mut().enumerate() {
-        *byte = (index % 251) as u8;
-    }
-    let mut hundred = [0u8; 100];
-    for (index, byte) in hundred.iter_mut().enumerate() {
-        *byte = (index % 251) as u8;
-    }
+    let alloc = rt.alloc();
+    let mut host = HostMemory::new(alloc);
+    let memory = memory_of(alloc, &mut host, &TWO_BLOCKS)?;
+    let (long, hundred) = (numbered::<1024>(), numbered::<100>());
     let inner = 0x0807_0605_0403_0201u64;
     assert!(rt; comes_back(&mut host, &memory, hundred, 0x3d0, &hundred)?);
     assert!(rt; comes_back(&mut host, &memory, inner, 0x3fc, &[1, 2, 3, 4, 5, 6, 7, 8])?);
-    assert!(rt; host.holds(&memory));
-    let mut bytes = [0; 10];
-    memory.read_slice(&host, &mut bytes, GuestAddress(0x3fb))?;
-    assert!(rt; bytes == [43, 1, 2, 3, 4, 5, 6, 7, 8, 52]);
+    let bytes = bytes_at(alloc, &host, &memory, 0x3fb, 10)?;
+    assert!(rt; bytes.as_slice() == &[43, 1, 2, 3, 4, 5, 6, 7, 8, 52][..]);
     assert!(rt; comes_back(&mut host, &memory, long, 0x200, &long)?);
-    let whole = comes_back(&mut host, &memory, long, 0, &long);
-    let wrote = comes_back(&mut host, &memory, long, 0x700, &long);
-    assert!(rt; host.holds(&memory));
-    let had = memory.read_obj::<[u8; 1024], ()>(&host, GuestAddress(0x700));
-    let text = format!(in rt.alloc(); "{whole:?}\n{wrote:?}\n{had:?}\n")?;
-    expect_text(0, text.as_str(), LONG_VALUES)?;
-    let last = memory.read_obj::<[u8; 2], ()>(&host, GuestAddress(0x7fe))?;
-    assert!(rt; last == [3, 4]);
-    Ok(())
+    let told = told_of_long_values(alloc, &mut host, &memory)?;
+    expect_text(0, told.as_str(), LONG_VALUES)
 }
