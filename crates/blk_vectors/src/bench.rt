@@ -6,8 +6,8 @@ use std::test::Fail;
 use virtio_blk::{BlockDevice, Disk, Served};
 use virtio_queue::{Descriptor, DriverQueue, Queue};
 use vm_memory::{
-    Bytes, ExclusiveBitmap, GuestAddress, GuestMemoryMmap, GuestRegionMmap, HostMemory,
-    IommuMemory, MachineMemory, NewBitmap, Permissions, TableIommu, TlbId,
+    Bitmap, Bytes, ExclusiveBitmap, GuestAddress, GuestMemory, GuestMemoryMmap, GuestRegionMmap,
+    HostMemory, IommuMemory, MachineMemory, NewBitmap, Permissions, TableIommu, TlbId,
 };
 
 pub type Host = HostMemory<ExclusiveBitmap>;
@@ -43,7 +43,7 @@ pub const NAME: [u8; 20] = *b"the disk under tests";
 pub type Part = (u64, u32, bool);
 
 // Maps a page to another one.
-fn map_page(host: &mut Host, table: TlbId, page: u64) -> Result<(), Fail> {
+fn map_page<B: Bitmap>(host: &mut HostMemory<B>, table: TlbId, page: u64) -> Result<(), Fail> {
     if page >= PAGES || !host.shape().has_table(table) {
         return Err(Fail::new("the host has the table"));
     }
@@ -76,9 +76,9 @@ pub fn memory_of(alloc: Global, host: &mut Host, scattered: bool) -> Result<Memo
 
 /// A guest and its device.
 #[derive(Drop)]
-pub struct Bench<D: Disk> {
-    pub host: Host,
-    pub memory: Memory,
+pub struct Bench<M: GuestMemory, B: Bitmap, D: Disk> {
+    pub host: HostMemory<B>,
+    pub memory: M,
     pub driver: DriverQueue,
     pub queue: Queue,
     pub device: BlockDevice<D>,
@@ -90,7 +90,7 @@ pub fn make_bench<D: Disk>(
     scattered: bool,
     disk: D,
     read_only: bool,
-) -> Result<Bench<D>, Fail> {
+) -> Result<Bench<Memory, ExclusiveBitmap, D>, Fail> {
     let mut host = HostMemory::new(alloc);
     let memory = memory_of(alloc, &mut host, scattered)?;
     let driver = DriverQueue::new(GuestAddress(BEGIN), SIZE)?;
@@ -115,7 +115,7 @@ pub fn header_of(kind: u32, sector: u64) -> [u8; 16] {
     [a, b, c, d, 1, 2, 3, 4, s, t, u, v, w, x, y, z]
 }
 
-impl<D: Disk> Bench<D> {
+impl<M: GuestMemory, B: Bitmap, D: Disk> Bench<M, B, D> {
     /// Puts bytes into guest memory.
     pub fn put(&mut self, addr: u64, bytes: &[u8]) -> Result<(), Fail> {
         if !self.host.holds(&self.memory) {

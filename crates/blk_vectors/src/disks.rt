@@ -9,6 +9,7 @@ use std::io::Write;
 use std::test::Fail;
 use test_text::expect_text;
 use virtio_blk::{Disk, DiskError, FileDisk, MemoryDisk};
+use vm_memory::{Bitmap, GuestMemory};
 
 // A disk that refuses what comes after so many calls.
 #[derive(Drop)]
@@ -65,58 +66,87 @@ fn run_of(bytes: &[u8], byte: u8) -> usize {
 
 const LEN: u32 = 4 * 65536;
 
-// A disk that fails at its third piece: two were moved. A flush that fails.
+type Failing = FailingDisk<MemoryDisk>;
+
+// A disk of 7s that fails at its third piece.
+fn failing(alloc: Global) -> Result<Failing, Fail> {
+    Ok(FailingDisk {
+        disk: MemoryDisk::new(vec![in alloc; 7u8; LEN as usize]?),
+        left: 2,
+    })
+}
+
+// Tells the length and the status of a request to write or to read that fails at its third piece.
+fn told_of_failure<M: GuestMemory, B: Bitmap>(
+    alloc: Global,
+    bench: &mut Bench<M, B, Failing>,
+    writes: bool,
+) -> Result<String, Fail> {
+    bench.put(DATA, vec![in alloc; 9u8; LEN as usize]?.as_slice())?;
+    let parts = [(HEADER, 16, false), (DATA, LEN, !writes), (STATUS, 1, true)];
+    let len = bench.ask(header_of(u32::from(writes), 0), &parts)?;
+    let status = bench.get(alloc, STATUS, 1)?;
+    Ok(format!(in alloc; "{len} {:?}", status.as_slice())?)
+}
+
+// How many bytes of the disk are 9, and how many behind them are 7.
+fn tell_disk<M: GuestMemory, B: Bitmap>(
+    bench: &Bench<M, B, Failing>,
+    told: &mut String,
+) -> Result<(), Fail> {
+    let bytes = bench.device.disk().disk.bytes();
+    let moved = run_of(bytes, 9);
+    let rest = run_of(bytes.get(moved..).unwrap_or(&[]), 7);
+    write!(told, " {moved} {rest}")?;
+    Ok(())
+}
+
+// How many bytes of the data are 7, and what a flush tells.
+fn tell_data<M: GuestMemory, B: Bitmap>(
+    alloc: Global,
+    bench: &mut Bench<M, B, Failing>,
+    told: &mut String,
+) -> Result<(), Fail> {
+    let moved = run_of(bench.get(alloc, DATA, LEN as usize)?.as_slice(), 7);
+    let flushed = bench.ask(header_of(4, 0), &[(HEADER, 16, false), (STATUS, 1, true)])?;
+    let after = bench.get(alloc, STATUS, 1)?;
+    write!(told, " {moved} {flushed} {:?}", after.as_slice())?;
+    Ok(())
+}
+
+// Two pieces were moved.
 #[test]
 fn failures_in_the_middle(rt: HostRuntime) -> Result<(), Fail> {
+    let alloc = rt.alloc();
     for scattered in [false, true] {
-        let bytes = vec![in rt.alloc(); 7u8; LEN as usize]?;
-        let disk = FailingDisk {
-            disk: MemoryDisk::new(bytes),
-            left: 2,
-        };
-        let mut bench = make_bench(rt.alloc(), scattered, disk, false)?;
-        bench.put(DATA, vec![in rt.alloc(); 9u8; LEN as usize]?.as_slice())?;
-        let parts = [(HEADER, 16, false), (DATA, LEN, false), (STATUS, 1, true)];
-        let wrote = bench.ask(header_of(1, 0), &parts)?;
-        let status = bench.get(rt.alloc(), STATUS, 1)?;
-        let moved = run_of(bench.device.disk().disk.bytes(), 9);
-        let all = run_of(
-            bench.device.disk().disk.bytes().get(moved..).unwrap_or(&[]),
-            7,
-        );
-        let text = format!(in rt.alloc(); "{wrote} {:?} {moved} {all}", status.as_slice())?;
-        expect_text(0, text.as_str(), "1 [1] 131072 131072")?;
+        let mut bench = make_bench(alloc, scattered, failing(alloc)?, false)?;
+        let mut told = told_of_failure(alloc, &mut bench, true)?;
+        tell_disk(&bench, &mut told)?;
+        expect_text(0, told.as_str(), "1 [1] 131072 131072")?;
     }
     Ok(())
 }
 
+// Two pieces were moved. Then a flush fails.
 #[test]
 fn failures_in_the_middle_of_reads(rt: HostRuntime) -> Result<(), Fail> {
+    let alloc = rt.alloc();
     for scattered in [false, true] {
-        let bytes = vec![in rt.alloc(); 7u8; LEN as usize]?;
-        let disk = FailingDisk {
-            disk: MemoryDisk::new(bytes),
-            left: 2,
-        };
-        let mut bench = make_bench(rt.alloc(), scattered, disk, false)?;
-        bench.put(DATA, vec![in rt.alloc(); 9u8; LEN as usize]?.as_slice())?;
-        let parts = [(HEADER, 16, false), (DATA, LEN, true), (STATUS, 1, true)];
-        let read = bench.ask(header_of(0, 0), &parts)?;
-        let status = bench.get(rt.alloc(), STATUS, 1)?;
-        let back = bench.get(rt.alloc(), DATA, LEN as usize)?;
-        let moved = run_of(back.as_slice(), 7);
-        let flushed = bench.ask(header_of(4, 0), &[(HEADER, 16, false), (STATUS, 1, true)])?;
-        let after = bench.get(rt.alloc(), STATUS, 1)?;
-        let (status, after) = (status.as_slice(), after.as_slice());
-        let text = format!(in rt.alloc(); "{read} {status:?} {moved} {flushed} {after:?}")?;
-        expect_text(0, text.as_str(), "131072 [1] 131072 1 [1]")?;
+        let mut bench = make_bench(alloc, scattered, failing(alloc)?, false)?;
+        let mut told = told_of_failure(alloc, &mut bench, false)?;
+        tell_data(alloc, &mut bench, &mut told)?;
+        expect_text(0, told.as_str(), "131072 [1] 131072 1 [1]")?;
     }
     Ok(())
 }
 
 // Asks for a sector of 170 to be written, and for the same to be read to where 170 lay, and for a flush. Tells each
 // status, and the byte that was read.
-fn told<D: Disk>(alloc: Global, bench: &mut Bench<D>, sector: u64) -> Result<String, Fail> {
+fn told<M: GuestMemory, B: Bitmap, D: Disk>(
+    alloc: Global,
+    bench: &mut Bench<M, B, D>,
+    sector: u64,
+) -> Result<String, Fail> {
     let mut told = String::new(alloc);
     for (kind, writable, len) in [(1, false, 512), (0, true, 512), (4, true, 0)] {
         let parts = [
@@ -161,6 +191,17 @@ fn disks_in_files(rt: HostRuntime) -> Result<(), Fail> {
     Ok(())
 }
 
+// Tells the length and the status of a request that reads two sectors.
+fn told_of_both<M: GuestMemory, B: Bitmap, D: Disk>(
+    alloc: Global,
+    bench: &mut Bench<M, B, D>,
+) -> Result<String, Fail> {
+    let parts = [(HEADER, 16, false), (DATA, 1024, true), (STATUS, 1, true)];
+    let len = bench.ask(header_of(0, 0), &parts)?;
+    let status = bench.get(alloc, STATUS, 1)?;
+    Ok(format!(in alloc; "{len} {:?}", status.as_slice())?)
+}
+
 // The last sector of a file goes missing while it is served: it is not there to be read, and can be written.
 #[test]
 fn disks_in_files_that_shrink(rt: HostRuntime) -> Result<(), Fail> {
@@ -172,10 +213,7 @@ fn disks_in_files_that_shrink(rt: HostRuntime) -> Result<(), Fail> {
     let shared = file.try_clone()?;
     let mut bench = make_bench(rt.alloc(), false, FileDisk::new(file)?, false)?;
     shared.set_len(700)?;
-    let parts = [(HEADER, 16, false), (DATA, 1024, true), (STATUS, 1, true)];
-    let len = bench.ask(header_of(0, 0), &parts)?;
-    let status = bench.get(rt.alloc(), STATUS, 1)?;
-    let text = format!(in rt.alloc(); "{len} {:?}", status.as_slice())?;
+    let text = told_of_both(rt.alloc(), &mut bench)?;
     expect_text(0, text.as_str(), "0 [1]")?;
     let text = told(rt.alloc(), &mut bench, 1)?;
     expect_text(1, text.as_str(), "[0] [0] [0] [170]")

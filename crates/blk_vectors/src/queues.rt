@@ -6,9 +6,13 @@ use std::test::Fail;
 use test_text::expect_text;
 use virtio_blk::{BlockDevice, MemoryDisk};
 use virtio_queue::QueueField;
-use vm_memory::GuestAddress;
+use vm_memory::{Bitmap, GuestAddress, GuestMemory};
 
-fn set(bench: &mut Bench<MemoryDisk>, field: QueueField, value: u16) -> Result<(), Fail> {
+fn set<M: GuestMemory, B: Bitmap>(
+    bench: &mut Bench<M, B, MemoryDisk>,
+    field: QueueField,
+    value: u16,
+) -> Result<(), Fail> {
     if !bench.host.holds(&bench.memory) {
         return Err(Fail::new("the host holds the memory"));
     }
@@ -19,19 +23,28 @@ fn set(bench: &mut Bench<MemoryDisk>, field: QueueField, value: u16) -> Result<(
 }
 
 // Publishes a chain from a descriptor on.
-fn publish(bench: &mut Bench<MemoryDisk>, first: u16) -> Result<(), Fail> {
+fn publish<M: GuestMemory, B: Bitmap>(
+    bench: &mut Bench<M, B, MemoryDisk>,
+    first: u16,
+) -> Result<(), Fail> {
     bench.publish(first, &[(HEADER, 16, false), (STATUS, 1, true)])
 }
 
 // Tells how many chains a call serves, and whether the driver is to be interrupted.
-fn kick(bench: &mut Bench<MemoryDisk>, told: &mut String) -> Result<(), Fail> {
+fn kick<M: GuestMemory, B: Bitmap>(
+    bench: &mut Bench<M, B, MemoryDisk>,
+    told: &mut String,
+) -> Result<(), Fail> {
     let served = bench.kick()?;
     write!(told, "{} {}; ", served.count, served.interrupt)?;
     Ok(())
 }
 
 // Tells all of a call.
-fn kick_whole(bench: &mut Bench<MemoryDisk>, told: &mut String) -> Result<(), Fail> {
+fn kick_whole<M: GuestMemory, B: Bitmap>(
+    bench: &mut Bench<M, B, MemoryDisk>,
+    told: &mut String,
+) -> Result<(), Fail> {
     let served = bench.kick()?;
     let (count, more, interrupt) = (served.count, served.more, served.interrupt);
     write!(told, "{count} {more} {interrupt} {:?}; ", served.failed)?;
@@ -39,7 +52,10 @@ fn kick_whole(bench: &mut Bench<MemoryDisk>, told: &mut String) -> Result<(), Fa
 }
 
 // Two chains in one call, then none, and then one with the flag NO_INTERRUPT.
-fn by_flags(bench: &mut Bench<MemoryDisk>, told: &mut String) -> Result<(), Fail> {
+fn by_flags<M: GuestMemory, B: Bitmap>(
+    bench: &mut Bench<M, B, MemoryDisk>,
+    told: &mut String,
+) -> Result<(), Fail> {
     publish(bench, 0)?;
     publish(bench, 2)?;
     kick(bench, told)?;
@@ -50,7 +66,10 @@ fn by_flags(bench: &mut Bench<MemoryDisk>, told: &mut String) -> Result<(), Fail
 }
 
 // Event indices, of which the driver waits for the second.
-fn by_events(bench: &mut Bench<MemoryDisk>, told: &mut String) -> Result<(), Fail> {
+fn by_events<M: GuestMemory, B: Bitmap>(
+    bench: &mut Bench<M, B, MemoryDisk>,
+    told: &mut String,
+) -> Result<(), Fail> {
     bench.queue.set_event_idx(true);
     set(bench, QueueField::UsedEvent, 4)?;
     for head in [6, 8, 10] {
@@ -61,7 +80,7 @@ fn by_events(bench: &mut Bench<MemoryDisk>, told: &mut String) -> Result<(), Fai
 }
 
 // Each head comes back once, in order.
-fn all_return(bench: &mut Bench<MemoryDisk>) -> Result<(), Fail> {
+fn all_return<M: GuestMemory, B: Bitmap>(bench: &mut Bench<M, B, MemoryDisk>) -> Result<(), Fail> {
     for head in [0, 2, 4, 6, 8, 10] {
         if bench.take()? != (head, 1) {
             return Err(Fail::new("each head is returned once, in order"));
@@ -70,7 +89,10 @@ fn all_return(bench: &mut Bench<MemoryDisk>) -> Result<(), Fail> {
     Ok(())
 }
 
-fn interrupts(bench: &mut Bench<MemoryDisk>, told: &mut String) -> Result<(), Fail> {
+fn interrupts<M: GuestMemory, B: Bitmap>(
+    bench: &mut Bench<M, B, MemoryDisk>,
+    told: &mut String,
+) -> Result<(), Fail> {
     bench.put(HEADER, &header_of(4, 0))?;
     by_flags(bench, told)?;
     by_events(bench, told)?;
@@ -87,7 +109,10 @@ fn interrupts_as_the_driver_wants(rt: HostRuntime) -> Result<(), Fail> {
 }
 
 // As many chains as the queue has entries, which one call serves.
-fn fill(bench: &mut Bench<MemoryDisk>, told: &mut String) -> Result<(), Fail> {
+fn fill<M: GuestMemory, B: Bitmap>(
+    bench: &mut Bench<M, B, MemoryDisk>,
+    told: &mut String,
+) -> Result<(), Fail> {
     for head in 0..SIZE {
         bench.publish(head, &[(STATUS, 1, true)])?;
     }
@@ -104,8 +129,8 @@ fn calls_serve_as_many_as_the_size(rt: HostRuntime) -> Result<(), Fail> {
 }
 
 // A request whose answer goes over the driver's index.
-fn overwrite_index(
-    bench: &mut Bench<MemoryDisk>,
+fn overwrite_index<M: GuestMemory, B: Bitmap>(
+    bench: &mut Bench<M, B, MemoryDisk>,
     kind: u32,
     len: u32,
     told: &mut String,
@@ -128,7 +153,10 @@ fn requests_that_write_the_index(rt: HostRuntime) -> Result<(), Fail> {
 }
 
 // A queue that is not ready; and a head that is popped and cannot be returned, since the used ring lies nowhere.
-fn fail(bench: &mut Bench<MemoryDisk>, told: &mut String) -> Result<(), Fail> {
+fn fail<M: GuestMemory, B: Bitmap>(
+    bench: &mut Bench<M, B, MemoryDisk>,
+    told: &mut String,
+) -> Result<(), Fail> {
     bench.queue.set_ready(false);
     kick_whole(bench, told)?;
     bench.queue.set_ready(true);
@@ -140,13 +168,19 @@ fn fail(bench: &mut Bench<MemoryDisk>, told: &mut String) -> Result<(), Fail> {
 }
 
 // The head was popped, and its request served.
-fn tell_place(bench: &Bench<MemoryDisk>, told: &mut String) -> Result<(), Fail> {
+fn tell_place<M: GuestMemory, B: Bitmap>(
+    bench: &Bench<M, B, MemoryDisk>,
+    told: &mut String,
+) -> Result<(), Fail> {
     let first = first_bytes(bench.device.disk());
     write!(told, "{} {first:?}", bench.queue.next_avail())?;
     Ok(())
 }
 
-fn failures(bench: &mut Bench<MemoryDisk>, told: &mut String) -> Result<(), Fail> {
+fn failures<M: GuestMemory, B: Bitmap>(
+    bench: &mut Bench<M, B, MemoryDisk>,
+    told: &mut String,
+) -> Result<(), Fail> {
     fail(bench, told)?;
     tell_place(bench, told)
 }

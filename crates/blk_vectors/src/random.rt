@@ -5,6 +5,7 @@ use std::alloc::Global;
 use std::test::Fail;
 use test_text::next_number;
 use virtio_blk::MemoryDisk;
+use vm_memory::{Bitmap, GuestMemory};
 
 const SECTORS: u64 = 40;
 
@@ -65,9 +66,9 @@ fn serve_plainly(request: &Request, disk: &mut [u8], data: &mut [u8], name: &[u8
 }
 
 // Asks the device and the model, and tells whether they agree.
-fn agree(
+fn agree<M: GuestMemory, B: Bitmap>(
     alloc: Global,
-    bench: &mut Bench<MemoryDisk>,
+    bench: &mut Bench<M, B, MemoryDisk>,
     disk: &mut [u8],
     state: &mut u64,
 ) -> Result<bool, Fail> {
@@ -97,18 +98,28 @@ fn agree(
     )
 }
 
+// A thousand requests.
+fn all_agree<M: GuestMemory, B: Bitmap>(
+    alloc: Global,
+    bench: &mut Bench<M, B, MemoryDisk>,
+    disk: &mut [u8],
+) -> Result<(), Fail> {
+    let mut state = 1;
+    for number in 0..1000 {
+        if !agree(alloc, bench, disk, &mut state)? {
+            return Err(Fail::new(format_args!("request {number}")));
+        }
+    }
+    Ok(())
+}
+
 #[test]
 fn random_requests_as_a_plain_disk(rt: HostRuntime) -> Result<(), Fail> {
     for scattered in [false, true] {
         let mut disk = vec![in rt.alloc(); 0u8; SECTORS as usize * 512]?;
         let memory = MemoryDisk::new(disk.clone()?);
         let mut bench = make_bench(rt.alloc(), scattered, memory, false)?;
-        let mut state = 1;
-        for number in 0..1000 {
-            if !agree(rt.alloc(), &mut bench, disk.as_mut_slice(), &mut state)? {
-                return Err(Fail::new(format_args!("request {number}")));
-            }
-        }
+        all_agree(rt.alloc(), &mut bench, disk.as_mut_slice())?;
     }
     Ok(())
 }

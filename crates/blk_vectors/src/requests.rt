@@ -5,6 +5,7 @@ use std::alloc::Global;
 use std::test::Fail;
 use test_text::expect_text;
 use virtio_blk::MemoryDisk;
+use vm_memory::{Bitmap, GuestMemory};
 
 // A header, a sector of data and a status, in the order of a chain.
 const H: Part = (HEADER, 16, false);
@@ -309,19 +310,30 @@ fn differing(now: &[u8], before: &[u8]) -> usize {
 }
 
 // How many bytes of guest memory changed, of which the end was 0.
-fn changed(alloc: Global, bench: &Bench<MemoryDisk>, before: &[u8]) -> Result<usize, Fail> {
+fn changed<M: GuestMemory, B: Bitmap>(
+    alloc: Global,
+    bench: &Bench<M, B, MemoryDisk>,
+    before: &[u8],
+) -> Result<usize, Fail> {
     let after = bench.get(alloc, HEADER, SEEN)?;
     let end = bench.get(alloc, END - 0x1000, 0x1000)?;
     let at_end = differing(end.as_slice(), &[0; 0x1000]);
     Ok(differing(after.as_slice(), before).wrapping_add(at_end))
 }
 
-fn status_of(alloc: Global, bench: &Bench<MemoryDisk>) -> Result<u8, Fail> {
+fn status_of<M: GuestMemory, B: Bitmap>(
+    alloc: Global,
+    bench: &Bench<M, B, MemoryDisk>,
+) -> Result<u8, Fail> {
     let status = bench.get(alloc, STATUS, 1)?;
     Ok(status.first().copied().unwrap_or(0))
 }
 
-fn told_of(alloc: Global, bench: &mut Bench<MemoryDisk>, case: &Case) -> Result<String, Fail> {
+fn told_of<M: GuestMemory, B: Bitmap>(
+    alloc: Global,
+    bench: &mut Bench<M, B, MemoryDisk>,
+    case: &Case,
+) -> Result<String, Fail> {
     let (_, kind, sector, parts, _) = *case;
     let header = header_of(kind, sector);
     bench.put(HEADER, &header)?;
@@ -379,7 +391,11 @@ fn accesses_end_where_memory_does(rt: HostRuntime) -> Result<(), Fail> {
 }
 
 // Writes two sectors from memory, cut behind so many bytes, and reads them back to another place, cut there too.
-fn cut_at(alloc: Global, bench: &mut Bench<MemoryDisk>, cut: u32) -> Result<bool, Fail> {
+fn cut_at<M: GuestMemory, B: Bitmap>(
+    alloc: Global,
+    bench: &mut Bench<M, B, MemoryDisk>,
+    cut: u32,
+) -> Result<(), Fail> {
     let data: Vec<u8> = (0..1024).map(|i| (i * 7 % 251) as u8).collect(alloc)?;
     bench.put(DATA, data.as_slice())?;
     let rest = 1024u32.saturating_sub(cut);
@@ -393,7 +409,10 @@ fn cut_at(alloc: Global, bench: &mut Bench<MemoryDisk>, cut: u32) -> Result<bool
     let disk = bench.device.disk().bytes();
     let same = Some(front.as_slice()) == data.as_slice().get(..cut as usize)
         && Some(back.as_slice()) == data.as_slice().get(cut as usize..);
-    Ok(wrote == 1 && read == 1025 && same && disk.get(1024..2048) == Some(data.as_slice()))
+    if wrote != 1 || read != 1025 || !same || disk.get(1024..2048) != Some(data.as_slice()) {
+        return Err(Fail::new(format_args!("cut at {cut}")));
+    }
+    Ok(())
 }
 
 #[test]
@@ -402,16 +421,17 @@ fn data_is_cut_anywhere(rt: HostRuntime) -> Result<(), Fail> {
         let disk = numbered(rt.alloc(), 4)?;
         let mut bench = make_bench(rt.alloc(), scattered, disk, false)?;
         for cut in 0..1025 {
-            if !cut_at(rt.alloc(), &mut bench, cut)? {
-                return Err(Fail::new(format_args!("cut at {cut}")));
-            }
+            cut_at(rt.alloc(), &mut bench, cut)?;
         }
     }
     Ok(())
 }
 
-// Cuts a header behind so many bytes, and before the status.
-fn header_cut_at(bench: &mut Bench<MemoryDisk>, cut: u32) -> Result<u32, Fail> {
+// Cuts a header behind so many bytes, and before the status. Fails where its request is not served then.
+fn header_cut_at<M: GuestMemory, B: Bitmap>(
+    bench: &mut Bench<M, B, MemoryDisk>,
+    cut: u32,
+) -> Result<(), Fail> {
     let rest = 16u32.saturating_sub(cut);
     let parts = [
         (HEADER, cut, false),
@@ -419,7 +439,13 @@ fn header_cut_at(bench: &mut Bench<MemoryDisk>, cut: u32) -> Result<u32, Fail> {
         (DATA, 512, false),
         S,
     ];
-    bench.ask(header_of(1, (cut % 4) as u64), &parts)
+    let len = bench.ask(header_of(1, (cut % 4) as u64), &parts)?;
+    let mut wanted = [1, 2, 3, 4];
+    wanted[(cut % 4) as usize] = 170;
+    if len != 1 || first_bytes(bench.device.disk()) != wanted {
+        return Err(Fail::new(format_args!("header cut at {cut}")));
+    }
+    Ok(())
 }
 
 #[test]
@@ -427,12 +453,7 @@ fn headers_are_cut_anywhere(rt: HostRuntime) -> Result<(), Fail> {
     for cut in 0..17 {
         let disk = numbered(rt.alloc(), 4)?;
         let mut bench = make_bench(rt.alloc(), false, disk, false)?;
-        let len = header_cut_at(&mut bench, cut)?;
-        let mut wanted = [1, 2, 3, 4];
-        wanted[(cut % 4) as usize] = 170;
-        if len != 1 || first_bytes(bench.device.disk()) != wanted {
-            return Err(Fail::new(format_args!("header cut at {cut}")));
-        }
+        header_cut_at(&mut bench, cut)?;
     }
     Ok(())
 }
@@ -441,7 +462,11 @@ fn headers_are_cut_anywhere(rt: HostRuntime) -> Result<(), Fail> {
 const LONG: usize = 0x10_0200;
 
 // Writes so many bytes in one request, from an address that is no multiple of a page, and reads them back.
-fn move_long(alloc: Global, bench: &mut Bench<MemoryDisk>, bytes: &[u8]) -> Result<bool, Fail> {
+fn move_long<M: GuestMemory, B: Bitmap>(
+    alloc: Global,
+    bench: &mut Bench<M, B, MemoryDisk>,
+    bytes: &[u8],
+) -> Result<bool, Fail> {
     bench.put(DATA + 5, bytes)?;
     let wrote = bench.ask(header_of(1, 1), &[H, (DATA + 5, LONG as u32, false), S])?;
     bench.put(DATA + 5, vec![in alloc; 1u8; LONG]?.as_slice())?;
@@ -472,7 +497,11 @@ fn requests_of_many_pieces(rt: HostRuntime) -> Result<(), Fail> {
 
 // A request over its own ring and table: they are overwritten while it is served, and the entry is returned. It tells
 // the first bytes of the table, the status and what the call answers.
-fn overwrite(alloc: Global, bench: &mut Bench<MemoryDisk>, told: &mut String) -> Result<(), Fail> {
+fn overwrite<M: GuestMemory, B: Bitmap>(
+    alloc: Global,
+    bench: &mut Bench<M, B, MemoryDisk>,
+    told: &mut String,
+) -> Result<(), Fail> {
     bench.put(HEADER, &header_of(0, 0))?;
     bench.publish(0, &[H, (BEGIN, 512, true), S])?;
     let served = bench.kick()?;

@@ -4,7 +4,8 @@ use crate::guests::{guest_of, put};
 use live_migration::Sender;
 use std::alloc::Global;
 use std::test::Fail;
-use vm_memory_guest::BlockId;
+use vm_memory_base::{ExactBitmap, GuestAddress};
+use vm_memory_guest::{BlockId, HostMemory};
 
 // The length of a block and of its pages, whether each page has a byte that is not zero, and how many pages the first
 // call copies, and how many bytes are sent then.
@@ -19,22 +20,20 @@ const CASES: [(usize, usize, bool, usize, usize); 4] = [
     (0x10_0001, 0x10_0000, true, 1, 0x10_0000 + 20),
 ];
 
-// The pages that the first call copies, and the bytes that are sent.
-fn first_batch(
+// Writes so many pages. The pages that the first call copies then, and the bytes that are sent.
+fn first_batch<B: ExactBitmap>(
     alloc: Global,
-    len: usize,
+    host: &mut HostMemory<B>,
+    places: &[(BlockId, GuestAddress)],
+    written: usize,
     page_size: usize,
-    is_written: bool,
 ) -> Result<(usize, usize), Fail> {
-    let (mut host, places) = guest_of(alloc, &[(len, page_size)])?;
-    if is_written {
-        for page in 0..len.div_ceil(page_size.max(1)) {
-            put(&mut host, BlockId(0), page.saturating_mul(page_size), 1);
-        }
+    for page in 0..written {
+        put(host, BlockId(0), page.saturating_mul(page_size), 1);
     }
-    let mut sender = Sender::begin(alloc, &host, &places, &mut Vec::new(alloc))?;
-    sender.harvest(alloc, &mut host)?;
-    let count = sender.copy_batch(&host)?;
+    let mut sender = Sender::begin(alloc, host, places, &mut Vec::new(alloc))?;
+    sender.harvest(alloc, host)?;
+    let count = sender.copy_batch(host)?;
     let mut stream = Vec::new(alloc);
     sender.send_batch(&mut stream)?;
     Ok((count, stream.len()))
@@ -43,7 +42,13 @@ fn first_batch(
 #[test]
 fn batches_are_bounded(rt: HostRuntime) -> Result<(), Fail> {
     for (case, (len, page_size, is_written, pages, bytes)) in CASES.iter().enumerate() {
-        let (count, sent) = first_batch(rt.alloc(), *len, *page_size, *is_written)?;
+        let (mut host, places) = guest_of(rt.alloc(), &[(*len, *page_size)])?;
+        let written = if *is_written {
+            len.div_ceil((*page_size).max(1))
+        } else {
+            0
+        };
+        let (count, sent) = first_batch(rt.alloc(), &mut host, &places, written, *page_size)?;
         assert!(rt;
             count == *pages && sent == *bytes,
             "case {case}: {count} pages, {sent} bytes"

@@ -5,8 +5,8 @@ use live_migration::{Receiver, Reply, SendError, Sender, Stage};
 use std::alloc::Global;
 use std::io::{self, ErrorKind, Write};
 use std::test::Fail;
-use vm_memory_base::GuestAddress;
-use vm_memory_guest::BlockId;
+use vm_memory_base::{ExactBitmap, GuestAddress, NewBitmap};
+use vm_memory_guest::{BlockId, HostMemory};
 
 // Takes so many bytes, and then fails.
 #[derive(Drop)]
@@ -32,11 +32,11 @@ impl Write for Cut {
 }
 
 // Two rounds, with a write between them, up to done.
-fn send_all(
+fn send_all<B: ExactBitmap, W: Write>(
     alloc: Global,
     sender: &mut Sender,
-    host: &mut Host,
-    writer: &mut Cut,
+    host: &mut HostMemory<B>,
+    writer: &mut W,
 ) -> Result<(), SendError> {
     send_pages(alloc, sender, host, 2, writer)?;
     sender.end_round(alloc, writer)?;
@@ -47,12 +47,13 @@ fn send_all(
     sender.done(alloc, writer)
 }
 
-// Moves a guest over a connection that is cut after so many bytes. Where it is cut, all pages that were harvested are
-// dirty again. Answers whether it was not cut and the blocks are equal.
-fn tried(
+// Moves a guest to an empty host over a connection that is cut after so many bytes. Where it is cut, all pages that were
+// harvested are dirty again. Answers whether it was not cut and the blocks are equal.
+fn tried<B: ExactBitmap, C: NewBitmap + Drop>(
     alloc: Global,
-    host: &mut Host,
+    host: &mut HostMemory<B>,
     places: &[(BlockId, GuestAddress)],
+    other: &mut HostMemory<C>,
     left: usize,
 ) -> Result<bool, Fail> {
     let mut cut = Cut {
@@ -66,12 +67,11 @@ fn tried(
         sender.abort(host);
         return Ok(false);
     }
-    let mut other = Host::new(alloc);
     let mut input = cut.bytes.as_slice();
-    let mut receiver = Receiver::begin(alloc, &mut input, &mut other, 0x10_0000)?;
-    take_until(&mut receiver, input, &mut other, Stage::Done)?;
+    let mut receiver = Receiver::begin(alloc, &mut input, other, 0x10_0000)?;
+    take_until(&mut receiver, input, other, Stage::Done)?;
     sender.accepted(&mut Reply::Accepted.encode().as_slice())?;
-    Ok(are_equal(host, places, &other, 0))
+    Ok(are_equal(host, places, other, 0))
 }
 
 // The bytes of the whole stream: the header, the pages, of which the second block has one of zeros and one that is cut,
@@ -95,27 +95,45 @@ fn dirty_after(left: usize) -> (usize, usize) {
     }
 }
 
+// Answers whether a try was not cut. Where it was, fails if other pages are dirty than ought to be, or the next try does
+// not move all to another empty host.
+fn is_whole<B: ExactBitmap, C: NewBitmap + Drop>(
+    alloc: Global,
+    host: &mut HostMemory<B>,
+    places: &[(BlockId, GuestAddress)],
+    first: &mut HostMemory<C>,
+    second: &mut HostMemory<C>,
+    left: usize,
+) -> Result<bool, Fail> {
+    put(host, BlockId(0), 0x20, 3);
+    put(host, BlockId(1), 0x17f, 4);
+    if tried(alloc, host, places, first, left)? {
+        return Ok(true);
+    }
+    let dirty = (
+        dirty_count(host, alloc, BlockId(0))?,
+        dirty_count(host, alloc, BlockId(1))?,
+    );
+    if dirty != dirty_after(left) {
+        return Err(Fail::new(format_args!("{left}: {dirty:?} pages")));
+    }
+    if !tried(alloc, host, places, second, usize::MAX)? {
+        return Err(Fail::new(format_args!("{left}: the next try")));
+    }
+    Ok(false)
+}
+
 #[test]
 fn cut_connections_and_the_next_try(rt: HostRuntime) -> Result<(), Fail> {
     let alloc = rt.alloc();
     let mut cuts: usize = 0;
     for left in 0..0x1000 {
         let (mut host, places) = guest_of(alloc, &[(0x21, 0x10), (0x180, 0x100)])?;
-        put(&mut host, BlockId(0), 0x20, 3);
-        put(&mut host, BlockId(1), 0x17f, 4);
-        if tried(alloc, &mut host, &places, left)? {
+        let (mut first, mut second) = (Host::new(alloc), Host::new(alloc));
+        if is_whole(alloc, &mut host, &places, &mut first, &mut second, left)? {
             break;
         }
         cuts = cuts.saturating_add(1);
-        let first = dirty_count(&mut host, alloc, BlockId(0))?;
-        let second = dirty_count(&mut host, alloc, BlockId(1))?;
-        let wanted = dirty_after(left);
-        assert!(rt;
-            first == wanted.0 && second == wanted.1,
-            "{left}: {first} and {second} pages"
-        );
-        let is_equal = tried(alloc, &mut host, &places, usize::MAX)?;
-        assert!(rt; is_equal, "{left}");
     }
     // Each byte of the stream was the first that was not sent.
     assert!(rt; cuts == STREAM, "{cuts} cuts");

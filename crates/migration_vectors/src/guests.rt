@@ -59,10 +59,10 @@ pub(crate) fn bytes_of<B: Bitmap>(host: &HostMemory<B>, block: BlockId) -> &[u8]
 }
 
 /// Whether blocks of two hosts are equal: those of the second are numbered from `base` on.
-pub(crate) fn are_equal(
-    from: &Host,
+pub(crate) fn are_equal<A: Bitmap, B: Bitmap>(
+    from: &HostMemory<A>,
     places: &[(BlockId, GuestAddress)],
-    to: &Host,
+    to: &HostMemory<B>,
     base: usize,
 ) -> bool {
     places.iter().enumerate().all(|(i, (block, _))| bytes_of(from, *block)
@@ -70,7 +70,11 @@ pub(crate) fn are_equal(
 }
 
 /// The number of dirty pages of a block.
-pub(crate) fn dirty_count(host: &mut Host, alloc: Global, block: BlockId) -> Result<usize, Fail> {
+pub(crate) fn dirty_count<B: ExactBitmap>(
+    host: &HostMemory<B>,
+    alloc: Global,
+    block: BlockId,
+) -> Result<usize, Fail> {
     let id = BitmapId::Block(block.0);
     if !host.shape().has_bitmap(id) {
         return Ok(0);
@@ -79,10 +83,10 @@ pub(crate) fn dirty_count(host: &mut Host, alloc: Global, block: BlockId) -> Res
 }
 
 /// The pages of one round: each block is harvested, and its pages are copied and sent.
-pub(crate) fn send_pages<W: Write>(
+pub(crate) fn send_pages<B: ExactBitmap, W: Write>(
     alloc: Global,
     sender: &mut Sender,
-    host: &mut Host,
+    host: &mut HostMemory<B>,
     blocks: usize,
     writer: &mut W,
 ) -> Result<(), SendError> {
@@ -100,10 +104,10 @@ pub(crate) fn send_pages<W: Write>(
 }
 
 /// Takes frames up to a stage.
-pub(crate) fn take_until(
+pub(crate) fn take_until<B: Bitmap>(
     receiver: &mut Receiver,
     stream: &[u8],
-    host: &mut Host,
+    host: &mut HostMemory<B>,
     stage: Stage,
 ) -> Result<(), Refusal> {
     let mut input = stream;

@@ -1,12 +1,12 @@
 //! Whole migrations in rounds, while the guest is written.
 
-use crate::guests::{Host, are_equal, bytes_of, guest_of, len_of, put, send_pages, take_until};
+use crate::guests::{are_equal, bytes_of, guest_of, len_of, put, send_pages, take_until};
 use live_migration::{Receiver, Reply, Sender, Stage};
 use std::alloc::Global;
 use std::test::Fail;
 use test_text::next_number;
-use vm_memory_base::GuestAddress;
-use vm_memory_guest::BlockId;
+use vm_memory_base::{ExactBitmap, GuestAddress, NewBitmap};
+use vm_memory_guest::{BlockId, HostMemory};
 
 // The lengths and page sizes of the blocks, and how many bytes are written before the first round and in each of three.
 const CASES: [(&[(usize, usize)], usize); 9] = [
@@ -29,7 +29,12 @@ const CASES: [(&[(usize, usize)], usize); 9] = [
 ];
 
 // Writes some bytes of the guest.
-fn write_some(host: &mut Host, places: &[(BlockId, GuestAddress)], count: usize, state: &mut u64) {
+fn write_some<B: ExactBitmap>(
+    host: &mut HostMemory<B>,
+    places: &[(BlockId, GuestAddress)],
+    count: usize,
+    state: &mut u64,
+) {
     if places.is_empty() {
         return;
     }
@@ -46,9 +51,9 @@ fn write_some(host: &mut Host, places: &[(BlockId, GuestAddress)], count: usize,
 }
 
 // Sends a guest in four rounds, up to done.
-fn send_all(
+fn send_all<B: ExactBitmap>(
     alloc: Global,
-    host: &mut Host,
+    host: &mut HostMemory<B>,
     places: &[(BlockId, GuestAddress)],
     writes: usize,
     stream: &mut Vec<u8>,
@@ -69,30 +74,35 @@ fn send_all(
     Ok(sender)
 }
 
-// Receives a stream up to done, and then the sender gives the guest up. Answers whether the blocks are equal.
-fn move_one(alloc: Global, blocks: &[(usize, usize)], writes: usize) -> Result<bool, Fail> {
-    let (mut host, places) = guest_of(alloc, blocks)?;
+// Receives a stream up to done, and then the sender gives the guest up. Answers whether the blocks are equal. The other
+// host has a block of five bytes.
+fn is_moved<B: ExactBitmap, C: NewBitmap + Drop>(
+    alloc: Global,
+    host: &mut HostMemory<B>,
+    places: &[(BlockId, GuestAddress)],
+    writes: usize,
+    other: &mut HostMemory<C>,
+) -> Result<bool, Fail> {
     let mut stream = Vec::new(alloc);
-    let mut sender = send_all(alloc, &mut host, &places, writes, &mut stream)?;
-    let (mut other, _) = guest_of(alloc, &[(5, 1)])?;
-    put(&mut other, BlockId(0), 4, 9);
+    let mut sender = send_all(alloc, host, places, writes, &mut stream)?;
+    put(other, BlockId(0), 4, 9);
     let mut input = stream.as_slice();
-    let mut receiver = Receiver::begin(alloc, &mut input, &mut other, 0x40_0000)?;
-    take_until(&mut receiver, input, &mut other, Stage::Done)?;
+    let mut receiver = Receiver::begin(alloc, &mut input, other, 0x40_0000)?;
+    take_until(&mut receiver, input, other, Stage::Done)?;
     let mut last = Vec::new(alloc);
     // Go is not sent before the receiver has accepted.
     sender.go(&mut last).err().ok_or("go was sent too early")?;
     sender.accepted(&mut Reply::Accepted.encode().as_slice())?;
     sender.go(&mut last)?;
-    take_until(&mut receiver, last.as_slice(), &mut other, Stage::Gone)?;
+    take_until(&mut receiver, last.as_slice(), other, Stage::Gone)?;
     let guest = receiver
         .into_guest()
         .ok()
         .ok_or("the guest was not given out")?;
     let section = guest.sections.first().ok_or("no section came")?;
     Ok(
-        are_equal(&host, &places, &other, guest.base)
-            && bytes_of(&other, BlockId(0)) == [0, 0, 0, 0, 9].as_slice()
+        are_equal(host, places, other, guest.base)
+            && bytes_of(other, BlockId(0)) == [0, 0, 0, 0, 9].as_slice()
             && section.name.as_slice() == b"timer".as_slice()
             && section.bytes.as_slice() == [1, 2, 3].as_slice(),
     )
@@ -101,7 +111,9 @@ fn move_one(alloc: Global, blocks: &[(usize, usize)], writes: usize) -> Result<b
 #[test]
 fn guests_move(rt: HostRuntime) -> Result<(), Fail> {
     for (case, (blocks, writes)) in CASES.iter().enumerate() {
-        let is_equal = move_one(rt.alloc(), blocks, *writes)?;
+        let (mut host, places) = guest_of(rt.alloc(), blocks)?;
+        let (mut other, _) = guest_of(rt.alloc(), &[(5, 1)])?;
+        let is_equal = is_moved(rt.alloc(), &mut host, &places, *writes, &mut other)?;
         assert!(rt; is_equal, "case {case}");
     }
     Ok(())

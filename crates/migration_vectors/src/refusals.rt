@@ -6,7 +6,7 @@ use std::alloc::{AllocError, Global};
 use std::num::NonZeroUsize;
 use std::test::Fail;
 use vm_memory_base::{Bitmap, BitmapId, ExactBitmap, ExclusiveBitmap, GuestAddress};
-use vm_memory_guest::HostMemory;
+use vm_memory_guest::{BlockId, HostMemory};
 
 // A bitmap that is not harvested while there is said to be no memory.
 #[derive(Drop)]
@@ -57,13 +57,13 @@ type PoorHost = HostMemory<Poor<ExclusiveBitmap>>;
 const BLOCK: BitmapId = BitmapId::Block(0);
 
 // Says whether there is memory.
-fn set_poor(host: &mut PoorHost, is_poor: bool) {
+fn set_poor<B: ExactBitmap>(host: &mut HostMemory<Poor<B>>, is_poor: bool) {
     if host.shape().has_bitmap(BLOCK) {
         host.bitmap_mut(BLOCK).is_poor = is_poor;
     }
 }
 
-fn dirty_pages(host: &PoorHost, alloc: Global) -> Result<Vec<usize>, Fail> {
+fn dirty_pages<B: ExactBitmap>(host: &HostMemory<B>, alloc: Global) -> Result<Vec<usize>, Fail> {
     if !host.shape().has_bitmap(BLOCK) {
         return Ok(Vec::new(alloc));
     }
@@ -72,10 +72,10 @@ fn dirty_pages(host: &PoorHost, alloc: Global) -> Result<Vec<usize>, Fail> {
 
 // Harvests with no memory, and then with some. Answers whether the first was refused and left the dirty pages, and how
 // many pages the second took.
-fn harvest_twice(
+fn harvest_twice<B: ExactBitmap>(
     alloc: Global,
     sender: &mut Sender,
-    host: &mut PoorHost,
+    host: &mut HostMemory<Poor<B>>,
     wanted: &[usize],
 ) -> Result<Option<usize>, Fail> {
     set_poor(host, true);
@@ -90,15 +90,33 @@ fn harvest_twice(
 }
 
 // Copies and sends what waits.
-fn send_all(
+fn send_all<B: ExactBitmap>(
     alloc: Global,
     sender: &mut Sender,
-    host: &PoorHost,
+    host: &HostMemory<B>,
     stream: &mut Vec<u8>,
 ) -> Result<(), SendError> {
     sender.copy_batch(host)?;
     sender.send_batch(stream)?;
     sender.end_round(alloc, stream)
+}
+
+// How many pages each of two rounds takes, of a block of 9 bytes in pages of two, where each harvest is refused first.
+fn two_rounds<B: ExactBitmap>(
+    alloc: Global,
+    host: &mut HostMemory<Poor<B>>,
+    block: BlockId,
+) -> Result<(Option<usize>, Option<usize>), Fail> {
+    let mut stream = Vec::new(alloc);
+    let mut sender = Sender::begin(alloc, host, &[(block, GuestAddress(0))], &mut stream)?;
+    put(host, block, 3, 1);
+    let first = harvest_twice(alloc, &mut sender, host, &[1])?;
+    send_all(alloc, &mut sender, host, &mut stream)?;
+    put(host, block, 8, 1);
+    put(host, block, 0, 1);
+    let second = harvest_twice(alloc, &mut sender, host, &[0, 4])?;
+    send_all(alloc, &mut sender, host, &mut stream)?;
+    Ok((first, second))
 }
 
 #[test]
@@ -111,18 +129,9 @@ fn a_refused_harvest_loses_no_page(rt: HostRuntime) -> Result<(), Fail> {
         is_poor: false,
     };
     let block = host.new_block_with(9, bitmap)?;
-    let mut stream = Vec::new(alloc);
-    let mut sender = Sender::begin(alloc, &host, &[(block, GuestAddress(0))], &mut stream)?;
-    put(&mut host, block, 3, 1);
+    let pages = two_rounds(alloc, &mut host, block)?;
     // The first round takes all pages, and the second those that were written.
-    let first = harvest_twice(alloc, &mut sender, &mut host, &[1])?;
-    assert!(rt; first == Some(5), "first round");
-    send_all(alloc, &mut sender, &host, &mut stream)?;
-    put(&mut host, block, 8, 1);
-    put(&mut host, block, 0, 1);
-    let second = harvest_twice(alloc, &mut sender, &mut host, &[0, 4])?;
-    assert!(rt; second == Some(2), "second round");
-    send_all(alloc, &mut sender, &host, &mut stream)?;
+    assert!(rt; pages == (Some(5), Some(2)), "{pages:?}");
     Ok(())
 }
 

@@ -1,13 +1,14 @@
 //! Streams that are written by hand, and what a receiver answers.
 
-use crate::guests::{Host, bytes_of, guest_of};
+use crate::guests::{bytes_of, guest_of};
 use live_migration::{Receiver, Refusal, Stage};
 use sha2::{Digest, Sha256};
 use std::alloc::Global;
 use std::fmt::Write;
 use std::test::Fail;
 use test_text::expect_text;
-use vm_memory_guest::BlockId;
+use vm_memory_base::NewBitmap;
+use vm_memory_guest::{BlockId, HostMemory};
 
 // A stream in words: `m` is the magic word, `4,7` a number of 32 bits, `8,7` one of 64, `x,01ff` bytes, `z,3` so many
 // zeros, `e,0` the end of a round with the digest of all before it; numbers are hexadecimal. `a` is a header of a block
@@ -178,7 +179,11 @@ pub(crate) fn stream_of(alloc: Global, text: &str) -> Result<Vec<u8>, Fail> {
 }
 
 // Takes a stream to its end, in a host that has a block before.
-fn taken(alloc: Global, stream: &[u8], host: &mut Host) -> Result<(), Refusal> {
+fn taken<B: NewBitmap + Drop>(
+    alloc: Global,
+    stream: &[u8],
+    host: &mut HostMemory<B>,
+) -> Result<(), Refusal> {
     let mut input = stream;
     let mut receiver = Receiver::begin(alloc, &mut input, host, LIMIT)?;
     for _ in 0..u64::MAX {
@@ -192,14 +197,23 @@ fn taken(alloc: Global, stream: &[u8], host: &mut Host) -> Result<(), Refusal> {
 /// Takes a stream, and tells what came of it.
 pub(crate) fn told(alloc: Global, stream: &[u8]) -> Result<String, Fail> {
     let (mut host, _) = guest_of(alloc, &[(4, 1)])?;
-    let outcome = taken(alloc, stream, &mut host);
-    if bytes_of(&host, BlockId(0)) != [0, 0, 0, 0].as_slice() {
+    told_in(alloc, stream, &mut host)
+}
+
+// Takes a stream into a host that has a block of four bytes.
+fn told_in<B: NewBitmap + Drop>(
+    alloc: Global,
+    stream: &[u8],
+    host: &mut HostMemory<B>,
+) -> Result<String, Fail> {
+    let outcome = taken(alloc, stream, host);
+    if bytes_of(host, BlockId(0)) != [0, 0, 0, 0].as_slice() {
         return Ok(String::from_str(alloc, "another block changed")?);
     }
     let mut text = String::new(alloc);
     match outcome {
         Ok(()) => {
-            let (first, second) = (bytes_of(&host, BlockId(1)), bytes_of(&host, BlockId(2)));
+            let (first, second) = (bytes_of(host, BlockId(1)), bytes_of(host, BlockId(2)));
             write!(text, "{first:?} {second:?}")?;
         }
         Err(refusal) => write!(text, "{refusal:?}")?,
