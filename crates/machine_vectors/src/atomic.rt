@@ -6,8 +6,9 @@ use std::sync::{Arc, Wait};
 use std::test::Fail;
 use std::thread;
 use vm_memory::{
-    GuestAddress, GuestAddressSpace, GuestMemoryAtomic, GuestMemoryBackend, GuestMemoryMmap,
-    GuestRegionCollectionError, GuestRegionMmap, HostMemory, Lends,
+    GuestAddress, GuestAddressSpace, GuestMemoryAtomic, GuestMemoryBackend, GuestMemoryLoadGuard,
+    GuestMemoryMmap, GuestMemoryRegion, GuestRegionCollection, GuestRegionCollectionError,
+    GuestRegionMmap, HostMemory, Lends,
 };
 
 // Two pages, at guest addresses 0 and 0x100000.
@@ -16,16 +17,38 @@ fn two_pages(alloc: Global, host: &mut HostMemory<()>) -> Result<GuestMemoryMmap
     Ok(GuestMemoryMmap::from_ranges(alloc, host, &ranges)?)
 }
 
-// Replaces the memory by one that has a region more.
-fn plug_in<R: Wait>(
-    rt: &R,
+// A page at each of these addresses.
+fn pages_at(
     alloc: Global,
-    space: &GuestMemoryAtomic<GuestMemoryMmap>,
-    region: Arc<GuestRegionMmap>,
+    host: &mut HostMemory<()>,
+    starts: &[u64],
+) -> Result<Vec<Arc<GuestRegionMmap>>, Fail> {
+    let mut pages = Vec::new(alloc);
+    for start in starts {
+        let page = GuestRegionMmap::from_range(host, GuestAddress(*start), 0x1000)?;
+        pages.push(Arc::new(alloc, page)?)?;
+    }
+    Ok(pages)
+}
+
+// Replaces the memory by one that has a region more.
+fn plug_in<W: Wait, R: GuestMemoryRegion>(
+    rt: &W,
+    alloc: Global,
+    space: &GuestMemoryAtomic<GuestRegionCollection<R>>,
+    region: Arc<R>,
 ) -> Result<(), Fail> {
     let turn = space.lock(rt);
     let layout = space.memory(rt, alloc)?.lend().insert_region(region)?;
     Ok(turn.replace(rt, alloc, layout)?)
+}
+
+// Fails where these are not the numbers of regions that are due.
+fn expect_counts(counts: &[usize], wanted: &[usize]) -> Result<(), Fail> {
+    if counts != wanted {
+        return Err(Fail::new(format_args!("{counts:?} regions, not {wanted:?}")));
+    }
+    Ok(())
 }
 
 #[test]
@@ -33,8 +56,9 @@ fn a_device_keeps_its_snapshot_while_a_region_is_plugged_in(rt: HostRuntime) -> 
     let alloc = rt.alloc();
     let mut host = HostMemory::new(alloc);
     let space = GuestMemoryAtomic::new(alloc, two_pages(alloc, &mut host)?)?;
-    let region = GuestRegionMmap::from_range(&mut host, GuestAddress(0x8000), 0x1000)?;
-    let page = Arc::new(alloc, region)?;
+    let page = pages_at(alloc, &mut host, &[0x8000])?
+        .pop()
+        .ok_or("a page")?;
     let kept = space.memory(&rt, alloc)?;
     let (seen, plugged) = thread::join(
         &rt,
@@ -42,79 +66,142 @@ fn a_device_keeps_its_snapshot_while_a_region_is_plugged_in(rt: HostRuntime) -> 
         || plug_in(&rt, alloc, &space, page),
     );
     plugged?;
-    assert!(rt; seen == 2 && kept.num_regions() == 2);
-    assert!(rt; space.memory(&rt, alloc)?.num_regions() == 3);
+    let new = space.memory(&rt, alloc)?;
+    expect_counts(&[seen, kept.num_regions(), new.num_regions()], &[2, 2, 3])
+}
+
+// Plugs pages in by another owner of an address space.
+fn plug_all<W: Wait, R: GuestMemoryRegion>(
+    rt: &W,
+    alloc: Global,
+    space: &GuestMemoryAtomic<GuestRegionCollection<R>>,
+    pages: Vec<Arc<R>>,
+) -> Result<(), Fail> {
+    let other = space.clone()?;
+    for page in pages {
+        plug_in(rt, alloc, &other, page)?;
+    }
     Ok(())
+}
+
+// Fails where a snapshot, or a clone of it, has not so many regions.
+fn expect_snapshot<R: GuestMemoryRegion>(
+    snapshot: &GuestMemoryLoadGuard<GuestRegionCollection<R>>,
+    count: usize,
+) -> Result<(), Fail> {
+    let lent = snapshot.lend().num_regions();
+    let cloned = snapshot.clone()?.num_regions();
+    expect_counts(&[snapshot.num_regions(), lent, cloned], &[count; 3])
+}
+
+// Fails where a layout takes a region in that overlaps another.
+fn expect_overlap<R: GuestMemoryRegion>(
+    layout: &GuestRegionCollection<R>,
+    region: Arc<R>,
+) -> Result<(), Fail> {
+    match layout.insert_region(region) {
+        Err(GuestRegionCollectionError::MemoryRegionOverlap) => Ok(()),
+        _ => Err(Fail::new("a page that overlaps another is refused")),
+    }
+}
+
+// Plugs three pages in, and then fails where a snapshot of before has another memory, or one of after, or a fourth is
+// taken that overlaps the first.
+fn expect_snapshots<W: Wait, R: GuestMemoryRegion>(
+    rt: &W,
+    alloc: Global,
+    space: &GuestMemoryAtomic<GuestRegionCollection<R>>,
+    pages: Vec<Arc<R>>,
+    over: Arc<R>,
+) -> Result<(), Fail> {
+    let old = space.memory(rt, alloc)?;
+    plug_all(rt, alloc, space, pages)?;
+    expect_snapshot(&old, 2)?;
+    let new = space.memory(rt, alloc)?;
+    expect_snapshot(&new, 5)?;
+    expect_overlap(new.lend(), over)?;
+    let owner = GuestMemoryAtomic::from_arc(alloc, new.into_inner())?;
+    expect_counts(&[owner.memory(rt, alloc)?.num_regions()], &[5])
 }
 
 #[test]
 fn a_snapshot_stays_when_its_memory_is_replaced(rt: HostRuntime) -> Result<(), Fail> {
-    let mut host = HostMemory::new(rt.alloc());
-    let space = GuestMemoryAtomic::new(rt.alloc(), two_pages(rt.alloc(), &mut host)?)?;
+    let alloc = rt.alloc();
+    let mut host = HostMemory::new(alloc);
+    let space = GuestMemoryAtomic::new(alloc, two_pages(alloc, &mut host)?)?;
+    let pages = pages_at(alloc, &mut host, &[0x8000, 0x4000, 0xc000])?;
+    let over = pages_at(alloc, &mut host, &[0x8000])?
+        .pop()
+        .ok_or("a page")?;
+    expect_snapshots(&rt, alloc, &space, pages, over)
+}
+
+// Plugs pages in, and fails where a reader lends another memory than the last, or its first snapshot changes.
+fn expect_readers<W: Wait, R: GuestMemoryRegion>(
+    rt: &W,
+    alloc: Global,
+    space: GuestMemoryAtomic<GuestRegionCollection<R>>,
+    pages: Vec<Arc<R>>,
+) -> Result<(), Fail> {
     let other = space.clone()?;
-    let old = space.memory(&rt, rt.alloc())?;
-    for start in [0x8000, 0x4000, 0xc000] {
-        let page = GuestRegionMmap::from_range(&mut host, GuestAddress(start), 0x1000)?;
-        plug_in(&rt, rt.alloc(), &other, Arc::new(rt.alloc(), page)?)?;
+    let mut reader = space.reader(rt)?;
+    let old = reader.memory(rt)?.clone()?;
+    let mut count = 2usize;
+    expect_counts(&[reader.memory(rt)?.num_regions()], &[count])?;
+    for page in pages {
+        plug_in(rt, alloc, &other, page)?;
+        count = count.saturating_add(1);
+        let (first, second) = (
+            reader.memory(rt)?.num_regions(),
+            reader.memory(rt)?.num_regions(),
+        );
+        expect_counts(&[first, second], &[count, count])?;
     }
-    let new = space.memory(&rt, rt.alloc())?;
-    assert!(rt; old.num_regions() == 2 && old.clone()?.num_regions() == 2);
-    assert!(rt; new.num_regions() == 5 && new.lend().num_regions() == 5);
-    let region = GuestRegionMmap::from_range(&mut host, GuestAddress(0x8000), 0x1000)?;
-    let over = new.lend().insert_region(Arc::new(rt.alloc(), region)?);
-    assert!(rt; matches!(over, Err(GuestRegionCollectionError::MemoryRegionOverlap)));
-    let owner = new.into_inner();
-    assert!(rt;
-        GuestMemoryAtomic::from_arc(rt.alloc(), owner)?
-            .memory(&rt, rt.alloc())?
-            .num_regions()
-            == 5
+    let mut late = other.reader(rt)?;
+    drop(space);
+    drop(other);
+    let (early, late) = (
+        reader.memory(rt)?.num_regions(),
+        late.memory(rt)?.num_regions(),
     );
-    Ok(())
+    expect_counts(&[early, late, old.num_regions()], &[5, 5, 2])
 }
 
 #[test]
 fn a_reader_lends_the_last_memory(rt: HostRuntime) -> Result<(), Fail> {
-    let mut host = HostMemory::new(rt.alloc());
-    let space = GuestMemoryAtomic::new(rt.alloc(), two_pages(rt.alloc(), &mut host)?)?;
-    let other = space.clone()?;
-    let mut reader = space.reader(&rt)?;
-    let old = reader.memory(&rt)?.clone()?;
-    assert!(rt; reader.memory(&rt)?.num_regions() == 2);
-    for (start, count) in [(0x8000, 3), (0x4000, 4), (0xc000, 5)] {
-        let page = GuestRegionMmap::from_range(&mut host, GuestAddress(start), 0x1000)?;
-        plug_in(&rt, rt.alloc(), &other, Arc::new(rt.alloc(), page)?)?;
-        assert!(rt; reader.memory(&rt)?.num_regions() == count);
-        assert!(rt; reader.memory(&rt)?.num_regions() == count);
-    }
-    let mut late = other.reader(&rt)?;
-    drop(space);
-    drop(other);
-    assert!(rt; late.memory(&rt)?.num_regions() == 5 && old.num_regions() == 2);
-    assert!(rt; reader.memory(&rt)?.num_regions() == 5);
-    Ok(())
+    let alloc = rt.alloc();
+    let mut host = HostMemory::new(alloc);
+    let space = GuestMemoryAtomic::new(alloc, two_pages(alloc, &mut host)?)?;
+    let pages = pages_at(alloc, &mut host, &[0x8000, 0x4000, 0xc000])?;
+    expect_readers(&rt, alloc, space, pages)
 }
 
 // How many regions a snapshot has.
-fn regions_of<L: Lends<Target = GuestMemoryMmap>>(snapshot: &L) -> usize {
+fn regions_of<R: GuestMemoryRegion, L: Lends<Target = GuestRegionCollection<R>>>(
+    snapshot: &L,
+) -> usize {
     snapshot.lend().num_regions()
+}
+
+// Fails where an address space of this memory does not give it.
+fn expect_spaces<W: Wait, R: GuestMemoryRegion>(
+    rt: &W,
+    alloc: Global,
+    memory: &GuestRegionCollection<R>,
+) -> Result<(), Fail> {
+    let counted = Rc::new(alloc, memory.clone()?)?;
+    let shared = Arc::new(alloc, memory.clone()?)?;
+    let lent = regions_of(&GuestAddressSpace::memory(&memory, rt, alloc)?);
+    let owned = regions_of(&GuestAddressSpace::memory(&counted, rt, alloc)?);
+    let both = regions_of(&GuestAddressSpace::memory(&shared, rt, alloc)?);
+    let atomic = GuestMemoryAtomic::from_arc(alloc, shared)?;
+    let guard = regions_of(&GuestAddressSpace::memory(&atomic, rt, alloc)?);
+    expect_counts(&[lent, owned, both, guard], &[2; 4])
 }
 
 #[test]
 fn each_address_space_gives_its_memory(rt: HostRuntime) -> Result<(), Fail> {
-    let alloc = rt.alloc();
-    let mut host = HostMemory::new(alloc);
-    let memory = two_pages(alloc, &mut host)?;
-    let counted = Rc::new(alloc, memory.clone()?)?;
-    let shared = Arc::new(alloc, memory.clone()?)?;
-    let lent = GuestAddressSpace::memory(&&memory, &rt, alloc)?;
-    assert!(rt; regions_of(&lent) == 2);
-    let owned = GuestAddressSpace::memory(&counted, &rt, alloc)?;
-    assert!(rt; regions_of(&owned) == 2);
-    let both = GuestAddressSpace::memory(&shared, &rt, alloc)?;
-    assert!(rt; regions_of(&both) == 2);
-    let atomic = GuestMemoryAtomic::from_arc(alloc, shared)?;
-    let guard = GuestAddressSpace::memory(&atomic, &rt, alloc)?;
-    assert!(rt; regions_of(&guard) == 2);
-    Ok(())
+    let mut host = HostMemory::new(rt.alloc());
+    let memory = two_pages(rt.alloc(), &mut host)?;
+    expect_spaces(&rt, rt.alloc(), &memory)
 }

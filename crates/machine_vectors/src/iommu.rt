@@ -6,13 +6,9 @@ use std::test::Fail;
 use test_text::expect_text;
 use vm_memory::{
     BitmapId, Bytes, ExactBitmap, ExclusiveBitmap, GuestAddress, GuestMemory, GuestMemoryBackend,
-    GuestMemoryMmap, GuestRegionMmap, HostMemory, Iommu, IommuMemory, MachineMemory, NewBitmap,
-    Permissions, TableIommu,
+    GuestMemoryMmap, GuestMemoryRegion, GuestRegionCollection, GuestRegionMmap, HostMemory, Iommu,
+    IommuMemory, MachineMemory, NewBitmap, Permissions, SpaceId, TableIommu, TlbId,
 };
-
-type Host = HostMemory<ExclusiveBitmap>;
-
-type Memory = IommuMemory<GuestMemoryMmap, TableIommu>;
 
 // An address, where it leads, so many bytes, and the accesses that are permitted.
 type Mapping = (u64, u64, usize, Permissions);
@@ -115,14 +111,27 @@ const CASES: [Case; 6] = [
     },
 ];
 
-// Memory of one region of two pages, behind an IOMMU of the second table of a host, which has these mappings, and its
-// second space, which has 16 pages.
-fn memory_behind(alloc: Global, host: &mut Host, mappings: &[Mapping]) -> Result<Memory, Fail> {
+// Memory of one region of two pages, behind an IOMMU of the second table of a host, and its second space, which has
+// 16 pages.
+fn memory_behind(
+    alloc: Global,
+    host: &mut HostMemory<ExclusiveBitmap>,
+) -> Result<IommuMemory<GuestMemoryMmap, TableIommu>, Fail> {
     let layout = GuestMemoryMmap::from_ranges(alloc, host, &[(GuestAddress(0), 0x2000)])?;
     let _ = host.new_table()?;
     let _ = host.new_space(ExclusiveBitmap::with_len(alloc, 0x10000)?)?;
     let table = host.new_table()?;
     let space = host.new_space(ExclusiveBitmap::with_len(alloc, 0x10000)?)?;
+    let iommu = Arc::new(alloc, TableIommu::new(table))?;
+    Ok(IommuMemory::new(alloc, layout, iommu, false, space))
+}
+
+// Puts mappings into a table.
+fn map_all<B: ExactBitmap>(
+    host: &mut HostMemory<B>,
+    table: TlbId,
+    mappings: &[Mapping],
+) -> Result<(), Fail> {
     for (iova, to, length, access) in mappings {
         if !host.shape().has_table(table) {
             return Err(Fail::new("the host has the table"));
@@ -133,14 +142,18 @@ fn memory_behind(alloc: Global, host: &mut Host, mappings: &[Mapping]) -> Result
         let table = host.table_mut(table);
         table.set_mapping(GuestAddress(*iova), GuestAddress(*to), *length, *access)?;
     }
-    let iommu = Arc::new(alloc, TableIommu::new(table))?;
-    Ok(IommuMemory::new(alloc, layout, iommu, false, space))
+    Ok(())
 }
 
 // The dirty pages of the block and of the space.
-fn dirt(alloc: Global, host: &Host, memory: &Memory, text: &mut String) -> Result<(), Fail> {
+fn dirt<B: ExactBitmap>(
+    alloc: Global,
+    host: &HostMemory<B>,
+    space: SpaceId,
+    text: &mut String,
+) -> Result<(), Fail> {
     let block = BitmapId::Block(0);
-    let space = BitmapId::Space(memory.bitmap().0);
+    let space = BitmapId::Space(space.0);
     if !host.shape().has_bitmap(block) || !host.shape().has_bitmap(space) {
         return Err(Fail::new("the host has the bitmaps"));
     }
@@ -151,20 +164,28 @@ fn dirt(alloc: Global, host: &Host, memory: &Memory, text: &mut String) -> Resul
 }
 
 // What a memory tells of a value, which is written and read.
-fn values(alloc: Global, host: &mut Host, memory: &Memory, addr: u64) -> Result<String, Fail> {
+fn values<M: GuestMemory, B: ExactBitmap>(
+    alloc: Global,
+    host: &mut HostMemory<B>,
+    memory: &M,
+    addr: u64,
+) -> Result<String, Fail> {
     if !host.holds(memory) {
         return Err(Fail::new("the host holds the memory"));
     }
     let at = GuestAddress(addr);
     let written = memory.write_obj(host, 0x0605u16, at);
-    let read = memory.read_obj::<u16, ExclusiveBitmap>(host, at);
-    let mut text = format!(in alloc; "{written:?} {read:?} ")?;
-    dirt(alloc, host, memory, &mut text)?;
-    Ok(text)
+    let read = memory.read_obj::<u16, B>(host, at);
+    Ok(format!(in alloc; "{written:?} {read:?} ")?)
 }
 
 // What transfers from a source tell, and how many bytes it has left.
-fn transfers(alloc: Global, host: &mut Host, memory: &Memory, addr: u64) -> Result<String, Fail> {
+fn transfers<M: GuestMemory, B: ExactBitmap>(
+    alloc: Global,
+    host: &mut HostMemory<B>,
+    memory: &M,
+    addr: u64,
+) -> Result<String, Fail> {
     if !host.holds(memory) {
         return Err(Fail::new("the host holds the memory"));
     }
@@ -176,13 +197,16 @@ fn transfers(alloc: Global, host: &mut Host, memory: &Memory, addr: u64) -> Resu
     Ok(format!(in alloc; "{from:?} {} {from_exact:?} {}", plain.len(), exact.len())?)
 }
 
-// The pieces that the IOMMU gives for a read of 2 bytes, and the windows of such a read of the memory.
-fn windows(alloc: Global, host: &Host, memory: &Memory, addr: u64) -> Result<String, Fail> {
-    let iommu = &**memory.iommu();
-    if !host.holds(memory) || !host.holds(iommu) {
-        return Err(Fail::new("the host holds the memory and its table"));
+// The pieces that an IOMMU gives for a read of 2 bytes.
+fn pieces<I: Iommu, B: ExactBitmap>(
+    alloc: Global,
+    host: &HostMemory<B>,
+    iommu: &I,
+    at: GuestAddress,
+) -> Result<String, Fail> {
+    if !host.holds(iommu) {
+        return Err(Fail::new("the host holds the table"));
     }
-    let at = GuestAddress(addr);
     let mut text = String::new(alloc);
     match iommu.translate(alloc, host.table(iommu.table()), at, 2, Permissions::Read) {
         Ok(pieces) => {
@@ -193,11 +217,24 @@ fn windows(alloc: Global, host: &Host, memory: &Memory, addr: u64) -> Result<Str
         Err(error) => write!(text, "{error:?} ")?,
     }
     text.push(';')?;
+    Ok(text)
+}
+
+// The windows of a read of 2 bytes, each with the bitmap that it marks.
+fn windows<M: GuestMemory, B: ExactBitmap>(
+    host: &HostMemory<B>,
+    memory: &M,
+    at: GuestAddress,
+    text: &mut String,
+) -> Result<(), Fail> {
+    if !host.holds(memory) {
+        return Err(Fail::new("the host holds the memory"));
+    }
     let walk = match memory.get_slices(host, at, 2, Permissions::Read) {
         Ok(walk) => walk,
         Err(error) => {
             write!(text, " {error:?}")?;
-            return Ok(text);
+            return Ok(());
         }
     };
     for window in walk {
@@ -209,7 +246,26 @@ fn windows(alloc: Global, host: &Host, memory: &Memory, addr: u64) -> Result<Str
             Err(error) => write!(text, " {error:?}")?,
         }
     }
-    Ok(text)
+    Ok(())
+}
+
+// Fails where a memory tells another than a case says.
+fn expect_case<M: GuestMemoryBackend, I: Iommu, B: ExactBitmap>(
+    alloc: Global,
+    host: &mut HostMemory<B>,
+    memory: &IommuMemory<M, I>,
+    number: usize,
+    case: &Case,
+) -> Result<(), Fail> {
+    let mut told = values(alloc, host, memory, case.addr)?;
+    dirt(alloc, host, memory.bitmap(), &mut told)?;
+    expect_text(number, told.as_str(), case.values)?;
+    let told = transfers(alloc, host, memory, case.addr)?;
+    expect_text(number, told.as_str(), case.transfers)?;
+    let at = GuestAddress(case.addr);
+    let mut told = pieces(alloc, host, &**memory.iommu(), at)?;
+    windows(host, memory, at, &mut told)?;
+    expect_text(number, told.as_str(), case.windows)
 }
 
 #[test]
@@ -217,20 +273,19 @@ fn values_transfers_and_windows_are_translated(rt: HostRuntime) -> Result<(), Fa
     let alloc = rt.alloc();
     for (number, case) in CASES.iter().enumerate() {
         let mut host = HostMemory::new(alloc);
-        let mut memory = memory_behind(alloc, &mut host, case.mappings)?;
+        let mut memory = memory_behind(alloc, &mut host)?;
+        map_all(&mut host, memory.iommu().table(), case.mappings)?;
         memory.set_iommu_enabled(case.on);
-        let told = values(alloc, &mut host, &memory, case.addr)?;
-        expect_text(number, told.as_str(), case.values)?;
-        let told = transfers(alloc, &mut host, &memory, case.addr)?;
-        expect_text(number, told.as_str(), case.transfers)?;
-        let told = windows(alloc, &host, &memory, case.addr)?;
-        expect_text(number, told.as_str(), case.windows)?;
+        expect_case(alloc, &mut host, &memory, number, case)?;
     }
     Ok(())
 }
 
 // The space and the table of a memory, its last address, whether its IOMMU is on, and whether it is physical.
-fn parts(memory: &Memory, text: &mut String) -> Result<(), Fail> {
+fn parts<M: GuestMemoryBackend, I: Iommu>(
+    memory: &IommuMemory<M, I>,
+    text: &mut String,
+) -> Result<(), Fail> {
     let space = memory.bitmap().0;
     let table = memory.iommu().table().0;
     let last = memory.get_backend().last_addr().0;
@@ -240,37 +295,47 @@ fn parts(memory: &Memory, text: &mut String) -> Result<(), Fail> {
     Ok(())
 }
 
-// A copy of a memory and one with another backend have its other parts. A machine tells which memory is translated.
-fn told_of_copies(alloc: Global, host: &mut Host, memory: Memory) -> Result<String, Fail> {
-    let mut text = String::new(alloc);
-    let other = GuestMemoryMmap::from_ranges(alloc, host, &[(GuestAddress(0), 0x4000)])?;
-    parts(&memory.clone()?, &mut text)?;
-    parts(&memory.with_replaced_backend(other.clone()?)?, &mut text)?;
-    let plain: MachineMemory<GuestRegionMmap, TableIommu> = MachineMemory::Plain(other);
-    writeln!(text, "{}", plain.translated().is_none())?;
-    match MachineMemory::Translated(memory).translated() {
-        Some(memory) => parts(memory, &mut text)?,
-        None => writeln!(text, "not translated")?,
+// The parts of a copy of a memory, and of one with another backend.
+fn tell_copies<R: GuestMemoryRegion, I: Iommu>(
+    memory: &IommuMemory<GuestRegionCollection<R>, I>,
+    other: &GuestRegionCollection<R>,
+    text: &mut String,
+) -> Result<(), Fail> {
+    parts(&memory.clone()?, text)?;
+    parts(&memory.with_replaced_backend(other.clone()?)?, text)
+}
+
+// A machine tells which memory is translated.
+fn tell_translated<R: GuestMemoryRegion, I: Iommu>(
+    memory: &MachineMemory<R, I>,
+    text: &mut String,
+) -> Result<(), Fail> {
+    match memory.translated() {
+        Some(memory) => parts(memory, text),
+        None => Ok(writeln!(text, "not translated")?),
     }
-    Ok(text)
 }
 
 #[test]
 fn a_memory_is_of_its_parts(rt: HostRuntime) -> Result<(), Fail> {
     let mut host = HostMemory::new(rt.alloc());
-    let mut memory = memory_behind(rt.alloc(), &mut host, &ONE_PAGE)?;
+    let mut memory = memory_behind(rt.alloc(), &mut host)?;
     let mut text = String::new(rt.alloc());
     parts(&memory, &mut text)?;
     memory.set_iommu_enabled(true);
     parts(&memory, &mut text)?;
+    let ranges = [(GuestAddress(0), 0x4000)];
+    let other = GuestMemoryMmap::from_ranges(rt.alloc(), &mut host, &ranges)?;
+    tell_copies(&memory, &other, &mut text)?;
+    let plain: MachineMemory<GuestRegionMmap, TableIommu> = MachineMemory::Plain(other);
+    tell_translated(&plain, &mut text)?;
+    tell_translated(&MachineMemory::Translated(memory), &mut text)?;
     expect_text(
         0,
         text.as_str(),
-        "1 1 0x1fff false true\n1 1 0x1fff true false\n",
-    )?;
-    let told = told_of_copies(rt.alloc(), &mut host, memory)?;
-    let wanted = "1 1 0x1fff true false\n1 1 0x3fff true false\ntrue\n1 1 0x1fff true false\n";
-    expect_text(1, told.as_str(), wanted)
+        "1 1 0x1fff false true\n1 1 0x1fff true false\n\
+         1 1 0x1fff true false\n1 1 0x3fff true false\nnot translated\n1 1 0x1fff true false\n",
+    )
 }
 
 const FOUR_PIECES: [Mapping; 4] = [
@@ -280,28 +345,45 @@ const FOUR_PIECES: [Mapping; 4] = [
     (0x5c00, 0, 0x400, Permissions::ReadWrite),
 ];
 
-// A value of four pieces, each of which the IOMMU leads to another place, comes back, and its words lie there.
-#[test]
-fn a_long_value_is_translated(rt: HostRuntime) -> Result<(), Fail> {
+// Fails where a value of a thousand words does not come back, or a word of it does not lie where its piece leads.
+fn expect_long<M: GuestMemory, P: GuestMemory, B: ExactBitmap>(
+    host: &mut HostMemory<B>,
+    memory: &M,
+    physical: &P,
+) -> Result<(), Fail> {
     let mut long = [0u32; 0x400];
     for number in 0..0x400usize {
         long[number] = 0x0102_0304 * (number as u32 % 0x80 + 1) + number as u32;
     }
-    let mut host = HostMemory::new(rt.alloc());
-    let mut memory = memory_behind(rt.alloc(), &mut host, &FOUR_PIECES)?;
-    memory.set_iommu_enabled(true);
-    assert!(rt; host.holds(&memory) && host.holds(memory.get_backend()));
-    memory.write_obj(&mut host, long, GuestAddress(0x5000))?;
-    let back = memory.read_obj::<[u32; 0x400], ExclusiveBitmap>(&host, GuestAddress(0x5000))?;
-    assert!(rt; back == long);
+    if !host.holds(memory) {
+        return Err(Fail::new("the host holds the memory"));
+    }
+    memory.write_obj(host, long, GuestAddress(0x5000))?;
+    if memory.read_obj::<[u32; 0x400], B>(host, GuestAddress(0x5000))? != long {
+        return Err(Fail::new("the value comes back"));
+    }
+    if !host.holds(physical) {
+        return Err(Fail::new("the host holds the backend"));
+    }
     for number in 0..0x400u64 {
         let at = GuestAddress(0xc00 - number / 0x100 * 0x400 + number % 0x100 * 4);
-        let word = memory
-            .get_backend()
-            .read_obj::<u32, ExclusiveBitmap>(&host, at)?;
-        assert!(rt; word == long[number as usize]);
+        let word = physical.read_obj::<u32, B>(host, at)?;
+        if word != long[number as usize] {
+            return Err(Fail::new(format_args!("word {number} lies at {:#x}", at.0)));
+        }
     }
+    Ok(())
+}
+
+// A value of four pieces, each of which the IOMMU leads to another place, comes back, and its words lie there.
+#[test]
+fn a_long_value_is_translated(rt: HostRuntime) -> Result<(), Fail> {
+    let mut host = HostMemory::new(rt.alloc());
+    let mut memory = memory_behind(rt.alloc(), &mut host)?;
+    map_all(&mut host, memory.iommu().table(), &FOUR_PIECES)?;
+    memory.set_iommu_enabled(true);
+    expect_long(&mut host, &memory, memory.get_backend())?;
     let mut text = String::new(rt.alloc());
-    dirt(rt.alloc(), &host, &memory, &mut text)?;
+    dirt(rt.alloc(), &host, memory.bitmap(), &mut text)?;
     expect_text(0, text.as_str(), "block [] space [5]")
 }

@@ -2,23 +2,22 @@
 
 use std::alloc::Global;
 use std::test::Fail;
-use test_machines::{layout_of, machine_of, read_of, run_on, write_of};
+use test_machines::{layout_of, machine_of, read_of, write_of};
 use test_regions::Place;
 use test_text::expect_text;
-use vm_memory::Command;
+use vm_memory::{Command, ExactBitmap, GuestMemoryRegion, Iommu, Machine, run};
 
-// Runs commands on a machine of these regions, so many at a time, and compares the lines of all replies.
-fn expect_replies(
+// Runs commands on a machine, so many at a time, and compares the lines of all replies.
+fn expect_replies<R: GuestMemoryRegion, I: Iommu, B: ExactBitmap + Drop>(
     alloc: Global,
-    places: &[Place],
+    mut machine: Machine<R, I, B>,
     commands: &[Command],
     at_a_time: usize,
     wanted: &str,
 ) -> Result<(), Fail> {
-    let mut machine = machine_of(alloc, places)?;
     let mut replies = Vec::new(alloc);
     for part in commands.chunks(at_a_time.max(1)) {
-        run_on(&mut machine, part, &mut replies)?;
+        run(&mut machine, part, &mut replies)?;
     }
     let mut text = String::new(alloc);
     for reply in &replies {
@@ -88,7 +87,7 @@ fn each_command_has_its_reply(rt: HostRuntime) -> Result<(), Fail> {
         for at_a_time in [lines.len(), 1] {
             expect_replies(
                 alloc,
-                places,
+                machine_of(alloc, places)?,
                 commands.as_slice(),
                 at_a_time,
                 wanted.as_str(),
@@ -144,5 +143,11 @@ fn a_hundred_commands_run_at_once(rt: HostRuntime) -> Result<(), Fail> {
         }
         wanted.push('\n')?;
     }
-    expect_replies(alloc, &TEN, commands.as_slice(), 100, wanted.as_str())
+    expect_replies(
+        alloc,
+        machine_of(alloc, &TEN)?,
+        commands.as_slice(),
+        100,
+        wanted.as_str(),
+    )
 }

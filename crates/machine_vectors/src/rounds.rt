@@ -7,8 +7,8 @@ use std::test::Fail;
 use test_machines::{layout_of, write_of};
 use vm_memory::{
     BitmapId, BlockId, Bytes, Command, ExactBitmap, ExclusiveBitmap, GuestAddress,
-    GuestMemoryRegion, GuestRegionMmap, HostMemory, Machine, MemoryRegionAddress, MmapRegion,
-    Reply, TableIommu, VolatileMemory, Width, run,
+    GuestMemoryRegion, GuestRegionMmap, HostMemory, Iommu, Machine, MemoryRegionAddress,
+    MmapRegion, Reply, TableIommu, VolatileMemory, VolatileSlice, Width, run,
 };
 
 type TestMachine = Machine<GuestRegionMmap, TableIommu, ExclusiveBitmap>;
@@ -86,7 +86,11 @@ const ROUNDS: [(usize, usize, &[Step], &[u8]); 3] = [
 ];
 
 // Runs one command, which is not refused.
-fn run_one(machine: &mut TestMachine, alloc: Global, command: Command) -> Result<(), Fail> {
+fn run_one<R: GuestMemoryRegion, I: Iommu, B: ExactBitmap>(
+    machine: &mut Machine<R, I, B>,
+    alloc: Global,
+    command: Command,
+) -> Result<(), Fail> {
     let mut replies = Vec::new(alloc);
     run(machine, &[command], &mut replies)?;
     match replies.pop() {
@@ -98,8 +102,8 @@ fn run_one(machine: &mut TestMachine, alloc: Global, command: Command) -> Result
 }
 
 // Makes the steps, and fails where the image is not as wanted then.
-fn follow(
-    machine: &mut TestMachine,
+fn follow<R: GuestMemoryRegion, I: Iommu, B: ExactBitmap>(
+    machine: &mut Machine<R, I, B>,
     alloc: Global,
     image: &mut [u8],
     steps: &[Step],
@@ -133,22 +137,51 @@ fn follow(
     Ok(())
 }
 
+// Makes the steps on a new memory of both regions, and fails where the block does not end with these bytes then.
+fn expect_rounds<R: GuestMemoryRegion, I: Iommu, B: ExactBitmap + Drop>(
+    mut machine: Machine<R, I, B>,
+    alloc: Global,
+    size: usize,
+    steps: &[Step],
+    ends: &[u8],
+) -> Result<(), Fail> {
+    run_one(&mut machine, alloc, layout_of(alloc, &[0, 1])?)?;
+    run_one(&mut machine, alloc, Command::Plain(0))?;
+    let mut image = vec![in alloc; 0u8; size]?;
+    follow(&mut machine, alloc, image.as_mut_slice(), steps)?;
+    let host = machine.into_host();
+    if host.shape().block_len(BlockId(0)).is_none() {
+        return Err(Fail::new("the host has the block"));
+    }
+    let window = MmapRegion::of_block(&host, BlockId(0)).as_volatile_slice();
+    if !host.holds(&window) || !host.bytes(&window).ends_with(ends) {
+        return Err(Fail::new(format_args!("a block of {size} bytes")));
+    }
+    Ok(())
+}
+
 #[test]
 fn an_image_follows_its_block(rt: HostRuntime) -> Result<(), Fail> {
     for (size, page_size, steps, ends) in ROUNDS {
-        let mut machine = machine_of(rt.alloc(), size, page_size)?;
-        run_one(&mut machine, rt.alloc(), layout_of(rt.alloc(), &[0, 1])?)?;
-        run_one(&mut machine, rt.alloc(), Command::Plain(0))?;
-        let mut image = vec![in rt.alloc(); 0u8; size]?;
-        follow(&mut machine, rt.alloc(), image.as_mut_slice(), steps)?;
-        let host = machine.into_host();
-        assert!(rt; host.shape().block_len(BlockId(0)).is_some());
-        let window = MmapRegion::of_block(&host, BlockId(0)).as_volatile_slice();
-        assert!(rt; host.holds(&window));
-        assert!(rt;
-            host.bytes(&window).ends_with(ends),
-            "a block of {size} bytes"
-        );
+        let machine = machine_of(rt.alloc(), size, page_size)?;
+        expect_rounds(machine, rt.alloc(), size, steps, ends)?;
+    }
+    Ok(())
+}
+
+// Fails where a write of a byte in a window is not done, or marks a page.
+fn expect_unmarked<B: ExactBitmap>(
+    alloc: Global,
+    host: &mut HostMemory<B>,
+    window: &VolatileSlice,
+) -> Result<(), Fail> {
+    if !host.holds(window) {
+        return Err(Fail::new("the host holds the window"));
+    }
+    let count = window.write(host, &[1], 0)?;
+    let dirty = host.bitmap_mut(window.bitmap().id).harvest(alloc)?;
+    if count != 1 || !dirty.as_slice().is_empty() {
+        return Err(Fail::new(format_args!("{count} bytes, pages {dirty:?}")));
     }
     Ok(())
 }
@@ -162,10 +195,5 @@ fn a_bitmap_may_end_before_its_block(rt: HostRuntime) -> Result<(), Fail> {
     let mapping = MmapRegion::of_block(&host, block);
     let region = GuestRegionMmap::new(mapping, GuestAddress(0)).ok_or("the region fits")?;
     let window = region.get_slice(MemoryRegionAddress(0x1000), 1)?;
-    assert!(rt; host.holds(&window));
-    let count = window.write(&mut host, &[1], 0)?;
-    let dirty = host.bitmap_mut(window.bitmap().id).harvest(rt.alloc())?;
-    assert!(rt; count == 1);
-    assert!(rt; dirty.as_slice().is_empty());
-    Ok(())
+    expect_unmarked(rt.alloc(), &mut host, &window)
 }

@@ -80,10 +80,10 @@ fn write_values<B: Bitmap>(
 }
 
 // What a store answers in each window of four bytes at an I/O address, which leads to a guest address.
-fn store_mapped<B: Bitmap>(
+fn store_mapped<M: GuestMemoryBackend, B: Bitmap>(
     alloc: Global,
     host: &mut HostMemory<B>,
-    memory: &GuestMemoryMmap,
+    memory: &M,
     iova: u64,
     base: u64,
 ) -> Result<String, Fail> {
@@ -102,10 +102,10 @@ fn store_mapped<B: Bitmap>(
 }
 
 // Writes, and tells what that answers.
-fn written<B: Bitmap>(
+fn written<M: GuestMemoryBackend, B: Bitmap>(
     alloc: Global,
     host: &mut HostMemory<B>,
-    memory: &GuestMemoryMmap,
+    memory: &M,
     write: Write,
 ) -> Result<String, Fail> {
     let window = memory.get_slice(GuestAddress(2), 0x2ffe)?;
@@ -194,17 +194,26 @@ fn expect_pages<B: NewBitmap + Drop>(alloc: Global, case: usize) -> Result<(), F
     let ranges = [(GuestAddress(0), 0x3000), (GuestAddress(0x5000), 0x2000)];
     let memory = GuestMemoryMmap::from_ranges(alloc, &mut host, &ranges)?;
     host.new_space(B::with_len(alloc, 0x10000)?)?;
+    expect_marks(alloc, &mut host, &memory, case)
+}
+
+fn expect_marks<M: GuestMemoryBackend, B: Bitmap>(
+    alloc: Global,
+    host: &mut HostMemory<B>,
+    memory: &M,
+    case: usize,
+) -> Result<(), Fail> {
     let mut text = String::new(alloc);
     for write in WRITES {
-        let told = written(alloc, &mut host, &memory, write)?;
+        let told = written(alloc, host, memory, write)?;
         text.push_str(told.as_str())?;
     }
     text.push_str("blocks ")?;
-    dirty_rows(&host, BitmapId::Block(0), 0x1000, &mut text)?;
+    dirty_rows(host, BitmapId::Block(0), 0x1000, &mut text)?;
     text.push_str("and ")?;
-    dirty_rows(&host, BitmapId::Block(1), 0x1000, &mut text)?;
+    dirty_rows(host, BitmapId::Block(1), 0x1000, &mut text)?;
     text.push_str("space ")?;
-    dirty_rows(&host, BitmapId::Space(0), 0x1000, &mut text)?;
+    dirty_rows(host, BitmapId::Space(0), 0x1000, &mut text)?;
     expect_text(case, text.as_str(), MARKED)
 }
 
@@ -265,7 +274,6 @@ fn expect_rows<B: Bitmap + Drop>(
     block: B,
     space: B,
 ) -> Result<(), Fail> {
-    let (write, wanted) = LONG.get(case).ok_or("there is such a case")?;
     let mut host: HostMemory<B> = HostMemory::new(alloc);
     host.new_block_with(0x3000, block)?;
     host.new_space(space)?;
@@ -276,11 +284,21 @@ fn expect_rows<B: Bitmap + Drop>(
     let region = GuestRegionMmap::new(mapping, GuestAddress(0)).ok_or("the region fits")?;
     let regions = vec![in alloc; Arc::new(alloc, region)?]?;
     let memory = GuestMemoryMmap::from_arc_regions(regions)?;
-    let mut text = written(alloc, &mut host, &memory, *write)?;
+    expect_row(alloc, &mut host, &memory, case)
+}
+
+fn expect_row<M: GuestMemoryBackend, B: Bitmap>(
+    alloc: Global,
+    host: &mut HostMemory<B>,
+    memory: &M,
+    case: usize,
+) -> Result<(), Fail> {
+    let (write, wanted) = LONG.get(case).ok_or("there is such a case")?;
+    let mut text = written(alloc, host, memory, *write)?;
     text.push_str("block ")?;
-    dirty_rows(&host, BitmapId::Block(0), 1, &mut text)?;
+    dirty_rows(host, BitmapId::Block(0), 1, &mut text)?;
     text.push_str("space ")?;
-    dirty_rows(&host, BitmapId::Space(0), 1, &mut text)?;
+    dirty_rows(host, BitmapId::Space(0), 1, &mut text)?;
     expect_text(case, text.as_str(), wanted)
 }
 
