@@ -6,10 +6,6 @@ mod calls;
 #[cfg(test)]
 mod edges;
 #[cfg(test)]
-mod moved;
-#[cfg(test)]
 mod runs;
-#[cfg(test)]
-mod snapshots;
 #[cfg(test)]
 mod typed;

@@ -6,8 +6,8 @@ use std::test::Fail;
 use test_machines::machine_of;
 use test_regions::Place;
 use vm_memory::{
-    Bitmap, BlockId, Command, ExclusiveBitmap, GuestRegionMmap, HostMemory, Machine, Reply,
-    TableIommu, run,
+    Bitmap, BlockId, Command, ExactBitmap, ExclusiveBitmap, GuestMemoryRegion, GuestRegionMmap,
+    HostMemory, Iommu, Machine, Reply, TableIommu, run,
 };
 
 type DirtyMachine = Machine<GuestRegionMmap, TableIommu, ExclusiveBitmap>;
@@ -22,7 +22,10 @@ fn dirty_machine(alloc: Global, size: usize) -> Result<DirtyMachine, Fail> {
 }
 
 // Fails where an image is not the block of the machine after a sync.
-fn expect_synced(machine: &mut DirtyMachine, image: &mut [u8]) -> Result<(), Fail> {
+fn expect_synced<R: GuestMemoryRegion, I: Iommu, B: ExactBitmap>(
+    machine: &mut Machine<R, I, B>,
+    image: &mut [u8],
+) -> Result<(), Fail> {
     if machine.host().shape().block_len(BlockId(0)) != Some(image.len()) {
         return Err(Fail::new("the image is as long as the block"));
     }
@@ -40,16 +43,27 @@ fn an_image_of_a_mebibyte_is_synced(rt: HostRuntime) -> Result<(), Fail> {
     expect_synced(&mut machine, image.as_mut_slice())
 }
 
+// Fails where a run of so many commands on a machine that has no layout answers otherwise than that there is none.
+fn expect_answered<R: GuestMemoryRegion, I: Iommu, B: ExactBitmap>(
+    alloc: Global,
+    machine: &mut Machine<R, I, B>,
+    count: usize,
+) -> Result<(), Fail> {
+    let mut commands = Vec::new(alloc);
+    for _ in 0..count {
+        commands.push(Command::Plain(0))?;
+    }
+    let mut replies = Vec::new(alloc);
+    run(machine, commands.as_slice(), &mut replies)?;
+    let none = replies.iter().all(|reply| matches!(reply, Reply::NoSuch));
+    if !none || replies.len() != count {
+        return Err(Fail::new(format_args!("{} replies", replies.len())));
+    }
+    Ok(())
+}
+
 #[test]
 fn a_run_has_room_for_five_thousand_commands(rt: HostRuntime) -> Result<(), Fail> {
     let mut machine = machine_of(rt.alloc(), &[Place::Block(0, 1)])?;
-    let mut commands = Vec::new(rt.alloc());
-    for _ in 0..5000 {
-        commands.push(Command::Plain(0))?;
-    }
-    let mut replies = Vec::new(rt.alloc());
-    run(&mut machine, commands.as_slice(), &mut replies)?;
-    let none = replies.iter().all(|reply| matches!(reply, Reply::NoSuch));
-    assert!(rt; none && replies.len() == 5000);
-    Ok(())
+    expect_answered(rt.alloc(), &mut machine, 5000)
 }

@@ -26,7 +26,7 @@ const MORE: u64 = DATA + 0x800;
 type Case = (bool, u32, u64, &'static [Part], &'static str);
 
 // The disk has four sectors, of 1, 2, 3 and 4. Data in memory is 170, and the status 255.
-const CASES: [Case; 44] = [
+static CASES: [Case; 44] = [
     // Each kind of request.
     (
         false,

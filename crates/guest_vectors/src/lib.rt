@@ -1,8 +1,13 @@
-//! Tests of values in guest memory, of transfers from and to lists, and of the texts of errors.
+//! Tests of values in guest memory, of transfers from and to lists, of many bytes and many regions, and of the texts of
+//! errors.
 #![tactic(auto)]
 
 #[cfg(test)]
 mod lists;
+#[cfg(test)]
+mod moved;
+#[cfg(test)]
+mod snapshots;
 #[cfg(test)]
 mod texts;
 #[cfg(test)]

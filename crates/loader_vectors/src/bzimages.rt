@@ -2,7 +2,7 @@
 
 use crate::elves::expect_slow;
 use crate::images::{
-    BZ, BZ_SIZE, ELF, ELF_SIZE, Edit, Host, bytes_of, fill, image_of, memory_of, put, told,
+    BZ, BZ_SIZE, ELF, ELF_SIZE, Edit, bytes_of, fill, image_of, memory_of, put, told,
 };
 use crate::slow;
 use linux_loader::{BzImage, Elf, ImageBytes, KernelImage, KernelLoaderResult, LoaderError};
@@ -11,7 +11,7 @@ use std::io::ErrorKind;
 use std::test::Fail;
 use test_text::expect_text;
 use vm_memory::{
-    GuestAddress, GuestMemoryMmap, HostMemory, IoError, ReadVolatile, VolatileMemoryError,
+    Bitmap, GuestAddress, GuestMemory, HostMemory, IoError, ReadVolatile, VolatileMemoryError,
     VolatileMemoryResult,
 };
 
@@ -29,7 +29,7 @@ const ALL: usize = BZ_SIZE;
 
 const DONE: &str = "load 0x11f8 end 0x1208 header 119 code32_start 0x11f8";
 
-const CASES: [Case; 32] = [
+static CASES: [Case; 32] = [
     (ALL, &[], None, None, DONE),
     (0, &[], None, None, "ReadBzImageHeader"),
     (0x217, &[], None, None, "ReadBzImageHeader"),
@@ -162,10 +162,10 @@ const CASES: [Case; 32] = [
     (ALL, &[], Some(u64::MAX), None, "InvalidKernelStartAddress"),
 ];
 
-fn loaded<F: KernelImage>(
+fn loaded<M: GuestMemory, B: Bitmap, F: KernelImage>(
     alloc: Global,
-    host: &mut Host,
-    memory: &GuestMemoryMmap,
+    host: &mut HostMemory<B>,
+    memory: &M,
     image: &mut F,
     case: &Case,
 ) -> Result<Result<KernelLoaderResult, LoaderError>, Fail> {
@@ -177,26 +177,30 @@ fn loaded<F: KernelImage>(
     Ok(BzImage::load(alloc, memory, host, offset, image, lowest))
 }
 
+// The field of a header where the kernel is to be entered, as it is told.
+fn code32_start(header: &[u8]) -> u64 {
+    let mut start = 0u64;
+    for i in 0..4 {
+        let byte = header.get(0x26usize.wrapping_sub(i)).copied().unwrap_or(0);
+        start = start.wrapping_mul(256).wrapping_add(u64::from(byte));
+    }
+    start
+}
+
 // What a loader answers, with what it tells of the header.
 fn told_with_header(
     alloc: Global,
     answer: &Result<KernelLoaderResult, LoaderError>,
 ) -> Result<String, Fail> {
-    let text = told(alloc, answer)?;
-    let Ok(result) = answer else {
-        return Ok(text);
-    };
-    let Some(header) = &result.setup_header else {
-        return Ok(text);
-    };
-    let bytes = header.as_slice();
-    let mut start = 0u64;
-    for i in 0..4 {
-        let byte = bytes.get(0x26usize.wrapping_sub(i)).copied().unwrap_or(0);
-        start = start.wrapping_mul(256).wrapping_add(u64::from(byte));
+    let mut text = told(alloc, answer)?;
+    if let Ok(result) = answer {
+        if let Some(header) = &result.setup_header {
+            let bytes = header.as_slice();
+            let (count, start) = (bytes.len(), code32_start(bytes));
+            write!(text, " header {count} code32_start {start:#x}")?;
+        }
     }
-    let count = bytes.len();
-    Ok(format!(in alloc; "{text} header {count} code32_start {start:#x}")?)
+    Ok(text)
 }
 
 #[test]
@@ -220,10 +224,10 @@ fn edits_of_a_small_bzimage(rt: HostRuntime) -> Result<(), Fail> {
 }
 
 // One bit is flipped.
-fn flipped(
+fn flipped<M: GuestMemory, B: Bitmap>(
     alloc: Global,
-    host: &mut Host,
-    memory: &GuestMemoryMmap,
+    host: &mut HostMemory<B>,
+    memory: &M,
     bytes: &mut Vec<u8>,
     bit: usize,
 ) -> Result<(), Fail> {
@@ -312,10 +316,10 @@ impl KernelImage for Failing<'_> {
 }
 
 // A load of the small ELF file, of whose calls so many succeed.
-fn load_failing(
+fn load_failing<M: GuestMemory, B: Bitmap>(
     alloc: Global,
-    host: &mut Host,
-    memory: &GuestMemoryMmap,
+    host: &mut HostMemory<B>,
+    memory: &M,
     bytes: &[u8],
     left: usize,
 ) -> Result<String, Fail> {

@@ -1,14 +1,12 @@
 //! ELF files: edits of a small one, and each bit of its headers flipped.
 
-use crate::images::{
-    BEFORE, ELF, ELF_SIZE, Edit, Host, bytes_of, fill, image_of, memory_of, put, told,
-};
+use crate::images::{BEFORE, ELF, ELF_SIZE, Edit, bytes_of, fill, image_of, memory_of, put, told};
 use crate::slow::{self, Slow};
 use linux_loader::{Elf, ImageBytes, KernelLoaderResult, LoaderError};
 use std::alloc::Global;
 use std::test::Fail;
 use test_text::expect_text;
-use vm_memory::{GuestAddress, GuestMemoryMmap, HostMemory};
+use vm_memory::{Bitmap, GuestAddress, GuestMemory, HostMemory};
 
 // How many bytes of the file there are, edits of it, the offset of the kernel, where high memory begins, and what is
 // told.
@@ -27,7 +25,7 @@ const HEADERS: usize = 0x120;
 
 const DONE: &str = "load 0x1100 end 0x1340 pvh 0x1308";
 
-const CASES: [Case; 74] = [
+static CASES: [Case; 74] = [
     (ALL, &[], None, None, DONE),
     (ALL, &[(16, 2, 3)], None, None, DONE),
     // Images that end too early.
@@ -208,10 +206,10 @@ const CASES: [Case; 74] = [
     ),
 ];
 
-fn loaded(
+fn loaded<M: GuestMemory, B: Bitmap>(
     alloc: Global,
-    host: &mut Host,
-    memory: &GuestMemoryMmap,
+    host: &mut HostMemory<B>,
+    memory: &M,
     image: &[u8],
     case: &Case,
 ) -> Result<Result<KernelLoaderResult, LoaderError>, Fail> {
@@ -280,10 +278,10 @@ pub fn expect_slow(
 }
 
 // One bit is flipped.
-fn flipped(
+fn flipped<M: GuestMemory, B: Bitmap>(
     alloc: Global,
-    host: &mut Host,
-    memory: &GuestMemoryMmap,
+    host: &mut HostMemory<B>,
+    memory: &M,
     image: &mut Vec<u8>,
     bit: usize,
 ) -> Result<(), Fail> {

@@ -3,7 +3,10 @@
 use linux_loader::{KernelLoaderResult, LoaderError, PvhBootCapability};
 use std::alloc::{AllocError, Global};
 use std::test::Fail;
-use vm_memory::{Bytes, ExclusiveBitmap, GuestAddress, GuestMemoryMmap, HostMemory, Permissions};
+use vm_memory::{
+    Bitmap, Bytes, ExclusiveBitmap, GuestAddress, GuestMemory, GuestMemoryMmap, HostMemory,
+    Permissions,
+};
 
 pub type Host = HostMemory<ExclusiveBitmap>;
 
@@ -107,7 +110,11 @@ pub fn memory_of(alloc: Global, host: &mut Host) -> Result<GuestMemoryMmap, Fail
 }
 
 /// Makes each byte of memory what it is before a load.
-pub fn fill(alloc: Global, host: &mut Host, memory: &GuestMemoryMmap) -> Result<(), Fail> {
+pub fn fill<M: GuestMemory, B: Bitmap>(
+    alloc: Global,
+    host: &mut HostMemory<B>,
+    memory: &M,
+) -> Result<(), Fail> {
     if !host.holds(memory) {
         return Err(Fail::new("the host holds the memory"));
     }
@@ -117,7 +124,11 @@ pub fn fill(alloc: Global, host: &mut Host, memory: &GuestMemoryMmap) -> Result<
 }
 
 /// All bytes of memory.
-pub fn bytes_of(alloc: Global, host: &Host, memory: &GuestMemoryMmap) -> Result<Vec<u8>, Fail> {
+pub fn bytes_of<M: GuestMemory, B: Bitmap>(
+    alloc: Global,
+    host: &HostMemory<B>,
+    memory: &M,
+) -> Result<Vec<u8>, Fail> {
     if !host.holds(memory) {
         return Err(Fail::new("the host holds the memory"));
     }

@@ -1,11 +1,11 @@
 //! Command lines, and where initrds lie.
 
-use crate::images::{BEGIN, BZ, BZ_SIZE, END, Edit, Host, image_of, memory_of, put};
+use crate::images::{BEGIN, BZ, BZ_SIZE, END, Edit, image_of, memory_of, put};
 use linux_loader::{BzImage, Cmdline, ImageBytes, initrd_address, load_cmdline};
 use std::alloc::Global;
 use std::test::Fail;
 use test_text::expect_text;
-use vm_memory::{Bytes, GuestAddress, GuestMemoryMmap, HostMemory};
+use vm_memory::{Bitmap, Bytes, GuestAddress, GuestMemory, HostMemory};
 
 // A capacity, texts that are added (a pair where there is a value), and what is told.
 type Line = (
@@ -89,10 +89,10 @@ const PLACES: [(u64, &str); 7] = [
     ),
 ];
 
-fn placed(
+fn placed<M: GuestMemory, B: Bitmap>(
     alloc: Global,
-    host: &mut Host,
-    memory: &GuestMemoryMmap,
+    host: &mut HostMemory<B>,
+    memory: &M,
     addr: u64,
 ) -> Result<String, Fail> {
     let mut cmdline = Cmdline::new(alloc, 4)?;

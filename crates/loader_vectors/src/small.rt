@@ -5,7 +5,7 @@ use linux_loader::{BzImage, ImageBytes, LoaderError};
 use std::alloc::{AllocError, Global};
 use std::test::Fail;
 use test_text::expect_text;
-use vm_memory::{Bytes, GuestAddress, GuestMemoryMmap, HostMemory};
+use vm_memory::{Bitmap, Bytes, GuestAddress, GuestMemory, GuestMemoryMmap, HostMemory};
 
 const START: u64 = 0x10_0000;
 
@@ -33,10 +33,10 @@ fn kernel_byte(i: usize) -> u8 {
 }
 
 // Loads the image, and tells whether memory has the kernel's bytes then.
-fn loads(
+fn loads<M: GuestMemory, B: Bitmap>(
     alloc: Global,
-    host: &mut HostMemory<()>,
-    memory: &GuestMemoryMmap,
+    host: &mut HostMemory<B>,
+    memory: &M,
 ) -> Result<Result<bool, LoaderError>, Fail> {
     let bytes = image(alloc)?;
     let mut image = ImageBytes::new(bytes.as_slice());
@@ -57,7 +57,7 @@ fn loads(
 
 #[test]
 fn the_small_bzimage_of_the_program(rt: HostRuntime) -> Result<(), Fail> {
-    let mut host = HostMemory::new(rt.alloc());
+    let mut host = HostMemory::<()>::new(rt.alloc());
     let ranges = [(GuestAddress(START), 0x1000)];
     let memory = GuestMemoryMmap::from_ranges(rt.alloc(), &mut host, &ranges)?;
     let loaded = loads(rt.alloc(), &mut host, &memory)?;

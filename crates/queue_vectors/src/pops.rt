@@ -11,7 +11,7 @@ use vm_memory::{Bytes, Chain, GuestAddress, HostMemory};
 
 // Rings as lines, and what popping answers until there is no more or something is refused, with `next_avail` then. Of a
 // chain it tells the head, the first bytes that can be read, and how many can be read and written.
-const CASES: [(&str, &str); 30] = [
+static CASES: [(&str, &str); 30] = [
     ("q,4", "none 0"),
     // Chains of one, two and all descriptors.
     ("q,4 t,1,4000,3,0,0 h,1", "1 [0, 1, 2] 3 0; none 1"),

@@ -10,7 +10,7 @@ use vm_memory::Permissions;
 const MAX: u64 = u64::MAX;
 
 // The fields of a payload, and what it is.
-const CASES: [((u64, u64, u64, u8, u8), &str); 27] = [
+static CASES: [((u64, u64, u64, u8, u8), &str); 27] = [
     (
         (0x1122_3344_5566_7788, 5, 6, 1, 1),
         "miss 1122334455667788 Read",

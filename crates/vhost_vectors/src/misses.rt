@@ -26,7 +26,7 @@ enum Ask {
 // reply is asked for. A reply is its number, `?` a message that is none.
 type Case = (usize, Ask, &'static str, &'static str, &'static str);
 
-const CASES: [Case; 29] = [
+static CASES: [Case; 29] = [
     // The page is there before.
     (2, NEAR, "+u0", "", "Ok;;"),
     // A miss of the first byte, and of one behind a page that is there.

@@ -2,7 +2,8 @@
 
 use std::alloc::{AllocError, Global};
 use std::test::Fail;
-use vm_memory::{ByteValued, Bytes, GuestAddress, GuestMemoryMmap, HostMemory};
+use vm_memory_base::{ByteValued, GuestAddress};
+use vm_memory_guest::{Bytes, GuestMemory, GuestMemoryMmap, HostMemory};
 
 // How many bytes transfers move.
 const MOVED: usize = 0x100_0000;
@@ -13,11 +14,11 @@ fn pattern(alloc: Global, size: usize) -> Result<Vec<u8>, AllocError> {
 }
 
 // Whether bytes go to a vector, and from it into another memory.
-fn are_moved(
+fn are_moved<M: GuestMemory>(
     alloc: Global,
     host: &mut HostMemory<()>,
-    from: &GuestMemoryMmap,
-    to: &GuestMemoryMmap,
+    from: &M,
+    to: &M,
     sent: &[u8],
 ) -> Result<bool, Fail> {
     if !host.holds(from) || !host.holds(to) {
@@ -56,6 +57,27 @@ fn expect_large(alloc: Global, value: &Large, wanted: &[u8]) -> Result<(), Fail>
     Ok(())
 }
 
+// Fails where a value that is written has not these bytes where it lies, or another is read there.
+fn expect_kept<M: GuestMemory>(
+    alloc: Global,
+    host: &mut HostMemory<()>,
+    memory: &M,
+    value: Large,
+    bytes: &[u8],
+) -> Result<(), Fail> {
+    if !host.holds(memory) {
+        return Err(Fail::new("the host holds the memory"));
+    }
+    memory.write_obj(host, value, GuestAddress(0x800))?;
+    let mut lie = vec![in alloc; 0u8; 0x1_0000]?;
+    memory.read_slice(host, lie.as_mut_slice(), GuestAddress(0x800))?;
+    if lie.as_slice() != bytes {
+        return Err(Fail::new("other bytes lie there"));
+    }
+    let read = memory.read_obj(host, GuestAddress(0x800))?;
+    expect_large(alloc, &read, bytes)
+}
+
 // A value is written and read over the bound of two regions, and its bytes are read where they lie. Then it goes to a
 // vector, and comes from it.
 #[test]
@@ -65,13 +87,7 @@ fn values_of_sixty_four_kibibytes_move(rt: HostRuntime) -> Result<(), Fail> {
     let mut host = HostMemory::<()>::new(rt.alloc());
     let ranges = [(GuestAddress(0), 0x9000), (GuestAddress(0x9000), 0x8000)];
     let memory = GuestMemoryMmap::from_ranges(rt.alloc(), &mut host, &ranges)?;
-    assert!(rt; host.holds(&memory));
-    memory.write_obj(&mut host, value, GuestAddress(0x800))?;
-    let mut lie = vec![in rt.alloc(); 0u8; 0x1_0000]?;
-    memory.read_slice(&host, lie.as_mut_slice(), GuestAddress(0x800))?;
-    assert!(rt; lie.as_slice() == bytes.as_slice());
-    let read = memory.read_obj(&host, GuestAddress(0x800))?;
-    expect_large(rt.alloc(), &read, bytes.as_slice())?;
+    expect_kept(rt.alloc(), &mut host, &memory, value, bytes.as_slice())?;
     let mut sink = Vec::new(rt.alloc());
     value.write_all_to(&mut sink)?;
     assert!(rt; sink.as_slice() == bytes.as_slice());

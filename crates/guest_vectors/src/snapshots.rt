@@ -1,10 +1,12 @@
 //! Snapshots of memory that is replaced by a layout of no region, of one and of thousands.
 
 use std::alloc::Global;
+use std::sync::Wait;
 use std::test::Fail;
-use vm_memory::{
-    GuestAddress, GuestAddressSpace, GuestMemoryAtomic, GuestMemoryBackend, GuestMemoryMmap,
-    HostMemory,
+use vm_memory_base::GuestAddress;
+use vm_memory_guest::{
+    GuestAddressSpace, GuestMemoryAtomic, GuestMemoryBackend, GuestMemoryMmap, GuestMemoryRegion,
+    GuestRegionCollection, HostMemory,
 };
 
 // So many regions of 0x10 bytes, one after the other: one of them is taken out again where none are asked for.
@@ -25,6 +27,20 @@ fn layout_of(
     Ok(layout.clone()?)
 }
 
+// Replaces the memory, and tells how many regions a snapshot has then, and its last address.
+fn tell_next<W: Wait, R: GuestMemoryRegion>(
+    rt: &W,
+    alloc: Global,
+    space: &GuestMemoryAtomic<GuestRegionCollection<R>>,
+    layout: GuestRegionCollection<R>,
+    text: &mut String,
+) -> Result<(), Fail> {
+    space.lock(rt).replace(rt, alloc, layout)?;
+    let next = space.memory(rt, alloc)?;
+    writeln!(text, "{} {:#x}", next.num_regions(), next.last_addr().0)?;
+    Ok(())
+}
+
 // How many regions each layout has, and its last address.
 const TOLD: &str = "5000 0x1387f\n1 0xf\n0 0x0\n5000 0x1387f\n";
 
@@ -36,9 +52,7 @@ fn a_snapshot_is_of_the_last_layout(rt: HostRuntime) -> Result<(), Fail> {
     let mut text = String::new(rt.alloc());
     for count in [5000, 1, 0, 5000] {
         let layout = layout_of(rt.alloc(), &mut host, count)?;
-        space.lock(&rt).replace(&rt, rt.alloc(), layout)?;
-        let next = space.memory(&rt, rt.alloc())?;
-        writeln!(text, "{} {:#x}", next.num_regions(), next.last_addr().0)?;
+        tell_next(&rt, rt.alloc(), &space, layout, &mut text)?;
     }
     assert!(rt; text.as_str() == TOLD);
     Ok(())
