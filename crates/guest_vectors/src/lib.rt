@@ -3,6 +3,8 @@
 #![tactic(auto)]
 
 #[cfg(test)]
+mod atomic;
+#[cfg(test)]
 mod lists;
 #[cfg(test)]
 mod moved;

@@ -1,8 +1,6 @@
-//! Tests of machines, of snapshots, and of memory behind an IOMMU.
+//! Tests of machines, and of memory behind an IOMMU.
 #![tactic(auto)]
 
-#[cfg(test)]
-mod atomic;
 #[cfg(test)]
 mod iommu;
 #[cfg(test)]

@@ -5,10 +5,11 @@ use std::rc::Rc;
 use std::sync::{Arc, Wait};
 use std::test::Fail;
 use std::thread;
-use vm_memory::{
-    GuestAddress, GuestAddressSpace, GuestMemoryAtomic, GuestMemoryBackend, GuestMemoryLoadGuard,
+use vm_memory_base::{GuestAddress, Lends};
+use vm_memory_guest::{
+    GuestAddressSpace, GuestMemoryAtomic, GuestMemoryBackend, GuestMemoryLoadGuard,
     GuestMemoryMmap, GuestMemoryRegion, GuestRegionCollection, GuestRegionCollectionError,
-    GuestRegionMmap, HostMemory, Lends,
+    GuestRegionMmap, HostMemory,
 };
 
 // Two pages, at guest addresses 0 and 0x100000.
