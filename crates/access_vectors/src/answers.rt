@@ -194,13 +194,13 @@ fn range_text(
     count: usize,
 ) -> Result<String, Fail> {
     if !host.holds(layout) {
-        return Err(Fail::new("the host holds the memory"));
+        return Err(Fail::new("the host does not hold the memory"));
     }
     let above = layout.checked_offset(addr, count);
     let whole = GuestMemoryBackend::check_range(layout, addr, count);
     let allowed = GuestMemory::check_range(layout, host, addr, count, Permissions::Write)?;
     if allowed != whole {
-        return Err(Fail::new("a memory answers as its backend does"));
+        return Err(Fail::new("the memory answers other than its backend"));
     }
     let mut text = format!(in alloc; "{above:?} {whole} ")?;
     match GuestMemoryBackend::get_slices(layout, addr, count).stop_on_error() {
@@ -431,9 +431,9 @@ fn offset_text(
     offset: u64,
     count: usize,
 ) -> Result<String, Fail> {
-    let region = layout.region_at(0).ok_or("there is a region")?;
+    let region = layout.region_at(0).ok_or("there is no region")?;
     if !host.holds(region) {
-        return Err(Fail::new("the host holds the region"));
+        return Err(Fail::new("the host does not hold the region"));
     }
     let addr = MemoryRegionAddress(offset);
     let held = region.address_in_range(addr);
@@ -479,16 +479,16 @@ fn region_text(
     at: GuestAddress,
 ) -> Result<String, Fail> {
     if !host.holds(memory) {
-        return Err(Fail::new("the host holds the memory"));
+        return Err(Fail::new("the host does not hold the memory"));
     }
     let wrote = memory.write(host, &[1, 2, 3, 4, 5], at);
-    let region = memory.find_region(at).ok_or("the region of the address")?;
+    let region = memory.find_region(at).ok_or("no region has the address")?;
     let window = match region.as_volatile_slice() {
         Ok(window) => window,
         Err(error) => return Ok(format!(in alloc; "{wrote:?} {error:?}")?),
     };
     if !host.holds(&window) {
-        return Err(Fail::new("the host holds the window"));
+        return Err(Fail::new("the host does not hold the window"));
     }
     let mut bytes = [0; 5];
     let had = window.read(host, &mut bytes, 0);

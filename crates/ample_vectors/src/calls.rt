@@ -33,11 +33,13 @@ fn regions_at(
         HoldsRegions ⟦<GuestRegionMmap as GuestMemoryRegion>⟧.region host.now (regions_of regions)) }
 {
     if host.shape().block_len(block).is_none() {
-        return Err(Fail::new("the host has the block"));
+        return Err(Fail::new("the host has no such block"));
     }
     let mapping = MmapRegion::of_block(host, block);
-    let first = GuestRegionMmap::new(mapping, GuestAddress(0)).ok_or("the region fits")?;
-    let second = GuestRegionMmap::new(mapping, GuestAddress(0x10000)).ok_or("the region fits")?;
+    let first = GuestRegionMmap::new(mapping, GuestAddress(0)).ok_or("the region does not fit")?;
+    let second = GuestRegionMmap::new(mapping, GuestAddress(0x10000)).ok_or(
+        "the region does not fit",
+    )?;
     Ok(vec![in alloc; Arc::new(alloc, first)?, Arc::new(alloc, second)?]?)
 }
 
@@ -50,7 +52,7 @@ pub fn bare_machine(alloc: Global) -> Result<TestMachine, Fail> {
     let regions = regions_at(alloc, &host, BlockId(0))?;
     let table = TlbId(0);
     if !host.shape().has_table(table) {
-        return Err(Fail::new("the host has the table"));
+        return Err(Fail::new("the host has no such table"));
     }
     let translators = vec![in alloc; Arc::new(alloc, TableIommu::new(table))?]?;
     Ok(Machine::new(alloc, host, regions, translators))
@@ -245,7 +247,7 @@ fn expect_called<W: Wait, R: GuestMemoryRegion, I: Iommu, B: ExactBitmap>(
     for round in 0..ROUNDS {
         for command in round_of(alloc, round)? {
             run(machine, slice::from_ref(&command), replies)?;
-            let wanted = replies.last().ok_or("there is a reply")?;
+            let wanted = replies.last().ok_or("there is no reply")?;
             let wanted = format!(in alloc; "{} {wanted:?}", replies.len().saturating_sub(1))?;
             let (number, reply) = shared.call(rt, command).map_err(|_| AllocError)?;
             let told = format!(in alloc; "{number} {reply:?}")?;
@@ -271,7 +273,7 @@ fn expect_entries<W: Wait, R: GuestMemoryRegion, I: Iommu, B: ExactBitmap + Drop
         }
     }
     if shared.fetch(rt, replies.len())?.is_some() {
-        return Err(Fail::new("there is no entry behind the last"));
+        return Err(Fail::new("there is an entry after the last"));
     }
     let journal = shared.into_journal();
     let mut number = 0usize;

@@ -27,7 +27,7 @@ fn expect_synced<R: GuestMemoryRegion, I: Iommu, B: ExactBitmap>(
     image: &mut [u8],
 ) -> Result<(), Fail> {
     if machine.host().shape().block_len(BlockId(0)) != Some(image.len()) {
-        return Err(Fail::new("the image is as long as the block"));
+        return Err(Fail::new("the image is not as long as the block"));
     }
     machine.sync(BlockId(0), image)?;
     if !image.iter().all(|byte| *byte == 0) {

@@ -122,7 +122,7 @@ fn typed<R: GuestMemoryRegion, I: Iommu, B: ExactBitmap>(
             value,
         } => {
             if !width.fits(*value) {
-                return Err(Fail::new("the value fits"));
+                return Err(Fail::new("the value does not fit"));
             }
             done(match width {
                 Width::One => machine.store(*memory, *addr, *value as u8),
@@ -230,7 +230,7 @@ fn made<R: GuestMemoryRegion, I: Iommu, B: ExactBitmap>(
             memory_made(machine.replace_backend(*memory, *layout))
         }
         Command::Enable { memory, on } => done(machine.enable(*memory, *on)),
-        _ => return Err(Fail::new("nothing is made")),
+        _ => return Err(Fail::new("the call makes nothing")),
     })
 }
 

@@ -144,7 +144,7 @@ fn written_so_far(rt: &HostRuntime) -> Result<u64, Fail> {
     let text = fs::read_to_string(rt, "/proc/self/io")?;
     let line = text.lines().find(|line| line.starts_with("wchar: "));
     let number = line.and_then(|line| line.strip_prefix("wchar: "));
-    Ok(number.ok_or("there is a number of bytes")?.parse()?)
+    Ok(number.ok_or("there is no number of bytes")?.parse()?)
 }
 
 #[test]

@@ -76,7 +76,7 @@ fn offers<W: WriteVolatile>(sink: &mut W, bytes: &[u8]) -> Result<usize, Fail> {
             Err(error) => return Err(Fail::from(error)),
         }
     }
-    Err(Fail::new("the sink is never full"))
+    Err(Fail::new("the sink was never full"))
 }
 
 // What handles of two sockets in a state tell. Where other bytes come than were taken, up to the end, it fails.
@@ -117,7 +117,7 @@ fn go<W: WriteVolatile, S: ReadVolatile>(
                     count => came = came.saturating_add(count),
                 }
             }
-            Err(Fail::new("the source never ends"))
+            Err(Fail::new("the source never ended"))
         }
     }
 }

@@ -89,7 +89,7 @@ fn an_error_has_its_text(rt: HostRuntime) -> Result<(), Fail> {
     writeln!(text, "{}", LookupError::Memory)?;
     let table = Iotlb::new(rt.alloc());
     match table.lookup(GuestAddress(0), 1, Permissions::No) {
-        Ok(_) => return Err(Fail::new("nothing is mapped")),
+        Ok(_) => return Err(Fail::new("something is mapped")),
         Err(error) => writeln!(text, "{error}")?,
     }
     let error = io::Error::new(io::ErrorKind::BrokenPipe, "the guest is gone");

@@ -289,7 +289,7 @@ fn make(bitmap: &mut AtomicBitmap, step: Step) -> Result<(), Fail> {
         Step::ResetAll => bitmap.reset(),
         Step::Enlarge(more) => {
             if bitmap.byte_size().checked_add(more).is_none() {
-                return Err(Fail::new("the size is one of 64 bits"));
+                return Err(Fail::new("the size has more than 64 bits"));
             }
             bitmap.enlarge(more)?;
         }
@@ -324,7 +324,7 @@ fn expect_bits(
 fn bits_of_ranges(rt: HostRuntime) -> Result<(), Fail> {
     event_law();
     for (number, case) in CASES.iter().enumerate() {
-        let page_size = NonZeroUsize::new(case.page_size).ok_or("pages have bytes")?;
+        let page_size = NonZeroUsize::new(case.page_size).ok_or("a page has no bytes")?;
         let mut bitmap = AtomicBitmap::new(rt.alloc(), case.bytes, page_size)?;
         for step in case.steps {
             make(&mut bitmap, *step)?;
@@ -346,7 +346,11 @@ fn bits_of_ranges(rt: HostRuntime) -> Result<(), Fail> {
     }
     let bitmap = AtomicBitmap::with_len(rt.alloc(), 0x2001)?;
     assert!(rt; bitmap.len() == 3);
-    let mut bitmap = AtomicBitmap::new(rt.alloc(), 0x2000, NonZeroUsize::new(128).ok_or("bytes")?)?;
+    let mut bitmap = AtomicBitmap::new(
+        rt.alloc(),
+        0x2000,
+        NonZeroUsize::new(128).ok_or("the page size is zero")?,
+    )?;
     assert!(rt; bitmap.len() == 64);
     bitmap.set_addr_range(0, usize::MAX);
     assert!(rt; bitmap.byte_size() == 0x2000);

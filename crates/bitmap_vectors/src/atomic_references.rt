@@ -91,7 +91,7 @@ fn expect_step(
 #[test]
 fn calls_have_the_pages_of_truth_values(rt: HostRuntime) -> Result<(), Fail> {
     let alloc = rt.alloc();
-    let page_size = NonZeroUsize::new(7).ok_or("a page has bytes")?;
+    let page_size = NonZeroUsize::new(7).ok_or("a page has no bytes")?;
     let mut fast = AtomicBitmap::new(alloc, 7 * 1000 - 3, page_size)?;
     let flags = vec![in alloc; false; 1000]?;
     let mut slow = Flags { flags, page_size };

@@ -123,7 +123,7 @@ fn is_set(words: &[u64], page: usize) -> bool {
 #[test]
 fn words_of_marks(rt: HostRuntime) -> Result<(), Fail> {
     for (page_size, (offset, len), wanted) in MARKS {
-        let size = NonZeroUsize::new(page_size).ok_or("pages have bytes")?;
+        let size = NonZeroUsize::new(page_size).ok_or("a page has no bytes")?;
         let bytes = page_size.saturating_mul(200);
         let mut bitmap = ExclusiveBitmap::new(rt.alloc(), bytes, size)?;
         assert!(rt; bitmap.len() == 200 && bitmap.byte_size() == bytes);

@@ -54,7 +54,7 @@ fn step(
 #[test]
 fn words_have_the_pages_of_truth_values(rt: HostRuntime) -> Result<(), Fail> {
     let alloc = rt.alloc();
-    let page_size = NonZeroUsize::new(7).ok_or("a page has bytes")?;
+    let page_size = NonZeroUsize::new(7).ok_or("a page has no bytes")?;
     let mut fast = ExclusiveBitmap::new(alloc, 7 * 1000 - 3, page_size)?;
     let flags = vec![in alloc; false; 1000]?;
     let mut slow = Flags { flags, page_size };

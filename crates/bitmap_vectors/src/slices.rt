@@ -77,7 +77,7 @@ const MARKS: [(usize, usize, (usize, usize), (usize, usize)); 20] = [
 #[test]
 fn slices_mark_further_on(rt: HostRuntime) -> Result<(), Fail> {
     for (case, (page_size, base, range, wanted)) in MARKS.iter().enumerate() {
-        let size = NonZeroUsize::new(*page_size).ok_or("pages have bytes")?;
+        let size = NonZeroUsize::new(*page_size).ok_or("a page has no bytes")?;
         let bitmap = AtomicBitmap::new(rt.alloc(), page_size.saturating_mul(PAGES), size)?;
         for is_shared in [false, true] {
             let mut slice = RefSlice::new(&bitmap, *base);
@@ -107,7 +107,7 @@ fn slices_mark_further_on(rt: HostRuntime) -> Result<(), Fail> {
 #[test]
 fn options_mark_what_they_hold(rt: HostRuntime) -> Result<(), Fail> {
     for (case, (page_size, base, (offset, len), wanted)) in MARKS.iter().enumerate() {
-        let size = NonZeroUsize::new(*page_size).ok_or("pages have bytes")?;
+        let size = NonZeroUsize::new(*page_size).ok_or("a page has no bytes")?;
         let bytes = page_size.saturating_mul(PAGES);
         let range = (base.wrapping_add(*offset), *len);
         for is_shared in [false, true] {

@@ -37,7 +37,7 @@ fn expect_told(
 // Fails where words are not so many, of which these have these numbers and all others are 0.
 fn expect_words(words: &[u32], count: usize, wanted: &[(usize, u32)]) -> Result<(), Fail> {
     if words.len() != count {
-        return Err(Fail::new("these are not so many words"));
+        return Err(Fail::new("the number of words is another one"));
     }
     for (number, word) in words.iter().enumerate() {
         let found = wanted.iter().find(|place| place.0 == number);
@@ -77,7 +77,7 @@ fn expect_left(
 {
     match bitmap.close(harvester, alloc) {
         Ok(words) => expect_words(words.as_slice(), count, wanted),
-        Err(_) => Err(Fail::new("there was no memory")),
+        Err(_) => Err(Fail::new("allocation failed")),
     }
 }
 
@@ -117,11 +117,11 @@ fn rounds_of_one_marker(rt: HostRuntime) -> Result<(), Fail> {
         let (bitmap, mut harvester, mut markers) = TrackedBitmap::new(
             rt.alloc(),
             64 * unit,
-            NonZeroUsize::new(unit).ok_or("pages have bytes")?,
+            NonZeroUsize::new(unit).ok_or("a page has no bytes")?,
             1,
         )?;
         let Some(mut marker) = next_marker(&bitmap, &mut markers) else {
-            return Err(Fail::new("there is a marker"));
+            return Err(Fail::new("there is no marker"));
         };
         expect_rounds(rt.alloc(), &bitmap, &mut harvester, &mut marker, unit)?;
         bitmap.join(&mut harvester, marker);
@@ -140,10 +140,10 @@ fn a_marker_sees_the_mark_of_another(rt: HostRuntime) -> Result<(), Fail> {
         2,
     )?;
     let Some(mut one) = next_marker(&bitmap, &mut markers) else {
-        return Err(Fail::new("there is a marker"));
+        return Err(Fail::new("there is no marker"));
     };
     let Some(mut other) = next_marker(&bitmap, &mut markers) else {
-        return Err(Fail::new("there is another"));
+        return Err(Fail::new("there is no other marker"));
     };
     bitmap.mark(&mut one, 3, 1);
     expect_told(&bitmap, &mut other, 3, true)?;
@@ -192,10 +192,10 @@ fn many_pages_of_many_markers(rt: HostRuntime) -> Result<(), Fail> {
     )?;
     assert!(rt; markers.len() == 65 && bitmap.len() == 0x10_0001);
     let Some(mut one) = next_marker(&bitmap, &mut markers) else {
-        return Err(Fail::new("there is a marker"));
+        return Err(Fail::new("there is no marker"));
     };
     let Some(mut other) = next_marker(&bitmap, &mut markers) else {
-        return Err(Fail::new("there is another"));
+        return Err(Fail::new("there is no other marker"));
     };
     expect_many(rt.alloc(), &bitmap, &mut harvester, &mut one, &mut other)?;
     expect_left(rt.alloc(), bitmap, harvester, 0x8001, &[(0x8000, 1)])
@@ -257,20 +257,20 @@ fn a_marker_marks_for_a_bitmap_until_it_retires(rt: HostRuntime) -> Result<(), F
         let (bitmap, mut harvester, mut markers) = TrackedBitmap::new(
             rt.alloc(),
             page_size.saturating_mul(64),
-            NonZeroUsize::new(page_size).ok_or("pages have bytes")?,
+            NonZeroUsize::new(page_size).ok_or("a page has no bytes")?,
             1,
         )?;
-        let marker = next_marker(&bitmap, &mut markers).ok_or("there is a marker")?;
+        let marker = next_marker(&bitmap, &mut markers).ok_or("there is no marker")?;
         let shared = Arc::new(rt.alloc(), bitmap)?;
         let mut marked = MarkerBitmap::new(shared, marker);
         marked.mark_dirty(offset, len);
         expect_marked(&marked, told)?;
         marked.meet(&mut harvester);
-        let (shared, marker) = marked.retire().ok_or("there is a marker")?;
+        let (shared, marker) = marked.retire().ok_or("there is no marker")?;
         assert!(rt; marked.retire().is_none());
         marked.mark_dirty(0, 1);
         assert!(rt; !marked.dirty_at(offset));
-        let bitmap = Arc::into_inner(shared).ok_or("nobody else has the bitmap")?;
+        let bitmap = Arc::into_inner(shared).ok_or("somebody else has the bitmap")?;
         bitmap.join(&mut harvester, marker);
         expect_left(rt.alloc(), bitmap, harvester, 2, left)?;
     }

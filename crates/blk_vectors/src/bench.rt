@@ -45,7 +45,7 @@ pub type Part = (u64, u32, bool);
 // Maps a page to another one.
 fn map_page<B: Bitmap>(host: &mut HostMemory<B>, table: TlbId, page: u64) -> Result<(), Fail> {
     if page >= PAGES || !host.shape().has_table(table) {
-        return Err(Fail::new("the host has the table"));
+        return Err(Fail::new("the host has no such table"));
     }
     let from = GuestAddress(BEGIN + page * PAGE);
     let to = GuestAddress(BEGIN + (page * 5 + 3) % PAGES * PAGE);
@@ -119,7 +119,7 @@ impl<M: GuestMemory, B: Bitmap, D: Disk> Bench<M, B, D> {
     /// Puts bytes into guest memory.
     pub fn put(&mut self, addr: u64, bytes: &[u8]) -> Result<(), Fail> {
         if !self.host.holds(&self.memory) {
-            return Err(Fail::new("the host holds the memory"));
+            return Err(Fail::new("the host does not hold the memory"));
         }
         self.memory
             .write_slice(&mut self.host, bytes, GuestAddress(addr))?;
@@ -129,7 +129,7 @@ impl<M: GuestMemory, B: Bitmap, D: Disk> Bench<M, B, D> {
     /// Bytes of guest memory.
     pub fn get(&self, alloc: Global, addr: u64, len: usize) -> Result<Vec<u8>, Fail> {
         if !self.host.holds(&self.memory) {
-            return Err(Fail::new("the host holds the memory"));
+            return Err(Fail::new("the host does not hold the memory"));
         }
         let mut bytes = vec![in alloc; 0u8; len]?;
         self.memory
@@ -148,7 +148,7 @@ impl<M: GuestMemory, B: Bitmap, D: Disk> Bench<M, B, D> {
             next: index.wrapping_add(1),
         };
         if !self.host.holds(&self.memory) {
-            return Err(Fail::new("the host holds the memory"));
+            return Err(Fail::new("the host does not hold the memory"));
         }
         self.driver
             .put_descriptor(&self.memory, &mut self.host, index, descriptor)?;
@@ -164,7 +164,7 @@ impl<M: GuestMemory, B: Bitmap, D: Disk> Bench<M, B, D> {
             index = index.wrapping_add(1);
         }
         if !self.host.holds(&self.memory) {
-            return Err(Fail::new("the host holds the memory"));
+            return Err(Fail::new("the host does not hold the memory"));
         }
         self.driver.publish(&self.memory, &mut self.host, first)?;
         Ok(())
@@ -173,7 +173,7 @@ impl<M: GuestMemory, B: Bitmap, D: Disk> Bench<M, B, D> {
     /// Lets the device serve what was published.
     pub fn kick(&mut self) -> Result<Served, Fail> {
         if !self.host.holds(&self.memory) {
-            return Err(Fail::new("the host holds the memory"));
+            return Err(Fail::new("the host does not hold the memory"));
         }
         Ok(
             self.device
@@ -184,11 +184,11 @@ impl<M: GuestMemory, B: Bitmap, D: Disk> Bench<M, B, D> {
     /// Takes a used entry.
     pub fn take(&mut self) -> Result<(u32, u32), Fail> {
         if !self.host.holds(&self.memory) {
-            return Err(Fail::new("the host holds the memory"));
+            return Err(Fail::new("the host does not hold the memory"));
         }
         match self.driver.take_used(&self.memory, &self.host)? {
             Some(entry) => Ok(entry),
-            None => Err(Fail::new("an entry was returned")),
+            None => Err(Fail::new("no entry was returned")),
         }
     }
 
@@ -202,7 +202,7 @@ impl<M: GuestMemory, B: Bitmap, D: Disk> Bench<M, B, D> {
         }
         let (head, len) = self.take()?;
         if head != 0 {
-            return Err(Fail::new("its head is returned"));
+            return Err(Fail::new("another head was returned"));
         }
         Ok(len)
     }

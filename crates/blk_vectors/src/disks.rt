@@ -174,7 +174,7 @@ fn disks_in_files(rt: HostRuntime) -> Result<(), Fail> {
         .open(&rt, "blk-disk")?;
     let mut bench = make_bench(rt.alloc(), false, FileDisk::new(file)?, false)?;
     if bench.device.config() != [2, 0, 0, 0, 0, 0, 0, 0] {
-        return Err(Fail::new("the capacity is two"));
+        return Err(Fail::new("the capacity is not two"));
     }
     let text = told(rt.alloc(), &mut bench, 1)?;
     expect_text(0, text.as_str(), "[0] [0] [0] [170]")?;
@@ -183,10 +183,10 @@ fn disks_in_files(rt: HostRuntime) -> Result<(), Fail> {
     let bytes = fs::read(&rt, "blk-disk")?;
     let (front, back) = (bytes.get(..512), bytes.get(1024..));
     if front != Some([5; 512].as_slice()) || back != Some([5; 76].as_slice()) {
-        return Err(Fail::new("other bytes stay"));
+        return Err(Fail::new("other bytes changed"));
     }
     if bytes.get(512..1024) != Some([170; 512].as_slice()) {
-        return Err(Fail::new("the sector is in the file"));
+        return Err(Fail::new("the sector is not in the file"));
     }
     Ok(())
 }
@@ -229,7 +229,7 @@ fn disks_in_files_to_be_read(rt: HostRuntime) -> Result<(), Fail> {
     expect_text(0, text.as_str(), "[1] [0] [0] [5]")?;
     let bytes = fs::read(&rt, "blk-read")?;
     if bytes.as_slice() != [5; 1024].as_slice() {
-        return Err(Fail::new("the file stays"));
+        return Err(Fail::new("the file changed"));
     }
     Ok(())
 }

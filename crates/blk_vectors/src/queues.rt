@@ -14,7 +14,7 @@ fn set<M: GuestMemory, B: Bitmap>(
     value: u16,
 ) -> Result<(), Fail> {
     if !bench.host.holds(&bench.memory) {
-        return Err(Fail::new("the host holds the memory"));
+        return Err(Fail::new("the host does not hold the memory"));
     }
     bench
         .driver
@@ -83,7 +83,7 @@ fn by_events<M: GuestMemory, B: Bitmap>(
 fn all_return<M: GuestMemory, B: Bitmap>(bench: &mut Bench<M, B, MemoryDisk>) -> Result<(), Fail> {
     for head in [0, 2, 4, 6, 8, 10] {
         if bench.take()? != (head, 1) {
-            return Err(Fail::new("each head is returned once, in order"));
+            return Err(Fail::new("the heads were not returned once each, in order"));
         }
     }
     Ok(())

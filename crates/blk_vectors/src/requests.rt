@@ -489,7 +489,7 @@ fn requests_of_many_pieces(rt: HostRuntime) -> Result<(), Fail> {
         let disk = MemoryDisk::new(vec![in rt.alloc(); 0u8; LONG + 1024]?);
         let mut bench = make_bench(rt.alloc(), scattered, disk, false)?;
         if !move_long(rt.alloc(), &mut bench, bytes.as_slice())? {
-            return Err(Fail::new("all is moved, and no more"));
+            return Err(Fail::new("not all was moved, or more"));
         }
     }
     Ok(())

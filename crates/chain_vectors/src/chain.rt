@@ -138,10 +138,10 @@ fn moved(
     told: &mut String,
 ) -> Result<(), Fail> {
     let Ok(chain) = chain_of(alloc, case.parts)? else {
-        return Err(Fail::new("the segments make a chain"));
+        return Err(Fail::new("the segments make no chain"));
     };
     if !host.holds(memory) {
-        return Err(Fail::new("the host holds the memory"));
+        return Err(Fail::new("the host does not hold the memory"));
     }
     let mut reader = chain.reader();
     write!(told, "{} ", reader.left())?;
@@ -155,7 +155,7 @@ fn moved(
     write!(told, "{} ", writer.left())?;
     for some in case.writes {
         if !host.holds(memory) {
-            return Err(Fail::new("the host holds the memory"));
+            return Err(Fail::new("the host does not hold the memory"));
         }
         let answer = writer.write(memory, host, some);
         write!(told, "{answer:?} ")?;
@@ -169,7 +169,7 @@ const BITMAPS: [BitmapId; 3] = [BitmapId::Block(0), BitmapId::Block(1), BitmapId
 // Puts 1 to 8 into the regions, and takes the dirt of that.
 fn fill(alloc: Global, host: &mut Host, memory: &Memory) -> Result<(), Fail> {
     if !host.holds(memory) {
-        return Err(Fail::new("the host holds the memory"));
+        return Err(Fail::new("the host does not hold the memory"));
     }
     memory.write_slice(host, &[1, 2, 3, 4], GuestAddress(0))?;
     memory.write_slice(host, &[5, 6, 7, 8], GuestAddress(8))?;
@@ -184,7 +184,7 @@ fn fill(alloc: Global, host: &mut Host, memory: &Memory) -> Result<(), Fail> {
 // The bytes of both regions and the dirty pages of each bitmap, or none where there is no such bitmap.
 fn left(alloc: Global, host: &Host, memory: &Memory, told: &mut String) -> Result<(), Fail> {
     if !host.holds(memory) {
-        return Err(Fail::new("the host holds the memory"));
+        return Err(Fail::new("the host does not hold the memory"));
     }
     let mut low = [0; 4];
     memory.read_slice(host, &mut low, GuestAddress(0))?;
@@ -271,14 +271,14 @@ fn long_chain_is_whole(
 ) -> Result<bool, Fail> {
     for (number, (addr, _, _)) in LONG_SEGMENTS[..3].iter().enumerate() {
         let part = bytes.get(number * 5000..number * 5000 + 5000);
-        let part = part.ok_or("there are bytes for each segment")?;
+        let part = part.ok_or("there are no bytes for a segment")?;
         if !host.holds(memory) {
-            return Err(Fail::new("the host holds the memory"));
+            return Err(Fail::new("the host does not hold the memory"));
         }
         memory.write_slice(host, part, GuestAddress(*addr))?;
     }
     if !host.holds(memory) {
-        return Err(Fail::new("the host holds the memory"));
+        return Err(Fail::new("the host does not hold the memory"));
     }
     let mut came = vec![in alloc; 0u8; 15_000]?;
     let read = chain.reader().read(memory, host, came.as_mut_slice())?;
@@ -288,9 +288,9 @@ fn long_chain_is_whole(
         let part = there
             .as_mut_slice()
             .get_mut(number * 5000..number * 5000 + 5000);
-        let part = part.ok_or("there is room for each segment")?;
+        let part = part.ok_or("there is no room for a segment")?;
         if !host.holds(memory) {
-            return Err(Fail::new("the host holds the memory"));
+            return Err(Fail::new("the host does not hold the memory"));
         }
         memory.read_slice(host, part, GuestAddress(*addr))?;
     }
@@ -305,7 +305,7 @@ fn long_segments_move_whole(rt: HostRuntime) -> Result<(), Fail> {
         let regions = [(GuestAddress(0), 0xc000)];
         let memory = memory_of(rt.alloc(), &mut host, &regions, mapped)?;
         let Ok(chain) = chain_of(rt.alloc(), &LONG_SEGMENTS)? else {
-            return Err(Fail::new("the segments make a chain"));
+            return Err(Fail::new("the segments make no chain"));
         };
         let bytes: Vec<u8> = (0..15_000usize)
             .map(|index| (index % 251) as u8)

@@ -59,7 +59,7 @@ fn a_device_keeps_its_snapshot_while_a_region_is_plugged_in(rt: HostRuntime) -> 
     let space = GuestMemoryAtomic::new(alloc, two_pages(alloc, &mut host)?)?;
     let page = pages_at(alloc, &mut host, &[0x8000])?
         .pop()
-        .ok_or("a page")?;
+        .ok_or("there is no page")?;
     let kept = space.memory(&rt, alloc)?;
     let (seen, plugged) = thread::join(
         &rt,
@@ -102,7 +102,7 @@ fn expect_overlap<R: GuestMemoryRegion>(
 ) -> Result<(), Fail> {
     match layout.insert_region(region) {
         Err(GuestRegionCollectionError::MemoryRegionOverlap) => Ok(()),
-        _ => Err(Fail::new("a page that overlaps another is refused")),
+        _ => Err(Fail::new("a page that overlaps another was taken")),
     }
 }
 
@@ -133,7 +133,7 @@ fn a_snapshot_stays_when_its_memory_is_replaced(rt: HostRuntime) -> Result<(), F
     let pages = pages_at(alloc, &mut host, &[0x8000, 0x4000, 0xc000])?;
     let over = pages_at(alloc, &mut host, &[0x8000])?
         .pop()
-        .ok_or("a page")?;
+        .ok_or("there is no page")?;
     expect_snapshots(&rt, alloc, &space, pages, over)
 }
 

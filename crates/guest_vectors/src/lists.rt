@@ -69,7 +69,7 @@ fn come<M: GuestMemory>(
     let mut back = vec![in alloc; 0u8; bytes.len()]?;
     for (exact, bytes) in [(false, other.as_slice()), (true, bytes)] {
         if !host.holds(memory) {
-            return Err(Fail::new("the host holds the memory"));
+            return Err(Fail::new("the host does not hold the memory"));
         }
         let mut source = bytes;
         if exact {
@@ -82,7 +82,7 @@ fn come<M: GuestMemory>(
         let came = bytes.len().saturating_sub(source.len());
         let had = memory.read(host, back.as_mut_slice(), at);
         if came > 0 && (had.ok() != Some(came) || back.get(..came) != bytes.get(..came)) {
-            return Err(Fail::new("the memory has the bytes that came"));
+            return Err(Fail::new("the memory has other bytes than came"));
         }
     }
     Ok(text)
@@ -98,7 +98,7 @@ fn go<M: GuestMemory>(
     bytes: &[u8],
 ) -> Result<String, Fail> {
     if !host.holds(memory) {
-        return Err(Fail::new("the host holds the memory"));
+        return Err(Fail::new("the host does not hold the memory"));
     }
     let mut some: Vec<u8> = Vec::new(alloc);
     let any = memory.write_volatile_to(host, at, &mut some, bytes.len());
@@ -116,7 +116,7 @@ fn go<M: GuestMemory>(
         || bytes.get(..took) != Some(some.as_slice())
         || place.get(..took) != Some(some.as_slice())
     {
-        return Err(Fail::new("the bytes are those that came"));
+        return Err(Fail::new("the bytes are not those that came"));
     }
     Ok(format!(in alloc; "{any:?} {took} {all:?} {taken}")?)
 }
@@ -143,20 +143,20 @@ fn expect_one_block<M: GuestMemory>(
     memory: &M,
 ) -> Result<(), Fail> {
     if !host.holds(memory) {
-        return Err(Fail::new("the host holds the memory"));
+        return Err(Fail::new("the host does not hold the memory"));
     }
     let mut bytes = vec![in alloc; 1u8; 0x1000]?;
     bytes.push(9)?;
     let count = memory.write(host, bytes.as_slice(), GuestAddress(0))?;
     bytes.truncate(0x1000);
     memory.read_slice(host, bytes.as_mut_slice(), GuestAddress(0x1000))?;
-    let (first, rest) = bytes.as_slice().split_first().ok_or("there are bytes")?;
+    let (first, rest) = bytes.as_slice().split_first().ok_or("there are no bytes")?;
     if count != 0x1001
         || *first != 9
         || rest.len() != 0xfff
         || !rest.iter().all(|byte| *byte == 1)
     {
-        return Err(Fail::new("the last byte lies where the first was"));
+        return Err(Fail::new("the last byte does not lie where the first was"));
     }
     Ok(())
 }
@@ -172,7 +172,7 @@ fn a_block_at_two_addresses_is_written_once(rt: HostRuntime) -> Result<(), Fail>
 // A value, the value that a source puts in its place, and the bytes that a sink takes of this.
 fn expect_replaced<M: GuestMemory>(host: &mut HostMemory<()>, memory: &M) -> Result<(), Fail> {
     if !host.holds(memory) {
-        return Err(Fail::new("the host holds the memory"));
+        return Err(Fail::new("the host does not hold the memory"));
     }
     let mut out = [9u8; 4];
     let at = GuestAddress(0x1010);

@@ -22,7 +22,7 @@ fn are_moved<M: GuestMemory>(
     sent: &[u8],
 ) -> Result<bool, Fail> {
     if !host.holds(from) || !host.holds(to) {
-        return Err(Fail::new("the host holds the memories"));
+        return Err(Fail::new("the host does not hold the memories"));
     }
     let start = GuestAddress(0);
     from.write_slice(host, sent, start)?;
@@ -66,7 +66,7 @@ fn expect_kept<M: GuestMemory>(
     bytes: &[u8],
 ) -> Result<(), Fail> {
     if !host.holds(memory) {
-        return Err(Fail::new("the host holds the memory"));
+        return Err(Fail::new("the host does not hold the memory"));
     }
     memory.write_obj(host, value, GuestAddress(0x800))?;
     let mut lie = vec![in alloc; 0u8; 0x1_0000]?;
@@ -83,7 +83,7 @@ fn expect_kept<M: GuestMemory>(
 #[test]
 fn values_of_sixty_four_kibibytes_move(rt: HostRuntime) -> Result<(), Fail> {
     let bytes = pattern(rt.alloc(), 0x1_0000)?;
-    let value = Large::from_slice(bytes.as_slice()).ok_or("these are its bytes")?;
+    let value = Large::from_slice(bytes.as_slice()).ok_or("these are not its bytes")?;
     let mut host = HostMemory::<()>::new(rt.alloc());
     let ranges = [(GuestAddress(0), 0x9000), (GuestAddress(0x9000), 0x8000)];
     let memory = GuestMemoryMmap::from_ranges(rt.alloc(), &mut host, &ranges)?;

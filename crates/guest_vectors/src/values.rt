@@ -76,7 +76,7 @@ fn told_of_values<M: GuestMemory>(
     at: GuestAddress,
 ) -> Result<String, Fail> {
     if !host.holds(memory) {
-        return Err(Fail::new("the host holds the memory"));
+        return Err(Fail::new("the host does not hold the memory"));
     }
     memory.write_slice(host, &[9; 12], GuestAddress(0x3fc))?;
     let stored = memory.store(host, 0x0102_0304u32, at, Ordering::SeqCst);
@@ -97,7 +97,7 @@ fn told_of_split_store<M: GuestMemory>(
     memory: &M,
 ) -> Result<String, Fail> {
     if !host.holds(memory) {
-        return Err(Fail::new("the host holds the memory"));
+        return Err(Fail::new("the host does not hold the memory"));
     }
     let stored = memory.store(host, 7u32, GuestAddress(4), Ordering::SeqCst);
     let loaded = memory.load::<u32, ()>(host, GuestAddress(4), Ordering::SeqCst);
@@ -161,7 +161,7 @@ fn bytes_at<M: GuestMemory>(
     count: usize,
 ) -> Result<Vec<u8>, Fail> {
     if !host.holds(memory) {
-        return Err(Fail::new("the host holds the memory"));
+        return Err(Fail::new("the host does not hold the memory"));
     }
     let mut bytes = vec![in alloc; 0u8; count]?;
     memory.read_slice(host, bytes.as_mut_slice(), GuestAddress(addr))?;
@@ -195,7 +195,7 @@ fn told_of_long_values<M: GuestMemory>(
     let wrote = comes_back(host, memory, long, 0x700, &long);
     let mut text = format!(in alloc; "{whole:?}\n{wrote:?}\n")?;
     if !host.holds(memory) {
-        return Err(Fail::new("the host holds the memory"));
+        return Err(Fail::new("the host does not hold the memory"));
     }
     let had = memory.read_obj::<[u8; 1024], ()>(host, GuestAddress(0x700));
     writeln!(text, "{had:?}")?;

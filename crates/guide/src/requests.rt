@@ -48,7 +48,7 @@ fn layout(alloc: Global, host: &mut Host) -> anyhow::Result<GuestMemoryMmap> {
 // Puts two headers, data and a status that no device tells into memory.
 fn prepare<M: GuestMemory>(host: &mut Host, memory: &M) -> anyhow::Result<()> {
     if !host.holds(memory) {
-        bail!("the host holds no such memory");
+        bail!("the host does not hold the memory");
     }
     let header = [1, 0, 0, 0, 0, 0, 0, 0, 1, 0, 0, 0, 0, 0, 0, 0];
     let other = [7, 0, 0, 0, 0, 0, 0, 0, 1, 0, 0, 0, 0, 0, 0, 0];
@@ -93,7 +93,7 @@ fn serve_one<M: GuestMemory>(
     }
     let chain = Chain::new(segments)?;
     if !host.holds(memory) {
-        bail!("the host holds no such memory");
+        bail!("the host does not hold the memory");
     }
     let mut device = device_of(alloc)?;
     let len = device.serve(memory, host, &chain);
@@ -117,7 +117,7 @@ fn publish(
     let mut index = 0u16;
     for (addr, len, flags) in parts {
         if !host.holds(memory) {
-            bail!("the host holds no such memory");
+            bail!("the host does not hold the memory");
         }
         let after = index.wrapping_add(1);
         let descriptor = Descriptor {
@@ -130,7 +130,7 @@ fn publish(
         index = after;
     }
     if !host.holds(memory) {
-        bail!("the host holds no such memory");
+        bail!("the host does not hold the memory");
     }
     Ok(driver.publish(memory, host, 0)?)
 }
@@ -146,7 +146,7 @@ fn ask(
     let mut queue = driver.queue()?;
     publish(host, memory, &mut driver)?;
     if !host.holds(memory) {
-        bail!("the host holds no such memory");
+        bail!("the host does not hold the memory");
     }
     let interrupt = kicked(device, &mut queue, memory, host)?;
     let used = driver.take_used(memory, host)?;

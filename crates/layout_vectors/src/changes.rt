@@ -95,7 +95,7 @@ fn layouts_are_changed(rt: HostRuntime) -> Result<(), Fail> {
                 Insert(start) => {
                     let places = [Place::Block(*start, 0x1000)];
                     let mut regions = regions_of(rt.alloc(), &mut host, &places)?;
-                    layout.insert_region(regions.pop().ok_or("there is a region")?)
+                    layout.insert_region(regions.pop().ok_or("there is no region")?)
                 }
                 Remove(base, size) => match layout.remove_region(GuestAddress(*base), *size) {
                     Ok((rest, region)) => {

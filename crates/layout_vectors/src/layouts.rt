@@ -117,7 +117,7 @@ fn a_layout_begins_with_no_region(rt: HostRuntime) -> Result<(), Fail> {
     assert!(rt; none.num_regions() == 0 && home_of(&none, 0).is_none());
     assert!(rt; none.last_addr().0 == 0);
     assert!(rt; none.find_region_counted(GuestAddress(0)).1 == 0);
-    let region = TestRegion::bare(GuestAddress(7), 3).ok_or("the region fits")?;
+    let region = TestRegion::bare(GuestAddress(7), 3).ok_or("the region does not fit")?;
     let one = none.insert_region(Arc::new(rt.alloc(), region)?)?;
     assert!(rt; home_of(&one, 6).is_none() && home_of(&one, 9) == Some(7));
     assert!(rt; one.num_regions() == 1 && one.last_addr().0 == 9);

@@ -161,7 +161,7 @@ fn expect_ranges(
                 .map(|region| (region.start_addr(), region.get_mmap().size()));
             let regions: Vec<(GuestAddress, usize)> = regions.collect(alloc)?;
             if regions.as_slice() != all.as_slice() || !host.holds(&memory) {
-                return Err(Fail::new("the memory has its ranges, and the host holds it"));
+                return Err(Fail::new("the memory has other ranges, or the host does not hold it"));
             }
             expect_text(0, "", wanted)?;
         }

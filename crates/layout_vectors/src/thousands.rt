@@ -29,7 +29,7 @@ fn a_layout_of_a_thousand_regions_is_searched_and_changed(rt: HostRuntime) -> Re
     let mut again = Vec::with_capacity(rt.alloc(), 1000)?;
     for number in 0..1000u64 {
         let region = TestRegion::bare(GuestAddress(0x2000 * number), 0x1000);
-        let region = Arc::new(rt.alloc(), region.ok_or("the region fits")?)?;
+        let region = Arc::new(rt.alloc(), region.ok_or("the region does not fit")?)?;
         again.push(region.clone()?)?;
         regions.push(region)?;
     }

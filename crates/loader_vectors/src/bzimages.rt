@@ -170,7 +170,7 @@ fn loaded<M: GuestMemory, B: Bitmap, F: KernelImage>(
     case: &Case,
 ) -> Result<Result<KernelLoaderResult, LoaderError>, Fail> {
     if !host.holds(memory) {
-        return Err(Fail::new("the host holds the memory"));
+        return Err(Fail::new("the host does not hold the memory"));
     }
     let offset = case.2.map(GuestAddress);
     let lowest = case.3.map(GuestAddress);
@@ -324,7 +324,7 @@ fn load_failing<M: GuestMemory, B: Bitmap>(
     left: usize,
 ) -> Result<String, Fail> {
     if !host.holds(memory) {
-        return Err(Fail::new("the host holds the memory"));
+        return Err(Fail::new("the host does not hold the memory"));
     }
     let mut image = Failing {
         image: ImageBytes::new(bytes),

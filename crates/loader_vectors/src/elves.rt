@@ -214,7 +214,7 @@ fn loaded<M: GuestMemory, B: Bitmap>(
     case: &Case,
 ) -> Result<Result<KernelLoaderResult, LoaderError>, Fail> {
     if !host.holds(memory) {
-        return Err(Fail::new("the host holds the memory"));
+        return Err(Fail::new("the host does not hold the memory"));
     }
     let offset = case.2.map(GuestAddress);
     let lowest = case.3.map(GuestAddress);

@@ -116,7 +116,7 @@ pub fn fill<M: GuestMemory, B: Bitmap>(
     memory: &M,
 ) -> Result<(), Fail> {
     if !host.holds(memory) {
-        return Err(Fail::new("the host holds the memory"));
+        return Err(Fail::new("the host does not hold the memory"));
     }
     let bytes = vec![in alloc; BEFORE; (END - BEGIN) as usize]?;
     memory.write_slice(host, bytes.as_slice(), GuestAddress(BEGIN))?;
@@ -130,7 +130,7 @@ pub fn bytes_of<M: GuestMemory, B: Bitmap>(
     memory: &M,
 ) -> Result<Vec<u8>, Fail> {
     if !host.holds(memory) {
-        return Err(Fail::new("the host holds the memory"));
+        return Err(Fail::new("the host does not hold the memory"));
     }
     let mut bytes = vec![in alloc; 0u8; (END - BEGIN) as usize]?;
     memory.read_slice(host, bytes.as_mut_slice(), GuestAddress(BEGIN))?;

@@ -98,7 +98,7 @@ fn placed<M: GuestMemory, B: Bitmap>(
     let mut cmdline = Cmdline::new(alloc, 4)?;
     cmdline.insert(alloc, "a", "b")?;
     if !host.holds(memory) {
-        return Err(Fail::new("the host holds the memory"));
+        return Err(Fail::new("the host does not hold the memory"));
     }
     let answer = load_cmdline(memory, host, GuestAddress(addr), &cmdline);
     let mut bytes = [0; 4];

@@ -41,7 +41,7 @@ fn loads<M: GuestMemory, B: Bitmap>(
     let bytes = image(alloc)?;
     let mut image = ImageBytes::new(bytes.as_slice());
     if !host.holds(memory) {
-        return Err(Fail::new("the host holds the memory"));
+        return Err(Fail::new("the host does not hold the memory"));
     }
     if let Err(error) = BzImage::load(alloc, memory, host, None, &mut image, None) {
         return Ok(Err(error));

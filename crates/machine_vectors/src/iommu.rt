@@ -134,10 +134,10 @@ fn map_all<B: ExactBitmap>(
 ) -> Result<(), Fail> {
     for (iova, to, length, access) in mappings {
         if !host.shape().has_table(table) {
-            return Err(Fail::new("the host has the table"));
+            return Err(Fail::new("the host has no such table"));
         }
         if iova.checked_add(*length as u64).is_none() {
-            return Err(Fail::new("the range ends at an address"));
+            return Err(Fail::new("the range ends past the last address"));
         }
         let table = host.table_mut(table);
         table.set_mapping(GuestAddress(*iova), GuestAddress(*to), *length, *access)?;
@@ -155,7 +155,7 @@ fn dirt<B: ExactBitmap>(
     let block = BitmapId::Block(0);
     let space = BitmapId::Space(space.0);
     if !host.shape().has_bitmap(block) || !host.shape().has_bitmap(space) {
-        return Err(Fail::new("the host has the bitmaps"));
+        return Err(Fail::new("the host has not both bitmaps"));
     }
     let block = host.bitmap(block).dirty_pages(alloc)?;
     let space = host.bitmap(space).dirty_pages(alloc)?;
@@ -171,7 +171,7 @@ fn values<M: GuestMemory, B: ExactBitmap>(
     addr: u64,
 ) -> Result<String, Fail> {
     if !host.holds(memory) {
-        return Err(Fail::new("the host holds the memory"));
+        return Err(Fail::new("the host does not hold the memory"));
     }
     let at = GuestAddress(addr);
     let written = memory.write_obj(host, 0x0605u16, at);
@@ -187,7 +187,7 @@ fn transfers<M: GuestMemory, B: ExactBitmap>(
     addr: u64,
 ) -> Result<String, Fail> {
     if !host.holds(memory) {
-        return Err(Fail::new("the host holds the memory"));
+        return Err(Fail::new("the host does not hold the memory"));
     }
     let at = GuestAddress(addr);
     let mut plain: &[u8] = &[9, 10];
@@ -205,7 +205,7 @@ fn pieces<I: Iommu, B: ExactBitmap>(
     at: GuestAddress,
 ) -> Result<String, Fail> {
     if !host.holds(iommu) {
-        return Err(Fail::new("the host holds the table"));
+        return Err(Fail::new("the host does not hold the table"));
     }
     let mut text = String::new(alloc);
     match iommu.translate(alloc, host.table(iommu.table()), at, 2, Permissions::Read) {
@@ -228,7 +228,7 @@ fn windows<M: GuestMemory, B: ExactBitmap>(
     text: &mut String,
 ) -> Result<(), Fail> {
     if !host.holds(memory) {
-        return Err(Fail::new("the host holds the memory"));
+        return Err(Fail::new("the host does not hold the memory"));
     }
     let walk = match memory.get_slices(host, at, 2, Permissions::Read) {
         Ok(walk) => walk,
@@ -356,14 +356,14 @@ fn expect_long<M: GuestMemory, P: GuestMemory, B: ExactBitmap>(
         long[number] = 0x0102_0304 * (number as u32 % 0x80 + 1) + number as u32;
     }
     if !host.holds(memory) {
-        return Err(Fail::new("the host holds the memory"));
+        return Err(Fail::new("the host does not hold the memory"));
     }
     memory.write_obj(host, long, GuestAddress(0x5000))?;
     if memory.read_obj::<[u32; 0x400], B>(host, GuestAddress(0x5000))? != long {
-        return Err(Fail::new("the value comes back"));
+        return Err(Fail::new("another value came back"));
     }
     if !host.holds(physical) {
-        return Err(Fail::new("the host holds the backend"));
+        return Err(Fail::new("the host does not hold the backend"));
     }
     for number in 0..0x400u64 {
         let at = GuestAddress(0xc00 - number / 0x100 * 0x400 + number % 0x100 * 4);

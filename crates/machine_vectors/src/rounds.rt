@@ -16,15 +16,17 @@ type TestMachine = Machine<GuestRegionMmap, TableIommu, ExclusiveBitmap>;
 // A machine over a block of so many bytes in pages of so many, which lies at 0 and again at 0x10000.
 fn machine_of(alloc: Global, size: usize, page_size: usize) -> Result<TestMachine, Fail> {
     let mut host = HostMemory::new(alloc);
-    let page_size = NonZeroUsize::new(page_size).ok_or("a page has bytes")?;
+    let page_size = NonZeroUsize::new(page_size).ok_or("a page has no bytes")?;
     let bitmap = ExclusiveBitmap::new(alloc, size, page_size)?;
     let block = host.new_block_with(size, bitmap)?;
     if host.shape().block_len(block).is_none() {
-        return Err(Fail::new("the host has the block"));
+        return Err(Fail::new("the host has no such block"));
     }
     let mapping = MmapRegion::of_block(&host, block);
-    let low = GuestRegionMmap::new(mapping, GuestAddress(0)).ok_or("the region fits")?;
-    let high = GuestRegionMmap::new(mapping, GuestAddress(0x10000)).ok_or("the region fits")?;
+    let low = GuestRegionMmap::new(mapping, GuestAddress(0)).ok_or("the region does not fit")?;
+    let high = GuestRegionMmap::new(mapping, GuestAddress(0x10000)).ok_or(
+        "the region does not fit",
+    )?;
     let regions = vec![in alloc; Arc::new(alloc, low)?, Arc::new(alloc, high)?]?;
     Ok(Machine::new(alloc, host, regions, Vec::new(alloc)))
 }
@@ -95,7 +97,7 @@ fn run_one<R: GuestMemoryRegion, I: Iommu, B: ExactBitmap>(
     run(machine, &[command], &mut replies)?;
     match replies.pop() {
         Some(Reply::Fault(_) | Reply::NoSuch | Reply::BadRange | Reply::Memory) | None => {
-            Err(Fail::new("the command is not refused"))
+            Err(Fail::new("the command was refused"))
         }
         Some(_) => Ok(()),
     }
@@ -121,10 +123,10 @@ fn follow<R: GuestMemoryRegion, I: Iommu, B: ExactBitmap>(
                 run_one(machine, alloc, command)?;
             }
             Step::Harvest => run_one(machine, alloc, Command::Harvest(BitmapId::Block(0)))?,
-            Step::Tear(at, byte) => *image.get_mut(at).ok_or("the image has the byte")? = byte,
+            Step::Tear(at, byte) => *image.get_mut(at).ok_or("the image has no such byte")? = byte,
             Step::Sync(ends) => {
                 if machine.host().shape().block_len(BlockId(0)) != Some(image.len()) {
-                    return Err(Fail::new("the image is as long as the block"));
+                    return Err(Fail::new("the image is not as long as the block"));
                 }
                 machine.sync(BlockId(0), image)?;
                 let (zeros, rest) = image.split_at(image.len().saturating_sub(ends.len()));
@@ -151,7 +153,7 @@ fn expect_rounds<R: GuestMemoryRegion, I: Iommu, B: ExactBitmap + Drop>(
     follow(&mut machine, alloc, image.as_mut_slice(), steps)?;
     let host = machine.into_host();
     if host.shape().block_len(BlockId(0)).is_none() {
-        return Err(Fail::new("the host has the block"));
+        return Err(Fail::new("the host has no such block"));
     }
     let window = MmapRegion::of_block(&host, BlockId(0)).as_volatile_slice();
     if !host.holds(&window) || !host.bytes(&window).ends_with(ends) {
@@ -176,7 +178,7 @@ fn expect_unmarked<B: ExactBitmap>(
     window: &VolatileSlice,
 ) -> Result<(), Fail> {
     if !host.holds(window) {
-        return Err(Fail::new("the host holds the window"));
+        return Err(Fail::new("the host does not hold the window"));
     }
     let count = window.write(host, &[1], 0)?;
     let dirty = host.bitmap_mut(window.bitmap().id).harvest(alloc)?;
@@ -189,11 +191,11 @@ fn expect_unmarked<B: ExactBitmap>(
 #[test]
 fn a_bitmap_may_end_before_its_block(rt: HostRuntime) -> Result<(), Fail> {
     let mut host: HostMemory<ExclusiveBitmap> = HostMemory::new(rt.alloc());
-    let page = NonZeroUsize::new(0x1000).ok_or("a page has bytes")?;
+    let page = NonZeroUsize::new(0x1000).ok_or("a page has no bytes")?;
     let block = host.new_block_with(0x2000, ExclusiveBitmap::new(rt.alloc(), 0x1000, page)?)?;
     assert!(rt; host.shape().block_len(block).is_some());
     let mapping = MmapRegion::of_block(&host, block);
-    let region = GuestRegionMmap::new(mapping, GuestAddress(0)).ok_or("the region fits")?;
+    let region = GuestRegionMmap::new(mapping, GuestAddress(0)).ok_or("the region does not fit")?;
     let window = region.get_slice(MemoryRegionAddress(0x1000), 1)?;
     expect_unmarked(rt.alloc(), &mut host, &window)
 }

@@ -19,7 +19,7 @@ pub(crate) fn guest_of(
     let mut places = Vec::new(alloc);
     let mut address: u64 = 0x1000;
     for (len, page_size) in blocks {
-        let size = NonZeroUsize::new(*page_size).ok_or("pages have bytes")?;
+        let size = NonZeroUsize::new(*page_size).ok_or("a page has no bytes")?;
         let bitmap = ExclusiveBitmap::new(alloc, *len, size)?;
         let block = host.new_block_with(*len, bitmap)?;
         places.push((block, GuestAddress(address)))?;

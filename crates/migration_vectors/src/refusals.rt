@@ -123,7 +123,7 @@ fn two_rounds<B: ExactBitmap>(
 fn a_refused_harvest_loses_no_page(rt: HostRuntime) -> Result<(), Fail> {
     let alloc = rt.alloc();
     let mut host = PoorHost::new(alloc);
-    let size = NonZeroUsize::new(2).ok_or("pages have bytes")?;
+    let size = NonZeroUsize::new(2).ok_or("a page has no bytes")?;
     let bitmap = Poor {
         bitmap: ExclusiveBitmap::new(alloc, 9, size)?,
         is_poor: false,
@@ -138,7 +138,7 @@ fn a_refused_harvest_loses_no_page(rt: HostRuntime) -> Result<(), Fail> {
 // The answer to a sender of a block of 9 bytes whose bitmap has pages of 2 for so many bytes.
 fn begun_with(alloc: Global, bytes: usize) -> Result<Result<Sender, SendError>, Fail> {
     let mut host = Host::new(alloc);
-    let size = NonZeroUsize::new(2).ok_or("pages have bytes")?;
+    let size = NonZeroUsize::new(2).ok_or("a page has no bytes")?;
     let bitmap = ExclusiveBitmap::new(alloc, bytes, size)?;
     let block = host.new_block_with(9, bitmap)?;
     let places = [(block, GuestAddress(0))];

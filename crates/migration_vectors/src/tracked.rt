@@ -121,7 +121,7 @@ fn is_moved(
     requires device { IsMarkerOf device bitmap.now.value }
 {
     let mut host = marked_host(alloc, bitmap, marker)?;
-    let size = NonZeroUsize::new(0x10).ok_or("pages have bytes")?;
+    let size = NonZeroUsize::new(0x10).ok_or("a page has no bytes")?;
     let mut stream = Vec::new(alloc);
     let places = [(BlockId(0), GuestAddress(0x1000), size)];
     let sender = Sender::begin_tracked(alloc, &host, &places, &mut stream)?;
@@ -143,10 +143,10 @@ fn is_moved(
 
 #[test]
 fn a_tracked_block_moves(rt: HostRuntime) -> Result<(), Fail> {
-    let size = NonZeroUsize::new(0x10).ok_or("pages have bytes")?;
+    let size = NonZeroUsize::new(0x10).ok_or("a page has no bytes")?;
     let (bitmap, harvester, mut markers) = TrackedBitmap::new(rt.alloc(), 0x400, size, 2)?;
-    let marker = next_marker(&bitmap, &mut markers).ok_or("there is a marker")?;
-    let device = next_marker(&bitmap, &mut markers).ok_or("there is another")?;
+    let marker = next_marker(&bitmap, &mut markers).ok_or("there is no marker")?;
+    let device = next_marker(&bitmap, &mut markers).ok_or("there is no other marker")?;
     let shared = Arc::new(rt.alloc(), bitmap)?;
     assert!(rt; is_moved(rt.alloc(), &shared, harvester, marker, device)?);
     Ok(())

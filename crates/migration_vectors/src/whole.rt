@@ -45,7 +45,7 @@ fn moved<B: ExactBitmap, C: NewBitmap + Drop>(
 #[test]
 fn a_migration_is_proved_to_end_equal(rt: HostRuntime) -> Result<(), Fail> {
     let (mut host, places) = guest_of(rt.alloc(), &[(0x2345, 0x100)])?;
-    let block = places.first().ok_or("there is a block")?.0;
+    let block = places.first().ok_or("there is no block")?.0;
     put(&mut host, block, 0x2344, 7);
     put(&mut host, block, 0x1234, 9);
     let mut other = Host::new(rt.alloc());

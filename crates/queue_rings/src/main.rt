@@ -99,7 +99,7 @@ fn end_of(
 ) -> anyhow::Result<Option<&'static str>> {
     let mut queue = setup.queue()?;
     if !host.holds(memory) {
-        bail!("the host holds the memory");
+        bail!("the host does not hold the memory");
     }
     let answer = queue.pop_descriptor_chain(alloc, memory, host);
     let moved = queue.next_avail() == setup.start.wrapping_add(1);
@@ -121,7 +121,7 @@ fn end_of(
 // Puts the bytes of a ring into memory.
 fn put(host: &mut HostMemory<()>, memory: &GuestMemoryMmap, image: &Image) -> anyhow::Result<()> {
     if !host.holds(memory) {
-        bail!("the host holds the memory");
+        bail!("the host does not hold the memory");
     }
     memory.write_slice(host, image.as_slice(), GuestAddress(BEGIN))?;
     Ok(())

@@ -32,7 +32,7 @@ fn turn(
     kind: u64,
 ) -> Result<bool, Fail> {
     if !host.holds(memory) {
-        return Err(Fail::new("the host holds the memory"));
+        return Err(Fail::new("the host does not hold the memory"));
     }
     let (driver, queue) = halves;
     match kind {
@@ -70,7 +70,7 @@ fn turn(
 fn put_heads(host: &mut Host, memory: &Memory, driver: &DriverQueue) -> Result<(), Fail> {
     for head in 0..4u16 {
         if !host.holds(memory) {
-            return Err(Fail::new("the host holds the memory"));
+            return Err(Fail::new("the host does not hold the memory"));
         }
         driver.put_descriptor(memory, host, head, descriptor_of((0x4000, 1, 0, 0)))?;
     }

@@ -97,14 +97,14 @@ fn tell_chain(
     told: &mut String,
 ) -> Result<(), Fail> {
     if !host.holds(memory) {
-        return Err(Fail::new("the host holds the memory"));
+        return Err(Fail::new("the host does not hold the memory"));
     }
     let mut buffer = [0; 8];
     let mut reader = chain.reader();
     let readable = reader.left();
     let count = reader.read(memory, host, &mut buffer)?;
     let Some(bytes) = buffer.get(..count) else {
-        return Err(Fail::new("a read counts what fits"));
+        return Err(Fail::new("a read counted more than fits"));
     };
     write!(
         told,
@@ -123,7 +123,7 @@ fn pop(
     told: &mut String,
 ) -> Result<bool, Fail> {
     if !host.holds(memory) {
-        return Err(Fail::new("the host holds the memory"));
+        return Err(Fail::new("the host does not hold the memory"));
     }
     match queue.pop_descriptor_chain(alloc, memory, host) {
         Ok(Some((head, chain))) => {
@@ -152,7 +152,7 @@ fn pop_all(alloc: Global, host: &Host, memory: &Memory, queue: &mut Queue) -> Re
 // Puts the numbers from 0 on where the readable bytes of the cases lie.
 fn fill(host: &mut Host, memory: &Memory) -> Result<(), Fail> {
     if !host.holds(memory) {
-        return Err(Fail::new("the host holds the memory"));
+        return Err(Fail::new("the host does not hold the memory"));
     }
     let bytes = [0, 1, 2, 3, 4, 5, 6, 7, 8, 9, 10, 11, 12, 13, 14, 15];
     memory.write_slice(host, &bytes, GuestAddress(0x4000))?;
@@ -245,7 +245,7 @@ fn edge(
     let mut queue = driver.queue()?;
     queue.set_next_avail(start);
     if !host.holds(memory) {
-        return Err(Fail::new("the host holds the memory"));
+        return Err(Fail::new("the host does not hold the memory"));
     }
     let _ = driver.put_descriptor(memory, host, 3, descriptor_of((0x4000, 1, 0, 0)));
     let _ = driver.set_field(memory, host, QueueField::AvailIdx, start.wrapping_add(1));

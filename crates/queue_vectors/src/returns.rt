@@ -110,7 +110,7 @@ fn give_back(
 ) -> Result<(), Fail> {
     let before = bytes_of(alloc, host, memory)?;
     if !host.holds(memory) {
-        return Err(Fail::new("the host holds the memory"));
+        return Err(Fail::new("the host does not hold the memory"));
     }
     let answer = queue.add_used(memory, host, head, len);
     let count = changed(alloc, host, memory, before.as_slice())?;
@@ -127,7 +127,7 @@ fn take_all(
 ) -> Result<(), Fail> {
     for _ in 0..8 {
         if !host.holds(memory) {
-            return Err(Fail::new("the host holds the memory"));
+            return Err(Fail::new("the host does not hold the memory"));
         }
         match driver.take_used(memory, host) {
             Ok(Some(entry)) => write!(told, " {entry:?}")?,
@@ -140,7 +140,7 @@ fn take_all(
 // Sets the index of the used ring to where the device begins, if it lies in memory.
 fn begin(host: &mut Host, memory: &Memory, driver: &DriverQueue) -> Result<(), Fail> {
     if !host.holds(memory) {
-        return Err(Fail::new("the host holds the memory"));
+        return Err(Fail::new("the host does not hold the memory"));
     }
     let _ = driver.set_field(memory, host, QueueField::UsedIdx, driver.next_used);
     Ok(())
@@ -197,7 +197,7 @@ fn validity(
     let mut queue = driver.queue()?;
     queue.set_ready(ready);
     if !host.holds(memory) {
-        return Err(Fail::new("the host holds the memory"));
+        return Err(Fail::new("the host does not hold the memory"));
     }
     Ok(format!(in alloc; "{:?}", queue.is_valid(memory, host))?)
 }
@@ -249,21 +249,21 @@ fn asked(
     queue.set_next_used(next_used);
     queue.set_event_idx(event.is_some());
     if !host.holds(memory) {
-        return Err(Fail::new("the host holds the memory"));
+        return Err(Fail::new("the host does not hold the memory"));
     }
     driver.set_field(memory, host, QueueField::AvailFlags, flags)?;
     driver.set_field(memory, host, QueueField::UsedEvent, event.unwrap_or(0))?;
     if !queue.needs_notification(memory, host)? {
-        return Err(Fail::new("the first answer behind a new index is true"));
+        return Err(Fail::new("the first answer after a new index is false"));
     }
     for _ in 0..count {
         if !host.holds(memory) {
-            return Err(Fail::new("the host holds the memory"));
+            return Err(Fail::new("the host does not hold the memory"));
         }
         queue.add_used(memory, host, 0, 0)?;
     }
     if !host.holds(memory) {
-        return Err(Fail::new("the host holds the memory"));
+        return Err(Fail::new("the host does not hold the memory"));
     }
     let first = queue.needs_notification(memory, host)?;
     Ok((first, queue.needs_notification(memory, host)?))
@@ -289,7 +289,7 @@ fn kicks(alloc: Global, host: &mut Host, memory: &Memory, event_idx: bool) -> Re
     queue.set_next_avail(5);
     let mut told = String::new(alloc);
     if !host.holds(memory) {
-        return Err(Fail::new("the host holds the memory"));
+        return Err(Fail::new("the host does not hold the memory"));
     }
     driver.set_field(memory, host, QueueField::AvailIdx, 5)?;
     queue.disable_notification(memory, host)?;
@@ -395,7 +395,7 @@ const STATES: [(QueueState, &str); 8] = [
 fn states_are_taken_and_put_back(rt: HostRuntime) -> Result<(), Fail> {
     for (number, (state, wanted)) in STATES.iter().enumerate() {
         let Err(error) = Queue::from_state(*state) else {
-            return Err(Fail::new("no queue has this state"));
+            return Err(Fail::new("a queue took this state"));
         };
         let told = format!(in rt.alloc(); "{error:?}")?;
         expect_text(number, told.as_str(), wanted)?;

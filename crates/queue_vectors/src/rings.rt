@@ -28,7 +28,7 @@ const PAGES: u64 = 28;
 // Maps a page to another one.
 fn map_page(host: &mut Host, table: TlbId, page: u64) -> Result<(), Fail> {
     if page >= PAGES || !host.shape().has_table(table) {
-        return Err(Fail::new("the host has the table"));
+        return Err(Fail::new("the host has no such table"));
     }
     let from = GuestAddress(BEGIN + page * PAGE);
     let to = GuestAddress(BEGIN + (page * 5 + 3) % PAGES * PAGE);
@@ -60,7 +60,7 @@ pub fn memory_of(alloc: Global, host: &mut Host, scattered: bool) -> Result<Memo
 /// All bytes of a memory.
 pub fn bytes_of(alloc: Global, host: &Host, memory: &Memory) -> Result<Vec<u8>, Fail> {
     if !host.holds(memory) {
-        return Err(Fail::new("the host holds the memory"));
+        return Err(Fail::new("the host does not hold the memory"));
     }
     let mut bytes = vec![in alloc; 0u8; (END - BEGIN) as usize]?;
     memory.read_slice(host, bytes.as_mut_slice(), GuestAddress(BEGIN))?;
@@ -109,7 +109,7 @@ fn low(number: u64) -> u16 {
 /// Puts a descriptor at an address.
 pub fn put(host: &mut Host, memory: &Memory, addr: u64, parts: Parts) -> Result<(), Fail> {
     if !host.holds(memory) {
-        return Err(Fail::new("the host holds the memory"));
+        return Err(Fail::new("the host does not hold the memory"));
     }
     memory.write_obj(host, descriptor_of(parts), GuestAddress(addr))?;
     Ok(())
@@ -122,7 +122,7 @@ fn publish(
     head: u16,
 ) -> Result<(), Fail> {
     if !host.holds(memory) {
-        return Err(Fail::new("the host holds the memory"));
+        return Err(Fail::new("the host does not hold the memory"));
     }
     driver.publish(memory, host, head)?;
     Ok(())
@@ -135,7 +135,7 @@ fn set_index(
     index: u16,
 ) -> Result<(), Fail> {
     if !host.holds(memory) {
-        return Err(Fail::new("the host holds the memory"));
+        return Err(Fail::new("the host does not hold the memory"));
     }
     driver.set_field(memory, host, QueueField::AvailIdx, index)?;
     Ok(())

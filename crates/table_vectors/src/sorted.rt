@@ -147,7 +147,7 @@ fn change(
     let (start, len) = next_range(state, ADDRESSES, most);
     let first = base.wrapping_add(start);
     let Some(end) = first.checked_add(len as u64) else {
-        return Err(Fail::new("the range ends at an address"));
+        return Err(Fail::new("the range ends past the last address"));
     };
     let before = table.num_ranges();
     let difference = (next_number(state) % 3).wrapping_mul(0x7fff_ffff_ffff_f000);
@@ -164,10 +164,10 @@ fn change(
     changed?;
     sorted.change(first, end, now)?;
     if before.saturating_add(2) < table.num_ranges() {
-        return Err(Fail::new("at most two ranges come on top"));
+        return Err(Fail::new("more than two ranges came on top"));
     }
     if table.num_ranges() != sorted.ranges.len() {
-        return Err(Fail::new("the ranges are as many"));
+        return Err(Fail::new("the number of ranges is another one"));
     }
     for range in sorted.ranges.iter() {
         expect_range(table, range, range.permissions)?;

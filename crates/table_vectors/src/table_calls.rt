@@ -180,7 +180,7 @@ fn expect_calls(
         match call {
             Call::Set(iova, map_to, len, perm) => {
                 if iova.checked_add(*len as u64).is_none() {
-                    return Err(Fail::new("the range ends at an address"));
+                    return Err(Fail::new("the range ends past the last address"));
                 }
                 let set = table.set_mapping(
                     GuestAddress(*iova),
@@ -194,7 +194,7 @@ fn expect_calls(
             }
             Call::Invalidate(iova, len) => {
                 if iova.checked_add(*len as u64).is_none() {
-                    return Err(Fail::new("the range ends at an address"));
+                    return Err(Fail::new("the range ends past the last address"));
                 }
                 if table.invalidate_mapping(GuestAddress(*iova), *len).is_err() {
                     return Err(Fail::new(format_args!("case {case}: {len:#x} is refused")));

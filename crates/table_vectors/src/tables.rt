@@ -99,7 +99,7 @@ fn change(table: &mut Iotlb, said: &mut [Said], base: u64, state: &mut u64) -> R
     };
     let perm = permissions(next_number(state));
     if first.checked_add(len as u64).is_none() {
-        return Err(Fail::new("the range ends at an address"));
+        return Err(Fail::new("the range ends past the last address"));
     }
     let now = match kind {
         0 => {
@@ -145,7 +145,7 @@ fn changes_and_look_ups_are_those_of_single_addresses(rt: HostRuntime) -> Result
             let first = base.wrapping_add(start);
             let start = start as usize;
             let Some(asked) = said.get(start..start.saturating_add(len)) else {
-                return Err(Fail::new("the range is in the plain table"));
+                return Err(Fail::new("the range is not in the plain table"));
             };
             let right = wanted(rt.alloc(), asked, first, access)?;
             expect_look_up(

@@ -35,7 +35,7 @@ pub fn machine_of(alloc: Global, places: &[Place]) -> Result<TestMachine, Fail> 
     let mut host = HostMemory::new(alloc);
     let regions = regions_of(alloc, &mut host, places)?;
     if !are_held(&host, &regions) {
-        return Err(Fail::new("the host holds the regions"));
+        return Err(Fail::new("the host does not hold the regions"));
     }
     Ok(Machine::new(alloc, host, regions, Vec::new(alloc)))
 }

@@ -31,7 +31,7 @@ pub fn marked_host(
     let mut host = HostMemory::new(alloc);
     let marked = MarkerBitmap::new(bitmap.clone()?, marker);
     if host.new_block_with(0x400, marked).is_err() {
-        return Err(Fail::new("there was no memory"));
+        return Err(Fail::new("allocation failed"));
     }
     Ok(host)
 }
@@ -39,10 +39,12 @@ pub fn marked_host(
 /// A memory of the block, from 0x1000 on.
 pub fn memory_of_block(alloc: Global, host: &MarkedHost) -> Result<GuestMemoryMmap, Fail> {
     if !host.shape().has_bitmap(BitmapId::Block(0)) {
-        return Err(Fail::new("there is a block"));
+        return Err(Fail::new("there is no block"));
     }
     let block = MmapRegion::of_block(host, BlockId(0));
-    let region = GuestRegionMmap::new(block, GuestAddress(0x1000)).ok_or("the region fits")?;
+    let region = GuestRegionMmap::new(block, GuestAddress(0x1000)).ok_or(
+        "the region does not fit",
+    )?;
     let regions = vec![in alloc; Arc::new(alloc, region)?]?;
     Ok(GuestMemoryMmap::from_arc_regions(regions)?)
 }

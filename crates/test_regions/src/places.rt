@@ -43,12 +43,12 @@ pub fn regions_of(
                 TestRegion::moved(block, GuestAddress(*start))
             }
             Place::Again(start) => {
-                let block = before.ok_or("there is a block before")?;
+                let block = before.ok_or("there is no block before")?;
                 TestRegion::moved(block, GuestAddress(*start))
             }
             Place::Bare(start, len) => TestRegion::bare(GuestAddress(*start), *len),
         };
-        let region = region.ok_or("the region fits")?;
+        let region = region.ok_or("the region does not fit")?;
         regions.push(Arc::new(alloc, region)?)?;
     }
     Ok(regions)
@@ -67,11 +67,11 @@ pub fn memory_of(
 /// A window at 0x10 of a new block, part of a window that begins before it, that holds these bytes.
 pub fn window_of(host: &mut HostMemory<()>, bytes: &[u8]) -> Result<VolatileSlice, Fail> {
     let mapping = MmapRegion::new(host, 0x100)?;
-    let region = GuestRegionMmap::new(mapping, GuestAddress(0)).ok_or("the region fits")?;
+    let region = GuestRegionMmap::new(mapping, GuestAddress(0)).ok_or("the region does not fit")?;
     let outer = region.get_slice(MemoryRegionAddress(0xc), 0x40)?;
     let window = outer.subslice(4, bytes.len())?;
     if !host.holds(&window) {
-        return Err(Fail::new("the host holds the window"));
+        return Err(Fail::new("the host does not hold the window"));
     }
     window.write_slice(host, bytes, 0)?;
     Ok(window)

@@ -85,7 +85,7 @@ fn expect_answered<R: GuestMemoryRegion, I: Iommu, B: ExactBitmap>(
         next = number.saturating_add(1);
     }
     if answers.len() != usize::from(CALLS) {
-        return Err(Fail::new("there is an answer for each call"));
+        return Err(Fail::new("a call has no answer, or two"));
     }
     Ok(())
 }
@@ -115,7 +115,7 @@ fn expect_run_again<R: GuestMemoryRegion, I: Iommu, B: ExactBitmap>(
 ) -> Result<(), Fail> {
     let mut replies = Vec::new(alloc);
     for number in 0..journal.len() {
-        let command = journal.command(number).ok_or("a command")?;
+        let command = journal.command(number).ok_or("there is no command")?;
         run(machine, slice::from_ref(command), &mut replies)?;
         let told = format!(in alloc; "{:?}", journal.reply(number))?;
         let wanted = format!(in alloc; "{:?}", replies.last())?;

@@ -157,7 +157,7 @@ fn expect_joined<R: Sync + Threads>(
         next_marker(&bitmap, &mut markers),
         next_marker(&bitmap, &mut markers),
     ) else {
-        return Err(Fail::new("there are four markers"));
+        return Err(Fail::new("there are fewer than four markers"));
     };
     let work = Work {
         marks: *marks,
@@ -173,7 +173,7 @@ fn expect_joined<R: Sync + Threads>(
     );
     match bitmap.close(harvester, alloc) {
         Ok(left) => tally.add_halves(alloc, left.as_slice(), false),
-        Err(_) => return Err(Fail::new("there was no memory")),
+        Err(_) => return Err(Fail::new("allocation failed")),
     }
     tally.expect(marks, false)?;
     Ok(tally.taken)

@@ -89,9 +89,9 @@ fn is_harvested_while_locked<R: Sync + Threads + Wait>(
 
 #[test]
 fn a_harvest_does_not_wait_for_the_lock_of_a_host(rt: HostRuntime) -> Result<(), Fail> {
-    let size = NonZeroUsize::new(16).ok_or("pages have bytes")?;
+    let size = NonZeroUsize::new(16).ok_or("a page has no bytes")?;
     let (bitmap, harvester, mut markers) = TrackedBitmap::new(rt.alloc(), 0x400, size, 1)?;
-    let marker = next_marker(&bitmap, &mut markers).ok_or("there is a marker")?;
+    let marker = next_marker(&bitmap, &mut markers).ok_or("there is no marker")?;
     let shared = Arc::new(rt.alloc(), bitmap)?;
     assert!(rt; is_harvested_while_locked(&rt, rt.alloc(), &shared, harvester, marker)?);
     Ok(())

@@ -132,7 +132,7 @@ fn expect_refused(
 ) -> Result<(), Fail> {
     let start = GuestAddress(0);
     if !host.holds(memory) {
-        return Err(Fail::new("the host holds the memory"));
+        return Err(Fail::new("the host does not hold the memory"));
     }
     memory.write_slice(host, bytes, start)?;
     let answer = memory.write_all_volatile_to(host, start, sink, bytes.len());
@@ -142,7 +142,7 @@ fn expect_refused(
         other => return Err(Fail::new(format_args!("{other:?}"))),
     }
     if &*place != bytes {
-        return Err(Fail::new("no byte changed"));
+        return Err(Fail::new("bytes changed"));
     }
     Ok(())
 }

@@ -55,9 +55,9 @@ fn written_by_marker(
     let over = write_bytes(&**bitmap, &mut host, &memory, 0x11ff, &[7; 0x12]);
     let cut = write_bytes(&**bitmap, &mut host, &memory, 0x13ff, &[7; 9]);
     let past = write_bytes(&**bitmap, &mut host, &memory, 0x1400, &[7; 9]);
-    let marker = retired(&**bitmap, &mut host).ok_or("there is a marker")?;
+    let marker = retired(&**bitmap, &mut host).ok_or("there is no marker")?;
     if !host.holds(&memory) {
-        return Err(Fail::new("the host holds the memory"));
+        return Err(Fail::new("the host does not hold the memory"));
     }
     let late = memory.write(&mut host, &[7], GuestAddress(0x1050));
     let told = format!(in alloc; "{two:?} {over:?} {cut:?} {past:?} {late:?}")?;
@@ -69,16 +69,16 @@ const ANSWERS: &str = "Ok(2) Ok(18) Ok(1) Err(InvalidGuestAddress(GuestAddress(5
 
 #[test]
 fn a_marker_that_retires_has_marked_what_was_written(rt: HostRuntime) -> Result<(), Fail> {
-    let size = NonZeroUsize::new(16).ok_or("pages have bytes")?;
+    let size = NonZeroUsize::new(16).ok_or("a page has no bytes")?;
     let (bitmap, mut harvester, mut markers) = TrackedBitmap::new(rt.alloc(), 0x400, size, 1)?;
-    let marker = next_marker(&bitmap, &mut markers).ok_or("there is a marker")?;
+    let marker = next_marker(&bitmap, &mut markers).ok_or("there is no marker")?;
     let shared = Arc::new(rt.alloc(), bitmap)?;
     let marker = written_by_marker(rt.alloc(), &shared, marker)?;
     shared.join(&mut harvester, marker);
-    let bitmap = Arc::into_inner(shared).ok_or("the host gave the bitmap back")?;
+    let bitmap = Arc::into_inner(shared).ok_or("the host still has the bitmap")?;
     match bitmap.close(harvester, rt.alloc()) {
         Ok(words) => assert!(rt; words.as_slice() == [0x8000_0003u32, 0x8000_0003].as_slice()),
-        Err(_) => return Err(Fail::new("there was no memory")),
+        Err(_) => return Err(Fail::new("allocation failed")),
     }
     Ok(())
 }

@@ -53,7 +53,7 @@ where
     M::E: fmt::Debug + Drop,
 {
     if !host.holds(place) {
-        return Err(Fail::new("the host holds the place"));
+        return Err(Fail::new("the host does not hold the place"));
     }
     match amount {
         UpTo(count) => {
@@ -79,7 +79,7 @@ pub fn comes_in<S: ReadVolatile>(
     let told = match place {
         Memory(at) => come(alloc, &mut host, &memory, GuestAddress(at), amount, source)?,
         Region(at) => {
-            let region = memory.region_at(1).ok_or("there is a second region")?;
+            let region = memory.region_at(1).ok_or("there is no second region")?;
             come(
                 alloc,
                 &mut host,
@@ -96,7 +96,7 @@ pub fn comes_in<S: ReadVolatile>(
     };
     let mut all = [9u8; 8];
     if !host.holds(&memory) {
-        return Err(Fail::new("the host holds the memory"));
+        return Err(Fail::new("the host does not hold the memory"));
     }
     memory.read_slice(&host, &mut all, GuestAddress(0))?;
     Ok(format!(in alloc; "{told} {all:?}")?)
@@ -115,7 +115,7 @@ where
     M::E: fmt::Debug + Drop,
 {
     if !host.holds(place) {
-        return Err(Fail::new("the host holds the place"));
+        return Err(Fail::new("the host does not hold the place"));
     }
     match amount {
         UpTo(count) => {
@@ -139,13 +139,13 @@ pub fn goes_out<W: WriteVolatile>(
     let mut host = HostMemory::<()>::new(alloc);
     let memory = GuestMemoryMmap::from_ranges(alloc, &mut host, &TWO)?;
     if !host.holds(&memory) {
-        return Err(Fail::new("the host holds the memory"));
+        return Err(Fail::new("the host does not hold the memory"));
     }
     memory.write_slice(&mut host, &[1, 2, 3, 4, 5, 6, 7, 8], GuestAddress(0))?;
     match place {
         Memory(at) => go(alloc, &host, &memory, GuestAddress(at), amount, sink),
         Region(at) => {
-            let region = memory.region_at(1).ok_or("there is a second region")?;
+            let region = memory.region_at(1).ok_or("there is no second region")?;
             go(alloc, &host, region, MemoryRegionAddress(at), amount, sink)
         }
         Window(at) => {

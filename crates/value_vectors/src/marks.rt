@@ -47,7 +47,7 @@ where
     M::E: fmt::Debug + Drop,
 {
     if !host.holds(place) {
-        return Err(Fail::new("the host holds the place"));
+        return Err(Fail::new("the host does not hold the place"));
     }
     let bytes = vec![in alloc; 7u8; count]?;
     let answer = place.write(host, bytes.as_slice(), at);
@@ -65,7 +65,7 @@ fn write_values<B: Bitmap>(
     let array = window.get_array_ref::<u16>(0xa, 3)?;
     let three = window.subslice(0x14, 3)?;
     if !(host.holds(&window) && host.holds(&value) && host.holds(&array) && host.holds(&three)) {
-        return Err(Fail::new("the host holds the window and its parts"));
+        return Err(Fail::new("the host does not hold the window and its parts"));
     }
     let refused = window.store(host, 7u32, 8, Ordering::SeqCst);
     let stored = window.store(host, 7u32, 0x1a, Ordering::SeqCst);
@@ -93,7 +93,7 @@ fn store_mapped<M: GuestMemoryBackend, B: Bitmap>(
     for window in IommuMemorySliceIterator::of_pieces(memory, pieces, at, SpaceId(0)) {
         let window = window?;
         if !host.holds(&window) {
-            return Err(Fail::new("the host holds the window"));
+            return Err(Fail::new("the host does not hold the window"));
         }
         let answer = window.store(host, 7u32, 0, Ordering::SeqCst);
         write!(text, "{answer:?} ")?;
@@ -131,7 +131,7 @@ fn written<M: GuestMemoryBackend, B: Bitmap>(
             let array = window.get_array_ref::<u16>(offset, count)?;
             let values = vec![in alloc; 7u16; count]?;
             if !host.holds(&array) {
-                return Err(Fail::new("the host holds the array"));
+                return Err(Fail::new("the host does not hold the array"));
             }
             array.copy_from(host, values.as_slice());
             Ok(String::new(alloc))
@@ -140,7 +140,7 @@ fn written<M: GuestMemoryBackend, B: Bitmap>(
             let part = window.subslice(offset, size)?;
             let values = vec![in alloc; 7u16; count]?;
             if !host.holds(&part) {
-                return Err(Fail::new("the host holds the part"));
+                return Err(Fail::new("the host does not hold the part"));
             }
             part.copy_from(host, values.as_slice());
             Ok(String::new(alloc))
@@ -157,7 +157,7 @@ fn dirty_rows<B: Bitmap>(
     text: &mut String,
 ) -> Result<(), Fail> {
     if !host.shape().has_bitmap(bitmap) {
-        return Err(Fail::new("the host has the bitmap"));
+        return Err(Fail::new("the host has no such bitmap"));
     }
     let mut first = None;
     for page in 0..0x3001usize {
@@ -278,10 +278,10 @@ fn expect_rows<B: Bitmap + Drop>(
     host.new_block_with(0x3000, block)?;
     host.new_space(space)?;
     if host.shape().block_len(BlockId(0)).is_none() {
-        return Err(Fail::new("the host has the block"));
+        return Err(Fail::new("the host has no such block"));
     }
     let mapping = MmapRegion::of_block(&host, BlockId(0));
-    let region = GuestRegionMmap::new(mapping, GuestAddress(0)).ok_or("the region fits")?;
+    let region = GuestRegionMmap::new(mapping, GuestAddress(0)).ok_or("the region does not fit")?;
     let regions = vec![in alloc; Arc::new(alloc, region)?]?;
     let memory = GuestMemoryMmap::from_arc_regions(regions)?;
     expect_row(alloc, &mut host, &memory, case)
@@ -293,7 +293,7 @@ fn expect_row<M: GuestMemoryBackend, B: Bitmap>(
     memory: &M,
     case: usize,
 ) -> Result<(), Fail> {
-    let (write, wanted) = LONG.get(case).ok_or("there is such a case")?;
+    let (write, wanted) = LONG.get(case).ok_or("there is no such case")?;
     let mut text = written(alloc, host, memory, *write)?;
     text.push_str("block ")?;
     dirty_rows(host, BitmapId::Block(0), 1, &mut text)?;

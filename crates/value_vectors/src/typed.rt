@@ -31,7 +31,7 @@ fn expect_stores<B: Bitmap>(
     window: VolatileSlice,
 ) -> Result<(), Fail> {
     if !host.holds(&window) {
-        return Err(Fail::new("the host holds the window"));
+        return Err(Fail::new("the host does not hold the window"));
     }
     let rest = window.offset(9);
     let many = window.get_array_ref::<u16>(0, 0x4000_0000_0000_0000);
@@ -50,7 +50,7 @@ fn expect_views<B: Bitmap>(host: &mut HostMemory<B>, window: VolatileSlice) -> R
     let value = window.get_ref::<u32>(3)?;
     let bytes = VolatileArrayRef::from(window);
     if !host.holds(&value) || !host.holds(&bytes) {
-        return Err(Fail::new("the host holds the window"));
+        return Err(Fail::new("the host does not hold the window"));
     }
     let before = value.load(host);
     value.store(host, 0x0e0d_0c0b);
@@ -143,7 +143,7 @@ fn copied<B: Bitmap>(
     let source = source.subslice(from.1, from.2)?;
     let target = target.subslice(to.1, to.2)?;
     if !(host.holds(&source) && host.holds(&target) && host.holds(&one) && host.holds(&other)) {
-        return Err(Fail::new("the host holds the windows"));
+        return Err(Fail::new("the host does not hold the windows"));
     }
     source.copy_to_volatile_slice(host, target);
     let mut of_one = [0; 6];
@@ -172,7 +172,7 @@ fn expect_whole_values<B: Bitmap>(
 ) -> Result<(), Fail> {
     let five = window.subslice(0, 5)?;
     if !host.holds(&window) || !host.holds(&five) {
-        return Err(Fail::new("the host holds the window"));
+        return Err(Fail::new("the host does not hold the window"));
     }
     let mut values = [9u16; 3];
     let count = five.copy_to(host, &mut values);
@@ -189,11 +189,11 @@ fn expect_whole_values<B: Bitmap>(
 fn expect_array<B: Bitmap>(host: &mut HostMemory<B>, window: VolatileSlice) -> Result<(), Fail> {
     let array = window.get_array_ref::<u16>(1, 3)?;
     if !host.holds(&array) || array.len() != 3 {
-        return Err(Fail::new("the host holds the array, of three"));
+        return Err(Fail::new("the host does not hold the array, or it is not of three"));
     }
     let last = array.ref_at(2);
     if !host.holds(&last) {
-        return Err(Fail::new("the host holds the last"));
+        return Err(Fail::new("the host does not hold the last one"));
     }
     array.store(host, 1, 0x0c0b);
     let loaded = [last.load(host), array.load(host, 1)];
@@ -221,7 +221,7 @@ fn expect_pairs<B: Bitmap>(host: &mut HostMemory<B>, window: VolatileSlice) -> R
     let pair: VolatileRef<[u16; 2]> = window.get_ref(1)?;
     let pairs: VolatileArrayRef<[u16; 2]> = window.get_array_ref(0, 2)?;
     if !host.holds(&pair) || !host.holds(&pairs) {
-        return Err(Fail::new("the host holds the pairs"));
+        return Err(Fail::new("the host does not hold the pairs"));
     }
     let before = pair.load(host);
     pair.store(host, [0x1312, 0x1514]);
@@ -247,7 +247,7 @@ fn is_read<B: Bitmap>(
 ) -> Result<bool, Fail> {
     let place: VolatileRef<[u32; 2]> = window.get_ref(0)?;
     if !host.holds(&place) {
-        return Err(Fail::new("the host holds the value"));
+        return Err(Fail::new("the host does not hold the value"));
     }
     Ok(place.load(host) == value)
 }
@@ -298,7 +298,7 @@ fn told_of_views<B: Bitmap>(
         (part, false, part.bitmap()),
     ] {
         if !host.holds(&window) {
-            return Err(Fail::new("the host holds the view"));
+            return Err(Fail::new("the host does not hold the view"));
         }
         if bitmap != window.bitmap() || empty != VolatileMemory::is_empty(&window) {
             return Err(Fail::new(format_args!("{:?}+{}", bitmap.id, bitmap.base)));

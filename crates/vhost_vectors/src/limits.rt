@@ -154,7 +154,7 @@ fn expect_page(alloc: Global, world: &mut World, model: &Model, page: usize) -> 
     // A write of nothing is done without a mapping.
     let mut write = WriteBytes::new(&world.memory, world.table, GuestAddress(address), &[]);
     if write.attempt(&mut world.host) != Outcome::Done {
-        return Err(Fail::new("nothing is written"));
+        return Err(Fail::new("a write of no bytes was not done"));
     }
     Ok(())
 }
@@ -173,7 +173,7 @@ fn apply(alloc: Global, world: &mut World, parts: Parts) -> Result<usize, Fail> 
         return Err(Fail::new(format_args!("{handled:?}")));
     }
     if !world.host.shape().has_table(world.table) {
-        return Err(Fail::new("the host has the table"));
+        return Err(Fail::new("the host has no such table"));
     }
     Ok(world.host.table(world.table).num_ranges())
 }

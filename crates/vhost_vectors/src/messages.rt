@@ -80,7 +80,7 @@ fn payload_of(alloc: Global, parts: Parts) -> Result<[u8; 32], Fail> {
     put_payload(&mut bytes, parts)?;
     let mut payload = [0; 32];
     if bytes.len() != payload.len() {
-        return Err(Fail::new("a payload has 32 bytes"));
+        return Err(Fail::new("the payload does not have 32 bytes"));
     }
     payload.copy_from_slice(bytes.as_slice());
     Ok(payload)

@@ -239,7 +239,7 @@ fn expect_content(bytes: &[u8], offset: u64) -> Result<(), Fail> {
 fn expect_memory(alloc: Global, world: &World, ask: &Ask, done: bool) -> Result<(), Fail> {
     let layout = world.memory.get_backend();
     if !world.host.holds(layout) {
-        return Err(Fail::new("the host holds the layout"));
+        return Err(Fail::new("the host does not hold the layout"));
     }
     let mut bytes = vec![in alloc; 0u8; 0x1_0000]?;
     layout.read_slice(&world.host, bytes.as_mut_slice(), GuestAddress(0))?;
@@ -251,7 +251,7 @@ fn expect_memory(alloc: Global, world: &World, ask: &Ask, done: bool) -> Result<
         for i in 0..*len {
             let at = target_at(offset.wrapping_add(i as u64)) as usize;
             if at >= wanted.len() {
-                return Err(Fail::new("a page lies in memory"));
+                return Err(Fail::new("a page lies outside of memory"));
             }
             wanted[at] = 0xee;
         }
@@ -382,7 +382,7 @@ fn run(alloc: Global, case: &Case, piece: usize, halts: bool) -> Result<String, 
     let (_table, front, own) = iotlb.into_parts();
     // Where replies come whole, no more than a few are left unread.
     if piece >= 44 && !halts && own.at.saturating_add(100) < own.input.len() {
-        return Err(Fail::new("replies fill the channel"));
+        return Err(Fail::new("replies filled the channel"));
     }
     told(
         alloc,

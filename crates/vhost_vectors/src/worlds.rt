@@ -125,12 +125,12 @@ pub fn make_world(alloc: Global, limit: usize) -> Result<World, Fail> {
         bytes.push(content_at(address))?;
     }
     if !host.holds(&layout) {
-        return Err(Fail::new("the host holds the layout"));
+        return Err(Fail::new("the host does not hold the layout"));
     }
     layout.write_slice(&mut host, bytes.as_slice(), GuestAddress(0))?;
     let space = host.new_space(())?;
     if limit == 0 {
-        return Err(Fail::new("a limit is 1 or more"));
+        return Err(Fail::new("the limit is 0"));
     }
     let table = DeviceTable::new(alloc, &mut host, limit, announced(alloc)?)?;
     let table = table.table;

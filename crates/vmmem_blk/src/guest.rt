@@ -112,7 +112,7 @@ impl Guest {
 
     fn put(&mut self, addr: u64, bytes: &[u8]) -> anyhow::Result<()> {
         if !self.host.holds(&self.memory) {
-            bail!("the host holds no such memory");
+            bail!("the host does not hold the memory");
         }
         self.memory
             .write_slice(&mut self.host, bytes, GuestAddress(addr))?;
@@ -121,7 +121,7 @@ impl Guest {
 
     fn get(&self, addr: u64, bytes: &mut [u8]) -> anyhow::Result<()> {
         if !self.host.holds(&self.memory) {
-            bail!("the host holds no such memory");
+            bail!("the host does not hold the memory");
         }
         self.memory
             .read_slice(&self.host, bytes, GuestAddress(addr))?;
@@ -131,7 +131,7 @@ impl Guest {
     // Puts a descriptor into the table of the queue, or into the other one.
     fn describe(&mut self, index: u16, descriptor: Descriptor) -> anyhow::Result<()> {
         if !self.host.holds(&self.memory) {
-            bail!("the host holds no such memory");
+            bail!("the host does not hold the memory");
         }
         if self.driver.size >= PARTS {
             self.driver
@@ -166,7 +166,7 @@ impl Guest {
             )?;
         }
         if !self.host.holds(&self.memory) {
-            bail!("the host holds no such memory");
+            bail!("the host does not hold the memory");
         }
         if self.driver.size < PARTS {
             let table = Descriptor {
@@ -179,7 +179,7 @@ impl Guest {
                 .put_descriptor(&self.memory, &mut self.host, 0, table)?;
         }
         if !self.host.holds(&self.memory) {
-            bail!("the host holds no such memory");
+            bail!("the host does not hold the memory");
         }
         self.driver.publish(&self.memory, &mut self.host, 0)?;
         Ok(())
@@ -188,14 +188,14 @@ impl Guest {
     // Kicks the device, and takes what it returns.
     fn kick<D: Disk>(&mut self, device: &mut BlockDevice<D>) -> anyhow::Result<()> {
         if !self.host.holds(&self.memory) {
-            bail!("the host holds no such memory");
+            bail!("the host does not hold the memory");
         }
         let served = device.process(&mut self.queue, &self.memory, &mut self.host);
         if let Some(error) = served.failed {
             bail!("the device fails: {error}");
         }
         if !self.host.holds(&self.memory) {
-            bail!("the host holds no such memory");
+            bail!("the host does not hold the memory");
         }
         if self.driver.take_used(&self.memory, &self.host)?.is_none() {
             bail!("the device returned nothing");

@@ -42,7 +42,7 @@ fn load(
     image: &mut File,
 ) -> Result<KernelLoaderResult> {
     if !host.holds(memory) {
-        bail!("the host holds the memory");
+        bail!("the host does not hold the memory");
     }
     Ok(plan.load(memory, host, image)?)
 }
@@ -76,7 +76,7 @@ fn put_line(
     let mut line = Cmdline::new(rt.alloc(), CMDLINE_CAPACITY)?;
     line.insert_str(rt.alloc(), text)?;
     if !host.holds(memory) {
-        bail!("the host holds the memory");
+        bail!("the host does not hold the memory");
     }
     load_cmdline(memory, host, GuestAddress(CMDLINE), &line)?;
     let count = line.as_slice_with_nul().len();
@@ -98,7 +98,7 @@ fn put_initrd(
     let mut file = File::open(rt, path).context(format_args!("{path}"))?;
     let limit = GuestAddress(last_low_address(asked.memory));
     if !host.holds(memory) {
-        bail!("the host holds the memory");
+        bail!("the host does not hold the memory");
     }
     let segment = load_initrd(memory, host, kernel, &mut file, limit)?;
     let addr = segment.addr.0;

@@ -52,7 +52,7 @@ pub fn digest_of(
     size: u64,
 ) -> Result<String> {
     if !host.holds(memory) {
-        bail!("the host holds the memory");
+        bail!("the host does not hold the memory");
     }
     let mut hasher = Sha256::new();
     let mut buffer = vec![in alloc; 0u8; CHUNK as usize]?;
@@ -74,7 +74,7 @@ pub fn dirty_pages(alloc: Global, host: &Host, memory: &GuestMemoryMmap) -> Resu
     for region in memory.iter() {
         let id = region.get_mmap().bitmap().id;
         if !host.shape().has_bitmap(id) {
-            bail!("the host has the bitmap");
+            bail!("the host has no such bitmap");
         }
         let pages = host.bitmap(id).dirty_pages(alloc)?;
         count = count.saturating_add(pages.len());

@@ -38,7 +38,7 @@ pub struct Behind {
 
 fn map_halves<B>(host: &mut HostMemory<B>) -> Result<(), Fail> {
     if !host.shape().has_table(TlbId(0)) {
-        return Err(Fail::new("the host has the table"));
+        return Err(Fail::new("the host has no such table"));
     }
     let table = host.table_mut(TlbId(0));
     let (half, all) = (SIZE / 2, Permissions::ReadWrite);
@@ -55,10 +55,10 @@ fn map_halves<B>(host: &mut HostMemory<B>) -> Result<(), Fail> {
 // The block at address 0.
 fn layout_of<B>(alloc: Global, host: &HostMemory<B>) -> Result<GuestMemoryMmap, Fail> {
     if host.shape().block_len(BlockId(0)).is_none() {
-        return Err(Fail::new("the host has the block"));
+        return Err(Fail::new("the host has no such block"));
     }
     let mapping = MmapRegion::of_block(host, BlockId(0));
-    let region = GuestRegionMmap::new(mapping, GuestAddress(0)).ok_or("the region fits")?;
+    let region = GuestRegionMmap::new(mapping, GuestAddress(0)).ok_or("the region does not fit")?;
     let regions = Vec::from_slice(alloc, &[region])?;
     Ok(GuestMemoryMmap::from_regions(alloc, regions)?)
 }

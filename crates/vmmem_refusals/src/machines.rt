@@ -23,7 +23,7 @@ pub type TestMachine = Machine<GuestRegionMmap, TableIommu, ExclusiveBitmap>;
 pub const SIZE: usize = 0x40;
 
 fn bitmap_of(alloc: Global, size: usize, page_size: usize) -> Result<ExclusiveBitmap, Fail> {
-    let page_size = NonZeroUsize::new(page_size).ok_or("a page has bytes")?;
+    let page_size = NonZeroUsize::new(page_size).ok_or("a page has no bytes")?;
     Ok(ExclusiveBitmap::new(alloc, size, page_size)?)
 }
 
@@ -46,12 +46,16 @@ fn regions_at(
         HoldsRegions ⟦<GuestRegionMmap as GuestMemoryRegion>⟧.region host.now (regions_of regions)) }
 {
     if host.shape().block_len(block).is_none() {
-        return Err(Fail::new("the host has the block"));
+        return Err(Fail::new("the host has no such block"));
     }
     let mapping = MmapRegion::of_block(host, block);
-    let first = GuestRegionMmap::new(mapping, GuestAddress(0)).ok_or("the region fits")?;
-    let second = GuestRegionMmap::new(mapping, GuestAddress(0x1000)).ok_or("the region fits")?;
-    let third = GuestRegionMmap::new(mapping, GuestAddress(0x2000)).ok_or("the region fits")?;
+    let first = GuestRegionMmap::new(mapping, GuestAddress(0)).ok_or("the region does not fit")?;
+    let second = GuestRegionMmap::new(mapping, GuestAddress(0x1000)).ok_or(
+        "the region does not fit",
+    )?;
+    let third = GuestRegionMmap::new(mapping, GuestAddress(0x2000)).ok_or(
+        "the region does not fit",
+    )?;
     Ok(vec![in alloc;
         Arc::new(alloc, first)?,
         Arc::new(alloc, second)?,
@@ -65,7 +69,7 @@ fn bare_machine(alloc: Global) -> Result<TestMachine, Fail> {
     let regions = regions_at(alloc, &host, BlockId(0))?;
     let table = TlbId(0);
     if !host.shape().has_table(table) {
-        return Err(Fail::new("the host has the table"));
+        return Err(Fail::new("the host has no such table"));
     }
     let translators = vec![in alloc; Arc::new(alloc, TableIommu::new(table))?]?;
     Ok(Machine::new(alloc, host, regions, translators))
@@ -316,7 +320,7 @@ pub fn push_host<B: Bitmap + Debug>(text: &mut String, host: &HostMemory<B>) -> 
     let (block, space, table) = (BitmapId::Block(0), BitmapId::Space(0), TlbId(0));
     let shape = host.shape();
     if !shape.has_bitmap(block) || !shape.has_bitmap(space) || !shape.has_table(table) {
-        return Err(Fail::new("the host has its parts"));
+        return Err(Fail::new("the host has not all its parts"));
     }
     writeln!(
         text,
@@ -330,11 +334,11 @@ pub fn push_host<B: Bitmap + Debug>(text: &mut String, host: &HostMemory<B>) -> 
 
 fn push_block<B: Bitmap>(text: &mut String, host: &HostMemory<B>) -> Result<(), Fail> {
     if host.shape().block_len(BlockId(0)).is_none() {
-        return Err(Fail::new("the host has the block"));
+        return Err(Fail::new("the host has no such block"));
     }
     let window = MmapRegion::of_block(host, BlockId(0)).as_volatile_slice();
     if !host.holds(&window) {
-        return Err(Fail::new("the host holds the block"));
+        return Err(Fail::new("the host does not hold the block"));
     }
     writeln!(text, "{:?}", host.bytes(&window))?;
     Ok(())

@@ -61,7 +61,7 @@ pub fn fill<M: GuestMemory, B: Bitmap>(
     bytes: &[u8],
 ) -> Result<(), Fail> {
     if !host.holds(memory) {
-        return Err(Fail::new("the host holds the memory"));
+        return Err(Fail::new("the host does not hold the memory"));
     }
     memory.write_slice(host, bytes, GuestAddress(0))?;
     Ok(())
@@ -75,7 +75,7 @@ fn push_bytes<M: GuestMemory, B: Bitmap>(
     bytes: &mut [u8],
 ) -> Result<(), Fail> {
     if !host.holds(memory) {
-        return Err(Fail::new("the host holds the memory"));
+        return Err(Fail::new("the host does not hold the memory"));
     }
     memory.read_slice(host, bytes, GuestAddress(0))?;
     writeln!(text, "{bytes:?}")?;

@@ -342,7 +342,7 @@ fn expect_line(
     refusals: &mut Refusals,
 ) -> Result<bool, Fail> {
     let filler = filler_of(line);
-    let replies = told_by(alloc, before)?.ok_or("the lines before run")?;
+    let replies = told_by(alloc, before)?.ok_or("the lines before it do not run")?;
     let looks = looks_of(alloc, before, replies.as_str())?;
     let script = gated_script(alloc, before, "", filler, looks.as_str())?;
     let Some(without) = told_by(alloc, script.as_str())? else {
@@ -445,5 +445,5 @@ pub fn expect_script(famine: &mut Famine, alloc: Global, script: &str) -> Result
             };
         }
     }
-    Err(Fail::new("a script is refused where there is memory"))
+    Err(Fail::new("a script was refused although there was memory"))
 }

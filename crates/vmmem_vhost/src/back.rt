@@ -130,7 +130,7 @@ impl Desk {
             bail!("the desk is too small");
         }
         if !self.host.holds(&self.layout) {
-            bail!("the host holds no such memory");
+            bail!("the host does not hold the memory");
         }
         self.layout
             .write_slice(&mut self.host, given, GuestAddress(0))?;
@@ -147,12 +147,12 @@ impl Desk {
         })?;
         let chain = Chain::new(segments)?;
         if !self.host.holds(&self.layout) {
-            bail!("the host holds no such memory");
+            bail!("the host does not hold the memory");
         }
         let count = self.device.serve(&self.layout, &mut self.host, &chain);
         let mut written = vec![in alloc; 0u8; room]?;
         if !self.host.holds(&self.layout) {
-            bail!("the host holds no such memory");
+            bail!("the host does not hold the memory");
         }
         self.layout.read_slice(&self.host, written.as_mut_slice(), GuestAddress(len as u64))?;
         Ok((written, count))

@@ -220,13 +220,13 @@ impl<C: Read + Write + Drop> FrontEnd<C> {
         let mut guard = lock.lock(rt);
         let host = &mut *guard;
         if !host.holds(&self.layout) {
-            bail!("the host holds no such memory");
+            bail!("the host does not hold the memory");
         }
         let old = GuestAddress(from.wrapping_mul(PAGE));
         self.layout.read_slice(host, bytes.as_mut_slice(), old)?;
         self.layout.write_slice(host, bytes.as_slice(), GuestAddress(to.wrapping_mul(PAGE)))?;
         if !host.holds(&self.layout) {
-            bail!("the host holds no such memory");
+            bail!("the host does not hold the memory");
         }
         bytes.as_mut_slice().fill(0xdd);
         self.layout.write_slice(host, bytes.as_slice(), old)?;
@@ -369,7 +369,7 @@ impl<C: Read + Write + Drop> FrontEnd<C> {
 
     fn put(&self, host: &mut Host, bytes: &[u8], address: u64) -> anyhow::Result<()> {
         if !host.holds(&self.memory) {
-            bail!("the host holds no such memory");
+            bail!("the host does not hold the memory");
         }
         self.memory.write_slice(host, bytes, GuestAddress(address))?;
         Ok(())
@@ -399,7 +399,7 @@ impl<C: Read + Write + Drop> FrontEnd<C> {
         let mut index = head;
         for (addr, len, flags) in parts {
             if !host.holds(&self.memory) {
-                bail!("the host holds no such memory");
+                bail!("the host does not hold the memory");
             }
             let next = index.wrapping_add(1);
             let descriptor = Descriptor {
@@ -413,7 +413,7 @@ impl<C: Read + Write + Drop> FrontEnd<C> {
             index = next;
         }
         if !host.holds(&self.memory) {
-            bail!("the host holds no such memory");
+            bail!("the host does not hold the memory");
         }
         self.driver.publish(&self.memory, host, head)?;
         Ok(())
@@ -425,7 +425,7 @@ impl<C: Read + Write + Drop> FrontEnd<C> {
         let mut data = vec![in self.alloc; 0u8; len]?;
         let mut status = [0];
         if !host.holds(&self.memory) {
-            bail!("the host holds no such memory");
+            bail!("the host does not hold the memory");
         }
         if self.driver.take_used(&self.memory, host)?.is_none() {
             bail!("the device returned nothing");

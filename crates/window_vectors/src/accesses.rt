@@ -24,7 +24,7 @@ where
 {
     for (case, (at, count, any, all)) in accesses.iter().enumerate() {
         if !host.holds(place) {
-            return Err(Fail::new("the host holds the place"));
+            return Err(Fail::new("the host does not hold the place"));
         }
         let bytes = vec![in alloc; 5u8; *count]?;
         let mut buffer = vec![in alloc; 0u8; *count]?;
@@ -119,6 +119,6 @@ fn an_access_ends_where_no_byte_is(rt: HostRuntime) -> Result<(), Fail> {
         expect_accesses(alloc, &mut host, &memory, accesses)?;
     }
     let mut host = HostMemory::new(alloc);
-    let region = TestRegion::bare(GuestAddress(0x1000), 8).ok_or("the region fits")?;
+    let region = TestRegion::bare(GuestAddress(0x1000), 8).ok_or("the region does not fit")?;
     expect_accesses(alloc, &mut host, &region, &BARE)
 }
