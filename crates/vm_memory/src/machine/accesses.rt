@@ -23,8 +23,9 @@ use vm_memory_guest::laws::accesses::accesses_are_by_bytes;
 use vm_memory_guest::{Bytes, GuestMemory, GuestMemoryRegion, HostMemory};
 
 impl<R: GuestMemoryRegion, I: Iommu, B: ExactBitmap> Machine<R, I, B> {
-    /// Reads a memory into the beginning of the buffer, and answers how many bytes that is: docs/DEFINITIONS.md, "Calls
-    /// of a machine". `NoSuch` where there is no such memory. The errors of `Bytes::read` are told as faults.
+    /// Reads a memory into the beginning of the buffer, and returns how many bytes that is: docs/DEFINITIONS.md, "Calls
+    /// of a machine". `NoSuch` if there is no such memory. Each error of `Bytes::read` becomes the fault of its name,
+    /// except `Memory`.
     #[inline(always)]
     pub fn read(&self, memory: usize, addr: GuestAddress, buf: &mut [u8]) -> Result<usize, Refusal>
         ensures answer { let now = state_of R.region I.number B.pages self.now in
@@ -57,8 +58,8 @@ impl<R: GuestMemoryRegion, I: Iommu, B: ExactBitmap> Machine<R, I, B> {
         fill_of(memory, &self.host, addr, buf)
     }
 
-    /// Writes the beginning of the buffer that fits to a memory, and answers how many bytes that is. `NoSuch` where
-    /// there is no such memory. The errors of `Bytes::write` are told as faults.
+    /// Writes the beginning of the buffer that fits to a memory, and returns how many bytes that is. `NoSuch` if there
+    /// is no such memory. Each error of `Bytes::write` becomes the fault of its name, except `Memory`.
     #[inline(always)]
     pub fn write(&mut self, memory: usize, addr: GuestAddress, buf: &[u8]) -> Result<usize, Refusal>
         ensures { let before = state_of R.region I.number B.pages self.old in

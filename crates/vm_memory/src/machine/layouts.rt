@@ -18,8 +18,8 @@ use vm_memory_base::{ExactBitmap, GuestAddress, GuestUsize};
 use vm_memory_guest::{GuestMemoryBackend, GuestMemoryRegion, GuestRegionCollection};
 
 impl<R: GuestMemoryRegion, I: Iommu, B: ExactBitmap> Machine<R, I, B> {
-    /// Makes the layout of these regions of the pool, and answers its number. `NoSuch` where a number names no region.
-    /// The errors of `GuestRegionCollection::from_arc_regions` are told as faults.
+    /// Makes the layout of these regions of the pool, and returns its number. `NoSuch` if a number names no region.
+    /// Each error of `GuestRegionCollection::from_arc_regions` becomes the fault of its name, except `Memory`.
     pub fn from_regions(&mut self, numbers: &[usize]) -> Result<usize, Refusal>
         ensures { let before = state_of R.region I.number B.pages self.old in
             Step before (command.FromRegions numbers.now) (replied reply.Layout result)
@@ -37,8 +37,9 @@ impl<R: GuestMemoryRegion, I: Iommu, B: ExactBitmap> Machine<R, I, B> {
         }
     }
 
-    /// Makes a layout of one with a region of the pool more, and answers its number. `NoSuch` where there is no such
-    /// layout or region. The errors of `GuestRegionCollection::insert_region` are told as faults.
+    /// Makes a layout of one with a region of the pool more, and returns its number. `NoSuch` if there is no such
+    /// layout or region. Each error of `GuestRegionCollection::insert_region` becomes the fault of its name, except
+    /// `Memory`.
     pub fn insert(&mut self, layout: usize, region: usize) -> Result<usize, Refusal>
         ensures { let before = state_of R.region I.number B.pages self.old in
             Step before (command.Insert layout region) (replied reply.Layout result)
@@ -56,9 +57,9 @@ impl<R: GuestMemoryRegion, I: Iommu, B: ExactBitmap> Machine<R, I, B> {
         }
     }
 
-    /// Makes a layout of one without its region of exactly these addresses, `size` of them from `base` on, and answers
-    /// its number. `NoSuch` where there is no such layout. The errors of `GuestRegionCollection::remove_region` are
-    /// told as faults.
+    /// Makes a layout of one without its region of exactly these addresses, `size` of them from `base` on, and returns
+    /// its number. `NoSuch` if there is no such layout. Each error of `GuestRegionCollection::remove_region` becomes
+    /// the fault of its name, except `Memory`.
     pub fn remove(
         &mut self,
         layout: usize,

@@ -9,7 +9,8 @@ use thiserror::Error;
 use vm_memory_base::IotlbFails;
 use vm_memory_guest::{GuestMemoryError, GuestRegionCollectionError};
 
-/// Why a machine refused a call. `NoSuch`, `BadRange` and `Memory` changed nothing.
+/// Why a machine refused a call. `NoSuch` and `BadRange` changed nothing, and neither did `Memory`, unless a source or
+/// a sink of the call found no memory after bytes had moved: these stay moved.
 #[derive(Clone, Copy, Debug, PartialEq, Eq, Error)]
 pub enum Refusal {
     /// A number of the call names nothing.

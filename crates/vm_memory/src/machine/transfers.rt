@@ -29,8 +29,8 @@ use vm_memory_guest::{Bytes, GuestMemory, GuestMemoryRegion, HostMemory};
 
 impl<R: GuestMemoryRegion, I: Iommu, B: ExactBitmap> Machine<R, I, B> {
     /// Receives at most `count` bytes of a memory from a source, up to the first window that it does not fill at one
-    /// try, and answers how many came. `NoSuch` where there is no such memory. The errors of
-    /// `Bytes::read_volatile_from` are told as faults.
+    /// try, and returns how many came. `NoSuch` if there is no such memory. Each error of `Bytes::read_volatile_from`
+    /// becomes the fault of its name, except `Memory`.
     pub fn read_volatile_from<F: ReadVolatile>(
         &mut self,
         memory: usize,
@@ -79,8 +79,8 @@ impl<R: GuestMemoryRegion, I: Iommu, B: ExactBitmap> Machine<R, I, B> {
         receive_whole(memory, &mut self.host, addr, src, count)
     }
 
-    /// Sends at most `count` bytes of a memory to a sink, and answers how many it took. `NoSuch` where there is no such
-    /// memory. The errors of `Bytes::write_volatile_to` are told as faults.
+    /// Sends at most `count` bytes of a memory to a sink, and returns how many it took. `NoSuch` if there is no such
+    /// memory. Each error of `Bytes::write_volatile_to` becomes the fault of its name, except `Memory`.
     pub fn write_volatile_to<F: WriteVolatile>(
         &self,
         memory: usize,

@@ -27,8 +27,8 @@ use vm_memory_guest::laws::typed::loads_and_stores_are_by_bytes;
 use vm_memory_guest::{Bytes, GuestMemory, GuestMemoryRegion, HostMemory};
 
 impl<R: GuestMemoryRegion, I: Iommu, B: ExactBitmap> Machine<R, I, B> {
-    /// Stores a value in a memory, as one integer. `NoSuch` where there is no such memory. The errors of `Bytes::store`
-    /// are told as faults.
+    /// Stores a value in a memory, as one integer. `NoSuch` if there is no such memory. Each error of `Bytes::store`
+    /// becomes the fault of its name, except `Memory`.
     #[inline(always)]
     pub fn store<T: AtomicAccess>(
         &mut self,
@@ -51,8 +51,8 @@ impl<R: GuestMemoryRegion, I: Iommu, B: ExactBitmap> Machine<R, I, B> {
         store_to(memory, &mut self.host, addr, value)
     }
 
-    /// Loads a value of a memory, as one integer. `NoSuch` where there is no such memory. The errors of `Bytes::load`
-    /// are told as faults.
+    /// Loads a value of a memory, as one integer. `NoSuch` if there is no such memory. Each error of `Bytes::load`
+    /// becomes the fault of its name, except `Memory`.
     #[inline(always)]
     pub fn load<T: AtomicAccess>(&self, memory: usize, addr: GuestAddress) -> Result<T, Refusal>
         ensures value { let now = state_of R.region I.number B.pages self.now in
