@@ -72,7 +72,8 @@ fn sink(word: &str) -> Vec<SinkStep> {
     word.split(',').map(step).collect()
 }
 
-fn hex(bytes: &[u8]) -> String {
+/// The word for bytes.
+pub fn hex(bytes: &[u8]) -> String {
     if bytes.is_empty() {
         return "-".to_string();
     }
@@ -107,7 +108,8 @@ fn reason(reason: Reason) -> &'static str {
     }
 }
 
-fn fault(error: &GuestMemoryError) -> String {
+/// The code of an error of an access.
+pub fn fault(error: &GuestMemoryError) -> String {
     match error {
         GuestMemoryError::InvalidGuestAddress(addr) => format!("G1 0x{:x}", addr.0),
         GuestMemoryError::IOError(error) => {
