@@ -1,73 +1,207 @@
-//! Finds or builds the static library of the proved machine, and links it.
+//! Finds the static library of the proved machine, and links it.
 //!
-//! `VM_MEMORY_C_LIB` names a `libvm_memory_c.a` that is built already; without it `rt lib` proves and builds it.
-//! `VM_MEMORY_C_ALLOC` names the library of the allocator that it wants, `liblibc_c.a` of the kit of `rt`.
+//! `VM_MEMORY_C_LIB` names a `libvm_memory_c.a` that is built already. Without it the library is the one that `rt lib`
+//! leaves in the folder of its crate, if it is newer than all that it is built from; else this stops and says so. With
+//! `VM_MEMORY_BUILD=1` this runs `rt lib` then. `VM_MEMORY_C_ALLOC` names the library of the allocator that it wants,
+//! `liblibc_c.a` of the kit of `rt`.
 
 use std::env;
+use std::fs;
 use std::path::{Path, PathBuf};
-use std::process::Command;
+use std::process::{exit, Command};
+use std::time::SystemTime;
+
+const LIBRARY: &str = "vm_memory_c";
+
+const HELP: &str = "
+`rt lib` in crates/vm_memory_c proves and builds it. With four processors that takes some 20 minutes if nothing of the
+crates below is kept, and half a minute if all is.
+
+  VM_MEMORY_BUILD=1     has this build run `rt lib`
+  VM_MEMORY_C_LIB       names a libvm_memory_c.a that is built already
+  VM_MEMORY_C_ALLOC     names the allocator's library, c/liblibc_c.a of the kit, if `rt` is not on the path
+";
 
 fn main() {
-    println!("cargo:rerun-if-env-changed=VM_MEMORY_C_LIB");
-    println!("cargo:rerun-if-env-changed=VM_MEMORY_C_ALLOC");
-    let library = match env::var_os("VM_MEMORY_C_LIB") {
-        Some(path) => PathBuf::from(path),
-        None => built(),
-    };
-    let allocator = match env::var_os("VM_MEMORY_C_ALLOC") {
-        Some(path) => PathBuf::from(path),
-        None => of_kit(),
-    };
-    link(&library);
-    link(&allocator);
+    let folder = env::var_os("CARGO_MANIFEST_DIR").expect("cargo says where this crate lies");
+    let repository = Path::new(&folder).join("../..");
+    let repository = repository.canonicalize().unwrap_or(repository);
+    let sources = sources_of(&repository);
+    let library = library(&repository, &sources).unwrap_or_else(|text| stop(&text));
+    let allocator = allocator().unwrap_or_else(|text| stop(&text));
+    for file in [library, allocator] {
+        link(&file).unwrap_or_else(|text| stop(&text));
+    }
+    for source in sources.unwrap_or_default() {
+        println!("cargo:rerun-if-changed={}", source.display());
+    }
+    for name in ["VM_MEMORY_C_LIB", "VM_MEMORY_C_ALLOC", "VM_MEMORY_BUILD", "VMMEM"] {
+        println!("cargo:rerun-if-env-changed={name}");
+    }
+    find_vmmem(&repository);
 }
 
-// Proves the library and builds it, in the folder of its crate.
-fn built() -> PathBuf {
-    let root = PathBuf::from(env::var_os("CARGO_MANIFEST_DIR").expect("cargo says where this crate lies"));
-    let crate_folder = root.join("../../crates/vm_memory_c");
-    for part in [
-        "crates.txt",
-        "crates/vm_memory_c",
-        "crates/vm_session",
-        "crates/vm_memory",
-    ] {
-        println!("cargo:rerun-if-changed={}", root.join("../..").join(part).display());
+fn stop(text: &str) -> ! {
+    eprintln!("{text}\n{HELP}");
+    exit(1)
+}
+
+// The library that is named, or that of this repository.
+fn library(repository: &Path, sources: &Result<Vec<PathBuf>, String>) -> Result<PathBuf, String> {
+    if let Some(path) = env::var_os("VM_MEMORY_C_LIB") {
+        let path = PathBuf::from(path);
+        if let Ok(Some(newer)) = sources.as_ref().map_or(Ok(None), |sources| newer_than(&path, sources)) {
+            println!(
+                "cargo:warning=VM_MEMORY_C_LIB names a library that is older than {}",
+                newer.display()
+            );
+        }
+        return Ok(path);
     }
-    let status = Command::new("rt").arg("lib").current_dir(&crate_folder).status();
-    match status {
-        Ok(status) if status.success() => crate_folder.join("out/libvm_memory_c.a"),
-        Ok(status) => panic!("`rt lib` failed in {}: {status}", crate_folder.display()),
-        Err(error) => {
-            panic!("`rt lib` did not start: {error}. VM_MEMORY_C_LIB may name a library that is built already")
+    let sources = sources.as_ref().map_err(String::clone)?;
+    let library = built(repository);
+    let state = expect_new(&library, sources);
+    if state.is_err() && env::var_os("VM_MEMORY_BUILD").is_some_and(|word| word == "1") {
+        build(repository)?;
+        return expect_new(&library, sources).map(|()| library);
+    }
+    state.map(|()| library)
+}
+
+// Where `rt lib` leaves the library.
+pub(crate) fn built(repository: &Path) -> PathBuf {
+    let folder = repository.join("crates").join(LIBRARY);
+    folder.join("out").join(format!("lib{LIBRARY}.a"))
+}
+
+fn build(repository: &Path) -> Result<(), String> {
+    let folder = repository.join("crates").join(LIBRARY);
+    match Command::new("rt").arg("lib").current_dir(&folder).status() {
+        Ok(status) if status.success() => Ok(()),
+        Ok(status) => Err(format!("`rt lib` failed in {}: {status}", folder.display())),
+        Err(error) => Err(format!("`rt lib` did not start in {}: {error}", folder.display())),
+    }
+}
+
+// The library's crate and those of the repository below it, by the lines `NAME: DEP ..` of crates.txt.
+pub(crate) fn crates_below(list: &str) -> Vec<&str> {
+    let line_of = |name: &str| {
+        let mut lines = list.lines().filter_map(|line| line.split_once(':'));
+        lines.find(|(words, _)| words.split_whitespace().next() == Some(name))
+    };
+    let mut found = vec![LIBRARY];
+    let mut place = 0;
+    while let Some(name) = found.get(place) {
+        let below = line_of(name).map_or("", |(_, below)| below);
+        for name in below.split_whitespace() {
+            if line_of(name).is_some() && !found.contains(&name) {
+                found.push(name);
+            }
+        }
+        place += 1;
+    }
+    found
+}
+
+// What the library is built from: crates.txt, and of each crate the folders of its code, definitions and proofs.
+pub(crate) fn sources_of(repository: &Path) -> Result<Vec<PathBuf>, String> {
+    let path = repository.join("crates.txt");
+    let list = fs::read_to_string(&path).map_err(|error| format!("{}: {error}", path.display()))?;
+    let mut sources = vec![path];
+    for name in crates_below(&list) {
+        for part in ["src", "specs", "proofs"] {
+            let folder = repository.join("crates").join(name).join(part);
+            if folder.exists() {
+                sources.push(folder);
+            }
         }
     }
+    Ok(sources)
 }
 
-// The allocator's library lies beside the command `rt`, in its kit.
-fn of_kit() -> PathBuf {
+fn changed(path: &Path) -> Result<SystemTime, String> {
+    let time = fs::metadata(path).and_then(|data| data.modified());
+    time.map_err(|error| format!("{}: {error}", path.display()))
+}
+
+// A file in these places, or a folder that lost one, that changed after the library did.
+fn newer_than(library: &Path, sources: &[PathBuf]) -> Result<Option<PathBuf>, String> {
+    let time = changed(library)?;
+    let mut waiting = sources.to_vec();
+    while let Some(path) = waiting.pop() {
+        if changed(&path)? > time {
+            return Ok(Some(path));
+        }
+        if path.is_dir() {
+            let entries = fs::read_dir(&path).map_err(|error| format!("{}: {error}", path.display()))?;
+            waiting.extend(entries.flatten().map(|entry| entry.path()));
+        }
+    }
+    Ok(None)
+}
+
+// Refuses a library that is not there or is stale.
+pub(crate) fn expect_new(library: &Path, sources: &[PathBuf]) -> Result<(), String> {
+    if !library.exists() {
+        return Err(format!(
+            "there is no library of the proved machine, {}",
+            library.display()
+        ));
+    }
+    match newer_than(library, sources)? {
+        None => Ok(()),
+        Some(newer) => Err(format!(
+            "the library of the proved machine is stale: {} is older than {}",
+            library.display(),
+            newer.display()
+        )),
+    }
+}
+
+// The allocator's library: the one that is named, or the one beside the command `rt`, in its kit.
+fn allocator() -> Result<PathBuf, String> {
+    if let Some(path) = env::var_os("VM_MEMORY_C_ALLOC") {
+        return Ok(PathBuf::from(path));
+    }
     let paths = env::var_os("PATH").unwrap_or_default();
     let rt = env::split_paths(&paths)
         .map(|folder| folder.join("rt"))
         .find(|file| file.is_file())
         .and_then(|file| file.canonicalize().ok());
     match rt.as_deref().and_then(Path::parent).and_then(Path::parent) {
-        Some(kit) => kit.join("c/liblibc_c.a"),
-        None => panic!("`rt` is not found: VM_MEMORY_C_ALLOC has to name the allocator's library"),
+        Some(kit) => Ok(kit.join("c/liblibc_c.a")),
+        None => Err("`rt` is not on the path, and VM_MEMORY_C_ALLOC names no library of the allocator".to_string()),
     }
 }
 
-fn link(library: &Path) {
+fn link(library: &Path) -> Result<(), String> {
     let library = library
         .canonicalize()
-        .unwrap_or_else(|error| panic!("{}: {error}", library.display()));
+        .map_err(|error| format!("{}: {error}", library.display()))?;
     let name = library.file_name().and_then(|name| name.to_str()).unwrap_or_default();
     let Some(name) = name.strip_prefix("lib").and_then(|name| name.strip_suffix(".a")) else {
-        panic!("{} is no static library", library.display());
+        return Err(format!("{} is no static library", library.display()));
     };
     println!("cargo:rerun-if-changed={}", library.display());
     if let Some(folder) = library.parent() {
         println!("cargo:rustc-link-search=native={}", folder.display());
     }
     println!("cargo:rustc-link-lib=static={name}");
+    Ok(())
+}
+
+// Whether the program `vmmem` is there, beside which tests make calls.
+fn find_vmmem(repository: &Path) {
+    println!("cargo:rustc-check-cfg=cfg(has_vmmem)");
+    let folder = repository.join("crates/vmmem");
+    let program = folder.join("out/vmmem");
+    if program.is_file() || env::var_os("VMMEM").is_some() {
+        println!("cargo:rustc-cfg=has_vmmem");
+    }
+    if let Some(place) = [program, folder.join("out"), folder]
+        .iter()
+        .find(|place| place.exists())
+    {
+        println!("cargo:rerun-if-changed={}", place.display());
+    }
 }
