@@ -3,3 +3,4 @@ mod FieldLemmas
 mod HistoryLemmas
 mod LawLemmas
 mod LinkedLemmas
+mod StoreLemmas

@@ -11,7 +11,7 @@ use Rattle.vm_memory_guest.specs.Memory.{Memory, IsOn, route}
 use Rattle.vm_memory_guest.specs.Queries.{is_whole}
 use Rattle.vm_memory_guest.specs.Transfer.{all_of, ended}
 use Rattle.vm_memory_guest.specs.Typed.{answered, place_of, typed_path}
-use Rattle.vm_memory_guest.specs.Window.{Window, Writes}
+use Rattle.vm_memory_guest.specs.Window.{Window, Writes, cells_of}
 use Rattle.vm_memory_guest.specs.declared.region.error.GuestMemoryError.{GuestMemoryError}
 use Rattle.vm_memory_guest.specs.declared.region.error.GuestMemoryError.TheVariants.{PartialBuffer}
 use Rattle.virtio_queue.specs.Error.{of_access}
@@ -92,6 +92,11 @@ lies_whole m host a n access =
 abbrev pub word_window : {B : Type 0} → Memory → Host B → ℕ → ℕ → Result Window QueueError
 word_window m host base offset = and_then (place base offset 2) (λ a.
     told (place_of 2 (reached_at m host a 2 permissions.Write)))
+
+-- the number of 16 bits that lies where such a store goes, whether it may be read there or not
+abbrev pub stored_at : {B : Type 0} → Memory → Host B → ℕ → ℕ → Result ℕ QueueError
+stored_at m host base offset = and_then (word_window m host base offset) (λ w.
+    Ok (from_le_bytes w16 (bytes_at host.blocks (cells_of w))))
 
 module _ {B : Type 0} (marks : B → ℕ → ℕ → B → Type 0) (m : Memory) where
   -- bytes went to an address, all of them, and marked their windows. Nothing else changed

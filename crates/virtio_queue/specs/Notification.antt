@@ -4,7 +4,7 @@ use Rattle.vm_memory_guest.specs.Host.{Host}
 use Rattle.vm_memory_guest.specs.Memory.{Memory, IsOn}
 use Rattle.virtio_queue.specs.Available.{avail_idx}
 use Rattle.virtio_queue.specs.Descriptor.{has_flag}
-use Rattle.virtio_queue.specs.Fields.{word_at, Answers, StoresWord}
+use Rattle.virtio_queue.specs.Fields.{stored_at, word_at, Answers, StoresWord}
 use Rattle.virtio_queue.specs.Rings.{ahead, and_then, before}
 use Rattle.virtio_queue.specs.State.{Virtqueue}
 use Rattle.virtio_queue.specs.declared.error.QueueError.{QueueError}
@@ -44,6 +44,12 @@ kick_offset q = if q.event_idx_enabled then 4 + 8 * q.size else 0
 
 abbrev pub kick_value : QueueState → ℕ
 kick_value q = if q.event_idx_enabled then q.next_avail else 0
+
+-- what a device waits for: the driver finds in memory when to notify it, the value that asks for a notification of the
+-- next head, and has published no head beyond those that were popped
+pub record Waits {B : Type 0} (m : Memory) (host : Host B) (q : QueueState) : Type 0 where
+  pub asks : stored_at m host q.used_ring (kick_offset q) ≡ Ok (kick_value q)
+  pub none : avail_idx m host q ≡ Ok q.next_avail
 
 module _ {B : Type 0} (marks : B → ℕ → ℕ → B → Type 0) (m : Memory) (q : QueueState) where
   -- the driver is asked to notify, and then it is answered whether there is more in the ring by now

@@ -1,17 +1,20 @@
 //! The fields of a queue in guest memory: each is read or written by one access.
-ghost use Rattle.std.specs.Prelude.{◌≡◌, ◌+◌, ◌<◌, ◌^◌, ◌++◌, Ok, IsTrue, MatchResult};
+ghost use Rattle.std.specs.Prelude.{◌≡◌, ◌+◌, ◌<◌, ◌^◌, ◌++◌, Ok, IsTrue, MatchResult, OnOk};
 ghost use Rattle.std.specs.Int.{w32, to_le_bytes};
 ghost use Rattle.vm_memory_base.specs.declared.iotlb.Permissions.TheVariants.{Write};
 ghost use Rattle.vm_memory_guest.specs.Host.{shape_of, Holds};
 ghost use Rattle.vm_memory_guest.specs.Memory.{IsOn};
 ghost use Rattle.virtio_queue.specs.Driver.{Puts};
-ghost use Rattle.virtio_queue.specs.Fields.{Answers, StoresWord, WritesBytes, descriptor_at, lies_whole, pair_at, place, word_at};
+ghost use Rattle.virtio_queue.specs.Fields.{Answers, StoresWord, WritesBytes, descriptor_at, lies_whole, pair_at, place, stored_at, word_at};
 
 use crate::descriptor::Descriptor;
 use crate::error::QueueError;
 use std::sync::atomic::Ordering;
 use vm_memory::{Bitmap, ByteValued, Bytes, GuestAddress, GuestMemory, HostMemory, Permissions};
 use vm_memory_guest::laws::accesses::{accesses_are_by_bytes, windows_of_accesses_are_their_paths};
+use vm_memory_guest::laws::effects::{writes_keep_shapes, written_is_read_back};
+use vm_memory_guest::laws::host::names_are_held_one_by_one;
+use vm_memory_guest::laws::paths::windows_are_the_path;
 use vm_memory_guest::laws::typed::loads_and_stores_are_by_bytes;
 
 // The address of a field of `size` bytes that lies so far behind an address.
@@ -67,7 +70,7 @@ pub(crate) fn descriptor_at<M: GuestMemory, B: Bitmap>(
     }
 }
 
-// Stores a number of 16 bits so far behind an address.
+// Stores a number of 16 bits so far behind an address. Then it lies there.
 #[inline]
 pub(crate) fn store_word<M: GuestMemory, B: Bitmap>(
     mem: &M,
@@ -79,8 +82,13 @@ pub(crate) fn store_word<M: GuestMemory, B: Bitmap>(
     requires held { Holds (shape_of host.old) (M.names mem.now) }
     requires near { offset + 2 < 2 ^ 32 }
     ensures stored { StoresWord B.marks (M.memory mem.now) base offset value host.old result host.new }
+    ensures lies { OnOk result (stored_at (M.memory mem.now) host.new base offset ≡ Ok value) }
     ensures shape { shape_of host.new ≡ shape_of host.old }
 {
+    windows_are_the_path();
+    names_are_held_one_by_one();
+    writes_keep_shapes::<B>();
+    written_is_read_back();
     let addr = GuestAddress(place(base, offset, 2)?);
     match Bytes::store(mem, host, value, addr, Ordering::SeqCst) {
         Ok(()) => Ok(()),

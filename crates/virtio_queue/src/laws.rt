@@ -1,5 +1,5 @@
 //! What becomes of the heads and entries of a queue: each function here is a theorem, and does nothing.
-ghost use Rattle.std.specs.Prelude.{◌≡◌, ◌<◌, ◌≤◌, ◌^◌, ℕ, List, All, length, take, slice_get, IsTrue, Result, Ok, Err};
+ghost use Rattle.std.specs.Prelude.{◌≡◌, ◌<◌, ◌≤◌, ◌^◌, ℕ, true, List, All, length, take, slice_get, IsTrue, Result, Ok, Err};
 ghost use Rattle.std.specs.Int.{w16, to_le_bytes};
 ghost use Rattle.vm_memory_base.specs.declared.iotlb.Permissions.TheVariants.{Write};
 ghost use Rattle.vm_memory_guest.specs.Access.{Reached};
@@ -12,7 +12,8 @@ ghost use Rattle.virtio_queue.specs.Available.{Followed, avail_idx, followed, he
 ghost use Rattle.virtio_queue.specs.Fields.{StoresWord, place, reached_at};
 ghost use Rattle.virtio_queue.specs.History.{Entry, Event, Return, Rings, Story, AllMay, after, beginning, empty_rings, entry_to_take, head_to_pop, story};
 ghost use Rattle.virtio_queue.specs.Linked.{AreLinked, told_by};
-ghost use Rattle.virtio_queue.specs.Rings.{slot};
+ghost use Rattle.virtio_queue.specs.Notification.{is_among};
+ghost use Rattle.virtio_queue.specs.Rings.{ahead, slot};
 ghost use Rattle.virtio_queue.specs.State.{Virtqueue, is_size};
 ghost use Rattle.virtio_queue.specs.Used.{WritesEntry, after_used, entry_bytes, entry_place};
 ghost use Rattle.virtio_queue.specs.declared.descriptor.Descriptor.{Descriptor};
@@ -71,6 +72,13 @@ pub fn queues_return_as_histories_do()
         → let t = after q.state.size (Return entry) s in let i = slot q.state.size q.state.next_used in
         (t.rings.used_idx ≡ (after_used q (Ok tt)).state.next_used) × (t.rings.used i ≡ entry)
         × ((j : ℕ) → (j ≡ i → ⊥) → t.rings.used j ≡ s.rings.used j) }
+{}
+
+/// A driver that notifies its device by the rule of event indices notifies one that waits. Its index goes on from the
+/// one that the device asks for: then this head is among those that it publishes, however many.
+pub fn waiting_devices_are_notified()
+    ensures { (old new : ℕ) → old < 2 ^ 16 → new < 2 ^ 16 → (new ≡ old → ⊥)
+        → is_among (ahead new old) new old ≡ true }
 {}
 
 /// After all events in which the driver has at most `size` heads out, and the device returns no more than it popped:

@@ -19,9 +19,14 @@ use vm_memory::GuestAddress;
 /// them back. A call that reaches guest memory is refused while the queue is not ready.
 ///
 /// ```text
-/// while let Some((head, chain)) = queue.pop_descriptor_chain(alloc, &memory, &host)? {
-///     let len = serve(&memory, &mut host, &chain)?;
-///     queue.add_used(&memory, &mut host, head, len)?;
+/// loop {
+///     while let Some((head, chain)) = queue.pop_descriptor_chain(alloc, &memory, &host)? {
+///         let len = serve(&memory, &mut host, &chain)?;
+///         queue.add_used(&memory, &mut host, head, len)?;
+///     }
+///     if !queue.enable_notification(&memory, &mut host)? {
+///         break;
+///     }
 /// }
 /// ```
 #[derive(Drop)]
@@ -251,7 +256,7 @@ impl Queue {
         self.state.event_idx_enabled = enabled;
     }
 
-    /// How many chains were popped, modulo 2^16.
+    /// The index of the entry of the available ring that is popped next, modulo 2^16.
     #[inline]
     pub fn next_avail(&self) -> u16
         ensures { result ≡ self.now.state.next_avail }
@@ -274,7 +279,7 @@ impl Queue {
         self.state.next_avail = self.state.next_avail.wrapping_sub(1);
     }
 
-    /// How many entries were added to the used ring, modulo 2^16.
+    /// The index of the entry of the used ring that is written next, modulo 2^16.
     #[inline]
     pub fn next_used(&self) -> u16
         ensures { result ≡ self.now.state.next_used }

@@ -1,5 +1,5 @@
 //! What the driver publishes: the available ring, and the chains of its heads.
-ghost use Rattle.std.specs.Prelude.{◌≡◌, ◌<◌};
+ghost use Rattle.std.specs.Prelude.{◌≡◌, ◌<◌, None, Ok};
 ghost use Rattle.vm_memory_guest.specs.Host.{shape_of, Holds};
 ghost use Rattle.vm_memory_guest.specs.Memory.{IsOn};
 ghost use Rattle.virtio_queue.specs.Available.{MayWantChain, after_pop, avail_idx, next_head, popped};
@@ -39,7 +39,8 @@ fn next_head<M: GuestMemory, B: Bitmap>(
 ) -> Result<Option<u16>, QueueError>
     requires held { Holds (shape_of host.now) (M.names mem.now) }
     requires some { 0 < state.now.size }
-    ensures { let m = M.memory mem.now in Answers (IsOn m) (next_head m host.now state.now) result }
+    ensures head { let m = M.memory mem.now in Answers (IsOn m) (next_head m host.now state.now) result }
+    ensures none { result ≡ Ok None → avail_idx (M.memory mem.now) host.now state.now ≡ Ok state.now.next_avail }
 {
     let ahead = avail_idx(mem, host, state)?.wrapping_sub(state.next_avail);
     if ahead == 0 {
@@ -80,6 +81,8 @@ impl Queue {
         requires { Holds (shape_of host.now) (M.names mem.now) }
         ensures popped { let m = M.memory mem.now in let q = self.old.state in
             Answers (MayWantChain m host.now q) (popped m host.now q) result }
+        ensures none { let q = self.old.state in
+            result ≡ Ok None → avail_idx (M.memory mem.now) host.now q ≡ Ok q.next_avail }
         ensures moved { self.new ≡ with_state self.old (after_pop self.old.state result) }
     {
         let Some(head) = next_head(mem, host, &self.state)? else {

@@ -1,9 +1,9 @@
 //! Notifications: when the driver has to be told of used entries, and the device of available ones.
-ghost use Rattle.std.specs.Prelude.{◌≡◌};
+ghost use Rattle.std.specs.Prelude.{◌≡◌, false, Ok, OnOk};
 ghost use Rattle.vm_memory_guest.specs.Host.{shape_of, Holds};
 ghost use Rattle.vm_memory_guest.specs.Memory.{IsOn};
-ghost use Rattle.virtio_queue.specs.Fields.{Answers};
-ghost use Rattle.virtio_queue.specs.Notification.{Disables, EnablesIfReady, after_asked, is_among, needs_notification, wants_notification};
+ghost use Rattle.virtio_queue.specs.Fields.{Answers, stored_at};
+ghost use Rattle.virtio_queue.specs.Notification.{Disables, EnablesIfReady, Waits, after_asked, is_among, kick_offset, kick_value, needs_notification, wants_notification};
 
 use super::Queue;
 use super::available::avail_idx;
@@ -70,8 +70,9 @@ impl Queue {
         Ok(needs)
     }
 
-    /// Asks the driver to notify the device of what it publishes, and answers whether there is more in the ring by
-    /// then than was popped. So a device that goes on popping where it is true misses nothing.
+    /// Asks the driver to notify the device of what it publishes next: by `avail_event` with event indices, or else by
+    /// clearing the flag. It says whether there is more in the ring by then than was popped. If there is, the device
+    /// goes on popping, since the driver may not notify it of that. If there is not, it waits for the next head.
     pub fn enable_notification<M: GuestMemory, B: Bitmap>(
         &self,
         mem: &M,
@@ -79,6 +80,9 @@ impl Queue {
     ) -> Result<bool, QueueError>
         requires { Holds (shape_of host.old) (M.names mem.now) }
         ensures enabled { EnablesIfReady B.marks (M.memory mem.now) self.now.state host.old result host.new }
+        ensures asks { let q = self.now.state in OnOk result
+            (stored_at (M.memory mem.now) host.new q.used_ring (kick_offset q) ≡ Ok (kick_value q)) }
+        ensures waits { result ≡ Ok false → Waits (M.memory mem.now) host.new self.now.state }
         ensures shape { shape_of host.new ≡ shape_of host.old }
     {
         if !self.state.ready {
