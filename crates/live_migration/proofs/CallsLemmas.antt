@@ -196,6 +196,27 @@ module _ {B : Type 0} (pages_of : B → PageSet) (ts : List Target) where
             };
           }
 
+      go_ready : call.HearsReady old new → Goes (Unit {0}) s new
+      unfolding story AllMay AllStill
+      go_ready d = record {
+        events = [];
+        messages = ms;
+        may = tt;
+        still = λ quiet. tt;
+        sent = record {
+          header = h.header;
+          targets = ap (λ (r : Rounds). r.targets.items) d.rounds ∙ h.targets;
+          follows = subst (λ (w : Host B). Follows pages_of new.sender.rounds w s) (sym d.host)
+              (subst (λ (r : Rounds). Follows pages_of r old.host s) (sym d.rounds) h.follows);
+          followed = h.followed;
+          stream = d.stream ∙ h.stream;
+          hashed = hashed_as d.hasher;
+          fits = h.fits;
+          batch_fits = h.batch_fits;
+          images = h.images;
+        };
+      }
+
       go_harvest : call.HarvestsBlock pages_of old new → Goes (Unit {0}) s new
       unfolding story AllMay AllStill
       go_harvest d =
@@ -365,6 +386,7 @@ module _ {B : Type 0} (pages_of : B → PageSet) (ts : List Target) where
     goes_on : (c : Call) (old new : Moment B) (s : Ends) (ms : List Message) → HasSent old s ms
         → Does pages_of c old new → Goes (IsQuiet c) s new
     goes_on call.WriteGuest old new s ms h d = go_write old new s ms h d
+    goes_on call.Ready old new s ms h d = go_ready old new s ms h d
     goes_on call.Harvest old new s ms h d = go_harvest old new s ms h d
     goes_on (call.Copy count) old new s ms h d = go_copy old new s ms h count d
     goes_on call.Send old new s ms h d = go_send old new s ms h d

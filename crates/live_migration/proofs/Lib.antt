@@ -1,5 +1,6 @@
 pub mod AgainLemmas
 pub mod CallsLemmas
+pub mod CostLemmas
 pub mod FieldLemmas
 pub mod FollowingLemmas
 pub mod FrameLemmas
@@ -11,6 +12,7 @@ pub mod OneWayLemmas
 pub mod PlacingLemmas
 pub mod PutLemmas
 pub mod ReceivingLemmas
+pub mod ReplyLemmas
 pub mod RoundsLemmas
 pub mod SenderLemmas
 pub mod SettledLemmas

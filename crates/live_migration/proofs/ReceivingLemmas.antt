@@ -1,5 +1,5 @@
 -- Frames that are taken one after the other.
-use Rattle.std.proofs.Common.{◌≡◌, ℕ, ◌+◌, ◌<◌, ◌≤◌, ◌⊎◌, List, [], ◌∷◌, ◌++◌, length, Option, Some, None, refl, sym, ap, subst, ◌∙◌}
+use Rattle.std.proofs.Common.{◌≡◌, ℕ, ◌+◌, ◌<◌, ◌≤◌, ◌⊎◌, List, [], ◌∷◌, ◌++◌, length, Option, Some, None, refl, sym, ap, subst, ◌∙◌, add-zero, arith}
 use Rattle.std.specs.Io.KnownBytes.{Consumes}
 use Rattle.std.specs.List.{AllByRecursion}
 use Rattle.std.specs.Prelude.{flat_map, slice_get}
@@ -10,6 +10,7 @@ use Rattle.live_migration.specs.Image.{arrived, received}
 use Rattle.live_migration.specs.Receiving.{KeepsBlocks, ReceivesAll, TakesFrame, section_in, sections_told}
 use Rattle.live_migration.specs.declared.header.BlockEntry.{BlockEntry}
 use Rattle.live_migration.specs.declared.receiver.progress.Progress.{Progress}
+use Rattle.live_migration.proofs.CostLemmas.{sections_cost}
 use Rattle.live_migration.proofs.ImageLemmas.{arrived-append}
 use Rattle.live_migration.proofs.StreamLemmas.{consumes_consumes}
 
@@ -70,7 +71,7 @@ pub none_kept : {B : Type 0} (a : Option (List ℕ)) (p : Progress) (host : Host
 unfolding none_received
 none_kept a p host = (
   none_received a p.base p.entries.items host,
-  record { base = refl; entries = refl; sections = sym (append-nil (sections_told p)) },
+  record { base = refl; entries = refl; sections = sym (append-nil (sections_told p)); left = add-zero p.left },
 )
 
 pub kept_more : {B : Type 0} (a b c : Option (List ℕ)) (first old new : Progress) (host mid next : Host B)
@@ -85,5 +86,10 @@ kept_more a b c first old new host mid next r k t = (
     entries = t.entries ∙ k.entries;
     sections = t.sections ∙ ap (λ (xs : List (List ℕ × List ℕ)). xs ++ section_in t.message) k.sections
         ∙ flat_map_more section_in (sections_told first) r.messages t.message;
+    left =
+        let more = sections_cost r.messages t.message in
+        let before = k.left in
+        let now = t.left in
+        omega arith;
   },
 )

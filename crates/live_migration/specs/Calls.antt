@@ -22,6 +22,7 @@ use Rattle.live_migration.specs.declared.sender.stream.Sender.{Sender}
 -- a call of a sender, or writes of its guest
 pub data Call : Type 0 where
   WriteGuest : Call
+  Ready : Call
   Harvest : Call
   Copy : (count : ℕ) → Call
   Send : Call
@@ -55,6 +56,13 @@ module _ {B : Type 0} (pages_of : B → PageSet) (old new : Moment B) where
     pub stream : new.stream ≡ old.stream
 
 module _ {B : Type 0} (old new : Moment B) where
+  -- the receiver's word came that it is ready
+  pub record HearsReady : Type 0 where
+    pub rounds : new.sender.rounds ≡ old.sender.rounds
+    pub hasher : new.sender.hasher ≡ old.sender.hasher
+    pub host : new.host ≡ old.host
+    pub stream : new.stream ≡ old.stream
+
   pub record CopiesBatch (count : ℕ) : Type 0 where
     pub copied : CopiesPages count old.sender.rounds new.sender.rounds old.host
     pub hasher : new.sender.hasher ≡ old.sender.hasher
@@ -92,6 +100,7 @@ module _ {B : Type 0} (pages_of : B → PageSet) where
   -- what each call says of itself where it succeeds
   abbrev pub Does : Call → Moment B → Moment B → Type 0
   Does WriteGuest old new = WritesGuest pages_of old new
+  Does Ready old new = HearsReady old new
   Does Harvest old new = HarvestsBlock pages_of old new
   Does (Copy count) old new = CopiesBatch old new count
   Does Send old new = SendsBatch old new

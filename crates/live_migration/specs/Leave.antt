@@ -13,14 +13,14 @@ pub record Sends (bytes : List ℕ) (before after : Option (List ℕ)) (old new 
   pub written : Appends before after bytes
   pub hashed : (sent : List ℕ) → Holds256 old sent → Holds256 new (sent ++ bytes)
 
--- before the first harvest
+-- before the first harvest, when the receiver's word that it is ready is awaited
 pub record IsFirst (s : Sender) : Type 0 where
   pub round : s.rounds.round ≡ 0
   pub turn : s.rounds.turn ≡ 0
   pub waiting : s.rounds.waiting.items ≡ []
   pub next : s.rounds.next ≡ 0
   pub batch : s.rounds.batch.items ≡ []
-  pub stage : s.stage ≡ stage.Sending
+  pub stage : s.stage ≡ stage.Begun
 
 -- the blocks of a sender as its header says them
 abbrev pub entries_sent : Sender → List BlockEntry

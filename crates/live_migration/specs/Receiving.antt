@@ -1,5 +1,5 @@
 -- What a receiver took from its stream.
-use Rattle.std.specs.Prelude.{◌≡◌, ℕ, ◌+◌, ◌<◌, ◌≤◌, ◌⊎◌, List, [], ◌∷◌, ◌++◌, length, map, flat_map, replicate, slice_get, Option, Some, Ok}
+use Rattle.std.specs.Prelude.{◌≡◌, ℕ, ◌+◌, ◌<◌, ◌≤◌, ◌⊎◌, List, [], ◌∷◌, ◌++◌, length, map, flat_map, replicate, slice_get, sum_by, Option, Some, Ok}
 use Rattle.std.specs.List.{AllByRecursion}
 use Rattle.std.specs.Io.KnownBytes.{Consumes}
 use Rattle.sha2.specs.Hashers.{Holds256}
@@ -38,6 +38,14 @@ abbrev pub section_in : Message → List (List ℕ × List ℕ)
 section_in (Section name bytes) = (name, bytes) ∷ []
 section_in m = []
 
+-- what a section costs of the limit: its name, its bytes, and 256 bytes for its entry, however short these are
+abbrev pub cost_of : List ℕ × List ℕ → ℕ
+cost_of s = 256 + (length s.0 + length s.1)
+
+-- what blocks cost of the limit: their bytes
+abbrev pub memory_of : List BlockEntry → ℕ
+memory_of entries = sum_by (λ e. e.len) entries
+
 -- only sections came, and took of what is allowed
 pub record IsSectionKept (old new : Progress) : Type 0 where
   pub base : new.base ≡ old.base
@@ -58,6 +66,7 @@ pub record TakesFrame {B : Type 0} (before after : Option (List ℕ)) (old new :
     pub entries : new.entries.items ≡ old.entries.items
     pub round : new.round ≡ round_after old.round message
     pub sections : sections_told new ≡ sections_told old ++ section_in message
+    pub left : new.left + sum_by cost_of (section_in message) ≡ old.left
     pub right : (sent : List ℕ) → Holds256 old.hasher sent → IsRightEnd old.round sent message
     pub hashed : (sent : List ℕ) → Holds256 old.hasher sent → Holds256 new.hasher (sent ++ spelling message)
 
@@ -65,7 +74,7 @@ pub record TakesFrame {B : Type 0} (before after : Option (List ℕ)) (old new :
 abbrev pub Grows : List (List ℕ) → List (List ℕ) → Type 0
 Grows old new = (more : List (List ℕ)) × (new ≡ old ++ more)
 
--- a header was read, and its blocks were made
+-- a header was read, and its blocks were made. What they do not cost of the limit is left for sections
 pub record Begins {B : Type 0} (limit : ℕ) (before after : Option (List ℕ)) (new : Progress) (host next : Host B)
     : Type 0
   where
@@ -75,6 +84,7 @@ pub record Begins {B : Type 0} (limit : ℕ) (before after : Option (List ℕ)) 
     pub base : 0 < length new.entries.items → new.base ≡ length host.blocks
     pub stage : new.stage ≡ stage.Round
     pub round : new.round ≡ 0
+    pub left : new.left + memory_of new.entries.items ≡ limit
     pub hashed : Holds256 new.hasher (header_bytes new.entries.items)
 
 -- Messages came, one after the other: each block is the image that they leave, no other block changed, and no block its
@@ -89,11 +99,12 @@ pub record ReceivesAll {B : Type 0} (before after : Option (List ℕ)) (base : �
   pub others : (c : ℕ) → (c < base) ⊎ (base + length entries ≤ c) → block_at next.blocks c ≡ block_at host.blocks c
   pub shape : shape_of next ≡ shape_of host
 
--- the blocks of a receiver stay the same, and the sections of these messages came
+-- the blocks of a receiver stay the same, and the sections of these messages came, each at its cost
 pub record KeepsBlocks (messages : List Message) (old new : Progress) : Type 0 where
   pub base : new.base ≡ old.base
   pub entries : new.entries.items ≡ old.entries.items
   pub sections : sections_told new ≡ sections_told old ++ flat_map section_in messages
+  pub left : new.left + sum_by cost_of (flat_map section_in messages) ≡ old.left
 
 -- what a receiver gives out
 pub record GivesOut (old : Progress) (new : Guest) : Type 0 where

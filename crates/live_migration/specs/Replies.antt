@@ -1,10 +1,13 @@
 -- What goes back: the receiver is ready, it has all, or it refused.
-use Rattle.std.specs.Prelude.{ℕ, List, ◌++◌}
+use Rattle.std.specs.Prelude.{◌≡◌, ◌≢◌, ℕ, ◌<◌, List, ◌++◌, length, Option, Result, Ok, Err}
 use Rattle.std.specs.Int.{w32, to_le_bytes}
+use Rattle.std.specs.Io.KnownBytes.{Consumes}
 use Rattle.live_migration.specs.declared.refusal.Refusal.{Refusal}
 use Rattle.live_migration.specs.declared.refusal.Refusal.TheVariants as refusal
 use Rattle.live_migration.specs.declared.reply.Reply.{Reply}
 use Rattle.live_migration.specs.declared.reply.Reply.TheVariants.{Ready, Accepted, Refused}
+use Rattle.live_migration.specs.declared.sender.pages.SendError.{SendError}
+use Rattle.live_migration.specs.declared.sender.pages.SendError.TheVariants as error
 
 abbrev pub code_of : Refusal → ℕ
 code_of refusal.Magic = 1
@@ -30,3 +33,13 @@ abbrev pub reply_bytes : Reply → List ℕ
 reply_bytes Ready = to_le_bytes w32 128 ++ to_le_bytes w32 0
 reply_bytes Accepted = to_le_bytes w32 129 ++ to_le_bytes w32 0
 reply_bytes (Refused r) = to_le_bytes w32 130 ++ to_le_bytes w32 (code_of r)
+
+-- What a sender reads that awaits a reply, and what it reports: just the bytes of this reply; those of a refusal; eight
+-- bytes that are neither; or fewer, where the stream ended or failed
+abbrev pub Awaits : {X : Type 0} → Reply → Option (List ℕ) → Option (List ℕ) → Result X SendError → Type 0
+Awaits wanted before after (Ok x) = Consumes before after (reply_bytes wanted)
+Awaits wanted before after (Err (error.Refused r)) = Consumes before after (reply_bytes (Refused r))
+Awaits wanted before after (Err error.Reply) = (bytes : List ℕ) × (length bytes ≡ 8) × Consumes before after bytes
+    × (bytes ≢ reply_bytes wanted) × ((r : Refusal) → bytes ≢ reply_bytes (Refused r))
+Awaits wanted before after (Err error.Failed) = (bytes : List ℕ) × (length bytes < 8) × Consumes before after bytes
+Awaits wanted before after (Err e) = ⊥

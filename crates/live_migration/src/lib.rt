@@ -16,7 +16,7 @@ mod stream;
 pub use frame::{Frame, MOST_PAGE_BYTES};
 pub use header::{BlockEntry, MOST_BLOCKS, decode_header, encode_header};
 pub use policy::Policy;
-pub use receiver::{Guest, Progress, Receiver, Section, Stage};
+pub use receiver::{Guest, Progress, Receiver, SECTION_COST, Section, Stage};
 pub use refusal::Refusal;
 pub use reply::Reply;
 pub use sender::{Rounds, SendError, SendStage, Sender, Target};

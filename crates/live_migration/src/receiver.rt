@@ -11,7 +11,7 @@ use crate::frame::Frame;
 use crate::refusal::Refusal;
 pub use end::Guest;
 pub(crate) use progress::digest_of;
-pub use progress::{Progress, Receiver, Section};
+pub use progress::{Progress, Receiver, SECTION_COST, Section};
 
 /// What a receiver waits for.
 #[derive(Clone, Copy, Debug, PartialEq, Eq)]

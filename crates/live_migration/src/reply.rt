@@ -1,5 +1,5 @@
 //! What goes back to a sender.
-ghost use Rattle.std.specs.Prelude.{◌≡◌, IfSome, IfNone, Some};
+ghost use Rattle.std.specs.Prelude.{◌≡◌, IfSome, Some};
 ghost use Rattle.live_migration.specs.Replies.{code_of, reply_bytes};
 ghost use Rattle.live_migration.specs.declared.reply.Reply.{Reply};
 ghost use Rattle.live_migration.specs.declared.refusal.Refusal.{Refusal};
@@ -48,7 +48,8 @@ fn code_of(refusal: Refusal) -> u8
 }
 
 fn refusal_of(code: u8) -> Option<Refusal>
-    ensures { IfSome result (λ refusal. code_of refusal ≡ code) }
+    ensures found { IfSome result (λ refusal. code_of refusal ≡ code) }
+    ensures only { (r : Refusal) → code_of r ≡ code → result ≡ Some r }
 {
     match code {
         1 => Some(Refusal::Magic),
@@ -84,9 +85,10 @@ impl Reply {
         }
     }
 
-    /// The reply that these bytes are, if they are one.
+    /// The reply that these bytes are, if they are one: no other reply has them.
     pub fn decode(bytes: [u8; 8]) -> Option<Reply>
-        ensures { IfSome result (λ reply. bytes ≡ reply_bytes reply) }
+        ensures found { IfSome result (λ reply. bytes ≡ reply_bytes reply) }
+        ensures only { (reply : Reply) → bytes ≡ reply_bytes reply → result ≡ Some reply }
     {
         match bytes {
             [READY, 0, 0, 0, 0, 0, 0, 0] => Some(Reply::Ready),

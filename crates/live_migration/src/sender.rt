@@ -1,6 +1,7 @@
 //! The sending end.
 
 mod pages;
+mod replies;
 mod rounds;
 mod stream;
 mod tracked;

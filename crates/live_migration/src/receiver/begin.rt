@@ -1,9 +1,9 @@
 //! The beginning of a receiver: the header, and the blocks that it asks for.
-ghost use Rattle.std.specs.Prelude.{◌≡◌, ℕ, ◌+◌, ◌*◌, ◌^◌, ◌<◌, ◌≤◌, List, [], ◌++◌, length, replicate, IfOk, OnOk, OnErr};
+ghost use Rattle.std.specs.Prelude.{◌≡◌, ℕ, ◌+◌, ◌-◌, ◌*◌, ◌^◌, ◌<◌, ◌≤◌, List, [], ◌++◌, length, replicate, IfOk, OnOk, OnErr};
 ghost use Rattle.std.specs.Io.KnownBytes.{Consumes};
 ghost use Rattle.sha2.specs.Hashers.{Holds256};
 ghost use Rattle.live_migration.specs.declared.receiver.Stage.TheVariants as stages;
-ghost use Rattle.live_migration.specs.Receiving.{Begins, Grows, zeroed};
+ghost use Rattle.live_migration.specs.Receiving.{Begins, Grows, memory_of, zeroed};
 
 use super::{Progress, Receiver, Stage};
 use crate::frame::MOST_PAGE_BYTES;
@@ -53,12 +53,15 @@ fn make_blocks<B: NewBitmap + Drop>(
     Ok(base)
 }
 
-fn total(entries: &[BlockEntry]) -> u64 {
-    let mut sum: u64 = 0;
+// What blocks leave of a limit.
+fn left_of(entries: &[BlockEntry], limit: u64) -> u64
+    ensures { result ≡ limit - memory_of entries.now }
+{
+    let mut left = limit;
     for entry in entries {
-        sum = sum.saturating_add(entry.len);
+        left = left.saturating_sub(entry.len);
     }
-    sum
+    left
 }
 
 // The greatest page size.
@@ -96,11 +99,11 @@ fn first_progress(
     limit: u64,
 ) -> Result<Progress, Refusal>
     ensures { IfOk result (λ p. (p.entries.items ≡ entries.items) × (p.stage ≡ stages.Round) × (p.round ≡ 0)
-        × Holds256 p.hasher header.now) }
+        × (p.left ≡ limit - memory_of entries.items) × Holds256 p.hasher header.now) }
 {
     let mut hasher = Sha256::new();
     hasher.update(header);
-    let left = limit.saturating_sub(total(entries.as_slice()));
+    let left = left_of(entries.as_slice(), limit);
     let Ok(zeros) = zeros_of(alloc, largest_page(entries.as_slice())) else {
         return Err(Refusal::Memory);
     };
@@ -119,9 +122,11 @@ fn first_progress(
 }
 
 impl Receiver {
-    /// Reads the header and makes its blocks in a host, of zeros, behind those that the host has. The header and the
-    /// stream's sections may ask for `limit` bytes in all: `TooMuchMemory` where the header asks for more, and then
-    /// nothing is made. Where an allocation fails, blocks that were made stay, and no other changes.
+    /// Reads the header and makes its blocks in a host, of zeros, behind those that the host has. The blocks and the
+    /// stream's sections may cost `limit` bytes in all, of which each section costs `SECTION_COST` beside its name and
+    /// bytes: `TooMuchMemory` if the blocks cost more, and then nothing is made. If an allocation fails, blocks that
+    /// were made stay, and no other changes.
+    #[tactic(auto, using(crate::proofs::CostLemmas::blocks_cost))]
     pub fn begin<R: Read, B: NewBitmap + Drop>(
         alloc: Global,
         reader: &mut R,

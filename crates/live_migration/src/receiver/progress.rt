@@ -1,5 +1,5 @@
 //! How far a receiver has come.
-ghost use Rattle.std.specs.Prelude.{◌≡◌, ℕ, ◌+◌, ◌^◌, ◌<◌, ◌≤◌, List, [], ◌∷◌, ◌++◌, length, replicate, IfOk, OnOk, OnErr, Ok};
+ghost use Rattle.std.specs.Prelude.{◌≡◌, ℕ, ◌+◌, ◌^◌, ◌<◌, ◌≤◌, List, [], ◌∷◌, ◌++◌, length, replicate, sum_by, IfOk, OnOk, OnErr, Ok, Err};
 ghost use Rattle.sha2.specs.Hashers.{Holds256};
 ghost use Rattle.sha2.specs.Sha256.{sha256};
 
@@ -23,6 +23,10 @@ pub struct Section {
     /// Its bytes: at most 2^20.
     pub bytes: Vec<u8>,
 }
+
+/// What a section costs of a receiver's limit beside its name and its bytes: no less than its place in the list of
+/// sections takes, with what allocations take beside what they hold.
+pub const SECTION_COST: u64 = 256;
 
 /// What a receiver has of a migration.
 #[derive(Drop)]
@@ -59,8 +63,9 @@ impl Progress {
     ghost use Rattle.vm_memory_guest.specs.Host.{Host};
     ghost use Rattle.live_migration.specs.Frame.{Message, RoundEnd, message_of, head};
     ghost use Rattle.live_migration.specs.Placing.{Applies};
-    ghost use Rattle.live_migration.specs.Receiving.{IsRightEnd, IsSectionKept, round_after, section_in, sections_told};
+    ghost use Rattle.live_migration.specs.Receiving.{IsRightEnd, IsSectionKept, cost_of, round_after, section_in, sections_told};
     ghost use Rattle.live_migration.specs.Stages.{stage_after};
+    ghost use Rattle.live_migration.specs.declared.refusal.Refusal.TheVariants as refusals;
 
     // Ends a round, if its number is the next and the digest is that of what came before.
     fn end_round(&mut self, round: u32, digest: &[u8]) -> Result<(), Refusal>
@@ -85,13 +90,16 @@ impl Progress {
         Ok(())
     }
 
-    // Keeps a section, if its bytes are among those that are still allowed.
+    // Keeps a section, if its cost is left of the limit: else `TooMuchMemory`.
     fn keep_section(&mut self, name: &[u8], bytes: &[u8]) -> Result<(), Refusal>
         ensures kept { IsSectionKept self.old self.new }
         ensures added { OnOk result (sections_told self.new ≡ sections_told self.old ++ (name.now, bytes.now) ∷ []) }
+        ensures paid { OnOk result (self.new.left + cost_of (name.now, bytes.now) ≡ self.old.left) }
+        ensures full { self.old.left < cost_of (name.now, bytes.now)
+            → (result ≡ Err refusals.TooMuchMemory) × (self.new ≡ self.old) }
     {
         let len = name.len() as u64 + bytes.len() as u64;
-        if len > self.left {
+        if self.left < SECTION_COST || self.left - SECTION_COST < len {
             return Err(Refusal::TooMuchMemory);
         }
         let alloc = *self.sections.allocator();
@@ -99,7 +107,7 @@ impl Progress {
         if self.sections.push(section).is_err() {
             return Err(Refusal::Memory);
         }
-        self.left -= len;
+        self.left -= SECTION_COST + len;
         Ok(())
     }
 
@@ -118,6 +126,8 @@ impl Progress {
         ensures kept { IsSectionKept self.old record self.new { round = self.old.round; stage = self.old.stage } }
         ensures sections { OnOk result (sections_told self.new
             ≡ sections_told self.old ++ section_in (message_of frame.now)) }
+        ensures left { OnOk result (self.new.left + sum_by cost_of (section_in (message_of frame.now))
+            ≡ self.old.left) }
         ensures err { OnErr result (host.new ≡ host.old) }
     {
         let stage = stage_after(self.stage, frame)?;

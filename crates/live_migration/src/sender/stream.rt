@@ -15,16 +15,17 @@ use crate::frame::{Frame, GO, MOST_PAGE_BYTES, head_bytes};
 use crate::header::{BlockEntry, MOST_BLOCKS, decode_header, encode_header};
 use crate::receiver::digest_of;
 use crate::refusal::Refusal;
-use crate::reply::Reply;
 use sha2::{Digest, Sha256};
 use std::alloc::{AllocError, Global};
-use std::io::{Read, Write};
+use std::io::Write;
 use vm_memory_base::{Bitmap, ExactBitmap, GuestAddress};
 use vm_memory_guest::{BlockId, HostMemory};
 
 /// How far a sender has come.
 #[derive(Clone, Copy, Debug, PartialEq, Eq)]
 pub enum SendStage {
+    /// The header was sent, and the receiver's word that it is ready is awaited.
+    Begun,
     /// A round is sent.
     Sending,
     /// A round has ended, and nothing was sent since.
@@ -81,18 +82,6 @@ fn send_frame<W: Write>(
         return Err(SendError::Memory);
     }
     send(writer, hasher, bytes.as_slice())
-}
-
-// Reads a reply.
-fn read_reply<R: Read>(reader: &mut R) -> Result<Reply, SendError> {
-    let mut bytes = [0; 8];
-    if reader.read_exact(&mut bytes).is_err() {
-        return Err(SendError::Failed);
-    }
-    match Reply::decode(bytes) {
-        Some(reply) => Ok(reply),
-        None => Err(SendError::Reply),
-    }
 }
 
 // The digest of what was sent, in a frame that ends a round.
@@ -220,11 +209,11 @@ fn first_sender(alloc: Global, targets: Vec<Target>, hasher: Sha256) -> Sender
             batch: Vec::new(alloc),
         },
         hasher,
-        stage: SendStage::Sending,
+        stage: SendStage::Begun,
     }
 }
 
-// Writes the header of these blocks, and begins with the first round.
+// Writes the header of these blocks.
 pub(super) fn begin_with<W: Write>(
     alloc: Global,
     targets: Vec<Target>,
@@ -254,10 +243,10 @@ impl Sender {
     ghost use Rattle.live_migration.specs.Following.{StaysAsItWas};
     ghost use Rattle.live_migration.specs.Sending.{AreMarkedAgain, HarvestsNext, CopiesPages, IsIdle, harvested};
 
-    /// Writes the header of these blocks of a host, each with its address, and begins with the first round. The blocks
-    /// ascend by their addresses and do not meet, each is tracked as a whole by a bitmap whose pages have at most 2^20
-    /// bytes, and none comes twice: else `Header`, `Untracked` or `Twice`, and `Changed` where the host has no such
-    /// block.
+    /// Writes the header of these blocks of a host, each with its address. The first round is sent after `ready`. The
+    /// blocks ascend by their addresses and do not meet, each is tracked as a whole by a bitmap whose pages have at
+    /// most 2^20 bytes, and none comes twice: else `Header`, `Untracked` or `Twice`, and `Changed` if the host has no
+    /// such block.
     pub fn begin<B: ExactBitmap, W: Write>(
         alloc: Global,
         host: &HostMemory<B>,
@@ -303,8 +292,8 @@ impl Sender {
         self.rounds.copy_batch(host)
     }
 
-    /// Sends what was copied. `Order` after the rounds, and `Failed` where the stream fails: then nothing more is sent,
-    /// and what waited still waits.
+    /// Sends what was copied. `Order` before `ready` and after the rounds, and `Failed` if the stream fails: then
+    /// nothing more is sent, and what waited still waits.
     pub fn send_batch<W: Write>(&mut self, writer: &mut W) -> Result<(), SendError>
         ensures sent { OnOk result (Sends self.old.rounds.batch.items (W.contents writer.old) (W.contents writer.new)
             self.old.hasher self.new.hasher) }
@@ -333,7 +322,7 @@ impl Sender {
     }
 
     /// Sends the state of a device or a queue, in a round: its name has at most 255 bytes, and the state at most 2^20,
-    /// else `Section`. `Order` after the rounds, and `Memory` where an allocation fails.
+    /// else `Section`. `Order` before `ready` and after the rounds, and `Memory` if an allocation fails.
     pub fn send_section<W: Write>(
         &mut self,
         alloc: Global,
@@ -365,8 +354,8 @@ impl Sender {
         }
     }
 
-    /// Ends a round, in which each block was harvested and nothing waits: else `Order`. `Memory` where an allocation
-    /// fails.
+    /// Ends a round, in which each block was harvested and nothing waits: else `Order`, also before `ready`. `Memory`
+    /// if an allocation fails.
     pub fn end_round<W: Write>(&mut self, alloc: Global, writer: &mut W) -> Result<(), SendError>
         ensures sent { (sent : List ℕ) → Holds256 self.old.hasher sent
             → OnOk result (Sends (spelling (RoundEnd self.old.rounds.round (sha256 sent)))
@@ -424,26 +413,6 @@ impl Sender {
                 self.stage = SendStage::Failed;
                 Err(error)
             }
-        }
-    }
-
-    /// Waits for the receiver's word that it has all.
-    pub fn accepted<R: Read>(&mut self, reader: &mut R) -> Result<(), SendError>
-        ensures ok { OnOk result ((self.new.stage ≡ stages.Accepted) × (self.old.stage ≡ stages.Done)) }
-        ensures err { OnErr result ((self.new.stage ≡ stages.Failed) ⊎ (self.new.stage ≡ self.old.stage)) }
-        ensures same { self.new.rounds ≡ self.old.rounds }
-    {
-        if self.stage != SendStage::Done {
-            return Err(SendError::Order);
-        }
-        self.stage = SendStage::Failed;
-        match read_reply(reader)? {
-            Reply::Accepted => {
-                self.stage = SendStage::Accepted;
-                Ok(())
-            }
-            Reply::Refused(refusal) => Err(SendError::Refused(refusal)),
-            Reply::Ready => Err(SendError::Reply),
         }
     }
 

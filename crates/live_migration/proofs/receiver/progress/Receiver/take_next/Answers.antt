@@ -1,9 +1,10 @@
-use Rattle.std.proofs.Common.{◌≡◌, ◌++◌, ◌∙◌, List, ℕ, Ok, ap, refl, sym, subst}
+use Rattle.std.proofs.Common.{◌≡◌, ◌+◌, ◌++◌, ◌∙◌, List, ℕ, Ok, ap, refl, sym, subst}
 use Rattle.std.specs.Io.KnownBytes.{Consumes}
+use Rattle.std.specs.Prelude.{sum_by}
 use Rattle.sha2.specs.Hashers.{Holds256}
 use Rattle.sha2.specs.declared.Sha256.{Sha256}
 use Rattle.live_migration.specs.Frame.{message_of, payload_of}
-use Rattle.live_migration.specs.Receiving.{sections_told}
+use Rattle.live_migration.specs.Receiving.{cost_of, section_in, sections_told}
 use Rattle.live_migration.specs.declared.receiver.progress.Progress.{Progress}
 use Rattle.live_migration.proofs.StreamLemmas.{spelled}
 use Rattle.live_migration.proofs.receiver.progress.Receiver.take_next.Goals as goal
@@ -31,6 +32,8 @@ returns-clause-taken g c =
         entries = ap (λ (p : Progress). p.entries.items) same ∙ kept.entries;
         round = ap (λ (p : Progress). p.round) same ∙ c.in_ok-accept.ensures.round;
         sections = ap (λ (p : Progress). sections_told p) same ∙ c.in_ok-accept.ensures.sections;
+        left =
+            ap (λ (p : Progress). p.left + sum_by cost_of (section_in m)) same ∙ c.in_ok-accept.ensures.left;
         right = c.in_ok-accept.ensures.right;
         hashed = λ sent h.
             subst (λ (t : List ℕ). Holds256 c.note.new.self.hasher (sent ++ t))
