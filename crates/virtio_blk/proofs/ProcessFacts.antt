@@ -1,24 +1,32 @@
 -- Chains that are popped, served and returned, one after the other.
-use Rattle.std.proofs.Common.{◌≡◌, ◌∙◌, ◌⊎◌, inl, inr, ℕ, ◌+◌, ◌<◌, ◌≤◌, ◌==◌, Bool, true, false, not, List, Option, Some, None, Result, Ok, Err, MatchResult, refl, sym, ap, subst, arith, add-one}
+use Rattle.std.proofs.Common.{◌≡◌, ◌∙◌, inl, inr, ℕ, ◌+◌, ◌<◌, ◌≤◌, ◌==◌, Bool, true, false, not, List, Option, Some, None, Result, Ok, Err, MatchBool, MatchResult, refl, sym, ap, subst, arith, add-one}
+use Rattle.std.proofs.lemmas.Bool.{eq-eqb}
 use Rattle.std.specs.Option.{option_or}
 use Rattle.vm_memory_guest.specs.Host.{Host, shape_of}
 use Rattle.vm_memory_guest.specs.Memory.{Memory, IsOn}
 use Rattle.vm_memory.specs.declared.chain.Segment.{Segment}
 use Rattle.virtio_queue.specs.Available.{MayWantChain, after_pop, avail_idx, popped}
 use Rattle.virtio_queue.specs.Fields.{Answers}
-use Rattle.virtio_queue.specs.Notification.{has_more}
+use Rattle.virtio_queue.specs.Notification.{Enables, EnablesIfReady, after_asked, has_more}
 use Rattle.virtio_queue.specs.Rings.{and_then}
 use Rattle.virtio_queue.specs.State.{Virtqueue, with_state}
 use Rattle.virtio_queue.specs.Used.{AddsUsed, after_used}
 use Rattle.virtio_queue.specs.declared.error.QueueError.{QueueError}
+use Rattle.virtio_queue.specs.declared.error.QueueError.TheVariants.{QueueNotReady}
+use Rattle.virtio_queue.specs.declared.state.QueueState.{QueueState}
 use Rattle.virtio_blk.specs.Config.{Device}
 use Rattle.virtio_blk.specs.Disk.{Call}
-use Rattle.virtio_blk.specs.Process.{Breaks, NextTurn, Runs, State, Stays, Turn, Turns, past}
+use Rattle.virtio_blk.specs.Process.{Ends, Idles, NextTurn, Runs, State, Stays, Tries, Turn, Turns, error_in, or_value, past}
 use Rattle.virtio_blk.specs.Served.{Serves}
 
 pub option_or-none : {T : Type 0} (o : Option T) → option_or o None ≡ o
 option_or-none None = refl
 option_or-none (Some x) = refl
+
+-- asking whether the driver needs a notification keeps the state
+pub asked_keeps : (q : Virtqueue) (answer : Result Bool QueueError) → (after_asked q answer).state ≡ q.state
+asked_keeps q (Ok needs) = refl
+asked_keeps q (Err e) = refl
 
 -- a value that was answered is the one that is expected
 pub answered_is : {T : Type 0} (may_want : Type 0) (expected answer : Result T QueueError) (x : T)
@@ -55,66 +63,112 @@ module _ {B D : Type 0} (marks : B → ℕ → ℕ → B → Type 0) (bytes : D 
         queue = kept ∙ ap (λ (q : Virtqueue). after_used q answer) passed;
       }
 
-  -- so many chains were served, and the queue has as many entries as before
-  pub record ServedSoFar (size count : ℕ) (old now : State B D) : Type 0 where
+  -- ---- tries
+
+  -- there was no chain, and the driver was asked to notify the device
+  pub idled : (old now : State B D) (answer : Result Bool QueueError) (host : Host B)
+      → Stays marks bytes sectors calls m old (Ok false) now
+      → EnablesIfReady marks m now.queue.state now.host answer host
+      → Idles marks bytes sectors calls m old answer (record now { host = host })
+  idled old now answer host (same, (more, none)) asked = record {
+    none = none;
+    asked = subst (λ (s : State B D). EnablesIfReady marks m s.queue.state s.host answer host) same asked;
+    left = ap (λ (s : State B D). record s { host = host }) same;
+  }
+
+  -- where the driver had published more, there is a chain, or the queue refuses
+  pub has_chain : (old start : State B D) → Idles marks bytes sectors calls m old (Ok true) start
+      → avail_idx m start.host start.queue.state ≡ Ok start.queue.state.next_avail → ⊥
+  has_chain old start idles all = go old.queue.state.ready idles.asked
+    where
+      q : QueueState
+      q = old.queue.state
+
+      none : has_more m start.host q ≡ Ok false
+      none =
+          let queue : start.queue ≡ old.queue = ap (λ (s : State B D). s.queue) idles.left in
+          let idx : avail_idx m start.host q ≡ Ok q.next_avail =
+          subst (λ (v : Virtqueue). avail_idx m start.host v.state ≡ Ok v.state.next_avail) queue all in
+          ap (λ (r : Result ℕ QueueError). and_then r (λ i. Ok (not (i == q.next_avail)))) idx
+          ∙ ap (λ b. Ok (not b)) (eq-eqb q.next_avail q.next_avail refl)
+
+      more : (stored : Result (Unit {0}) QueueError)
+          → Answers (IsOn m) (and_then stored (λ _. has_more m start.host q)) (Ok true) → ⊥
+      more (Ok u) (inl e) = let bad : Ok true ≡ Ok false = e ∙ none in absurd (cc)
+      more (Err f) (inl e) = absurd (cc)
+      more stored (inr (e, on)) = absurd (cc)
+
+      go : (b : Bool) → MatchBool b (Enables marks m q old.host (Ok true) start.host)
+          ((◌≡◌ {A = Result Bool QueueError} (Ok true) (Err QueueNotReady)) × (start.host ≡ old.host)) → ⊥
+      go true (stored, stores, answers) = more stored answers
+      go false (refused, same) = absurd (cc)
+
+  -- one try that does not ask the driver
+  pub tried : (old next : State B D) (e : QueueError) → NextTurn marks bytes sectors calls m old (Err e) next
+      → Tries marks bytes sectors calls m old (Err e) next
+  tried old next e turn = inr (old, inl refl, turn)
+
+  -- one that does, and finds more
+  pub tried_again : (old start next : State B D) → Idles marks bytes sectors calls m old (Ok true) start
+      → (r : Result Bool QueueError) → NextTurn marks bytes sectors calls m start r next
+      → (r ≡ Ok false → avail_idx m next.host next.queue.state ≡ Ok next.queue.state.next_avail)
+      → Tries marks bytes sectors calls m old r next
+  tried_again old start next idles (Ok true) turn none = (start, inr idles, turn)
+  tried_again old start next idles (Err e) turn none = inr (start, inr idles, turn)
+  tried_again old start next idles (Ok false) turn none =
+      absurd (has_chain old start idles
+      (subst (λ (s : State B D). avail_idx m s.host s.queue.state ≡ Ok s.queue.state.next_avail) turn.0 (none refl)))
+
+  -- ---- all tries
+
+  -- so many chains were served
+  pub record ServedSoFar (most count : ℕ) (old now : State B D) : Type 0 where
     pub turns : Turns marks bytes sectors calls m count old now
-    pub most : count ≤ size
-    pub same : now.queue.state.size ≡ old.queue.state.size
+    pub within : count ≤ most
     pub shape : shape_of now.host ≡ shape_of old.host
 
-  pub served_none : (size : ℕ) (old : State B D) → ServedSoFar size 0 old old
-  served_none size old = record { turns = refl; most = omega arith; same = refl; shape = refl }
+  pub served_none : (most : ℕ) (old : State B D) → ServedSoFar most 0 old old
+  served_none most old = record { turns = refl; within = omega arith; shape = refl }
 
-  pub served_more : (size count : ℕ) (old now next : State B D) → ServedSoFar size count old now → count < size
-      → Turn marks bytes sectors calls m now (Ok tt) next → next.queue.state.size ≡ now.queue.state.size
-      → shape_of next.host ≡ shape_of now.host → ServedSoFar size (count + 1) old next
-  served_more size count old now next h short turn same shape = record {
-    turns = subst (λ n. Turns marks bytes sectors calls m n old next) (sym (add-one count)) (now, h.turns, turn);
-    most = omega arith;
-    same = same ∙ h.same;
+  pub served_more : (most count : ℕ) (old now next : State B D) → ServedSoFar most count old now → count < most
+      → Tries marks bytes sectors calls m now (Ok true) next → shape_of next.host ≡ shape_of now.host
+      → ServedSoFar most (count + 1) old next
+  served_more most count old now next h short (start, before, turn) shape = record {
+    turns = subst (λ n. Turns marks bytes sectors calls m n old next) (sym (add-one count))
+        (now, start, h.turns, before, turn);
+    within = omega arith;
     shape = shape ∙ h.shape;
   }
 
-  -- how it ends: there was none to pop, or the queue refused
-  pub ended_early : (size entries count : ℕ) (old now next : State B D) (answer : Result Bool QueueError)
-      → size ≡ entries → ServedSoFar size count old now → count < size
-      → MatchResult answer (λ more. more ≡ false) (λ e. Unit {0})
-      → NextTurn marks bytes sectors calls m now answer next
-      → Runs marks bytes sectors calls m entries old count answer next
-  ended_early size entries count old now next answer all h short none turn = record {
+  -- it ended by itself
+  pub ended_early : (most count : ℕ) (old now next : State B D) (answer : Result Bool QueueError)
+      → ServedSoFar most count old now → count < most → MatchResult answer (λ more. more ≡ false) (λ e. Unit {0})
+      → Tries marks bytes sectors calls m now answer next
+      → Runs marks bytes sectors calls m most old count answer next
+  ended_early most count old now next answer h short ended tries = record {
     last = now;
     turns = h.turns;
-    ends = inl (omega (arith, short, all), ends answer none turn);
+    ends = inl (short, ends answer ended tries);
   }
     where
       ends : (r : Result Bool QueueError) → MatchResult r (λ more. more ≡ false) (λ e. Unit {0})
-          → NextTurn marks bytes sectors calls m now r next
-          → Stays marks bytes sectors calls m now r next ⊎ Breaks marks bytes sectors calls m now r next
-      ends (Ok true) none turn = absurd (cc)
-      ends (Ok false) none turn = inl turn
-      ends (Err e) none (inl stays) = inl stays
-      ends (Err e) none (inr broke) = inr broke
+          → Tries marks bytes sectors calls m now r next → Ends marks bytes sectors calls m now r next
+      ends (Ok true) ended tries = absurd (cc)
+      ends (Ok false) ended tries = tries
+      ends (Err e) ended tries = tries
 
-  -- or as many were served as the queue has entries
-  pub ended_full : (size entries count : ℕ) (old now : State B D) (idx : Result ℕ QueueError)
-      (answer : Result Bool QueueError) → size ≡ entries → ServedSoFar size count old now → size ≤ count
-      → Answers (IsOn m) (avail_idx m now.host now.queue.state) idx
-      → answer ≡ and_then idx (λ i. Ok (not (i == now.queue.state.next_avail)))
-      → Runs marks bytes sectors calls m entries old count answer now
-  ended_full size entries count old now idx answer all h full asked is = record {
+  -- or its bound ended it
+  pub ended_full : (most count : ℕ) (old now : State B D) → ServedSoFar most count old now → most ≤ count
+      → Runs marks bytes sectors calls m most old count (Ok true) now
+  ended_full most count old now h full = record {
     last = now;
     turns = h.turns;
-    ends = inr (omega (arith, h.most, full, all), (refl, answers idx asked is));
+    ends = inr (omega (arith, h.within, full), refl, refl);
   }
-    where
-      answers : (r : Result ℕ QueueError) → Answers (IsOn m) (avail_idx m now.host now.queue.state) r
-          → answer ≡ and_then r (λ i. Ok (not (i == now.queue.state.next_avail)))
-          → Answers (IsOn m) (has_more m now.host now.queue.state) answer
-      answers r (inl e) is = inl (is ∙ ap (λ (x : Result ℕ QueueError).
-          and_then x (λ i. Ok (not (i == now.queue.state.next_avail)))) e)
-      answers (Ok i) (inr (e, on)) is = absurd (cc)
-      answers (Err f) (inr (e, on)) is = inr (
-        is ∙ ap (λ (x : Result ℕ QueueError).
-            and_then x (λ i. Ok (not (i == now.queue.state.next_avail)))) e,
-        on,
-      )
+
+-- a call that is done had nothing left
+pub done_answer : (answer needs : Result Bool QueueError) (more : Bool) (failed : Option QueueError)
+    → more ≡ or_value false answer → failed ≡ option_or (error_in answer) (error_in needs) → more ≡ false
+    → failed ≡ None → answer ≡ Ok false
+done_answer (Ok b) needs more failed is why ended none = ap Ok (sym is ∙ ended)
+done_answer (Err e) needs more failed is why ended none = absurd (cc)

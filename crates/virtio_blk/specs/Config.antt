@@ -1,5 +1,5 @@
 -- The device as its owner sees it, and the features that it offers.
-use Rattle.std.specs.Prelude.{ℕ, ◌+◌, ◌^◌, Bool, true, false, ◌==◌, ◌&&◌, not, List, bit_and}
+use Rattle.std.specs.Prelude.{ℕ, ◌+◌, ◌^◌, Bool, true, false, ◌==◌, ◌&&◌, not, nat_lt, List, bit_and}
 
 -- a device: its disk, whether it only reads that, its name of 20 bytes, and the features that were accepted
 pub record Device (D : Type 0) : Type 0 where
@@ -17,3 +17,8 @@ offered false = 2 ^ 32 + 2 ^ 28 + 2 ^ 29 + 2 ^ 9
 abbrev pub acceptable : Bool → ℕ → Bool
 acceptable read_only features =
     bit_and features (offered read_only) == features && not (bit_and features (2 ^ 32) == 0)
+
+-- whether a write of so many bytes has to be stable when its status is written: the driver did not accept FLUSH, so it
+-- cannot ask for that later
+abbrev pub must_stay : ℕ → ℕ → Bool
+must_stay acked len = bit_and acked (2 ^ 9) == 0 && nat_lt 0 len

@@ -6,7 +6,7 @@ use Rattle.vm_memory_guest.specs.Memory.{Memory, IsOn}
 use Rattle.vm_memory.specs.declared.chain.Segment.{Segment}
 use Rattle.virtio_queue.specs.Available.{MayWantChain, after_pop, popped}
 use Rattle.virtio_queue.specs.Fields.{Answers, Refuses}
-use Rattle.virtio_queue.specs.Notification.{after_asked, has_more, needs_notification}
+use Rattle.virtio_queue.specs.Notification.{EnablesIfReady, after_asked, needs_notification}
 use Rattle.virtio_queue.specs.State.{Virtqueue, with_state}
 use Rattle.virtio_queue.specs.Used.{AddsUsed, after_used}
 use Rattle.virtio_queue.specs.declared.error.QueueError.{QueueError}
@@ -48,10 +48,23 @@ module _ {B D : Type 0} (marks : B → ℕ → ℕ → B → Type 0) (bytes : D 
     pub returned : AddsUsed marks m (past old.queue head chain).state head len mid answer new.host
     pub queue : new.queue ≡ after_used (past old.queue head chain) answer
 
+  -- there was no chain, and the driver was asked to notify the device of the next one. That was refused, or it is
+  -- answered whether the driver had published more by then
+  pub record Idles (old : State B D) (answer : Result Bool QueueError) (new : State B D) : Type 0 where
+    pub none : popped m old.host old.queue.state ≡ Ok None
+    pub asked : EnablesIfReady marks m old.queue.state old.host answer new.host
+    pub left : new ≡ record old { host = new.host }
+
+  -- what comes before a turn: nothing, or there was no chain, and the driver had published more when it was asked to
+  -- notify the device
+  abbrev pub Before : State B D → State B D → Type 0
+  Before old new = (new ≡ old) ⊎ Idles old (Ok true) new
+
   -- so many chains were popped, served and returned, one after the other
   abbrev pub Turns : ℕ → State B D → State B D → Type 0
   Turns zero old new = new ≡ old
-  Turns (suc n) old new = (mid : State B D) × Turns n old mid × Turn mid (Ok tt) new
+  Turns (suc n) old new =
+      (mid : State B D) × (start : State B D) × Turns n old mid × Before mid start × Turn start (Ok tt) new
 
   -- no chain could be popped: there was none, or that was refused
   abbrev pub Stays : State B D → Result Bool QueueError → State B D → Type 0
@@ -65,31 +78,40 @@ module _ {B D : Type 0} (marks : B → ℕ → ℕ → B → Type 0) (bytes : D 
   NextTurn old (Ok false) new = Stays old (Ok false) new
   NextTurn old (Err e) new = Stays old (Err e) new ⊎ Turn old (Err e) new
 
-  -- the last head could not be returned
-  abbrev pub Breaks : State B D → Result Bool QueueError → State B D → Type 0
-  Breaks old answer new = MatchResult answer (λ more. ⊥) (λ e. Turn old (Err e) new)
+  -- how it ends: there is nothing left, and the device waits for the next head. Or the queue refused: to ask the driver
+  -- for that, to pop the next chain, or to return the last head
+  abbrev pub Ends : State B D → Result Bool QueueError → State B D → Type 0
+  Ends old (Ok true) new = ⊥
+  Ends old (Ok false) new = Idles old (Ok false) new
+  Ends old (Err e) new = Idles old (Err e) new
+      ⊎ ((start : State B D) × Before old start × (Stays start (Err e) new ⊎ Turn start (Err e) new))
 
-  -- as many chains as the queue has entries were served, and it was asked whether there are more
-  abbrev pub Asked : State B D → Result Bool QueueError → State B D → Type 0
-  Asked old answer new = (new ≡ old) × Answers (IsOn m) (has_more m old.host old.queue.state) answer
+  -- what comes of one try: one more chain was served, or it ends
+  abbrev pub Tries : State B D → Result Bool QueueError → State B D → Type 0
+  Tries old (Ok true) new = (start : State B D) × Before old start × Turn start (Ok tt) new
+  Tries old (Ok false) new = Ends old (Ok false) new
+  Tries old (Err e) new = Ends old (Err e) new
 
-  -- chains were served, at most so many, and then there were no more, or the queue refused, or so many were served
-  pub record Runs (size : ℕ) (old : State B D) (count : ℕ) (answer : Result Bool QueueError) (new : State B D)
+  -- chains were served until it ended, fewer than a bound, or as many as that, so that there may be more
+  pub record Runs (most : ℕ) (old : State B D) (count : ℕ) (answer : Result Bool QueueError) (new : State B D)
       : Type 0 where
     pub last : State B D
     pub turns : Turns count old last
-    pub ends : (count < size) × (Stays last answer new ⊎ Breaks last answer new)
-        ⊎ ((count ≡ size) × Asked last answer new)
+    pub ends : ((count < most) × Ends last answer new) ⊎ ((count ≡ most) × (answer ≡ Ok true) × (new ≡ last))
 
-  -- what a call answers: of the first error of the queue, and whether the driver is to be interrupted. Where the queue
-  -- cannot tell that, it is where a chain was returned
-  pub record Processes (old : State B D) (served : Served) (new : State B D) : Type 0 where
+  -- what a call answers: whether the bound ended it, and the first error of the queue. The driver is to be interrupted
+  -- where it wants that. Where the queue cannot tell, it is where a chain was returned
+  pub record Processes (most : ℕ) (old : State B D) (served : Served) (new : State B D) : Type 0 where
     pub answer : Result Bool QueueError
     pub last : State B D
     pub needs : Result Bool QueueError
-    pub runs : Runs old.queue.state.size old served.count answer last
+    pub runs : Runs most old served.count answer last
     pub more : served.more ≡ or_value false answer
     pub asked : Answers (IsOn m) (needs_notification m last.host last.queue) needs
     pub interrupt : served.interrupt ≡ or_value (nat_lt 0 served.count) needs
     pub failed : served.failed ≡ option_or (error_in answer) (error_in needs)
     pub left : new ≡ record last { queue = after_asked last.queue needs }
+
+-- a call that ended by itself: neither did its bound end it, nor did the queue fail
+abbrev pub IsDone : Served → Type 0
+IsDone served = (served.more ≡ false) × (served.failed ≡ None)

@@ -5,7 +5,7 @@ use Rattle.vm_memory_guest.specs.Host.{Host}
 use Rattle.vm_memory_guest.specs.Memory.{Memory}
 use Rattle.vm_memory.specs.Chain.{Entry, readable, text, writable}
 use Rattle.vm_memory.specs.declared.chain.Segment.{Segment}
-use Rattle.virtio_blk.specs.Config.{Device}
+use Rattle.virtio_blk.specs.Config.{Device, must_stay}
 use Rattle.virtio_blk.specs.Disk.{Call, reads, writes, flushes, LieAt, Moves, after_write, joined}
 use Rattle.virtio_blk.specs.Request.{task_of}
 use Rattle.virtio_blk.specs.Texts.{Accessed, StopsAt, StopsWithin, WritesAt, reached, text_bytes}
@@ -60,6 +60,12 @@ pub record Loads {B D : Type 0} (bytes : D → Option (List ℕ)) (sectors : D �
       × ((spoilt : List ℕ) × calls last (reads (sector + length sent / 512) spoilt) false new))
       ⊎ ((new ≡ last) × StopsAt m host.tables es (length sent))))
 
+-- what was written was brought to where it stays, or that failed
+abbrev pub Flushes : {D : Type 0} → (D → Option (List ℕ)) → (D → ℕ) → (D → Call → Bool → D → Type 0) → D → ℕ → D
+    → Type 0
+Flushes bytes sectors calls old status new = SameDisk bytes sectors old new
+    × (((status ≡ 0) × calls old flushes true new) ⊎ ((status ≡ 1) × calls old flushes false new))
+
 -- a name was told: all of it that there is room for in front of the status, or what is in front of an address that
 -- could not be written
 abbrev pub Names : {B : Type 0} → Memory → Host B → List Entry → List ℕ → ℕ → List ℕ → Type 0
@@ -69,16 +75,26 @@ Names m host es name status sent = (sent ≡ take (length sent) name)
 
 module _ {B D : Type 0} (bytes : D → Option (List ℕ)) (sectors : D → ℕ) (calls : D → Call → Bool → D → Type 0)
     (m : Memory) (host : Host B) where
+  -- data of a text went to the disk to stay: after all of it was stored, a flush followed, which makes the status
+  abbrev pub StoresToStay : List Entry → ℕ → D → ℕ → D → Type 0
+  StoresToStay given sector old status new = (stored : ℕ) × (mid : D)
+      × Stores bytes sectors calls m host given sector (length given) old stored mid
+      × MatchBool (stored == 0) (Flushes bytes sectors calls mid status new) ((status ≡ stored) × (new ≡ mid))
+
+  -- data of a text went to the disk, to stay where it has to
+  abbrev pub Writes : List Entry → ℕ → Device D → ℕ → D → Type 0
+  Writes given sector old status new = MatchBool (must_stay old.acked (length given))
+      (StoresToStay given sector old.disk status new)
+      (Stores bytes sectors calls m host given sector (length given) old.disk status new)
+
   -- what is done for a request whose data lies at one text, or goes to another: the status, the data that goes to
   -- that, and the disk afterwards
   abbrev pub Does : Task → List Entry → List Entry → Device D → ℕ → List ℕ → D → Type 0
   Does (Read sector) given room old status sent new =
       Loads bytes sectors calls m host room sector (length room - 1) old.disk status sent new
-  Does (Write sector) given room old status sent new = (sent ≡ [])
-      × Stores bytes sectors calls m host given sector (length given) old.disk status new
+  Does (Write sector) given room old status sent new = (sent ≡ []) × Writes given sector old status new
   Does Flush given room old status sent new =
-      (sent ≡ []) × SameDisk bytes sectors old.disk new
-      × (((status ≡ 0) × calls old.disk flushes true new) ⊎ ((status ≡ 1) × calls old.disk flushes false new))
+      (sent ≡ []) × Flushes bytes sectors calls old.disk status new
   Does GetId given room old status sent new = Names m host room old.id status sent × (new ≡ old.disk)
   Does Refuse given room old status sent new = (sent ≡ []) × (status ≡ 1) × (new ≡ old.disk)
   Does Unsupported given room old status sent new = (sent ≡ []) × (status ≡ 2) × (new ≡ old.disk)

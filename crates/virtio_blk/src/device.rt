@@ -2,7 +2,7 @@
 ghost use Rattle.std.specs.Prelude.{◌≡◌, ◌*◌, ◌<◌, ◌^◌, length, if◌then◌else◌, IfOk, bit_and, ◌==◌, not};
 ghost use Rattle.std.specs.Int.{w64, to_le_bytes};
 ghost use Rattle.vm_memory_guest.specs.Host.{shape_of, Holds};
-ghost use Rattle.virtio_blk.specs.Config.{Device, acceptable, offered};
+ghost use Rattle.virtio_blk.specs.Config.{Device, acceptable, must_stay, offered};
 ghost use Rattle.virtio_blk.specs.Served.{Serves};
 
 mod pieces;
@@ -19,7 +19,8 @@ pub const VIRTIO_F_VERSION_1: u64 = 32;
 /// The bit of the feature that the disk is only read.
 pub const VIRTIO_BLK_F_RO: u64 = 5;
 
-/// The bit of the feature that a request can bring what was written to where it stays.
+/// The bit of the feature that a request can bring what was written to where it stays. Where the driver did not accept
+/// it, each write is brought there before its status is written.
 pub const VIRTIO_BLK_F_FLUSH: u64 = 9;
 
 /// The bit of the feature that descriptors may lead to indirect tables.
@@ -38,7 +39,7 @@ pub(crate) const PIECE: usize = 65536;
 ///
 /// ```text
 /// let mut device = BlockDevice::new(alloc, disk, false, *b"the name of the disk")?;
-/// let served = device.process(&mut queue, &memory, &mut host);
+/// let served = device.process(&mut queue, &memory, &mut host, 1024);
 /// ```
 #[derive(Drop)]
 pub struct BlockDevice<D> {
@@ -60,6 +61,14 @@ impl<D> Model for BlockDevice<D> {
     ghost view = { λ d. record { disk = d.disk; read_only = d.read_only; id = d.id; acked = d.acked } };
 
     ghost invariant = { λ d. length d.buffer.items ≡ 65536 };
+}
+
+// Whether a write of so many bytes has to be stable when its status is written, where these features were accepted.
+#[inline]
+fn must_stay(acked: u64, len: usize) -> bool
+    ensures { result ≡ must_stay acked len }
+{
+    acked & (1 << VIRTIO_BLK_F_FLUSH) == 0 && len > 0
 }
 
 impl<D: Disk> BlockDevice<D> {

@@ -1,5 +1,5 @@
 -- Numbers that were stored lie where they were stored.
-use Rattle.std.proofs.Common.{◌≡◌, ◌≢◌, ◌∙◌, ◌⊎◌, ◌↔◌, inl, inr, ℕ, zero, suc, ◌+◌, ◌%◌, ◌^◌, ◌<◌, ◌≤◌, nat_lt, ◌&&◌, ◌==◌, Bool, true, false, if◌then◌else◌, MatchBool, List, [], ◌∷◌, ◌++◌, map, flat_map, length, get_or, slice_get, Option, Some, None, option_map, Result, Ok, Err, All, refl, sym, ap, subst, arith, append-nil}
+use Rattle.std.proofs.Common.{◌≡◌, ◌≢◌, ◌∙◌, ℕ, zero, suc, ◌+◌, ◌%◌, ◌^◌, ◌<◌, ◌≤◌, nat_lt, ◌&&◌, ◌==◌, Bool, true, false, if◌then◌else◌, MatchBool, List, [], ◌∷◌, map, flat_map, length, get_or, slice_get, Option, Some, None, option_map, Result, Ok, Err, All, refl, ap, subst, arith, append-nil}
 use Rattle.std.proofs.lemmas.Bool.{eqb-true}
 use Rattle.std.proofs.lemmas.List.Elements.{All-head, All-nil, All-cons}
 use Rattle.std.proofs.lemmas.List.Kept.{AllPairs-cons}
@@ -18,7 +18,7 @@ use Rattle.vm_memory_guest.specs.Host.{Cell, Host, Shape, Holds, block_at, bytes
 use Rattle.vm_memory_guest.specs.Memory.{Direct, Memory, Switched, Through, Translation, behind_if, behind_of, route, route_behind, says_of, switched_names}
 use Rattle.vm_memory_guest.specs.Region.{Region, IsRegion, region_names}
 use Rattle.vm_memory_guest.specs.Typed.{first_aligned, place_of}
-use Rattle.vm_memory_guest.specs.Window.{Window, Marks, MarksAll, MarksWindow, Writes, cells, cells_of, window_names}
+use Rattle.vm_memory_guest.specs.Window.{Window, Marks, MarksWindow, Writes, cells, cells_of, window_names}
 use Rattle.vm_memory_guest.specs.declared.region.error.GuestMemoryError.{GuestMemoryError}
 use Rattle.vm_memory_guest.specs.declared.region.error.GuestMemoryError.TheVariants as errors
 use Rattle.virtio_queue.specs.Fields.{place, stored_at, told, word_window}

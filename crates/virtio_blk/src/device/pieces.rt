@@ -3,7 +3,7 @@ ghost use Rattle.std.specs.Prelude.{◌≡◌, ◌⊎◌, ◌+◌, ◌-◌, ◌*
 ghost use Rattle.vm_memory_base.specs.declared.iotlb.Permissions.TheVariants.{Read};
 ghost use Rattle.vm_memory_guest.specs.Host.{shape_of, Holds};
 ghost use Rattle.virtio_blk.specs.Disk.{LieAt, after_write, reads, writes};
-ghost use Rattle.virtio_blk.specs.Served.{Loads, Stores};
+ghost use Rattle.virtio_blk.specs.Served.{Flushes, Loads, Stores, StoresToStay};
 ghost use Rattle.virtio_blk.specs.Texts.{Accessed, StopsAt, StopsWithin, WritesAt, reached, text_bytes};
 
 use super::PIECE;
@@ -39,7 +39,7 @@ fn store_piece<D: Disk, M: GuestMemory, B: Bitmap>(
 }
 
 // Moves a text to the disk, from a sector on, and answers the status.
-pub(super) fn store<D: Disk, M: GuestMemory, B: Bitmap>(
+fn store<D: Disk, M: GuestMemory, B: Bitmap>(
     disk: &mut D,
     reader: &mut ChainReader<'_>,
     mem: &M,
@@ -66,6 +66,66 @@ pub(super) fn store<D: Disk, M: GuestMemory, B: Bitmap>(
         moved += count;
     }
     VIRTIO_BLK_S_OK
+}
+
+// Brings what was written to where it stays, and says the status.
+pub(super) fn flush<D: Disk>(disk: &mut D) -> u8
+    ensures { Flushes D.bytes D.sectors D.calls disk.old result disk.new }
+{
+    match disk.flush() {
+        Ok(()) => VIRTIO_BLK_S_OK,
+        Err(_) => VIRTIO_BLK_S_IOERR,
+    }
+}
+
+// Moves a text to the disk, from a sector on, brings it to where it stays, and says the status.
+fn store_to_stay<D: Disk, M: GuestMemory, B: Bitmap>(
+    disk: &mut D,
+    reader: &mut ChainReader<'_>,
+    mem: &M,
+    host: &HostMemory<B>,
+    sector: u64,
+    buffer: &mut [u8],
+) -> u8
+    requires held { Holds (shape_of host.now) (M.names mem.now) }
+    requires whole { length reader.old % 512 ≡ 0 }
+    requires inside { 512 * sector + length reader.old ≤ 512 * D.sectors disk.old }
+    requires small { D.sectors disk.old < 2 ^ 55 }
+    requires room { length buffer.old ≡ 65536 }
+    ensures { StoresToStay D.bytes D.sectors D.calls (M.memory mem.now) host.now reader.old sector disk.old result
+        disk.new }
+{
+    let stored = store(disk, reader, mem, host, sector, buffer);
+    if stored != VIRTIO_BLK_S_OK {
+        return stored;
+    }
+    flush(disk)
+}
+
+// Moves a text to the disk, from a sector on, to stay where it has to, and says the status.
+pub(super) fn write<D: Disk, M: GuestMemory, B: Bitmap>(
+    disk: &mut D,
+    reader: &mut ChainReader<'_>,
+    mem: &M,
+    host: &HostMemory<B>,
+    sector: u64,
+    buffer: &mut [u8],
+    stays: bool,
+) -> u8
+    requires held { Holds (shape_of host.now) (M.names mem.now) }
+    requires whole { length reader.old % 512 ≡ 0 }
+    requires inside { 512 * sector + length reader.old ≤ 512 * D.sectors disk.old }
+    requires small { D.sectors disk.old < 2 ^ 55 }
+    requires room { length buffer.old ≡ 65536 }
+    ensures { let m = M.memory mem.now in MatchBool stays
+        (StoresToStay D.bytes D.sectors D.calls m host.now reader.old sector disk.old result disk.new)
+        (Stores D.bytes D.sectors D.calls m host.now reader.old sector (length reader.old) disk.old result disk.new) }
+{
+    if stays {
+        store_to_stay(disk, reader, mem, host, sector, buffer)
+    } else {
+        store(disk, reader, mem, host, sector, buffer)
+    }
 }
 
 // Moves bytes of the disk, from a sector on, to the next bytes of a text, through a buffer that has room for just

@@ -1,7 +1,9 @@
 //! How the chains of a queue are served.
-ghost use Rattle.std.specs.Prelude.{◌≡◌};
+ghost use Rattle.std.specs.Prelude.{◌≡◌, false, Ok};
 ghost use Rattle.vm_memory_guest.specs.Host.{shape_of, Holds};
-ghost use Rattle.virtio_blk.specs.Process.{NextTurn, Processes, Runs, State};
+ghost use Rattle.virtio_queue.specs.Available.{avail_idx};
+ghost use Rattle.virtio_queue.specs.Notification.{Waits};
+ghost use Rattle.virtio_blk.specs.Process.{IsDone, NextTurn, Processes, Runs, State, Tries};
 
 use super::BlockDevice;
 use crate::disk::Disk;
@@ -12,8 +14,9 @@ use vm_memory::{Bitmap, GuestMemory, HostMemory};
 #[derive(Debug, Drop)]
 pub struct Served {
     /// How many chains were popped, served and returned.
-    pub count: u16,
-    /// Whether the driver has published more chains. Then the device calls again.
+    pub count: u32,
+    /// Whether the bound of the call ended it, so that there may be more chains. Then its owner calls again, since the
+    /// driver may not notify the device of them.
     pub more: bool,
     /// Whether the driver has to be interrupted.
     pub interrupt: bool,
@@ -34,7 +37,8 @@ impl<D: Disk> BlockDevice<D> {
             let old : State B D = record { device = self.old; queue = queue.old; host = host.old } in
             let new : State B D = record { device = self.new; queue = queue.new; host = host.new } in
             NextTurn B.marks D.bytes D.sectors D.calls m old result new }
-        ensures size { queue.new.state.size ≡ queue.old.state.size }
+        ensures none { let q = queue.new.state in
+            result ≡ Ok false → avail_idx (M.memory mem.now) host.new q ≡ Ok q.next_avail }
         ensures shape { shape_of host.new ≡ shape_of host.old }
     {
         let Some((head, chain)) = queue.pop_descriptor_chain(self.alloc, mem, host)? else {
@@ -45,55 +49,81 @@ impl<D: Disk> BlockDevice<D> {
         Ok(true)
     }
 
-    // Serves chains, at most as many as the queue has entries. It answers how many, and whether there are more.
+    // The same. Where there is no chain, it asks the driver to notify the device of the next one, and serves one that
+    // the driver had published by then.
+    fn serve_or_wait<M: GuestMemory, B: Bitmap>(
+        &mut self,
+        queue: &mut Queue,
+        mem: &M,
+        host: &mut HostMemory<B>,
+    ) -> Result<bool, QueueError>
+        requires { Holds (shape_of host.old) (M.names mem.now) }
+        ensures tries { let m = M.memory mem.now in
+            let old : State B D = record { device = self.old; queue = queue.old; host = host.old } in
+            let new : State B D = record { device = self.new; queue = queue.new; host = host.new } in
+            Tries B.marks D.bytes D.sectors D.calls m old result new }
+        ensures waits { result ≡ Ok false → Waits (M.memory mem.now) host.new queue.new.state }
+        ensures shape { shape_of host.new ≡ shape_of host.old }
+    {
+        if self.serve_next(queue, mem, host)? {
+            return Ok(true);
+        }
+        if !queue.enable_notification(mem, host)? {
+            return Ok(false);
+        }
+        self.serve_next(queue, mem, host)
+    }
+
+    // Serves chains until there are no more, at most so many. It says how many, and whether that bound ended it.
     fn serve_all<M: GuestMemory, B: Bitmap>(
         &mut self,
         queue: &mut Queue,
         mem: &M,
         host: &mut HostMemory<B>,
-    ) -> (u16, Result<bool, QueueError>)
+        most: u32,
+    ) -> (u32, Result<bool, QueueError>)
         requires { Holds (shape_of host.old) (M.names mem.now) }
         ensures runs { let m = M.memory mem.now in
             let old : State B D = record { device = self.old; queue = queue.old; host = host.old } in
             let new : State B D = record { device = self.new; queue = queue.new; host = host.new } in
-            Runs B.marks D.bytes D.sectors D.calls m queue.old.state.size old result.0 result.1 new }
+            Runs B.marks D.bytes D.sectors D.calls m most old result.0 result.1 new }
+        ensures waits { result.1 ≡ Ok false → Waits (M.memory mem.now) host.new queue.new.state }
         ensures shape { shape_of host.new ≡ shape_of host.old }
     {
-        let size = queue.size();
         let mut count = 0;
-        while count < size {
-            match self.serve_next(queue, mem, host) {
+        while count < most {
+            match self.serve_or_wait(queue, mem, host) {
                 Ok(true) => count += 1,
                 Ok(false) => return (count, Ok(false)),
                 Err(error) => return (count, Err(error)),
             }
         }
-        let more = match queue.avail_idx(mem, host) {
-            Ok(index) => Ok(index != queue.next_avail()),
-            Err(error) => Err(error),
-        };
-        (count, more)
+        (count, Ok(true))
     }
 
-    /// Serves the chains that the driver has published, at most as many as the queue has entries, and returns each:
-    /// docs/VIRTIO_BLK.md.
+    /// Serves the chains that the driver has published and returns each, until there are no more, but at most so many
+    /// chains: docs/VIRTIO_BLK.md. When there are no more, it asks the driver to notify the device of the next one,
+    /// and goes on with what came by then.
     ///
-    /// The owner calls it when the driver notifies the device, and again as long as there are more. It has no bound of
-    /// its own where the guest goes on publishing, or where a request writes over the ring.
+    /// The owner calls it when the driver notifies the device, and once more when the answer is that there is `more`.
+    /// So no request waits without a notification. The bound is for a guest that goes on publishing, or whose requests
+    /// write over the ring: the owner looks after its other devices before it calls again.
     pub fn process<M: GuestMemory, B: Bitmap>(
         &mut self,
         queue: &mut Queue,
         mem: &M,
         host: &mut HostMemory<B>,
+        most: u32,
     ) -> Served
         requires { Holds (shape_of host.old) (M.names mem.now) }
         ensures processed { let m = M.memory mem.now in
             let old : State B D = record { device = self.old; queue = queue.old; host = host.old } in
             let new : State B D = record { device = self.new; queue = queue.new; host = host.new } in
-            Processes B.marks D.bytes D.sectors D.calls m old result new }
+            Processes B.marks D.bytes D.sectors D.calls m most old result new }
+        ensures waits { IsDone result → Waits (M.memory mem.now) host.new queue.new.state }
         ensures shape { shape_of host.new ≡ shape_of host.old }
     {
-        let (count, more) = self.serve_all(queue, mem, host);
+        let (count, more) = self.serve_all(queue, mem, host, most);
         let (more, mut failed) = match more {
             Ok(more) => (more, None),
             Err(error) => (false, Some(error)),

@@ -5,8 +5,8 @@ ghost use Rattle.virtio_blk.specs.Inside.{Asks, CanDo, Did, Performed};
 ghost use Rattle.virtio_blk.specs.Served.{Names, Serves};
 ghost use Rattle.virtio_blk.specs.Texts.{StopsAt, WritesAt};
 
-use super::pieces::{load, store};
-use super::{BlockDevice, ID_LEN};
+use super::pieces::{flush, load, write};
+use super::{BlockDevice, ID_LEN, must_stay};
 use crate::disk::Disk;
 use crate::request::{Task, VIRTIO_BLK_S_IOERR, VIRTIO_BLK_S_OK, VIRTIO_BLK_S_UNSUPP, task_of};
 use crate::text::{read_all, write_front};
@@ -116,13 +116,14 @@ impl<D: Disk> BlockDevice<D> {
                 load(&mut self.disk, writer, mem, host, sector, buffer)
             }
             Task::Write(sector) => {
+                let stays = must_stay(self.acked, reader.left());
                 let buffer = self.buffer.as_mut_slice();
-                (store(&mut self.disk, reader, mem, host, sector, buffer), 0)
+                (
+                    write(&mut self.disk, reader, mem, host, sector, buffer, stays),
+                    0,
+                )
             }
-            Task::Flush => match self.disk.flush() {
-                Ok(()) => (VIRTIO_BLK_S_OK, 0),
-                Err(_) => (VIRTIO_BLK_S_IOERR, 0),
-            },
+            Task::Flush => (flush(&mut self.disk), 0),
             Task::GetId => tell_id(&self.id, writer, mem, host),
             Task::Refuse => (VIRTIO_BLK_S_IOERR, 0),
             Task::Unsupported => (VIRTIO_BLK_S_UNSUPP, 0),

@@ -2,7 +2,7 @@ use Rattle.std.proofs.Common.{◌<◌, ◌^◌, [], ◌∷◌, flat_map, Ok, Err
 use Rattle.std.specs.Int.{w16, to_le_bytes}
 use Rattle.vm_memory_base.specs.declared.iotlb.Permissions.TheVariants as permissions
 use Rattle.vm_memory_guest.specs.Host.{shape_of}
-use Rattle.vm_memory_guest.specs.Memory.{Direct, Through, switched_names}
+use Rattle.vm_memory_guest.specs.Memory.{switched_names}
 use Rattle.vm_memory_guest.specs.Region.{region_names}
 use Rattle.virtio_queue.proofs.FieldLemmas.{word_stores}
 use Rattle.virtio_queue.proofs.LawLemmas.{window_place}

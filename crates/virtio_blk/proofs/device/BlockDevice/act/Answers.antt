@@ -1,7 +1,6 @@
-use Rattle.std.proofs.Common.{[], refl, inl, inr}
+use Rattle.std.proofs.Common.{[], refl}
 use Rattle.virtio_blk.proofs.TextFacts.{writes_none}
 use Rattle.virtio_blk.proofs.device.BlockDevice.act.Goals as goal
-use Rattle.virtio_blk.proofs.device.BlockDevice.act.Goals.{in-Ok, in-Err}
 
 pub returns-in-Read-clause-did : goal.returns-in-Read-clause-did
 returns-in-Read-clause-did g c =
@@ -19,42 +18,23 @@ pub returns-in-Write-clause-did : goal.returns-in-Write-clause-did
 returns-in-Write-clause-did g c =
     rw (c.in-Write.is, ← c.self.view_is) (record {
       sent = [];
-      disk = c.store.new.disk;
+      disk = c.write.new.disk;
       count = refl;
-      does = (refl, c.store.ensures);
+      does = (refl, rw (c.must_stay-stays.ensures, c.left.ensures) at c.write.ensures);
       written = writes_none g.B.Bitmap.marks (g.M.GuestMemory.memory c.args.mem.now) c.args.writer.now c.args.host.now;
       is = refl;
     })
 
-pub returns-after-flush-clause-did : goal.returns-after-flush-clause-did
-returns-after-flush-clause-did g c =
-    let none = writes_none g.B.Bitmap.marks (g.M.GuestMemory.memory c.args.mem.now) c.args.writer.now c.args.host.now in
-    rw (c.in-Flush.is, ← c.self.view_is) (elim c.match-flush.branch [
-      | in-Ok w ↦ rw w.result-is (record {
-        sent = [];
-        disk = c.flush.new.self;
-        count = refl;
-        does = (
-          refl,
-          (c.flush.ensures.bytes, c.flush.ensures.sectors),
-          inl (refl, rw w.in-Ok.is at c.flush.ensures.calls),
-        );
-        written = none;
-        is = refl;
-      })
-      | in-Err w ↦ rw w.result-is (record {
-        sent = [];
-        disk = c.flush.new.self;
-        count = refl;
-        does = (
-          refl,
-          (c.flush.ensures.bytes, c.flush.ensures.sectors),
-          inr (refl, rw w.in-Err.is at c.flush.ensures.calls),
-        );
-        written = none;
-        is = refl;
-      })
-    ])
+pub returns-in-Flush-clause-did : goal.returns-in-Flush-clause-did
+returns-in-Flush-clause-did g c =
+    rw (c.in-Flush.is, ← c.self.view_is) (record {
+      sent = [];
+      disk = c.flush.new.disk;
+      count = refl;
+      does = (refl, c.flush.ensures);
+      written = writes_none g.B.Bitmap.marks (g.M.GuestMemory.memory c.args.mem.now) c.args.writer.now c.args.host.now;
+      is = refl;
+    })
 
 pub returns-in-GetId-clause-did : goal.returns-in-GetId-clause-did
 returns-in-GetId-clause-did g c =

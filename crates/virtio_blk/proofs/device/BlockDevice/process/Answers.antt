@@ -1,12 +1,15 @@
-use Rattle.std.proofs.Common.{◌≡◌, nat_lt, refl, sym, false}
+use Rattle.std.proofs.Common.{◌≡◌, ◌∙◌, nat_lt, refl, sym, subst, false, ap}
 use Rattle.std.specs.Option.{option_or}
+use Rattle.virtio_queue.specs.Notification.{Waits}
+use Rattle.virtio_queue.specs.State.{Virtqueue}
+use Rattle.virtio_queue.specs.declared.state.QueueState.{QueueState}
 use Rattle.virtio_blk.specs.Process.{error_in, or_value}
-use Rattle.virtio_blk.proofs.ProcessFacts.{option_or-none}
+use Rattle.virtio_blk.proofs.ProcessFacts.{asked_keeps, done_answer, option_or-none}
 use Rattle.virtio_blk.proofs.device.BlockDevice.process.Goals as goal
 use Rattle.virtio_blk.proofs.device.BlockDevice.process.Goals.{in-Ok, in-Err, in-Ok-needs_notification, in-Err-needs_notification}
 
-pub returns-clause-processed : goal.returns-clause-processed
-returns-clause-processed g c =
+pub returns : goal.returns
+returns g c =
     let all = c.serve_all-count in
     let more : (c.match-more.more.0 ≡ or_value false all.result.1) × (c.match-more.more.1 ≡ error_in all.result.1) =
     elim c.match-more.branch [
@@ -25,14 +28,25 @@ returns-clause-processed g c =
         rw (w.failed-is, w.or-failed.ensures, w.in-Err-needs_notification.is) refl,
       )
     ] in
+    let failed : c.match-needs_notification.failed
+    ≡ option_or (error_in all.result.1) (error_in c.needs_notification.result) = rw (← more.1) told.1 in
     record {
-      answer = all.result.1;
-      last = record { device = all.new.self; queue = all.new.queue; host = all.new.host };
-      needs = c.needs_notification.result;
-      runs = all.ensures.runs;
-      more = more.0;
-      asked = c.needs_notification.ensures.needs;
-      interrupt = told.0;
-      failed = rw (← more.1) told.1;
-      left = rw c.needs_notification.ensures.asked refl;
+      processed = record {
+        answer = all.result.1;
+        last = record { device = all.new.self; queue = all.new.queue; host = all.new.host };
+        needs = c.needs_notification.result;
+        runs = all.ensures.runs;
+        more = more.0;
+        asked = c.needs_notification.ensures.needs;
+        interrupt = told.0;
+        failed = failed;
+        left = rw c.needs_notification.ensures.asked refl;
+      };
+      waits = λ done.
+          let ended = done_answer all.result.1 c.needs_notification.result c.match-more.more.0
+          c.match-needs_notification.failed more.0 failed done.0 done.1 in
+          subst (λ (q : QueueState). Waits (g.M.GuestMemory.memory c.args.mem.now) all.new.host q)
+          (sym (ap (λ (q : Virtqueue). q.state) c.needs_notification.ensures.asked
+          ∙ asked_keeps all.new.queue c.needs_notification.result)) (all.ensures.waits ended);
+      shape = all.ensures.shape;
     }
