@@ -1,6 +1,6 @@
 //! How much one call copies: at most 2^20 bytes of pages, zeros among them.
 
-use crate::guests::{guest_of, put};
+use crate::guests::{guest_of, hear_ready, put};
 use live_migration::Sender;
 use std::alloc::Global;
 use std::test::Fail;
@@ -32,6 +32,7 @@ fn first_batch<B: ExactBitmap>(
         put(host, BlockId(0), page.saturating_mul(page_size), 1);
     }
     let mut sender = Sender::begin(alloc, host, places, &mut Vec::new(alloc))?;
+    hear_ready(&mut sender)?;
     sender.harvest(alloc, host)?;
     let count = sender.copy_batch(host)?;
     let mut stream = Vec::new(alloc);

@@ -1,6 +1,8 @@
 //! Connections that are cut at each byte of a small migration, and the next try.
 
-use crate::guests::{Host, are_equal, dirty_count, guest_of, put, send_pages, take_until};
+use crate::guests::{
+    Host, are_equal, dirty_count, guest_of, hear_ready, put, send_pages, take_until,
+};
 use live_migration::{Receiver, Reply, SendError, Sender, Stage};
 use std::alloc::Global;
 use std::io::{self, ErrorKind, Write};
@@ -38,6 +40,7 @@ fn send_all<B: ExactBitmap, W: Write>(
     host: &mut HostMemory<B>,
     writer: &mut W,
 ) -> Result<(), SendError> {
+    hear_ready(sender)?;
     send_pages(alloc, sender, host, 2, writer)?;
     sender.end_round(alloc, writer)?;
     put(host, BlockId(1), 0x101, 8);

@@ -1,6 +1,6 @@
 //! What the tests share: guests with blocks of pages, writers that mark, and a sender to its end.
 
-use live_migration::{Receiver, Refusal, SendError, Sender, Stage};
+use live_migration::{Receiver, Refusal, Reply, SendError, Sender, Stage};
 use std::alloc::Global;
 use std::io::Write;
 use std::num::NonZeroUsize;
@@ -80,6 +80,11 @@ pub(crate) fn dirty_count<B: ExactBitmap>(
         return Ok(0);
     }
     Ok(host.bitmap(id).dirty_pages(alloc)?.len())
+}
+
+/// The receiver's word that it is ready comes.
+pub(crate) fn hear_ready(sender: &mut Sender) -> Result<(), SendError> {
+    sender.ready(&mut Reply::Ready.encode().as_slice())
 }
 
 /// The pages of one round: each block is harvested, and its pages are copied and sent.

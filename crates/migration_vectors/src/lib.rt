@@ -12,6 +12,10 @@ mod moves;
 #[cfg(test)]
 mod refusals;
 #[cfg(test)]
+mod replies;
+#[cfg(test)]
+mod sections;
+#[cfg(test)]
 mod streams;
 #[cfg(test)]
 mod tracked;

@@ -1,6 +1,8 @@
 //! Whole migrations in rounds, while the guest is written.
 
-use crate::guests::{are_equal, bytes_of, guest_of, len_of, put, send_pages, take_until};
+use crate::guests::{
+    are_equal, bytes_of, guest_of, hear_ready, len_of, put, send_pages, take_until,
+};
 use live_migration::{Receiver, Reply, Sender, Stage};
 use std::alloc::Global;
 use std::test::Fail;
@@ -61,6 +63,7 @@ fn send_all<B: ExactBitmap>(
     let mut state = 7;
     write_some(host, places, writes, &mut state);
     let mut sender = Sender::begin(alloc, host, places, stream)?;
+    hear_ready(&mut sender)?;
     for round in 0..4 {
         send_pages(alloc, &mut sender, host, places.len(), stream)?;
         if round == 3 {

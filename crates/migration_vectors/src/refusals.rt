@@ -1,6 +1,6 @@
 //! Rounds that are refused: a harvest that finds no memory, and bitmaps that do not cover their block.
 
-use crate::guests::{Host, put};
+use crate::guests::{Host, hear_ready, put};
 use live_migration::{SendError, Sender};
 use std::alloc::{AllocError, Global};
 use std::num::NonZeroUsize;
@@ -109,6 +109,7 @@ fn two_rounds<B: ExactBitmap>(
 ) -> Result<(Option<usize>, Option<usize>), Fail> {
     let mut stream = Vec::new(alloc);
     let mut sender = Sender::begin(alloc, host, &[(block, GuestAddress(0))], &mut stream)?;
+    hear_ready(&mut sender)?;
     put(host, block, 3, 1);
     let first = harvest_twice(alloc, &mut sender, host, &[1])?;
     send_all(alloc, &mut sender, host, &mut stream)?;

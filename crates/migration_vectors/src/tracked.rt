@@ -1,7 +1,7 @@
 //! A migration of a block that a `TrackedBitmap` tracks: its host marks it, and so does a device, without the host.
 ghost use Rattle.test_regions.specs.Markers.{IsHarvesterOf, IsMarkerOf};
 
-use crate::guests::{Host, bytes_of, put, take_until};
+use crate::guests::{Host, bytes_of, hear_ready, put, take_until};
 use live_migration::{Receiver, SendError, Sender, Stage};
 use std::alloc::Global;
 use std::num::NonZeroUsize;
@@ -124,7 +124,8 @@ fn is_moved(
     let size = NonZeroUsize::new(0x10).ok_or("a page has no bytes")?;
     let mut stream = Vec::new(alloc);
     let places = [(BlockId(0), GuestAddress(0x1000), size)];
-    let sender = Sender::begin_tracked(alloc, &host, &places, &mut stream)?;
+    let mut sender = Sender::begin_tracked(alloc, &host, &places, &mut stream)?;
+    hear_ready(&mut sender)?;
     let mut sending = Sending { sender, stream };
     let is_right = are_right(
         alloc,

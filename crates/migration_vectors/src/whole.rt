@@ -23,6 +23,7 @@ fn moved<B: ExactBitmap, C: NewBitmap + Drop>(
     receivers_have_what_was_sent::<B, C>();
     let mut stream = Vec::new(alloc);
     let mut sender = Sender::begin(alloc, host, &[(block, GuestAddress(0))], &mut stream)?;
+    sender.ready(&mut Reply::Ready.encode().as_slice())?;
     sender.harvest(alloc, host)?;
     sender.copy_batch(host)?;
     sender.send_batch(&mut stream)?;

@@ -1,13 +1,13 @@
-use Rattle.std.proofs.Common.{◌≡◌, ◌+◌, ℕ, List, [], ◌∷◌, map, Option, Some, refl, sym, ap, subst, ◌∙◌, add-zero, arith}
+use Rattle.std.proofs.Common.{◌≡◌, ℕ, List, [], ◌∷◌, map, Option, Some, refl, sym, ap, subst, ◌∙◌, add-zero, arith}
 use Rattle.std.specs.Global.{Vec}
 use Rattle.std.specs.Prelude.{slice_get}
 use Rattle.std.proofs.lemmas.Grind.{common_steps}
-use Rattle.vm_memory_guest.specs.Host.{Host, block_at}
+use Rattle.vm_memory_guest.specs.Host.{block_at}
 use Rattle.live_migration.specs.Calls as call
 use Rattle.live_migration.specs.Calls.{EndsPaused, HasBegun, Moment, ReadsAll}
 use Rattle.live_migration.specs.Leave.{BeginsToSend}
 use Rattle.live_migration.specs.Receiving.{Begins, ReceivesAll}
-use Rattle.live_migration.specs.Targets.{asked, place_of}
+use Rattle.live_migration.specs.Targets.{place_of}
 use Rattle.live_migration.specs.declared.sender.pages.Target.{Target}
 use Rattle.live_migration.specs.declared.sender.rounds.Rounds.{Rounds}
 use Rattle.migration_vectors.proofs.whole.moved.Goals as goal
@@ -27,6 +27,7 @@ pub returns-in-Ok : goal.returns-in-Ok
 returns-in-Ok g c =
     let pages = g.B.ExactBitmap.pages in
     let began = c.in_ok-sender.ensures in
+    let heard = c.in_ok-ready.ensures in
     let taken = c.in_ok-harvest.ensures in
     let copy = c.in_ok-copy_batch.ensures in
     let send = c.in_ok-send_batch.ensures in
@@ -39,6 +40,7 @@ returns-in-Ok g c =
       host = c.args.host.now;
       stream = header;
     } in
+    let ready : Moment g.row.B.Denot = record { sender = c.ready.new.self; host = c.args.host.now; stream = header } in
     let harvested : Moment g.row.B.Denot = record { sender = c.harvest.new.self; host = host; stream = header } in
     let copied : Moment g.row.B.Denot = record { sender = c.copy_batch.new.self; host = host; stream = header } in
     let sent : Moment g.row.B.Denot = record {
@@ -62,13 +64,17 @@ returns-in-Ok g c =
       targets = began.targets;
     } in
     let paused : EndsPaused pages first last = record {
-      before = [];
+      before = call.Ready ∷ [];
       round = call.Harvest ∷ call.Copy c.in_ok-copy_batch.field-0 ∷ call.Send ∷ [];
       behind = call.Done ∷ [];
-      paused = first;
+      paused = ready;
       through = sent;
-      runs = refl;
-      begins = began.begun.first.turn;
+      runs = (
+        ready,
+        record { rounds = heard.same.0; hasher = heard.same.1; host = refl; stream = refl },
+        refl,
+      );
+      begins = ap (λ (r : Rounds). r.turn) heard.same.0 ∙ began.begun.first.turn;
       goes = (
         harvested,
         record { taken = taken.taken; hasher = taken.same.0; stream = refl },
@@ -128,7 +134,8 @@ returns-in-Ok g c =
     let t = first_is c.in_ok-sender.sender.rounds.targets.items (c.args.block.0, 0) began.asked in
     let targets : c.done.new.self.rounds.targets.items ≡ c.in_ok-sender.sender.rounds.targets.items =
     ap (λ (r : Rounds). r.targets.items) done.same ∙ ap items end.same.0 ∙ ap items send.same.0
-    ∙ ap items copy.copied.same.0 ∙ ap items taken.taken.same.0 in
+    ∙ ap items copy.copied.same.0 ∙ ap items taken.taken.same.0
+    ∙ ap (λ (r : Rounds). r.targets.items) heard.same.0 in
     let equal = c.receivers_have_what_was_sent.ensures.equal first last (Some c.go.new.writer.items) seen next begun
     paused c.in_ok-go.ensures.sent read 0 t.target
     (ap (λ (ts : List Target). slice_get ts 0) targets ∙ t.at) in
