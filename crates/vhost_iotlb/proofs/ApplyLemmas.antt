@@ -1,17 +1,18 @@
 -- What was made for a message of the front end.
-use Rattle.std.proofs.Common.{◌≡◌, ◌⊎◌, cond, ℕ, ◌+◌, ◌-◌, ◌^◌, ◌<◌, List, [], ◌∷◌, Some, Result, Ok, Err, refl, ap, ◌∙◌, inl, inr, arith}
+use Rattle.std.proofs.Common.{◌≡◌, ◌⊎◌, cond, ℕ, ◌+◌, ◌-◌, ◌^◌, ◌<◌, List, [], ◌∷◌, Some, Result, Ok, Err, refl, sym, ap, subst, ◌∙◌, inl, inr, arith}
 use Rattle.std.proofs.lemmas.Bool.{cond-false, le-ltb}
 use Rattle.vm_memory_base.specs.Table as table
 use Rattle.vm_memory_base.specs.Table.{TableEvent, overruns}
 use Rattle.vm_memory_base.specs.declared.address.GuestAddress.{GuestAddress}
 use Rattle.vm_memory_base.specs.declared.iotlb.Permissions.{Permissions}
 use Rattle.vm_memory_guest.specs.Host.{Host}
-use Rattle.vhost_iotlb.specs.Changes.{Changes, DoneFor, Makes, call_of, set_to}
+use Rattle.vhost_iotlb.specs.Changes.{Applies, Changes, DoneFor, Makes, MakesOfMalformed, call_of, invalidate, invalidated, set_to}
 use Rattle.vhost_iotlb.specs.UserMemory.{guest_of}
 use Rattle.vhost_iotlb.specs.declared.malformed.Malformed.{Malformed}
 use Rattle.vhost_iotlb.specs.declared.malformed.Malformed.TheVariants as malformed
 use Rattle.vhost_iotlb.specs.declared.message.IotlbMessage.{IotlbMessage}
 use Rattle.vhost_iotlb.specs.declared.message.IotlbMessage.TheVariants.{Update, Invalidate}
+use Rattle.vhost_iotlb.specs.declared.table.Refusal.TheVariants as refusal
 use Rattle.vhost_iotlb.specs.declared.user_memory.UserRegion.{UserRegion}
 
 abbrev asked_for : TableEvent → Result TableEvent Malformed
@@ -43,14 +44,26 @@ module _ {B : Type 0} (number : ℕ) (regions : List UserRegion) (m : IotlbMessa
       ∙ ap (set_to iova size perm) lies)
       refl changes
 
-  pub taken_back : (iova size : ℕ) → m ≡ Invalidate iova size → iova + size < 2 ^ 64
-      → Changes number (table.Invalidate iova size) old new ⊎ Changes number table.InvalidateAll old new
+  pub taken_back : (iova size len : ℕ) → m ≡ Invalidate iova size → invalidated iova size ≡ Ok len
+      → Changes number (table.Invalidate iova len) old new ⊎ Changes number table.InvalidateAll old new
       → (calls : List TableEvent) × Makes number (call_of regions m) calls old new
-  taken_back iova size is fits changes =
-      let one : TableEvent = table.Invalidate iova size in
-      let asked : call_of regions m ≡ asked_for one =
-      ap (call_of regions) is ∙ in_range iova size (asked_for one) fits in
+  taken_back iova size len is fits changes =
+      let one : TableEvent = table.Invalidate iova len in
+      let asked : call_of regions m ≡ asked_for one = ap (call_of regions) is ∙ ap (invalidate iova) fits in
       elim changes [
         | inl c ↦ made_by one one asked (inl refl) c
         | inr c ↦ made_by one table.InvalidateAll asked (inr refl) c
       ]
+
+  -- an INVALIDATE that is malformed
+  pub all_invalidated : (iova size : ℕ) (e : Malformed) → m ≡ Invalidate iova size → invalidated iova size ≡ Err e
+      → Changes number table.InvalidateAll old new
+      → (calls : List TableEvent) × Applies number regions m (Err (refusal.Malformed e)) calls old new
+  all_invalidated iova size e is wrong changes = (
+    table.InvalidateAll ∷ [],
+    (
+      ap (call_of regions) is ∙ ap (invalidate iova) wrong,
+      subst (λ (n : IotlbMessage). MakesOfMalformed number n (table.InvalidateAll ∷ []) old new) (sym is)
+          (refl, changes),
+    ),
+  )

@@ -53,14 +53,13 @@ fits_of : (m : IotlbMessage) → IsMessage m → Fits (fields_of m)
 fits_of (Miss iova access) is = record { iova = is.0; size = omega arith; user_address = omega arith }
 fits_of (Update iova size user permissions) is =
     record { iova = omega (arith, is.0.1); size = omega (arith, is.0.1); user_address = is.1 }
-fits_of (Invalidate iova size) is =
-    record { iova = omega (arith, is.1); size = omega (arith, is.1); user_address = omega arith }
+fits_of (Invalidate iova size) is = record { iova = is.0; size = is.1; user_address = omega arith }
 fits_of (AccessFail iova access) is = record { iova = is.0; size = omega arith; user_address = omega arith }
 
 spelled_by : (m : IotlbMessage) → IsMessage m → Spells (fields_of m) m
 spelled_by (Miss iova access) is = (refl, refl, (refl, is.1))
 spelled_by (Update iova size user permissions) is = (refl, refl, refl, refl, (refl, is.2), is.0)
-spelled_by (Invalidate iova size) is = (refl, refl, refl, is)
+spelled_by (Invalidate iova size) is = (refl, refl, refl)
 spelled_by (AccessFail iova access) is = (refl, refl, (refl, is.1))
 
 pub payload_spells : (m : IotlbMessage) → IsMessage m → Spells (fields_in (payload_bytes (fields_of m))) m
@@ -110,10 +109,7 @@ spelled_is_read f (Update iova size user permissions) is =
     ∙ ap (λ (n : ℕ). Ok (Update iova n f.user_address permissions)) is.2
     ∙ ap (λ (n : ℕ). Ok (Update iova size n permissions)) is.3
 spelled_is_read f (Invalidate iova size) is =
-    let range : range_in f.iova f.size ≡ Ok tt =
-    range_ok f.iova f.size (omega (arith, is.1, is.2, is.3.0), omega (arith, is.1, is.2, is.3.1)) in
     ap (λ (kind : ℕ). read kind f.iova f.size f.user_address f.permissions) is.0
-    ∙ ap (λ (r : Result (Unit {0}) Malformed). r >>= λ _. Ok (Invalidate f.iova f.size)) range
     ∙ ap (λ (n : ℕ). Ok (Invalidate n f.size)) is.1
     ∙ ap (λ (n : ℕ). Ok (Invalidate iova n)) is.2
 spelled_is_read f (AccessFail iova access) is =
@@ -217,7 +213,7 @@ update_in f = range_in f.iova f.size >>= λ _. permissions_in f.permissions
     >>= λ p. Ok (Update f.iova f.size f.user_address p)
 
 abbrev invalidate_in : Fields → Result IotlbMessage Malformed
-invalidate_in f = range_in f.iova f.size >>= λ _. Ok (Invalidate f.iova f.size)
+invalidate_in f = Ok (Invalidate f.iova f.size)
 
 abbrev access_fail_in : Fields → Result IotlbMessage Malformed
 access_fail_in f = permissions_in f.permissions >>= λ p. Ok (AccessFail f.iova p)
@@ -259,9 +255,7 @@ read_is_spelled f m e =
         (eqb-true f.kind 2 t, refl, refl, refl, permissions_are f.permissions b.0 b.1, range_is f.iova f.size a.0 a.1)
 
     invalidate : eqb f.kind 3 ≡ true → invalidate_in f ≡ read_as m → Spells f m
-    invalidate t h =
-        let a = bind_ok (range_in f.iova f.size) (λ (_ : Unit {0}). read_as (Invalidate f.iova f.size)) m h in
-        by (Invalidate f.iova f.size) a.2 (eqb-true f.kind 3 t, refl, refl, range_is f.iova f.size a.0 a.1)
+    invalidate t h = by (Invalidate f.iova f.size) h (eqb-true f.kind 3 t, refl, refl)
 
     access_fail : eqb f.kind 4 ≡ true → access_fail_in f ≡ read_as m → Spells f m
     access_fail t h =

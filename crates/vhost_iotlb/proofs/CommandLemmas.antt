@@ -1,6 +1,7 @@
 -- What messages make of a table, as a run of a machine's commands.
-use Rattle.std.proofs.Common.{◌≡◌, Bool, true, false, cond, eqb, ℕ, List, [], ◌∷◌, ◌++◌, Option, Some, None, Result, Ok, Err, refl, sym, ap, subst, ◌∙◌, inl, inr}
-use Rattle.std.proofs.lemmas.Bool.{cond-true, eq-eqb}
+use Rattle.std.proofs.Common.{◌≡◌, ◌⊎◌, Bool, true, false, cond, eqb, ltb, ℕ, ◌+◌, ◌-◌, ◌^◌, ◌<◌, ◌≤◌, min, List, [], ◌∷◌, ◌++◌, Option, Some, None, Result, Ok, Err, refl, sym, ap, subst, ◌∙◌, inl, inr, arith}
+use Rattle.std.proofs.Math.Nat.{min-le_right}
+use Rattle.std.proofs.lemmas.Bool.{cond-true, eq-eqb, le-ltb, ltb-false}
 use Rattle.vm_memory_base.specs.Pages.{PageSet}
 use Rattle.vm_memory_base.specs.Table as table
 use Rattle.vm_memory_base.specs.Table.{Table, TableEvent, changed, events_of, overruns}
@@ -14,17 +15,18 @@ use Rattle.vm_memory.specs.State.{State}
 use Rattle.vm_memory.specs.Tables.{changed_table, changes}
 use Rattle.vm_memory.specs.declared.machine.command.Reply.{Reply}
 use Rattle.vm_memory.specs.declared.machine.command.Reply.TheVariants as reply
-use Rattle.vhost_iotlb.specs.Changes.{Applies, Changes, DoneFor, Handles, call_of, set_to}
+use Rattle.vhost_iotlb.specs.Changes.{Applies, Changes, DoneFor, Handles, MakesOfMalformed, call_of, invalidate, invalidated, named, set_to}
 use Rattle.vhost_iotlb.specs.Commands.{IsAmong, all_done, command_of, commands_of, done_by}
 use Rattle.vhost_iotlb.specs.UserMemory.{guest_of}
 use Rattle.vhost_iotlb.specs.declared.malformed.Malformed.TheVariants as malformed
 use Rattle.vhost_iotlb.specs.declared.message.IotlbMessage.{IotlbMessage}
 use Rattle.vhost_iotlb.specs.declared.message.IotlbMessage.TheVariants.{Miss, Update, Invalidate, AccessFail}
 use Rattle.vhost_iotlb.specs.declared.table.Refusal.{Refusal}
+use Rattle.vhost_iotlb.specs.declared.table.Refusal.TheVariants as refusal
 use Rattle.vhost_iotlb.specs.declared.user_memory.UserRegion.{UserRegion}
 
 -- a call that a message can lead to
-abbrev IsCall : TableEvent → Type 0
+abbrev pub IsCall : TableEvent → Type 0
 IsCall (table.Set iova to len perm) = overruns iova len ≡ false
 IsCall (table.Invalidate iova len) = overruns iova len ≡ false
 IsCall table.InvalidateAll = Unit {0}
@@ -52,12 +54,45 @@ sets_by regions iova size user perm wanted e = over (overruns iova size) refl e
     over true fits e = absurd cc
     over false fits e = to_there (guest_of regions user size) refl fits e
 
--- what an INVALIDATE asks for
-takes_by : (iova size : ℕ) (wanted : TableEvent) (b : Bool) → overruns iova size ≡ b
-    → cond b (Err malformed.Range) (Ok (table.Invalidate iova size)) ≡ Ok wanted
-    → (overruns iova size ≡ false) × (wanted ≡ table.Invalidate iova size)
-takes_by iova size wanted true fits e = absurd cc
-takes_by iova size wanted false fits e = (fits, cc)
+-- what an INVALIDATE asks for, if it is not malformed
+pub record TakesBy (iova size : ℕ) (wanted : TableEvent) : Type 0 where
+  pub len : ℕ
+  pub fine : invalidated iova size ≡ Ok len
+  pub enough : len ≡ min (named iova size) (2 ^ 64 - 1 - iova)
+  pub starts : iova < 2 ^ 64
+  pub fits : overruns iova len ≡ false
+  pub is : wanted ≡ table.Invalidate iova len
+
+abbrev most : ℕ → ℕ → ℕ
+most iova size = min (named iova size) (2 ^ 64 - 1 - iova)
+
+pub takes_by : (iova size : ℕ) (wanted : TableEvent) → invalidate iova (invalidated iova size) ≡ Ok wanted
+    → TakesBy iova size wanted
+takes_by iova size wanted e = some (eqb (named iova size) 0) refl e
+  where
+    near : (b : Bool) → ltb (2 ^ 64) (iova + named iova size) ≡ b → eqb (named iova size) 0 ≡ false
+        → invalidate iova (cond b (Err malformed.Range) (Ok (most iova size))) ≡ Ok wanted → TakesBy iova size wanted
+    near true far none e = absurd cc
+    near false far none e =
+        let ends : iova + named iova size ≤ 2 ^ 64 = ltb-false (2 ^ 64) (iova + named iova size) far in
+        let some : named iova size ≡ 0 → ⊥ = λ z. absurd cc in
+        let starts : iova < 2 ^ 64 = omega (arith, ends, some) in
+        let least : most iova size ≤ 2 ^ 64 - 1 - iova = min-le_right (named iova size) (2 ^ 64 - 1 - iova) in
+        record {
+          len = most iova size;
+          fine = rw (none, far) refl;
+          enough = refl;
+          starts = starts;
+          fits = le-ltb (2 ^ 64 - 1) (iova + most iova size) (omega (arith, least, starts));
+          is = cc;
+        }
+
+    some : (b : Bool) → eqb (named iova size) 0 ≡ b
+        → invalidate iova (cond b (Err malformed.EmptyRange)
+        (cond (ltb (2 ^ 64) (iova + named iova size)) (Err malformed.Range) (Ok (most iova size)))) ≡ Ok wanted
+        → TakesBy iova size wanted
+    some true none e = absurd cc
+    some false none e = near (ltb (2 ^ 64) (iova + named iova size)) refl none e
 
 is_call : (regions : List UserRegion) (m : IotlbMessage) (wanted call : TableEvent) → call_of regions m ≡ Ok wanted
     → DoneFor wanted call → IsCall call
@@ -66,13 +101,87 @@ is_call regions (Update iova size user perm) wanted call e done =
     let same : call ≡ table.Set iova s.to.0 size perm = subst (λ (w : TableEvent). DoneFor w call) s.is done in
     subst IsCall (sym same) s.fits
 is_call regions (Invalidate iova size) wanted call e done =
-    let t = takes_by iova size wanted (overruns iova size) refl e in
-    elim (subst (λ (w : TableEvent). DoneFor w call) t.1 done) [
-      | inl same ↦ subst IsCall (sym same) t.0
+    let t = takes_by iova size wanted e in
+    elim (subst (λ (w : TableEvent). DoneFor w call) t.is done) [
+      | inl same ↦ subst IsCall (sym same) t.fits
       | inr all ↦ subst IsCall (sym all) tt
     ]
 is_call regions (Miss iova access) wanted call e done = absurd cc
 is_call regions (AccessFail iova access) wanted call e done = absurd cc
+
+-- a call that sets a range was made for an UPDATE of it
+abbrev pub IsUpdate : List UserRegion → IotlbMessage → ℕ → ℕ → ℕ → Permissions → Type 0
+IsUpdate regions m iova to len perm =
+    (user : ℕ) × (m ≡ Update iova len user perm) × (guest_of regions user len ≡ Some (record { 0 = to }))
+
+set_by : (regions : List UserRegion) (m : IotlbMessage) (wanted call : TableEvent) (iova to len : ℕ) (perm : Permissions)
+    → call_of regions m ≡ Ok wanted → DoneFor wanted call → call ≡ table.Set iova to len perm
+    → IsUpdate regions m iova to len perm
+set_by regions (Update i size user p) wanted call iova to len perm e done is =
+    let s = sets_by regions i size user p wanted e in
+    let same : table.Set i s.to.0 size p ≡ table.Set iova to len perm =
+    sym (subst (λ (w : TableEvent). DoneFor w call) s.is done) ∙ is in
+    let there = s.lies in (
+      user,
+      update_is i iova size len user p perm (cc) (cc) (cc),
+      subst (λ (n : ℕ). guest_of regions user n ≡ Some (record { 0 = to })) (cc)
+          (there ∙ ap (λ (a : ℕ). Some (record { 0 = a })) (cc)),
+    )
+  where
+    update_is : (i iova size len user : ℕ) (p perm : Permissions) → i ≡ iova → size ≡ len → p ≡ perm
+        → Update i size user p ≡ Update iova len user perm
+    update_is i iova size len user p perm a b c = cc
+set_by regions (Invalidate i size) wanted call iova to len perm e done is =
+    let t = takes_by i size wanted e in
+    elim (subst (λ (w : TableEvent). DoneFor w call) t.is done) [
+      | inl same ↦ absurd cc
+      | inr all ↦ absurd cc
+    ]
+set_by regions (Miss i access) wanted call iova to len perm e done is = absurd cc
+set_by regions (AccessFail i access) wanted call iova to len perm e done is = absurd cc
+
+-- ---- what was made of one message: nothing, or one call
+
+pub record MadeOne {B : Type 0} (number : ℕ) (regions : List UserRegion) (m : IotlbMessage) (calls : List TableEvent)
+    (old new : Host B) : Type 0 where
+  pub call : TableEvent
+  pub made : calls ≡ call ∷ []
+  pub changes : Changes number call old new
+  pub is_call : IsCall call
+  pub set_by : (iova to len : ℕ) (perm : Permissions) → call ≡ table.Set iova to len perm
+      → IsUpdate regions m iova to len perm
+
+abbrev pub MadeOf : {B : Type 0} → ℕ → List UserRegion → IotlbMessage → List TableEvent → Host B → Host B → Type 0
+MadeOf number regions m calls old new =
+    ((calls ≡ []) × (new ≡ old)) ⊎ MadeOne number regions m calls old new
+
+module _ {B : Type 0} (number : ℕ) (regions : List UserRegion) where
+  of_malformed : (m : IotlbMessage) (calls : List TableEvent) (old new : Host B)
+      → MakesOfMalformed number m calls old new → MadeOf number regions m calls old new
+  of_malformed (Update iova size user perm) calls old new by = inl by
+  of_malformed (Miss iova access) calls old new by = inl by
+  of_malformed (AccessFail iova access) calls old new by = inl by
+  of_malformed (Invalidate iova size) calls old new by = inr (record {
+    call = table.InvalidateAll;
+    made = by.0;
+    changes = by.1;
+    is_call = tt;
+    set_by = λ iova to len perm is. absurd cc;
+  })
+
+  pub made_of : (m : IotlbMessage) (answer : Result (Unit {0}) Refusal) (calls : List TableEvent) (old new : Host B)
+      → Applies number regions m answer calls old new → MadeOf number regions m calls old new
+  made_of m (Ok done) calls old new by = inr (record {
+    call = by.call;
+    made = by.made;
+    changes = by.changes;
+    is_call = is_call regions m by.wanted by.call by.is_asked by.done_for;
+    set_by = λ iova to len perm is.
+        set_by regions m by.wanted by.call iova to len perm by.is_asked by.done_for is;
+  })
+  made_of m (Err (refusal.Malformed e)) calls old new by = of_malformed m calls old new by.1
+  made_of m (Err refusal.Memory) calls old new by = inl by.1
+  made_of m (Err refusal.NoTable) calls old new by = inl by.1
 
 -- a change of a table that is there, in a range that ends at an address
 change_is : (number iova len : ℕ) (call : TableEvent) (old new : Host PageSet) → overruns iova len ≡ false
@@ -110,20 +219,20 @@ module _ (number : ℕ) (regions : List UserRegion) (s : State) where
       (ap (λ (host : Host PageSet). record s { host = host }) h.1)
   run_of (m ∷ ms) calls old new h =
       let later : RunsBy number s h.2 h.3 new = run_of ms h.2 h.3 new h.6 in
-      subst (λ (cs : List TableEvent). RunsBy number s cs old new) (sym h.5) (first h.0 h.1 h.2 h.3 h.4 later)
+      subst (λ (cs : List TableEvent). RunsBy number s cs old new) (sym h.5)
+      (first h.1 h.2 h.3 (made_of number regions m h.0 h.1 old h.3 h.4) later)
     where
-      first : (answer : Result (Unit {0}) Refusal) (made rest : List TableEvent) (mid : Host PageSet)
-          → Applies number regions m answer made old mid → RunsBy number s rest mid new
-          → RunsBy number s (made ++ rest) old new
-      first (Ok done) made rest mid by later =
-          subst (λ (cs : List TableEvent). RunsBy number s (cs ++ rest) old new) (sym by.made) (
-            record s { host = mid },
-            step number by.call s old mid (is_call regions m by.wanted by.call by.is_asked by.done_for) by.changes,
-            later,
-          )
-      first (Err e) made rest mid by later =
-          subst (λ (cs : List TableEvent). RunsBy number s (cs ++ rest) old new) (sym by.0)
-          (subst (λ (host : Host PageSet). RunsBy number s rest host new) by.1 later)
+      first : (made rest : List TableEvent) (mid : Host PageSet) → MadeOf number regions m made old mid
+          → RunsBy number s rest mid new → RunsBy number s (made ++ rest) old new
+      first made rest mid by later = elim by [
+        | inl none ↦ (subst (λ (cs : List TableEvent). RunsBy number s (cs ++ rest) old new) (sym none.0)
+            (subst (λ (host : Host PageSet). RunsBy number s rest host new) none.1 later))
+        | inr one ↦ (subst (λ (cs : List TableEvent). RunsBy number s (cs ++ rest) old new) (sym one.made) (
+          record s { host = mid },
+          step number one.call s old mid one.is_call one.changes,
+          later,
+        ))
+      ]
 
 -- ---- the calls of the table that the commands make
 
@@ -150,18 +259,17 @@ module _ (number : ℕ) (regions : List UserRegion) where
       subst (λ (cs : List TableEvent). calls_again number cs ≡ cs) (sym h.0) refl
   calls_are (m ∷ ms) calls old new h =
       subst (λ (cs : List TableEvent). calls_again number cs ≡ cs) (sym h.5)
-      (first h.0 h.1 h.2 h.3 h.4 (calls_are ms h.2 h.3 new h.6))
+      (first h.1 h.2 h.3 (made_of number regions m h.0 h.1 old h.3 h.4) (calls_are ms h.2 h.3 new h.6))
     where
-      first : (answer : Result (Unit {0}) Refusal) (made rest : List TableEvent) (mid : Host PageSet)
-          → Applies number regions m answer made old mid → calls_again number rest ≡ rest
-          → calls_again number (made ++ rest) ≡ made ++ rest
-      first (Ok done) made rest mid by later =
-          subst (λ (cs : List TableEvent). calls_again number (cs ++ rest) ≡ cs ++ rest) (sym by.made)
-          (ap (λ (cs : List TableEvent). cs ++ calls_again number rest)
-          (call_again number by.call (is_call regions m by.wanted by.call by.is_asked by.done_for))
-          ∙ ap (λ (cs : List TableEvent). by.call ∷ cs) later)
-      first (Err e) made rest mid by later =
-          subst (λ (cs : List TableEvent). calls_again number (cs ++ rest) ≡ cs ++ rest) (sym by.0) later
+      first : (made rest : List TableEvent) (mid : Host PageSet) → MadeOf number regions m made old mid
+          → calls_again number rest ≡ rest → calls_again number (made ++ rest) ≡ made ++ rest
+      first made rest mid by later = elim by [
+        | inl none ↦
+            subst (λ (cs : List TableEvent). calls_again number (cs ++ rest) ≡ cs ++ rest) (sym none.0) later
+        | inr one ↦ (subst (λ (cs : List TableEvent). calls_again number (cs ++ rest) ≡ cs ++ rest) (sym one.made)
+            (ap (λ (cs : List TableEvent). cs ++ calls_again number rest) (call_again number one.call one.is_call)
+            ∙ ap (λ (cs : List TableEvent). one.call ∷ cs) later))
+      ]
 
   pub events_are : (ms : List IotlbMessage) (calls : List TableEvent) (old new : Host PageSet) (t : Table)
       → Handles number regions ms calls old new
@@ -174,53 +282,28 @@ module _ (number : ℕ) (regions : List UserRegion) where
   Updated ms iova to len perm = (user : ℕ) × IsAmong (Update iova len user perm) ms
       × (guest_of regions user len ≡ Some (record { 0 = to }))
 
-  set_by : (m : IotlbMessage) (wanted call : TableEvent) (iova to len : ℕ) (perm : Permissions)
-      → call_of regions m ≡ Ok wanted → DoneFor wanted call → call ≡ table.Set iova to len perm
-      → (user : ℕ) × (m ≡ Update iova len user perm) × (guest_of regions user len ≡ Some (record { 0 = to }))
-  set_by (Update i size user p) wanted call iova to len perm e done is =
-      let s = sets_by regions i size user p wanted e in
-      let same : table.Set i s.to.0 size p ≡ table.Set iova to len perm =
-      sym (subst (λ (w : TableEvent). DoneFor w call) s.is done) ∙ is in
-      let there = s.lies in (
-        user,
-        update_is i iova size len user p perm (cc) (cc) (cc),
-        subst (λ (n : ℕ). guest_of regions user n ≡ Some (record { 0 = to })) (cc)
-            (there ∙ ap (λ (a : ℕ). Some (record { 0 = a })) (cc)),
-      )
-    where
-      update_is : (i iova size len user : ℕ) (p perm : Permissions) → i ≡ iova → size ≡ len → p ≡ perm
-          → Update i size user p ≡ Update iova len user perm
-      update_is i iova size len user p perm a b c = cc
-  set_by (Invalidate i size) wanted call iova to len perm e done is =
-      let t = takes_by i size wanted (overruns i size) refl e in
-      elim (subst (λ (w : TableEvent). DoneFor w call) t.1 done) [
-        | inl same ↦ absurd cc
-        | inr all ↦ absurd cc
-      ]
-  set_by (Miss i access) wanted call iova to len perm e done is = absurd cc
-  set_by (AccessFail i access) wanted call iova to len perm e done is = absurd cc
-
   pub updates_are : (ms : List IotlbMessage) (calls : List TableEvent) (old new : Host PageSet)
       (iova to len : ℕ) (perm : Permissions) → Handles number regions ms calls old new
       → IsAmong (table.Set iova to len perm) calls → Updated ms iova to len perm
   updates_are [] calls old new iova to len perm h among =
       absurd (subst (λ (cs : List TableEvent). IsAmong (table.Set iova to len perm) cs) h.0 among)
   updates_are (m ∷ ms) calls old new iova to len perm h among =
-      first h.0 h.1 h.2 h.3 h.4 (λ there. updates_are ms h.2 h.3 new iova to len perm h.6 there)
+      first h.1 h.2 h.3 (made_of number regions m h.0 h.1 old h.3 h.4)
+      (λ there. updates_are ms h.2 h.3 new iova to len perm h.6 there)
       (subst (λ (cs : List TableEvent). IsAmong (table.Set iova to len perm) cs) h.5 among)
     where
       more : Updated ms iova to len perm → Updated (m ∷ ms) iova to len perm
       more u = (u.0, inr u.1, u.2)
 
-      first : (answer : Result (Unit {0}) Refusal) (made rest : List TableEvent) (mid : Host PageSet)
-          → Applies number regions m answer made old mid
+      first : (made rest : List TableEvent) (mid : Host PageSet) → MadeOf number regions m made old mid
           → (IsAmong (table.Set iova to len perm) rest → Updated ms iova to len perm)
           → IsAmong (table.Set iova to len perm) (made ++ rest) → Updated (m ∷ ms) iova to len perm
-      first (Ok done) made rest mid by later among =
-          elim (subst (λ (cs : List TableEvent). IsAmong (table.Set iova to len perm) (cs ++ rest)) by.made among) [
-            | inl same ↦ (let u = set_by m by.wanted by.call iova to len perm by.is_asked by.done_for same in
-                (u.0, inl u.1, u.2))
-            | inr there ↦ more (later there)
-          ]
-      first (Err e) made rest mid by later among =
-          more (later (subst (λ (cs : List TableEvent). IsAmong (table.Set iova to len perm) (cs ++ rest)) by.0 among))
+      first made rest mid by later among = elim by [
+        | inl none ↦ more (later
+            (subst (λ (cs : List TableEvent). IsAmong (table.Set iova to len perm) (cs ++ rest)) none.0 among))
+        | inr one ↦ elim (subst (λ (cs : List TableEvent). IsAmong (table.Set iova to len perm) (cs ++ rest)) one.made
+            among) [
+              | inl same ↦ (let u = one.set_by iova to len perm same in (u.0, inl u.1, u.2))
+              | inr there ↦ more (later there)
+            ]
+      ]

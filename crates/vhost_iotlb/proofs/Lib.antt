@@ -3,6 +3,7 @@ pub mod CodecLemmas
 pub mod CommandLemmas
 pub mod CutLemmas
 pub mod HandlingLemmas
+pub mod InvalidationLemmas
 pub mod SendLemmas
 pub mod StreamLemmas
 pub mod TableLemmas

@@ -1,5 +1,5 @@
 -- What messages make of a table of a host.
-use Rattle.std.specs.Prelude.{◌≡◌, ◌⊎◌, ◌≤◌, ℕ, if◌then◌else◌, List, [], ◌∷◌, ◌++◌, length, slice_get, Option, Some, None, Result, Ok, Err}
+use Rattle.std.specs.Prelude.{◌≡◌, ◌⊎◌, ◌≤◌, ℕ, ◌+◌, ◌-◌, ◌^◌, ◌&&◌, ◌==◌, min, nat_lt, if◌then◌else◌, List, [], ◌∷◌, ◌++◌, length, slice_get, Option, Some, None, Result, Ok, Err}
 use Rattle.vm_memory_base.specs.Table as table
 use Rattle.vm_memory_base.specs.Table.{Table, TableEvent, changed, overruns}
 use Rattle.vm_memory_base.specs.declared.address.GuestAddress.{GuestAddress}
@@ -19,12 +19,26 @@ abbrev pub set_to : ℕ → ℕ → Permissions → Option GuestAddress → Resu
 set_to iova size permissions None = Err malformed.UserAddress
 set_to iova size permissions (Some to) = Ok (table.Set iova to.0 size permissions)
 
+-- how many addresses an INVALIDATE names: all of them are 2 ^ 64, whose 64 lowest bits are 0
+abbrev pub named : ℕ → ℕ → ℕ
+named iova size = if iova == 0 && size == 0 then 2 ^ 64 else size
+
+-- how many of them are invalidated, or what is wrong with them: they may go on to the last address, which no table maps
+abbrev pub invalidated : ℕ → ℕ → Result ℕ Malformed
+invalidated iova size = if named iova size == 0 then Err malformed.EmptyRange else (
+    if nat_lt (2 ^ 64) (iova + named iova size) then Err malformed.Range
+    else Ok (min (named iova size) (2 ^ 64 - 1 - iova)))
+
+-- so many addresses are invalidated
+abbrev pub invalidate : ℕ → Result ℕ Malformed → Result TableEvent Malformed
+invalidate iova (Err e) = Err e
+invalidate iova (Ok len) = Ok (table.Invalidate iova len)
+
 -- the call of a table that a message of the front end asks for, or what is wrong with it
 abbrev pub call_of : List UserRegion → IotlbMessage → Result TableEvent Malformed
 call_of regions (Update iova size user permissions) =
     if overruns iova size then Err malformed.Range else set_to iova size permissions (guest_of regions user size)
-call_of regions (Invalidate iova size) =
-    if overruns iova size then Err malformed.Range else Ok (table.Invalidate iova size)
+call_of regions (Invalidate iova size) = invalidate iova (invalidated iova size)
 call_of regions (Miss iova access) = Err malformed.Kind
 call_of regions (AccessFail iova access) = Err malformed.Kind
 
@@ -49,19 +63,31 @@ pub record Makes {B : Type 0} (number : ℕ) (asked : Result TableEvent Malforme
   pub made : calls ≡ call ∷ []
   pub changes : Changes number call old new
 
--- why nothing was made
-abbrev pub RefusesFor : {B : Type 0} → ℕ → Result TableEvent Malformed → IotlbMessage → Refusal → Host B → Type 0
-RefusesFor number asked m (refusal.Malformed e) old = asked ≡ Err e
-RefusesFor number asked (Update iova size user permissions) refusal.Memory old = Unit {0}
-RefusesFor number asked m refusal.Memory old = ⊥
-RefusesFor number asked m refusal.NoTable old = length old.tables ≤ number
+-- nothing was made of a message
+abbrev pub MakesNothing : {B : Type 0} → List TableEvent → Host B → Host B → Type 0
+MakesNothing calls old new = (calls ≡ []) × (new ≡ old)
+
+-- what is made of a message that is malformed: nothing, but an INVALIDATE then invalidates everything
+abbrev pub MakesOfMalformed : {B : Type 0} → ℕ → IotlbMessage → List TableEvent → Host B → Host B → Type 0
+MakesOfMalformed number (Invalidate iova size) calls old new =
+    (calls ≡ table.InvalidateAll ∷ []) × Changes number table.InvalidateAll old new
+MakesOfMalformed number m calls old new = MakesNothing calls old new
+
+-- what was asked for may be refused for want of memory: that a range is mapped
+abbrev pub MayWant : Result TableEvent Malformed → Type 0
+MayWant (Ok (table.Set iova to len permissions)) = Unit {0}
+MayWant asked = ⊥
 
 -- a message to the table of this number: the calls that it made of it, one or none
 abbrev pub Applies : {B : Type 0} → ℕ → List UserRegion → IotlbMessage → Result (Unit {0}) Refusal → List TableEvent
     → Host B → Host B → Type 0
 Applies number regions m (Ok done) calls old new = Makes number (call_of regions m) calls old new
-Applies number regions m (Err e) calls old new =
-    (calls ≡ []) × (new ≡ old) × RefusesFor number (call_of regions m) m e old
+Applies number regions m (Err (refusal.Malformed e)) calls old new =
+    (call_of regions m ≡ Err e) × MakesOfMalformed number m calls old new
+Applies number regions m (Err refusal.Memory) calls old new =
+    MayWant (call_of regions m) × MakesNothing calls old new
+Applies number regions m (Err refusal.NoTable) calls old new =
+    (length old.tables ≤ number) × MakesNothing calls old new
 
 -- messages came one after the other: these calls are what they made of the table
 abbrev pub Handles : {B : Type 0} → ℕ → List UserRegion → List IotlbMessage → List TableEvent → Host B → Host B

@@ -3,6 +3,7 @@ pub mod Commands
 pub mod Frames
 pub mod Handling
 pub mod Header
+pub mod Invalidation
 pub mod Message
 pub mod Reaches
 pub mod Stream

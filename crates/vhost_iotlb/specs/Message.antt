@@ -35,7 +35,7 @@ number_of ReadWrite = 3
 abbrev pub IsAccess : ℕ → Permissions → Type 0
 IsAccess number p = (number ≡ number_of p) × (0 < number)
 
--- a range with addresses, whose end is one
+-- the range of an UPDATE has addresses, and its end is one
 abbrev pub IsRange : ℕ → ℕ → Type 0
 IsRange iova size = (0 < size) × (iova + size < 2 ^ 64)
 
@@ -44,7 +44,7 @@ abbrev pub Spells : Fields → IotlbMessage → Type 0
 Spells f (Miss iova access) = (f.kind ≡ 1) × (f.iova ≡ iova) × IsAccess f.permissions access
 Spells f (Update iova size user permissions) = (f.kind ≡ 2) × (f.iova ≡ iova) × (f.size ≡ size)
     × (f.user_address ≡ user) × IsAccess f.permissions permissions × IsRange iova size
-Spells f (Invalidate iova size) = (f.kind ≡ 3) × (f.iova ≡ iova) × (f.size ≡ size) × IsRange iova size
+Spells f (Invalidate iova size) = (f.kind ≡ 3) × (f.iova ≡ iova) × (f.size ≡ size)
 Spells f (AccessFail iova access) = (f.kind ≡ 4) × (f.iova ≡ iova) × IsAccess f.permissions access
 
 -- what has a spelling
@@ -52,7 +52,7 @@ abbrev pub IsMessage : IotlbMessage → Type 0
 IsMessage (Miss iova access) = (iova < 2 ^ 64) × (0 < number_of access)
 IsMessage (Update iova size user permissions) =
     IsRange iova size × (user < 2 ^ 64) × (0 < number_of permissions)
-IsMessage (Invalidate iova size) = IsRange iova size
+IsMessage (Invalidate iova size) = (iova < 2 ^ 64) × (size < 2 ^ 64)
 IsMessage (AccessFail iova access) = (iova < 2 ^ 64) × (0 < number_of access)
 
 -- the fields of a message, with 0 where a field means nothing
@@ -91,6 +91,6 @@ unfoldable pub message_in : Fields → Result IotlbMessage Malformed
 message_in f = if f.kind == 1 then (permissions_in f.permissions >>= λ p. Ok (Miss f.iova p)) else (
     if f.kind == 2 then (range_in f.iova f.size >>= λ _. permissions_in f.permissions
     >>= λ p. Ok (Update f.iova f.size f.user_address p)) else (
-    if f.kind == 3 then (range_in f.iova f.size >>= λ _. Ok (Invalidate f.iova f.size)) else (
+    if f.kind == 3 then Ok (Invalidate f.iova f.size) else (
     if f.kind == 4 then (permissions_in f.permissions >>= λ p. Ok (AccessFail f.iova p))
     else Err malformed.Kind)))

@@ -63,7 +63,7 @@ pub enum Handled {
     Nothing,
     /// A message that was applied to the table.
     Applied(IotlbMessage),
-    /// A message that was refused, and changed nothing.
+    /// A message that was refused, for this reason.
     Refused(Refusal),
     /// A message of another request, which its owner serves.
     Other(Frame),

@@ -19,7 +19,7 @@ pub trait SharedHost {
     ghost applies: { Self → DeviceTable → IotlbMessage → Result (Unit {0}) Refusal → Self → Type 0 };
 
     /// Applies a message to a table of the host: `DeviceTable::apply`. While it runs nothing else is done with the
-    /// host, so no access is on its way through a mapping that it takes back.
+    /// host, so no access is on its way through a mapping that it unmaps.
     fn apply(&mut self, table: &DeviceTable, message: &IotlbMessage) -> Result<(), Refusal>
         ensures { applies self.old table.now message.now result self.new };
 

@@ -1,6 +1,6 @@
 //! What holds of every stream and every list of messages: each function here is a theorem, and does nothing. It calls
 //! the theorems that it follows from.
-ghost use Rattle.std.specs.Prelude.{◌≡◌, ◌+◌, ◌-◌, ◌^◌, ◌<◌, ℕ, true, List, Option, Some, None, slice_get, Result, Ok};
+ghost use Rattle.std.specs.Prelude.{◌≡◌, ◌+◌, ◌-◌, ◌^◌, ◌<◌, ℕ, true, false, List, ◌∷◌, ◌++◌, All, Option, Some, None, slice_get, Result, Ok};
 ghost use Rattle.vm_memory_base.specs.Address.{step};
 ghost use Rattle.vm_memory_base.specs.Pages.{PageSet};
 ghost use Rattle.vm_memory_base.specs.Permissions.{allow};
@@ -17,13 +17,14 @@ ghost use Rattle.vm_memory.specs.Reply.{reached_by};
 ghost use Rattle.vm_memory.specs.State.{State};
 ghost use Rattle.vhost_iotlb.specs.Changes.{Handles};
 ghost use Rattle.vhost_iotlb.specs.Commands.{IsAmong, all_done, commands_of};
+ghost use Rattle.vhost_iotlb.specs.Invalidation.{unmaps, updates};
 ghost use Rattle.vhost_iotlb.specs.Message.{IsMessage, Spells, fields_in, fields_of, message_in, payload_bytes};
 ghost use Rattle.vhost_iotlb.specs.Stream.{AllLook, Given, IsCut, IsPart, Pending, Reads, bytes_of, frames_of};
 ghost use Rattle.vhost_iotlb.specs.UserMemory.{guest_of};
 ghost use Rattle.vhost_iotlb.specs.declared.channel.ChannelError.{ChannelError};
 ghost use Rattle.vhost_iotlb.specs.declared.channel.Frame.{Frame};
 ghost use Rattle.vhost_iotlb.specs.declared.message.IotlbMessage.{IotlbMessage};
-ghost use Rattle.vhost_iotlb.specs.declared.message.IotlbMessage.TheVariants.{Update};
+ghost use Rattle.vhost_iotlb.specs.declared.message.IotlbMessage.TheVariants.{Invalidate, Update};
 ghost use Rattle.vhost_iotlb.specs.declared.user_memory.UserRegion.{UserRegion};
 
 use crate::channel::Receive;
@@ -112,4 +113,26 @@ pub fn accesses_go_through_what_was_updated_last()
 {
     messages_are_commands();
     accesses_go_through_what_was_set_last();
+}
+
+/// After an INVALIDATE that names an address, and no UPDATE of that address since, the table misses it, and no access
+/// behind the table reaches a byte there, whatever came before and since. After a malformed one that holds of each
+/// address that no UPDATE had since. The last address, 2^64 - 1, is none that an access can have.
+pub fn invalidated_addresses_are_missed()
+    ensures missed { (number x iova size : ℕ) (regions : List UserRegion) (earlier later : List IotlbMessage)
+        (calls : List TableEvent) (old new : Host PageSet) (t : Table)
+        → Handles number regions (earlier ++ Invalidate iova size ∷ later) calls old new
+        → slice_get old.tables number ≡ Some t → x < 2 ^ 64 - 1 → unmaps iova size x ≡ true
+        → All (λ m. updates x m ≡ false) later
+        → (u : Table) × (slice_get new.tables number ≡ Some u) × (says u x ≡ None) }
+    ensures unreached { (a n i iova size : ℕ) (regions : List UserRegion) (earlier later : List IotlbMessage)
+        (calls : List TableEvent) (old new : Host PageSet) (m : Memory) (b : Translation) (t : Table)
+        (access : Permissions) (x : Reached)
+        → Handles b.table regions (earlier ++ Invalidate iova size ∷ later) calls old new
+        → behind_of m.iommu ≡ Some b → slice_get old.tables b.table ≡ Some t → a + i < 2 ^ 64 - 1
+        → unmaps iova size (a + i) ≡ true → All (λ n. updates (a + i) n ≡ false) later
+        → slice_get (reached_by m new.tables a n access).path i ≡ Some x → ⊥ }
+{
+    tables_say_what_was_updated_last();
+    accesses_go_through_what_was_updated_last();
 }

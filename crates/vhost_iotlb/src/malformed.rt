@@ -2,7 +2,7 @@
 
 use thiserror::Error;
 
-/// Why a message is malformed. It changes nothing, and where a reply is asked for the reply is not 0.
+/// Why a message is malformed. It maps nothing, and a reply that is asked for is not 0.
 #[derive(Clone, Copy, Debug, PartialEq, Eq, Error)]
 pub enum Malformed {
     /// The two lowest bits of the flags are not 1.
@@ -14,10 +14,10 @@ pub enum Malformed {
     /// No kind of messages has this number, or the other end is the one to send it.
     #[error("unknown kind of message")]
     Kind,
-    /// A range that is set or taken back has addresses.
+    /// A range that is mapped or invalidated has addresses.
     #[error("empty range")]
     EmptyRange,
-    /// The end of a range is past 2^64 - 1.
+    /// A range that is mapped ends past 2^64 - 1, or one that is invalidated past 2^64.
     #[error("range past the last address")]
     Range,
     /// The permissions are none, or no permissions.

@@ -33,7 +33,8 @@ pub enum IotlbMessage {
         user_address: u64,
         permissions: Permissions,
     },
-    /// The front end takes back the mappings of `size` addresses from `iova` on.
+    /// The front end invalidates the mappings of `size` addresses from `iova` on. The last may be 2^64 - 1, and both
+    /// numbers are 0 for all addresses.
     Invalidate {
         iova: u64,
         size: u64,
@@ -119,7 +120,7 @@ fn permissions_in(number: u8) -> Result<Permissions, Malformed>
     }
 }
 
-// Whether a range has addresses, and its end is one.
+// Whether the range of an UPDATE has addresses, and its end is one.
 fn range_in(iova: u64, size: u64) -> Result<(), Malformed>
     ensures { result ≡ range_in iova size }
 {
@@ -158,10 +159,7 @@ fn message_in(fields: Fields) -> Result<IotlbMessage, Malformed>
                 permissions,
             })
         }
-        INVALIDATE => {
-            range_in(iova, size)?;
-            Ok(IotlbMessage::Invalidate { iova, size })
-        }
+        INVALIDATE => Ok(IotlbMessage::Invalidate { iova, size }),
         ACCESS_FAIL => {
             let access = permissions_in(permissions)?;
             Ok(IotlbMessage::AccessFail { iova, access })
@@ -171,8 +169,9 @@ fn message_in(fields: Fields) -> Result<IotlbMessage, Malformed>
 }
 
 impl IotlbMessage {
-    /// The message of this payload: no other one is spelled so. `Kind` where no kind has its number, `EmptyRange` and
-    /// `Range` of a range that is set or taken back, and `Permissions` where a message has none though it needs some.
+    /// The message of this payload: no other one is spelled so. `Kind` if no kind has its number, `EmptyRange` and
+    /// `Range` for the range of an UPDATE, and `Permissions` if a message has none though it needs some. Any two
+    /// numbers make an INVALIDATE, since the table has to hear of it: `DeviceTable::apply` tests its range.
     pub fn decode(payload: &[u8; PAYLOAD_LEN]) -> Result<IotlbMessage, Malformed>
         // What is decoded is spelled so.
         ensures found { IfOk result (λ m. Spells (fields_in payload.now) m) }
@@ -225,8 +224,8 @@ impl IotlbMessage {
         }
     }
 
-    /// Its payload: fields that mean nothing are 0. `decode` gives the message again, unless its range is empty or
-    /// passes the last address, or it has no permissions.
+    /// Its payload: fields that mean nothing are 0. `decode` gives the message again, unless it is an UPDATE whose
+    /// range is empty or passes the last address, or it has no permissions though it needs some.
     pub fn encode(self) -> [u8; PAYLOAD_LEN]
         ensures bytes { result ≡ payload_bytes (fields_of self) }
         ensures spelled { IsMessage self → Spells (fields_in result) self }

@@ -3,7 +3,7 @@ ghost use Rattle.std.specs.Prelude.{◌≡◌, ◌⊎◌, ◌+◌, ◌^◌, ◌<
 ghost use Rattle.vm_memory_base.specs.Table as tables;
 ghost use Rattle.vm_memory_base.specs.Table.{TableEvent};
 ghost use Rattle.vm_memory_guest.specs.Host.{shape_of, with_given_table};
-ghost use Rattle.vhost_iotlb.specs.Changes.{Applies, Changes};
+ghost use Rattle.vhost_iotlb.specs.Changes.{Applies, Changes, invalidated};
 
 use crate::malformed::Malformed;
 use crate::message::IotlbMessage;
@@ -12,7 +12,7 @@ use std::alloc::{AllocError, Global};
 use thiserror::Error;
 use vm_memory::{GuestAddress, HostMemory, Iotlb, Permissions, TlbId};
 
-/// Why a message was not applied. Then nothing changed.
+/// Why a message was not applied. Then nothing changed, but a malformed INVALIDATE invalidated everything.
 #[derive(Clone, Copy, Debug, PartialEq, Eq, Error)]
 pub enum Refusal {
     /// The message is malformed.
@@ -59,7 +59,26 @@ fn set_in<B>(
     }
 }
 
-// Takes back the mappings of a range, or all, where memory is short: to take back a part of a range may want some.
+// How many addresses an INVALIDATE invalidates: those that it names, up to the last one, which no table maps.
+fn invalidated(iova: u64, size: u64) -> Result<u64, Malformed>
+    ensures length { result ≡ invalidated iova size }
+    ensures fits { IfOk result (λ len. iova + len < 2 ^ 64) }
+{
+    let most = u64::MAX - iova;
+    if size == 0 {
+        return if iova == 0 {
+            Ok(most)
+        } else {
+            Err(Malformed::EmptyRange)
+        };
+    }
+    if size - 1 > most {
+        return Err(Malformed::Range);
+    }
+    Ok(size.min(most))
+}
+
+// Invalidates the mappings of a range, or all if memory is short: to invalidate a part of a range may want some.
 fn take_back(table: &mut Iotlb, iova: u64, size: u64)
     requires { iova + size < 2 ^ 64 }
     ensures { (table.new ≡ tables.changed (tables.Invalidate iova size) table.old)
@@ -73,7 +92,16 @@ fn take_back(table: &mut Iotlb, iova: u64, size: u64)
     }
 }
 
-// The same of a table of a host.
+// Invalidates all mappings of a table of a host.
+fn invalidate_all<B>(host: &mut HostMemory<B>, table: TlbId)
+    requires { table.0 < length host.old.tables }
+    ensures changed { Changes table.0 tables.InvalidateAll host.old host.new }
+    ensures shape { shape_of host.new ≡ shape_of host.old }
+{
+    host.table_mut(table).invalidate_all();
+}
+
+// Invalidates the mappings of a range of a table of a host, or all.
 fn take_back_in<B>(host: &mut HostMemory<B>, table: TlbId, iova: u64, size: u64)
     requires there { table.0 < length host.old.tables }
     requires fits { iova + size < 2 ^ 64 }
@@ -104,12 +132,15 @@ impl DeviceTable {
     }
 
     /// Applies a message of the front end to the table: an UPDATE maps its range to the guest memory that its user
-    /// address is, and an INVALIDATE takes its range back. Where memory is too short for that, it takes back all,
-    /// which the table then misses: an INVALIDATE is never refused for memory. An UPDATE is, with `Memory`.
+    /// address is, and an INVALIDATE invalidates its range, which may end at the last address; (0, 0) are all
+    /// addresses. If memory is too short for that, it invalidates everything, which the table then misses: an
+    /// INVALIDATE is never refused for memory. An UPDATE is, with `Memory`.
     ///
-    /// `Malformed` with `Kind` for a message that a front end does not send, with `Range` for a range past the last
-    /// address, and with `UserAddress` where the announced memory does not hold an UPDATE's. `NoTable` where the host
-    /// has no such table. Whatever is refused changes nothing.
+    /// `Malformed` with `Kind` for a message that a front end does not send, with `EmptyRange` for an INVALIDATE of no
+    /// addresses, with `Range` for an INVALIDATE past the last address and an UPDATE up to it, and with `UserAddress`
+    /// if the announced memory does not hold an UPDATE's. `NoTable` if the host has no such table. What is refused
+    /// changes nothing, but a malformed INVALIDATE invalidates everything: which of the front end's mappings still
+    /// hold is not known then.
     pub fn apply<B>(&self, host: &mut HostMemory<B>, message: &IotlbMessage) -> Result<(), Refusal>
         ensures applied { (calls : List TableEvent)
             × Applies self.now.table.0 self.now.memory message.now result calls host.old host.new }
@@ -138,11 +169,16 @@ impl DeviceTable {
                 }
             }
             IotlbMessage::Invalidate { iova, size } => {
-                if iova.checked_add(size).is_none() {
-                    return Err(Refusal::Malformed(Malformed::Range));
+                match invalidated(iova, size) {
+                    Ok(len) => {
+                        take_back_in(host, self.table, iova, len);
+                        Ok(())
+                    }
+                    Err(error) => {
+                        invalidate_all(host, self.table);
+                        Err(Refusal::Malformed(error))
+                    }
                 }
-                take_back_in(host, self.table, iova, size);
-                Ok(())
             }
             IotlbMessage::Miss { .. } | IotlbMessage::AccessFail { .. } => {
                 Err(Refusal::Malformed(Malformed::Kind))

@@ -37,7 +37,7 @@ impl UserRegion {
     }
 }
 
-/// The parts of its memory that a front end announced. Where two have an address, the first decides.
+/// The parts of its memory that a front end announced. If several have all of a range, the first of them decides.
 #[derive(Debug, Drop)]
 pub struct UserMemory {
     regions: Vec<UserRegion>,

@@ -4,6 +4,8 @@
 #[cfg(test)]
 mod channels;
 #[cfg(test)]
+mod invalidations;
+#[cfg(test)]
 mod limits;
 #[cfg(test)]
 mod messages;

@@ -103,7 +103,7 @@ struct Told {
 }
 
 impl Told {
-    // A range is set, or taken back.
+    // A range is mapped, or invalidated.
     fn set(&mut self, iova: u64, size: u64, to: Option<u64>) {
         for i in 0..8 {
             let page = IOVA.wrapping_add((i as u64).wrapping_mul(PAGE));
@@ -120,11 +120,11 @@ impl Told {
         let user = number_at(bytes, 16);
         let permitted = matches!(byte_at(bytes, 24), 1..=3);
         let kind = byte_at(bytes, 25);
-        let past = u128::from(iova) + u128::from(size) > u128::from(u64::MAX);
+        let end = u128::from(iova) + u128::from(size);
         match kind {
             1 | 4 if !permitted => 7,
-            2 | 3 if size == 0 => 5,
-            2 | 3 if past => 6,
+            2 if size == 0 => 5,
+            2 if end >= 1 << 64 => 6,
             2 if !permitted => 7,
             2 => match announced(user, size) {
                 Some(to) => {
@@ -133,6 +133,18 @@ impl Told {
                 }
                 None => 8,
             },
+            3 if end == 0 => {
+                self.pages = [None; 8];
+                0
+            }
+            3 if size == 0 => {
+                self.pages = [None; 8];
+                5
+            }
+            3 if end > 1 << 64 => {
+                self.pages = [None; 8];
+                6
+            }
             3 => {
                 self.set(iova, size, None);
                 0
@@ -288,7 +300,8 @@ fn expect_counts(alloc: Global, seed: u64, wanted: Counts) -> Result<(), Fail> {
 
 #[test]
 fn changed_streams(rt: HostRuntime) -> Result<(), Fail> {
-    let counts = [147665, 28166, 594, 1852, 1692, 304, 4, 746, 3884, 0];
+    // One of these messages is an INVALIDATE (0, 0).
+    let counts = [147666, 28166, 594, 1852, 1692, 303, 4, 746, 3884, 0];
     expect_counts(rt.alloc(), 1, counts)
 }
 

@@ -1,5 +1,5 @@
 use Rattle.std.proofs.Common.{rules, sym, ◌∙◌}
-use Rattle.vhost_iotlb.proofs.ApplyLemmas.{set_made, taken_back}
+use Rattle.vhost_iotlb.proofs.ApplyLemmas.{all_invalidated, set_made, taken_back}
 use Rattle.vhost_iotlb.proofs.table.DeviceTable.apply.Goals as goal
 
 pub returns-then-set_in-clause-applied : goal.returns-then-set_in-clause-applied
@@ -9,8 +9,15 @@ returns-then-set_in-clause-applied g c =
     m.size m.user_address m.permissions c.in-Some.to m.is (search rules) (sym c.guest_of.ensures ∙ c.in-Some.is)
     (c.set_in.ensures.set c.if-set_in.true)
 
-pub returns-else-is_none-2-clause-applied : goal.returns-else-is_none-2-clause-applied
-returns-else-is_none-2-clause-applied g c =
+pub returns-in-Ok-clause-applied : goal.returns-in-Ok-clause-applied
+returns-in-Ok-clause-applied g c =
     let m = c.in-Invalidate in
     taken_back c.args.self.now.table.0 c.args.self.now.memory c.args.message.now c.args.host.now c.take_back_in.new.host
-    m.iova m.size m.is (search rules) c.take_back_in.ensures.changed
+    m.iova m.size c.in-Ok.len m.is (sym c.in-Ok.ensures.length) c.take_back_in.ensures.changed
+
+pub returns-in-Err-clause-applied : goal.returns-in-Err-clause-applied
+returns-in-Err-clause-applied g c =
+    let m = c.in-Invalidate in
+    all_invalidated c.args.self.now.table.0 c.args.self.now.memory c.args.message.now c.args.host.now
+    c.invalidate_all.new.host m.iova m.size c.in-Err.error m.is (sym c.in-Err.ensures.length)
+    c.invalidate_all.ensures.changed
