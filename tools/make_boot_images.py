@@ -39,7 +39,7 @@ def elf():
 
 
 def bzimage():
-    """A boot sector, one sector of setup code, and a kernel of 1,000 bytes."""
+    """A boot sector, one sector of setup code, and a relocatable kernel of 1,000 bytes that needs 4,096 to run."""
     image = bytearray(1024) + text(1000, 3)
     image[0x1F1] = 1
     image[0x201] = 0x66
@@ -48,7 +48,10 @@ def bzimage():
     image[0x211] = 1
     struct.pack_into("<I", image, 0x214, 0x100000)
     struct.pack_into("<I", image, 0x22C, 0x7FFFFFFF)
-    struct.pack_into("<I", image, 0x260, 0x2000)
+    struct.pack_into("<I", image, 0x230, 0x1000)
+    image[0x234] = 1
+    struct.pack_into("<Q", image, 0x258, 0x100000)
+    struct.pack_into("<I", image, 0x260, 0x1000)
     return bytes(image)
 
 

@@ -1,19 +1,21 @@
 -- What is planned of an ELF file, step by step.
-use Rattle.std.proofs.Common.{◌≡◌, ◌⊎◌, ◌∙◌, ℕ, ◌+◌, ◌-◌, ◌≤◌, List, arith, false, nat_lt, drop, length, length-drop, min, take, AllPairs, Option, Result, Ok, Err, MatchResult, Vec, ap, inl, inr, refl, sym}
+use Rattle.std.proofs.Common.{◌≡◌, ◌⊎◌, ◌∙◌, ℕ, ◌+◌, ◌-◌, ◌≤◌, List, ◌∷◌, [], arith, false, nat_lt, drop, length, length-drop, min, take, AllPairs, Option, Result, Ok, Err, MatchResult, Vec, ap, inl, inr, refl, sym}
 use Rattle.std.proofs.lemmas.Bool.Decides.{nat_tests}
 use Rattle.std.proofs.lemmas.List.{take_min}
 use Rattle.std.specs.declared.alloc.Global.{Global}
 use Rattle.vm_memory_base.specs.declared.address.GuestAddress.{GuestAddress}
-use Rattle.linux_loader.specs.BzImage.{bz_kernel, bz_named, bz_plan, bz_planned, header_in}
+use Rattle.linux_loader.specs.BzImage.{bz_kernel, bz_named, bz_plan, bz_planned, header_as_loaded, header_in, planned_with}
 use Rattle.linux_loader.specs.Elf.{elf_header, elf_named, elf_plan, elf_planned, entry_at, headers_in, pvh_entry, some_segments}
 use Rattle.linux_loader.specs.Error.{and_then}
 use Rattle.linux_loader.specs.Plan.{Answers, Apart, Lists, Names, Planned, Plans, planned_of}
+use Rattle.linux_loader.specs.Runtime.{runtime_area}
 use Rattle.linux_loader.specs.declared.elf.header.ElfHeader.{ElfHeader}
 use Rattle.linux_loader.specs.declared.elf.header.ProgramHeader.{ProgramHeader}
 use Rattle.linux_loader.specs.declared.error.LoaderError.{LoaderError}
 use Rattle.linux_loader.specs.declared.error.LoaderError.TheVariants as errors
 use Rattle.linux_loader.specs.declared.plan.KernelPlan.{KernelPlan}
 use Rattle.linux_loader.specs.declared.plan.Segment.{Segment}
+use Rattle.linux_loader.specs.declared.runtime.RuntimeArea.{RuntimeArea}
 
 -- a list that was expected
 pub listed : {T : Type 0} (xs : List T) (v : Vec T Global) → Lists (Ok xs) (Ok v) → v.items ≡ xs
@@ -100,19 +102,35 @@ module _ (all : List ℕ) (offset lowest : ℕ) where
 -- ---- bzImages
 
 module _ (h : List ℕ) (size : ℕ) (at : Option GuestAddress) (lowest : ℕ) where
-  kernel_from : bz_named h size at lowest ≡ and_then (bz_kernel h size at lowest) (λ kernel. Ok (bz_planned h kernel))
+  kernel_from : bz_named h size at lowest ≡ and_then (bz_kernel h size at lowest) (λ kernel. bz_planned h kernel)
   unfolding bz_named
   kernel_from = refl
 
   pub bz_no_kernel : (e : LoaderError) → Err e ≡ bz_kernel h size at lowest
       → Names (bz_named h size at lowest) (Err e)
   bz_no_kernel e is = inl (kernel_from ∙ ap (λ (r : Result Segment LoaderError).
-      and_then r (λ kernel. Ok (bz_planned h kernel))) (sym is))
+      and_then r (λ kernel. bz_planned h kernel)) (sym is))
 
-  pub bz_all : (kernel : Segment) (p : KernelPlan) → Ok kernel ≡ bz_kernel h size at lowest
-      → planned_of p ≡ bz_planned h kernel → Names (bz_named h size at lowest) (Ok p)
-  bz_all kernel p is made = kernel_from ∙ ap (λ (r : Result Segment LoaderError).
-      and_then r (λ kernel. Ok (bz_planned h kernel))) (sym is) ∙ ap (λ (x : Planned). Ok x) (sym made)
+  module _ (kernel : Segment) (is : Ok kernel ≡ bz_kernel h size at lowest) where
+    -- what comes of where the kernel runs
+    abbrev FromArea : Result (Option RuntimeArea) LoaderError → Result Planned LoaderError
+    FromArea area = and_then area (λ area.
+        Ok (planned_with (kernel ∷ []) kernel (header_as_loaded h kernel.addr.0) area))
+
+    with_kernel : bz_named h size at lowest
+        ≡ FromArea (runtime_area (header_as_loaded h kernel.addr.0) kernel.addr.0)
+    with_kernel = kernel_from ∙ ap (λ (r : Result Segment LoaderError). and_then r (λ kernel. bz_planned h kernel))
+        (sym is)
+
+    pub bz_no_area : (header : List ℕ) (e : LoaderError) → header ≡ header_as_loaded h kernel.addr.0
+        → Err e ≡ runtime_area header kernel.addr.0 → Names (bz_named h size at lowest) (Err e)
+    bz_no_area header e loaded none = inl (with_kernel ∙ ap FromArea (sym (rw loaded at none)))
+
+    pub bz_all : (header : List ℕ) (area : Option RuntimeArea) (p : KernelPlan)
+        → header ≡ header_as_loaded h kernel.addr.0 → Ok area ≡ runtime_area header kernel.addr.0
+        → planned_of p ≡ planned_with (kernel ∷ []) kernel header area → Names (bz_named h size at lowest) (Ok p)
+    bz_all header area p loaded found made = with_kernel ∙ ap FromArea (sym (rw loaded at found))
+        ∙ ap (λ (x : Planned). Ok x) (sym (rw loaded at made))
 
 module _ (all : List ℕ) (at : Option GuestAddress) (lowest : ℕ) where
   bz_from : bz_plan all at lowest ≡ and_then (header_in all) (λ h. bz_named h (length all) at lowest)

@@ -5,10 +5,12 @@ use Rattle.vm_memory_base.specs.declared.address.GuestAddress.{GuestAddress}
 use Rattle.linux_loader.specs.Error.{and_then}
 use Rattle.linux_loader.specs.Numbers.{field}
 use Rattle.linux_loader.specs.Plan.{Planned, address_or, end_of}
+use Rattle.linux_loader.specs.Runtime.{runtime_area}
 use Rattle.linux_loader.specs.declared.error.LoaderError.{LoaderError}
 use Rattle.linux_loader.specs.declared.error.LoaderError.TheVariants as errors
 use Rattle.linux_loader.specs.declared.plan.PvhBootCapability.TheVariants.{PvhEntryNotPresent}
 use Rattle.linux_loader.specs.declared.plan.Segment.{Segment}
+use Rattle.linux_loader.specs.declared.runtime.RuntimeArea.{RuntimeArea}
 
 -- what is read of a header, which has 272 bytes at most: some more than it has, and those up to the end of
 -- code32_start at least
@@ -57,28 +59,31 @@ kernel_of h size addr = if nat_le size (kernel_start h) then Err errors.ReadBzIm
 abbrev pub header_as_loaded : List ℕ → ℕ → List ℕ
 header_as_loaded h addr = take 0x23 h ++ to_le_bytes w32 addr ++ slice_range h 0x27 (header_size h)
 
--- what is planned of segments, of which the kernel is one, and a header
-abbrev pub planned_with : List Segment → Segment → List ℕ → Planned
-planned_with segments kernel header = record {
+-- what is planned of segments, of which the kernel is one, a header, and where the kernel runs
+abbrev pub planned_with : List Segment → Segment → List ℕ → Option RuntimeArea → Planned
+planned_with segments kernel header area = record {
   segments = segments;
   result = record {
     kernel_load = kernel.addr;
     kernel_end = end_of kernel;
+    runtime_area = area;
     setup_header = Some header;
     pvh_boot_cap = PvhEntryNotPresent;
   };
 }
 
-abbrev pub bz_planned : List ℕ → Segment → Planned
-bz_planned h kernel = planned_with (kernel ∷ []) kernel (header_as_loaded h kernel.addr.0)
+abbrev pub bz_planned : List ℕ → Segment → Result Planned LoaderError
+bz_planned h kernel = let header = header_as_loaded h kernel.addr.0 in
+    and_then (runtime_area header kernel.addr.0) (λ area. Ok (planned_with (kernel ∷ []) kernel header area))
 
--- what is to be loaded of an image with this header, of so many bytes
+-- the kernel of an image with this header, of so many bytes
 abbrev pub bz_kernel : List ℕ → ℕ → Option GuestAddress → ℕ → Result Segment LoaderError
 bz_kernel h size offset lowest = and_then (check_header h) (λ _.
     and_then (load_address h offset lowest) (λ addr. kernel_of h size addr))
 
+-- what is to be loaded of such an image
 unfoldable pub bz_named : List ℕ → ℕ → Option GuestAddress → ℕ → Result Planned LoaderError
-bz_named h size offset lowest = and_then (bz_kernel h size offset lowest) (λ kernel. Ok (bz_planned h kernel))
+bz_named h size offset lowest = and_then (bz_kernel h size offset lowest) (λ kernel. bz_planned h kernel)
 
 -- what is to be loaded of an image
 unfoldable pub bz_plan : List ℕ → Option GuestAddress → ℕ → Result Planned LoaderError

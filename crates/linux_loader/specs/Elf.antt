@@ -132,6 +132,7 @@ elf_planned segments entry pvh = record {
   result = record {
     kernel_load = entry;
     kernel_end = highest_end segments;
+    runtime_area = None;
     setup_header = None;
     pvh_boot_cap = capability pvh;
   };

@@ -1,5 +1,5 @@
 -- Where an initrd lies, and how it is loaded.
-use Rattle.std.specs.Prelude.{◌≡◌, ℕ, ◌+◌, ◌-◌, ◌%◌, ◌^◌, nat_lt, ◌||◌, ◌==◌, if◌then◌else◌, max, min, List, length, Option, Some, None, unwrap_or, Result, Ok, Err, MatchResult}
+use Rattle.std.specs.Prelude.{◌≡◌, ℕ, ◌-◌, ◌%◌, nat_lt, ◌==◌, if◌then◌else◌, min, List, length, Option, Some, None, unwrap_or, Result, Ok, Err, MatchResult}
 use Rattle.vm_memory_base.specs.Transfer.{Answer, Next}
 use Rattle.vm_memory_base.specs.declared.address.GuestAddress.{GuestAddress}
 use Rattle.vm_memory_base.specs.declared.io.VolatileMemoryError.{VolatileMemoryError}
@@ -8,25 +8,11 @@ use Rattle.vm_memory_guest.specs.Memory.{Memory}
 use Rattle.linux_loader.specs.Error.{and_then}
 use Rattle.linux_loader.specs.Image.{Tells}
 use Rattle.linux_loader.specs.Load.{LoadsSegment}
-use Rattle.linux_loader.specs.Numbers.{field}
+use Rattle.linux_loader.specs.Runtime.{field_since, first_free}
 use Rattle.linux_loader.specs.declared.error.LoaderError.{LoaderError}
 use Rattle.linux_loader.specs.declared.error.LoaderError.TheVariants as errors
 use Rattle.linux_loader.specs.declared.plan.KernelLoaderResult.{KernelLoaderResult}
 use Rattle.linux_loader.specs.declared.plan.Segment.{Segment}
-
--- the number of 32 bits at a place of a setup header, where it is of this version or above, and has it
-abbrev pub field_since : List ℕ → ℕ → ℕ → Option ℕ
-field_since h version at = if nat_lt (length h) (at + 4) || nat_lt (field 2 0x15 h) version then None
-    else Some (field 4 at h)
-
--- the address behind the last byte that a kernel uses: a bzImage of version 2.10 says at 0x260 how many those are
-abbrev pub end_with : KernelLoaderResult → Option ℕ → ℕ
-end_with k None = k.kernel_end
-end_with k (Some size) = max k.kernel_end (min (k.kernel_load.0 + size) (2 ^ 64 - 1))
-
-abbrev pub kernel_end : KernelLoaderResult → Option (List ℕ) → ℕ
-kernel_end k None = k.kernel_end
-kernel_end k (Some h) = end_with k (field_since h 0x20a 0x6f)
 
 -- the greatest address that an initrd may have: a bzImage of version 2.03 says it at 0x22c
 abbrev pub greatest : ℕ → Option (List ℕ) → ℕ
@@ -37,15 +23,17 @@ greatest limit (Some h) = min limit (unwrap_or (field_since h 0x203 0x3b) 0x37ff
 abbrev pub page_of : ℕ → ℕ
 page_of a = a - a % 4096
 
--- the highest page at which so many bytes pass no address, if it lies at or behind the end of the kernel
+-- the highest page at which so many bytes pass no address, if it lies at or after an end
 abbrev pub highest_page : ℕ → ℕ → ℕ → Result GuestAddress LoaderError
 highest_page end most size = if size == 0 then Err errors.EmptyInitrd
     else if nat_lt most (size - 1) then Err errors.NoRoomForInitrd
     else if nat_lt (page_of (most - (size - 1))) end then Err errors.NoRoomForInitrd
     else Ok (record { 0 = page_of (most - (size - 1)) })
 
+-- the highest page above all that the kernel uses
 abbrev pub initrd_address : KernelLoaderResult → ℕ → ℕ → Result GuestAddress LoaderError
-initrd_address k size limit = highest_page (kernel_end k k.setup_header) (greatest limit k.setup_header) size
+initrd_address k size limit =
+    highest_page (first_free k.kernel_end k.runtime_area) (greatest limit k.setup_header) size
 
 -- all of an initrd, at an address
 abbrev pub initrd_at : ℕ → GuestAddress → Segment

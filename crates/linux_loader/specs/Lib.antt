@@ -10,3 +10,4 @@ pub mod Loaded
 pub mod Notes
 pub mod Numbers
 pub mod Plan
+pub mod Runtime

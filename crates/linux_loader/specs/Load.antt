@@ -15,6 +15,7 @@ use Rattle.linux_loader.specs.Error as error
 use Rattle.linux_loader.specs.Error.{and_then}
 use Rattle.linux_loader.specs.Image.{IfKnown, StandsAt}
 use Rattle.linux_loader.specs.Plan.{Apart, Planned, Plans, planned_of}
+use Rattle.linux_loader.specs.Runtime.{FindsArea}
 use Rattle.linux_loader.specs.declared.error.LoaderError.{LoaderError}
 use Rattle.linux_loader.specs.declared.error.LoaderError.TheVariants as errors
 use Rattle.linux_loader.specs.declared.plan.KernelLoaderResult.{KernelLoaderResult}
@@ -82,10 +83,16 @@ module _ {S B : Type 0} (bytes : S → Option (List ℕ)) (source : S → Option
       × LoadsSegment s old loaded mid
       × MatchResult loaded (λ _. LoadsAll ss mid answer new) (λ e. (answer ≡ Err e) × (new ≡ mid))
 
-  -- what is planned was loaded. Then a loader answers so
-  abbrev pub LoadsPlan : Planned → S × Host B → Result KernelLoaderResult LoaderError → S × Host B → Type 0
-  LoadsPlan p old answer new = (loaded : Result (Unit {0}) LoaderError) × LoadsAll p.segments old loaded new
+  -- the segments of a plan were loaded. Then a loader answers so
+  abbrev pub LoadsSegments : Planned → S × Host B → Result KernelLoaderResult LoaderError → S × Host B → Type 0
+  LoadsSegments p old answer new = (loaded : Result (Unit {0}) LoaderError) × LoadsAll p.segments old loaded new
       × (answer ≡ and_then loaded (λ _. Ok p.result))
+
+  -- what is planned was loaded, if where the kernel runs lies in memory. Else nothing was
+  abbrev pub LoadsPlan : Planned → S × Host B → Result KernelLoaderResult LoaderError → S × Host B → Type 0
+  LoadsPlan p old answer new = (found : Result (Unit {0}) LoaderError)
+      × FindsArea m old.1.tables p.result.runtime_area found
+      × MatchResult found (λ _. LoadsSegments p old answer new) (λ e. (answer ≡ Err e) × (new ≡ old))
 
   -- what is planned of an image was loaded, or nothing was, and then the host is as it was. What is planned of an
   -- image whose bytes are known is known

@@ -10,6 +10,7 @@ use crate::error::LoaderError;
 use crate::image::KernelImage;
 use crate::numbers::{u16_at, u32_at};
 use crate::plan::{KernelLoaderResult, KernelPlan, PvhBootCapability, Segment, SetupHeader, apart};
+use crate::runtime::{RuntimeArea, runtime_area};
 use std::alloc::{AllocError, Global};
 use vm_memory::{Bitmap, GuestAddress, GuestMemory, HostMemory};
 
@@ -207,15 +208,21 @@ fn one(alloc: Global, segment: Segment) -> Result<Vec<Segment>, AllocError>
 }
 
 // A plan of these segments, of which the kernel is one.
-fn plan_with(segments: Vec<Segment>, kernel: Segment, setup_header: SetupHeader) -> KernelPlan
+fn plan_with(
+    segments: Vec<Segment>,
+    kernel: Segment,
+    setup_header: SetupHeader,
+    runtime_area: Option<RuntimeArea>,
+) -> KernelPlan
     requires { HasBytes kernel }
-    ensures { planned_of result ≡ planned_with segments.items kernel setup_header }
+    ensures { planned_of result ≡ planned_with segments.items kernel setup_header runtime_area }
 {
     KernelPlan {
         segments,
         result: KernelLoaderResult {
             kernel_load: kernel.addr,
             kernel_end: kernel.addr.0 + kernel.size,
+            runtime_area,
             setup_header: Some(setup_header),
             pvh_boot_cap: PvhBootCapability::PvhEntryNotPresent,
         },
@@ -236,8 +243,9 @@ fn plan_of(
 {
     let kernel = kernel_in(header, size, kernel_offset, highmem_start)?;
     let setup_header = header_as_loaded(alloc, header, kernel.addr.0 as u32)?;
+    let area = runtime_area(setup_header.as_slice(), kernel.addr.0)?;
     let segments = one(alloc, kernel)?;
-    Ok(plan_with(segments, kernel, setup_header))
+    Ok(plan_with(segments, kernel, setup_header, area))
 }
 
 impl BzImage {
@@ -261,7 +269,7 @@ impl BzImage {
         apart(alloc, plan)
     }
 
-    /// Loads an image as `plan` says. Where there is no plan, memory is as it was.
+    /// Loads an image as `plan` says, and `KernelPlan::load`. If there is no plan, memory is as it was.
     pub fn load<M: GuestMemory, F: KernelImage, B: Bitmap>(
         alloc: Global,
         mem: &M,

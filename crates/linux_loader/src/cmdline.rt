@@ -1,11 +1,12 @@
 //! The command line of a kernel.
 
-ghost use Rattle.std.specs.Prelude.{◌≡◌, ◌⊎◌, ◌+◌, ◌<◌, ◌≤◌, ◌++◌, ◌==◌, ◌∷◌, [], length, IfOk, MatchResult};
+ghost use Rattle.std.specs.Prelude.{◌≡◌, ◌⊎◌, ◌+◌, ◌<◌, ◌≤◌, ◌++◌, ◌==◌, ◌∷◌, [], length, IfOk, IsOk, OnErr, OnOk, MatchResult};
 ghost use Rattle.std.specs.List.{list_all, list_any};
 ghost use Rattle.vm_memory_guest.specs.Host.{shape_of, Holds};
-ghost use Rattle.linux_loader.specs.Cmdline.{Becomes, LoadsLine, added, check_element, check_text, is_printable, separator, text_of, with_pair, with_text};
+ghost use Rattle.linux_loader.specs.Cmdline.{Becomes, LoadsLine, check_element, check_place, check_room, check_text, is_printable, line_with, separator, text_of, with_pair, with_text};
 
 use crate::error::LoaderError;
+use crate::plan::KernelLoaderResult;
 use std::alloc::{AllocError, Global};
 use std::marker::Model;
 use thiserror::Error;
@@ -146,28 +147,39 @@ impl Cmdline {
         Ok(Cmdline { bytes, capacity })
     }
 
-    // Adds bytes, where there is room for them.
-    fn add(&mut self, alloc: Global, more: &[u8]) -> Result<(), CmdlineError>
-        ensures { Becomes (added self.old more.now) self.old result self.new }
+    // Refuses so many bytes more, with the space before them, if they pass the capacity.
+    fn check_room(&self, count: usize) -> Result<(), CmdlineError>
+        ensures { result ≡ check_room self.now count }
     {
-        let bytes = line_of(alloc, self.text(), more)?;
-        if bytes.len() > self.capacity {
+        let separator = if self.text().is_empty() { 0 } else { 1 };
+        let room = self.capacity - self.bytes.len();
+        if room < separator || room - separator < count {
             return Err(CmdlineError::TooLarge);
         }
-        self.bytes = bytes;
         Ok(())
     }
 
-    /// Adds a text, behind a space where the line is not empty. An error leaves the line as it was: `InvalidAscii`,
+    // Adds bytes that have room.
+    fn add(&mut self, alloc: Global, more: &[u8]) -> Result<(), AllocError>
+        requires { IsOk (check_room self.old (length more.now)) }
+        ensures ok { OnOk result (self.new ≡ record self.old { bytes = line_with self.old more.now }) }
+        ensures err { OnErr result (self.new ≡ self.old) }
+    {
+        self.bytes = line_of(alloc, self.text(), more)?;
+        Ok(())
+    }
+
+    /// Adds a text, after a space if the line is not empty. An error leaves the line as it was: `InvalidAscii`,
     /// `TooLarge`, or `Memory`, the first that applies.
     pub fn insert_str(&mut self, alloc: Global, text: &str) -> Result<(), CmdlineError>
         ensures { Becomes (with_text self.old text.now) self.old result self.new }
     {
         check_text(text.as_bytes())?;
-        self.add(alloc, text.as_bytes())
+        self.check_room(text.len())?;
+        Ok(self.add(alloc, text.as_bytes())?)
     }
 
-    /// Adds `key=value`, behind a space where the line is not empty. An error leaves the line as it was:
+    /// Adds `key=value`, after a space if the line is not empty. An error leaves the line as it was:
     /// `InvalidAscii`, `HasSpace` or `HasEquals` of the key, the same of the value, `TooLarge`, or `Memory`, the first
     /// that applies.
     pub fn insert(&mut self, alloc: Global, key: &str, value: &str) -> Result<(), CmdlineError>
@@ -175,8 +187,9 @@ impl Cmdline {
     {
         check_element(key.as_bytes())?;
         check_element(value.as_bytes())?;
+        self.check_room(key.len() + 1 + value.len())?;
         let pair = pair_of(alloc, key.as_bytes(), value.as_bytes())?;
-        self.add(alloc, pair.as_slice())
+        Ok(self.add(alloc, pair.as_slice())?)
     }
 
     /// The line without its terminating zero.
@@ -195,25 +208,40 @@ impl Cmdline {
     }
 }
 
-/// Writes a command line with its terminating zero to an address. `CommandLineOverflow` where it passes the greatest
-/// address: then nothing changes. Otherwise it is written as far as there is memory, and `GuestMemory` says why no
-/// further.
+/// Writes a command line for a kernel, with its terminating zero, to an address. `CommandLineOverflow` if it passes the
+/// greatest address, or `RuntimeAreaOverlap` if it shares a byte with the kernel's run time area: then nothing changes.
+/// Otherwise it is written as far as there is memory, and `GuestMemory` says why no further.
 pub fn load_cmdline<M: GuestMemory, B: Bitmap>(
     mem: &M,
     host: &mut HostMemory<B>,
+    kernel: &KernelLoaderResult,
     addr: GuestAddress,
     cmdline: &Cmdline,
 ) -> Result<(), LoaderError>
     requires { Holds (shape_of host.old) (M.names mem.now) }
-    ensures loads { LoadsLine B.marks (M.memory mem.now) addr.0 cmdline.now.bytes host.old result host.new }
+    ensures loads { LoadsLine B.marks (M.memory mem.now) kernel.now.runtime_area addr.0 cmdline.now.bytes
+        host.old result host.new }
     ensures shape { shape_of host.new ≡ shape_of host.old }
 {
     let bytes = cmdline.as_slice_with_nul();
-    if bytes.len() as u64 - 1 > u64::MAX - addr.0 {
-        return Err(LoaderError::CommandLineOverflow);
-    }
+    check_place(addr, bytes, kernel)?;
     match Bytes::write_slice(mem, host, bytes, addr) {
         Ok(()) => Ok(()),
         Err(error) => Err(LoaderError::of_access(error)),
     }
+}
+
+// Refuses a place of a line that passes the greatest address, or lies over where a kernel runs.
+fn check_place(
+    addr: GuestAddress,
+    bytes: &[u8],
+    kernel: &KernelLoaderResult,
+) -> Result<(), LoaderError>
+    requires { 0 < length bytes.now }
+    ensures { result ≡ check_place addr.0 (length bytes.now) kernel.now.runtime_area }
+{
+    if bytes.len() as u64 - 1 > u64::MAX - addr.0 {
+        return Err(LoaderError::CommandLineOverflow);
+    }
+    kernel.check_outside(addr, bytes.len() as u64)
 }

@@ -105,6 +105,7 @@ fn plan_of(segments: Vec<Segment>, entry: GuestAddress, pvh: Option<u64>) -> Ker
         result: KernelLoaderResult {
             kernel_load: entry,
             kernel_end,
+            runtime_area: None,
             setup_header: None,
             pvh_boot_cap: capability(pvh),
         },

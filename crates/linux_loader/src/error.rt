@@ -91,10 +91,22 @@ pub enum LoaderError {
     /// The kernel lies below high memory, or is to be loaded at an address that is no 32-bit number.
     #[error("invalid start address of the kernel")]
     InvalidKernelStartAddress,
+    /// A relocatable kernel is to be aligned to a number that is no power of two.
+    #[error("alignment of the kernel is no power of two")]
+    InvalidKernelAlignment,
+    /// The kernel's run time area, or its end, is no 64-bit number.
+    #[error("run time area of the kernel would overflow")]
+    RuntimeAreaOverflow,
+    /// Memory does not have each address of the kernel's run time area.
+    #[error("run time area of the kernel does not lie in memory")]
+    RuntimeAreaNotInMemory,
+    /// A command line, or another place that was asked for, lies over the kernel's run time area.
+    #[error("lies over the run time area of the kernel")]
+    RuntimeAreaOverlap,
     /// The initrd has no byte.
     #[error("initrd is empty")]
     EmptyInitrd,
-    /// There is no room for the initrd between the end of the kernel and the limit.
+    /// There is no room for the initrd between the kernel, with its run time area, and the limit.
     #[error("no room for the initrd")]
     NoRoomForInitrd,
     /// The command line passes the greatest address.

@@ -1,53 +1,23 @@
 //! The initrd of a kernel.
 
-ghost use Rattle.std.specs.Prelude.{◌≡◌, ◌<◌, ◌^◌};
+ghost use Rattle.std.specs.Prelude.{◌≡◌, ◌≤◌, true, IfOk};
 ghost use Rattle.vm_memory_guest.specs.Host.{shape_of, Holds};
-ghost use Rattle.linux_loader.specs.Initrd.{LoadsInitrd, field_since, greatest, highest_page, initrd_address, kernel_end};
+ghost use Rattle.linux_loader.specs.Initrd.{LoadsInitrd, greatest, highest_page, initrd_address};
+ghost use Rattle.linux_loader.specs.Runtime.{lies_outside};
 
 use crate::error::LoaderError;
 use crate::image::KernelImage;
-use crate::numbers::{u16_at, u32_at};
 use crate::plan::{KernelLoaderResult, Segment, load_segment};
+use crate::runtime::{field_since, first_free};
 use vm_memory::{Bitmap, GuestAddress, GuestMemory, HostMemory};
 
-// The places of fields behind the first byte of a setup header.
-const VERSION: usize = 0x15;
-
+// The place of a field after the first byte of a setup header.
 const INITRD_ADDR_MAX: usize = 0x3b;
-
-const INIT_SIZE: usize = 0x6f;
 
 // The greatest address of an initrd before a header tells it.
 const INITRD_ADDR_MAX_BEFORE: u64 = 0x37ff_ffff;
 
 const PAGE: u64 = 4096;
-
-// The number of 32 bits at a place of a setup header, where it is of this version or above, and has it.
-fn field_since(header: &[u8], version: u16, at: usize) -> Option<u32>
-    requires low { 0x15 < at }
-    requires high { at < 2 ^ 32 }
-    ensures { result ≡ field_since header.now version at }
-{
-    if header.len() < at + 4 || u16_at(header, VERSION) < version {
-        return None;
-    }
-    Some(u32_at(header, at))
-}
-
-// The address behind the last byte that a kernel may use.
-fn end_of(kernel: &KernelLoaderResult) -> u64
-    ensures { result ≡ kernel_end kernel.now kernel.now.setup_header }
-{
-    let Some(header) = &kernel.setup_header else {
-        return kernel.kernel_end;
-    };
-    match field_since(header.as_slice(), 0x20a, INIT_SIZE) {
-        Some(size) => kernel
-            .kernel_end
-            .max(kernel.kernel_load.0.saturating_add(u64::from(size))),
-        None => kernel.kernel_end,
-    }
-}
 
 // The greatest address that an initrd of a kernel may have, which is at most a limit.
 fn most_of(kernel: &KernelLoaderResult, limit: u64) -> u64
@@ -62,22 +32,26 @@ fn most_of(kernel: &KernelLoaderResult, limit: u64) -> u64
     }
 }
 
-/// Where an initrd of so many bytes lies: at the highest page from which on it passes no limit, behind the kernel. Of
-/// a bzImage `initrd_addr_max` is a limit, too, and the kernel ends at `init_size`, if not above. The limit is the
-/// greatest address that it may have. `EmptyInitrd`, or `NoRoomForInitrd` where there is no such page.
+/// Where an initrd of so many bytes lies: at the highest page that keeps its last byte at or below the limit, above all
+/// segments of the kernel and above its run time area. The limit is the greatest address that the initrd may have; for
+/// a bzImage `initrd_addr_max` is a limit, too. `EmptyInitrd` if it has no byte, or `NoRoomForInitrd` if there is no
+/// such page.
 pub fn initrd_address(
     kernel: &KernelLoaderResult,
     size: u64,
     limit: GuestAddress,
 ) -> Result<GuestAddress, LoaderError>
-    ensures { result ≡ initrd_address kernel.now size limit.0 }
+    ensures is { result ≡ initrd_address kernel.now size limit.0 }
+    ensures outside { IfOk result (λ a. lies_outside a.0 size kernel.now.runtime_area ≡ true) }
 {
-    highest_page(end_of(kernel), most_of(kernel, limit.0), size)
+    let end = first_free(kernel.kernel_end, kernel.runtime_area);
+    highest_page(end, most_of(kernel, limit.0), size)
 }
 
-// The highest page at which so many bytes pass no address, if it lies at or behind an end.
+// The highest page at which so many bytes pass no address, if it lies at or after an end.
 fn highest_page(end: u64, most: u64, size: u64) -> Result<GuestAddress, LoaderError>
-    ensures { result ≡ highest_page end most size }
+    ensures is { result ≡ highest_page end most size }
+    ensures above { IfOk result (λ a. end ≤ a.0) }
 {
     if size == 0 {
         return Err(LoaderError::EmptyInitrd);
@@ -93,7 +67,7 @@ fn highest_page(end: u64, most: u64, size: u64) -> Result<GuestAddress, LoaderEr
     Ok(GuestAddress(start))
 }
 
-/// Loads an initrd to where `initrd_address` says, and answers that as a segment. Its errors are those of
+/// Loads an initrd to where `initrd_address` says, and returns that as a segment. Its errors are those of
 /// `initrd_address` and of the load of a segment.
 pub fn load_initrd<M: GuestMemory, F: KernelImage, B: Bitmap>(
     mem: &M,

@@ -11,6 +11,7 @@ pub mod laws;
 mod layout;
 mod numbers;
 mod plan;
+mod runtime;
 mod zeros;
 
 pub use bzimage::BzImage;
@@ -20,3 +21,4 @@ pub use error::LoaderError;
 pub use image::{ImageBytes, KernelImage};
 pub use initrd::{initrd_address, load_initrd};
 pub use plan::{KernelLoaderResult, KernelPlan, PvhBootCapability, Segment, SetupHeader};
+pub use runtime::RuntimeArea;

@@ -8,6 +8,7 @@ ghost use Rattle.linux_loader.specs.Load.{Clears, ClearsRest, FillsFront, LoadsA
 use crate::error::LoaderError;
 use crate::image::KernelImage;
 use crate::layout::lie_apart;
+use crate::runtime::{RuntimeArea, check_in_memory, check_outside};
 use crate::zeros::Zeros;
 use std::alloc::Global;
 use std::marker::Model;
@@ -42,10 +43,25 @@ pub struct KernelLoaderResult {
     pub kernel_load: GuestAddress,
     /// The address behind the last byte of the highest segment.
     pub kernel_end: GuestUsize,
+    /// Where the kernel of a bzImage of protocol 2.10 or later runs.
+    pub runtime_area: Option<RuntimeArea>,
     /// The setup header of a bzImage, with `code32_start` as loaded.
     pub setup_header: Option<SetupHeader>,
     /// The PVH entry of an ELF file.
     pub pvh_boot_cap: PvhBootCapability,
+}
+
+impl KernelLoaderResult {
+    ghost use Rattle.std.specs.Prelude.{◌≡◌};
+    ghost use Rattle.linux_loader.specs.Runtime.{check_outside};
+
+    /// Refuses so many bytes at an address that share one with the kernel's run time area, with `RuntimeAreaOverlap`.
+    /// Whoever places boot parameters asks this first.
+    pub fn check_outside(&self, addr: GuestAddress, size: u64) -> Result<(), LoaderError>
+        ensures { result ≡ check_outside addr.0 size self.now.runtime_area }
+    {
+        check_outside(addr.0, size, self.runtime_area)
+    }
 }
 
 /// The setup header of a bzImage: its bytes from 0x1f1 on.
@@ -182,8 +198,9 @@ pub(crate) fn load_segment<M: GuestMemory, F: KernelImage, B: Bitmap>(
 
 impl KernelPlan {
     /// Loads each segment, one after the other, up to the first that is refused: its bytes from the image, and zeros
-    /// behind them. `Image` where the image cannot be read from a place on, `GuestMemory` where an access is refused or
-    /// the image fails in it, and `Memory` where an allocation fails. What was loaded before stays.
+    /// after them. `RuntimeAreaNotInMemory` if memory does not have each address of the run time area: then nothing is
+    /// loaded. `Image` if the image cannot be read from a place on, `GuestMemory` if an access is refused or the image
+    /// fails in it, and `Memory` if an allocation fails. What was loaded before stays.
     pub fn load<M: GuestMemory, F: KernelImage, B: Bitmap>(
         self,
         mem: &M,
@@ -195,6 +212,7 @@ impl KernelPlan {
             (image.old, host.old) result (image.new, host.new) }
         ensures shape { shape_of host.new ≡ shape_of host.old }
     {
+        check_in_memory(mem, host, self.result.runtime_area)?;
         load_segments(mem, host, image, self.segments.as_slice())?;
         Ok(self.result)
     }

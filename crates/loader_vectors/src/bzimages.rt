@@ -29,7 +29,7 @@ const ALL: usize = BZ_SIZE;
 
 const DONE: &str = "load 0x11f8 end 0x1208 header 119 code32_start 0x11f8";
 
-static CASES: [Case; 32] = [
+static CASES: [Case; 38] = [
     (ALL, &[], None, None, DONE),
     (0, &[], None, None, "ReadBzImageHeader"),
     (0x217, &[], None, None, "ReadBzImageHeader"),
@@ -160,6 +160,37 @@ static CASES: [Case; 32] = [
         "InvalidKernelStartAddress",
     ),
     (ALL, &[], Some(u64::MAX), None, "InvalidKernelStartAddress"),
+    // Where the kernel runs: memory ends at 0x1400.
+    (ALL, &[(0x260, 4, 0x300)], None, None, DONE),
+    (
+        ALL,
+        &[(0x260, 4, 0x301)],
+        None,
+        None,
+        "RuntimeAreaNotInMemory",
+    ),
+    (
+        ALL,
+        &[(0x258, 8, 0xfff)],
+        None,
+        None,
+        "RuntimeAreaNotInMemory",
+    ),
+    (
+        ALL,
+        &[(0x260, 4, 0x301), (0x206, 2, 0x209)],
+        None,
+        None,
+        DONE,
+    ),
+    (ALL, &[(0x234, 1, 1), (0x260, 4, 0x200)], None, None, DONE),
+    (
+        ALL,
+        &[(0x234, 1, 1), (0x260, 4, 0x201)],
+        None,
+        None,
+        "RuntimeAreaNotInMemory",
+    ),
 ];
 
 fn loaded<M: GuestMemory, B: Bitmap, F: KernelImage>(

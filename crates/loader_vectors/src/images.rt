@@ -89,15 +89,20 @@ pub const ELF: [Edit; 32] = [
 /// How many bytes the small bzImage has.
 pub const BZ_SIZE: usize = 0x410;
 
-/// The small bzImage: a boot sector, one sector of setup code and a kernel of 16 bytes, loaded at 0x11f8.
-pub const BZ: [Edit; 7] = [
+/// The small bzImage: a boot sector, one sector of setup code and a kernel of 16 bytes, loaded at 0x11f8. It moves itself
+/// to run at 0x1100, and needs 16 bytes there.
+pub const BZ: [Edit; 11] = [
     (0x1f1, 1, 1),
     (0x201, 1, 0x66),
     (0x202, 4, 0x5372_6448),
     (0x206, 2, 0x20f),
     (0x211, 1, 1),
     (0x214, 4, 0x11f8),
-    (0x22c, 8, 0x7fff_ffff),
+    (0x22c, 4, 0x7fff_ffff),
+    (0x230, 4, 0x10),
+    (0x234, 1, 0),
+    (0x258, 8, 0x1100),
+    (0x260, 4, 0x10),
 ];
 
 /// Memory of two regions.

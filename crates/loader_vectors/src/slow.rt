@@ -276,6 +276,33 @@ fn bz_fault(image: &[u8], sectors: u64) -> Option<&'static str> {
     None
 }
 
+// What is wrong with where the kernel of a bzImage runs, if something is.
+fn runtime_fault(image: &[u8], load: u64) -> Option<&'static str> {
+    let header_end = number(image, 0x201, 1).wrapping_add(0x202);
+    if number(image, 0x206, 2) < 0x20a || header_end < 0x264 {
+        return None;
+    }
+    let mut start = number(image, 0x258, 8);
+    if number(image, 0x234, 1) != 0 {
+        let align = number(image, 0x230, 4);
+        if align == 0 || align & align.wrapping_sub(1) != 0 {
+            return Some("InvalidKernelAlignment");
+        }
+        if passes(start, align, u64::MAX) {
+            return Some("RuntimeAreaOverflow");
+        }
+        start = up(start.max(load), align);
+    }
+    let size = number(image, 0x260, 4);
+    if passes(start, size, u64::MAX) {
+        return Some("RuntimeAreaOverflow");
+    }
+    if size > 0 && (start < BEGIN || passes(start, size, END)) {
+        return Some("RuntimeAreaNotInMemory");
+    }
+    None
+}
+
 /// What a load of a bzImage to where it says is to leave.
 pub fn bzimage(alloc: Global, image: &[u8]) -> Result<Slow, AllocError> {
     let mut slow = Slow::new(alloc)?;
@@ -290,6 +317,10 @@ pub fn bzimage(alloc: Global, image: &[u8]) -> Result<Slow, AllocError> {
     }
     let count = (image.len() as u64).wrapping_sub(start);
     slow.load = number(image, 0x214, 4);
+    if let Some(name) = runtime_fault(image, slow.load) {
+        slow.refuse(name);
+        return Ok(slow);
+    }
     let part = Part {
         place: start,
         addr: slow.load,

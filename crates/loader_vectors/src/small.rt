@@ -24,7 +24,10 @@ fn image(alloc: Global) -> Result<Vec<u8>, AllocError> {
         put(&mut bytes, edit);
     }
     put(&mut bytes, (0x214, 4, START));
-    put(&mut bytes, (0x260, 4, 0x2000));
+    put(&mut bytes, (0x230, 4, 0x1000));
+    put(&mut bytes, (0x234, 1, 1));
+    put(&mut bytes, (0x258, 8, START));
+    put(&mut bytes, (0x260, 4, 0x1000));
     Ok(bytes)
 }
 

@@ -1,13 +1,18 @@
 //! What the program is asked for.
 
-use anyhow::{Context, Result, bail};
+use clap::builder::ValueParser;
+use clap::error::ErrorKind;
+use clap::{Arg, Command, Error};
+use std::alloc::{AllocError, Global};
 
-/// How the program is called.
-const USAGE: &str =
-    "usage: vmmem_boot IMAGE [--memory MIB] [--offset N] [--cmdline TEXT] [--initrd FILE]";
+// How much memory there is, in MiB, if none is asked for, and at most: 1 TiB.
+const MEMORY: u64 = 128;
 
-// The most memory, in MiB: 1 TiB.
 const MOST_MEMORY: u64 = 0x10_0000;
+
+const OFFSET: &str = "\
+Where a bzImage is loaded, or how far an ELF file is moved; 0x begins a hexadecimal number \
+[default: as the image says]";
 
 /// The arguments.
 #[derive(Drop)]
@@ -20,62 +25,73 @@ pub struct Asked<'a> {
     pub initrd: Option<&'a str>,
 }
 
-// A number in decimal digits, or in hexadecimal ones behind `0x`.
-fn number(text: &str) -> Result<u64> {
-    let value = match text.strip_prefix("0x") {
-        Some(digits) => u64::from_str_radix(digits, 16),
-        None => text.parse::<u64>(),
-    };
-    value.ok().context(format_args!("no number: {text}"))
+fn command<'a>(alloc: Global) -> Result<Command<'a>, AllocError> {
+    Command::new(alloc, "vmmem_boot")
+        .about("Loads a kernel, ELF or bzImage, to guest memory, and prints what lies where")
+        .arg(
+            Arg::new(alloc, "image")
+                .value_name("IMAGE")
+                .required(true)
+                .help("The file of the kernel"),
+        )?
+        .arg(
+            Arg::new(alloc, "memory")
+                .long("memory")
+                .value_name("MIB")
+                .value_parser(ValueParser::unsigned(1, MOST_MEMORY))
+                .default_value("128")
+                .help("How many MiB of memory the guest has, from 1 to 1048576"),
+        )?
+        .arg(
+            Arg::new(alloc, "offset")
+                .long("offset")
+                .value_name("N")
+                .help(OFFSET),
+        )?
+        .arg(
+            Arg::new(alloc, "cmdline")
+                .long("cmdline")
+                .value_name("TEXT")
+                .help(
+                    "The command line of the kernel, which is written to 0x20000 [default: none]",
+                ),
+        )?
+        .arg(
+            Arg::new(alloc, "initrd")
+                .long("initrd")
+                .value_name("FILE")
+                .help("The initrd, which is loaded as high as the kernel allows [default: none]"),
+        )
 }
 
-// Takes an option with its value.
-fn take<'a>(asked: &mut Asked<'a>, name: &str, value: &'a str) -> Result<()> {
-    match name {
-        "--memory" => {
-            let memory = number(value)?;
-            if memory == 0 || memory > MOST_MEMORY {
-                bail!("memory of 1 to {MOST_MEMORY} MiB: {value}");
-            }
-            asked.memory = memory;
-        }
-        "--offset" => asked.offset = Some(number(value)?),
-        "--cmdline" => asked.cmdline = Some(value),
-        "--initrd" => asked.initrd = Some(value),
-        _ => bail!("{USAGE}"),
+// A number in decimal digits, or in hexadecimal ones after `0x`.
+fn number(text: &str) -> Option<u64> {
+    match text.strip_prefix("0x") {
+        Some(digits) => u64::from_str_radix(digits, 16).ok(),
+        None => text.parse::<u64>().ok(),
     }
-    Ok(())
 }
 
-/// Reads the words behind the program's name.
-pub fn read_words<'a>(words: &'a [String]) -> Result<Asked<'a>> {
-    let mut asked = Asked {
-        image: "",
-        memory: 128,
-        offset: None,
-        cmdline: None,
-        initrd: None,
-    };
-    // The next word was taken already, as the program's name or as a value.
-    let mut taken = true;
-    for (place, word) in words.iter().enumerate() {
-        let word = word.as_str();
-        if taken {
-            taken = false;
-        } else if word.starts_with("--") {
-            let Some(value) = words.get(place.wrapping_add(1)) else {
-                bail!("{USAGE}");
-            };
-            take(&mut asked, word, value.as_str())?;
-            taken = true;
-        } else if asked.image == "" {
-            asked.image = word;
-        } else {
-            bail!("{USAGE}");
+/// Reads the words of a command line, of which the first is the program's name. An error is one of the arguments, or
+/// has the text that was asked for by `--help`.
+pub fn read_words<'a>(alloc: Global, words: &'a [String]) -> Result<Asked<'a>, Error> {
+    let mut command = command(alloc)?;
+    let found = command.try_get_matches_from_mut(words)?;
+    let mut offset = None;
+    if let Some(text) = found.get_str("offset") {
+        offset = number(text);
+        if offset.is_none() {
+            let message = format!(in alloc;
+                "invalid value '{text}' for '--offset <N>': no number"
+            )?;
+            return Err(command.error(ErrorKind::ValueValidation, message.as_str())?);
         }
     }
-    if asked.image == "" {
-        bail!("{USAGE}");
-    }
-    Ok(asked)
+    Ok(Asked {
+        image: found.get_str("image").unwrap_or(""),
+        memory: found.get_one::<u64>("memory").unwrap_or(MEMORY),
+        offset,
+        cmdline: found.get_str("cmdline"),
+        initrd: found.get_str("initrd"),
+    })
 }

@@ -8,10 +8,10 @@ mod memory;
 use anyhow::{Context, Result, bail};
 use asked::{Asked, read_words};
 use linux_loader::{
-    BzImage, Cmdline, Elf, KernelImage, KernelLoaderResult, KernelPlan, PvhBootCapability, Segment,
-    load_cmdline, load_initrd,
+    BzImage, Cmdline, Elf, KernelImage, KernelLoaderResult, KernelPlan, LoaderError,
+    PvhBootCapability, Segment, initrd_address, load_cmdline, load_initrd,
 };
-use memory::{Host, digest_of, dirty_pages, last_low_address, memory_of};
+use memory::{Host, digest_of, dirty_pages, fits, last_low_address, memory_of};
 use std::alloc::Global;
 use std::env;
 use std::fs::File;
@@ -24,15 +24,80 @@ const CMDLINE: u64 = 0x2_0000;
 // How many bytes a command line has at most, with its terminating zero.
 const CMDLINE_CAPACITY: usize = 0x1000;
 
-// What is to be loaded of an image: an ELF file where it begins as one, or else a bzImage.
-fn plan_of(alloc: Global, image: &mut File, offset: Option<u64>) -> Result<KernelPlan> {
+// Opens a file, whose name an error says.
+fn open(rt: &HostRuntime, path: &str) -> Result<File> {
+    Ok(File::open(rt, path).context(format_args!("{path}"))?)
+}
+
+// What is to be loaded of an image: an ELF file if it begins as one, or else a bzImage.
+fn plan_of(
+    alloc: Global,
+    image: &mut File,
+    offset: Option<u64>,
+) -> Result<KernelPlan, LoaderError> {
     let mut magic = [0; 4];
     let is_elf = image.read_at(0, &mut magic).is_ok() && magic == [0x7f, b'E', b'L', b'F'];
     let offset = offset.map(GuestAddress);
     if is_elf {
-        return Ok(Elf::plan(alloc, offset, image, None)?);
+        return Elf::plan(alloc, offset, image, None);
     }
-    Ok(BzImage::plan(alloc, offset, image, None)?)
+    BzImage::plan(alloc, offset, image, None)
+}
+
+// Refuses a part of a file that has an address without memory.
+fn check_part(path: &str, part: &str, start: u64, end: u64, memory: u64) -> Result<()> {
+    if !fits(memory, start, end) {
+        let last = last_low_address(memory);
+        bail!(
+            "{path} does not fit: {part} takes {start:#x} to {end:#x}, and {memory} MiB of memory end after {last:#x}"
+        );
+    }
+    Ok(())
+}
+
+// Refuses a kernel with a part that has an address without memory.
+fn check_plan(path: &str, plan: &KernelPlan, memory: u64) -> Result<()> {
+    for segment in plan.segments.iter() {
+        let start = segment.addr.0;
+        let end = start.saturating_add(segment.size);
+        check_part(path, "a segment", start, end, memory)?;
+    }
+    if let Some(area) = plan.result.runtime_area {
+        let start = area.start.0;
+        check_part(path, "the kernel at run time", start, area.end, memory)?;
+    }
+    Ok(())
+}
+
+// The first address above all that a kernel uses.
+fn first_free(kernel: &KernelLoaderResult) -> u64 {
+    let end = kernel.kernel_end;
+    kernel.runtime_area.map_or(end, |area| end.max(area.end))
+}
+
+// Opens the initrd, if one is asked for, and refuses one that has no room above the kernel.
+fn open_initrd(
+    rt: &HostRuntime,
+    kernel: &KernelLoaderResult,
+    asked: &Asked,
+) -> Result<Option<File>> {
+    let Some(path) = asked.initrd else {
+        return Ok(None);
+    };
+    let mut file = open(rt, path)?;
+    let size = file.size().context(format_args!("{path}"))?;
+    let limit = last_low_address(asked.memory);
+    if let Err(error) = initrd_address(kernel, size, GuestAddress(limit)) {
+        if let LoaderError::NoRoomForInitrd = error {
+            let first = first_free(kernel);
+            let memory = asked.memory;
+            bail!(
+                "{path} does not fit: its {size} bytes have no room from {first:#x} on in {memory} MiB of memory"
+            );
+        }
+        return Err(error).context(format_args!("{path}"))?;
+    }
+    Ok(Some(file))
 }
 
 fn load(
@@ -68,6 +133,7 @@ fn put_line(
     rt: &HostRuntime,
     host: &mut Host,
     memory: &GuestMemoryMmap,
+    kernel: &KernelLoaderResult,
     text: Option<&str>,
 ) -> Result<()> {
     let Some(text) = text else {
@@ -78,59 +144,71 @@ fn put_line(
     if !host.holds(memory) {
         bail!("the host does not hold the memory");
     }
-    load_cmdline(memory, host, GuestAddress(CMDLINE), &line)?;
+    load_cmdline(memory, host, kernel, GuestAddress(CMDLINE), &line)?;
     let count = line.as_slice_with_nul().len();
     println!(rt; "command line {CMDLINE:#x} {count}")?;
     Ok(())
 }
 
-// Loads the initrd, if one is asked for.
+// Loads the initrd, if there is one.
 fn put_initrd(
     rt: &HostRuntime,
     host: &mut Host,
     memory: &GuestMemoryMmap,
     kernel: &KernelLoaderResult,
-    asked: &Asked,
+    file: Option<File>,
+    limit: u64,
 ) -> Result<()> {
-    let Some(path) = asked.initrd else {
+    let Some(mut file) = file else {
         return Ok(());
     };
-    let mut file = File::open(rt, path).context(format_args!("{path}"))?;
-    let limit = GuestAddress(last_low_address(asked.memory));
     if !host.holds(memory) {
         bail!("the host does not hold the memory");
     }
-    let segment = load_initrd(memory, host, kernel, &mut file, limit)?;
+    let segment = load_initrd(memory, host, kernel, &mut file, GuestAddress(limit))?;
     let addr = segment.addr.0;
     let count = segment.size;
     println!(rt; "initrd {addr:#x} {count}")?;
     Ok(())
 }
 
-fn run(rt: &HostRuntime, words: &[String]) -> Result<()> {
-    let asked = read_words(words)?;
+// Prints where a kernel is entered, and where it runs.
+fn tell_kernel(rt: &HostRuntime, kernel: &KernelLoaderResult) -> Result<()> {
+    let entry = kernel.kernel_load.0;
+    let end = kernel.kernel_end;
+    println!(rt; "entry {entry:#x}, end {end:#x}")?;
+    if let Some(area) = kernel.runtime_area {
+        let start = area.start.0;
+        let end = area.end;
+        println!(rt; "run time area {start:#x}, end {end:#x}")?;
+    }
+    if let PvhBootCapability::PvhEntryPresent(pvh) = kernel.pvh_boot_cap {
+        let pvh = pvh.0;
+        println!(rt; "PVH entry {pvh:#x}")?;
+    }
+    Ok(())
+}
+
+fn run(rt: &HostRuntime, asked: &Asked) -> Result<()> {
     let path = asked.image;
-    let mut image = File::open(rt, path).context(format_args!("{path}"))?;
+    let mut image = open(rt, path)?;
+    let plan = plan_of(rt.alloc(), &mut image, asked.offset).context(format_args!("{path}"))?;
+    check_plan(path, &plan, asked.memory)?;
+    let initrd = open_initrd(rt, &plan.result, asked)?;
     let mut host = HostMemory::new(rt.alloc());
     let memory = memory_of(rt.alloc(), &mut host, asked.memory)?;
-    let plan = plan_of(rt.alloc(), &mut image, asked.offset)?;
     let segments = plan.segments.as_slice().to_vec(rt.alloc())?;
-    let kernel = load(&mut host, &memory, plan, &mut image)?;
+    let kernel = load(&mut host, &memory, plan, &mut image).context(format_args!("{path}"))?;
     println!(rt;
         "segment, place in the image, guest address, bytes from the image, zeroed bytes, SHA-256"
     )?;
     for (name, segment) in segments.iter().enumerate() {
         tell_segment(rt, &host, &memory, name, segment)?;
     }
-    let entry = kernel.kernel_load.0;
-    let end = kernel.kernel_end;
-    println!(rt; "entry {entry:#x}, end {end:#x}")?;
-    if let PvhBootCapability::PvhEntryPresent(pvh) = kernel.pvh_boot_cap {
-        let pvh = pvh.0;
-        println!(rt; "PVH entry {pvh:#x}")?;
-    }
-    put_line(rt, &mut host, &memory, asked.cmdline)?;
-    put_initrd(rt, &mut host, &memory, &kernel, &asked)?;
+    tell_kernel(rt, &kernel)?;
+    put_line(rt, &mut host, &memory, &kernel, asked.cmdline).context("command line")?;
+    let limit = last_low_address(asked.memory);
+    put_initrd(rt, &mut host, &memory, &kernel, initrd, limit).context("initrd")?;
     let count = dirty_pages(rt.alloc(), &host, &memory)?;
     println!(rt; "dirty pages {count}")?;
     Ok(())
@@ -138,7 +216,14 @@ fn run(rt: &HostRuntime, words: &[String]) -> Result<()> {
 
 fn main(rt: HostRuntime) -> Result<ExitCode> {
     let words: Vec<String> = env::args(&rt)?.collect(rt.alloc())?;
-    match run(&rt, words.as_slice()) {
+    let asked = match read_words(rt.alloc(), words.as_slice()) {
+        Ok(asked) => asked,
+        Err(error) => {
+            error.print(&rt)?;
+            return Ok(ExitCode::from(error.exit_code() as u8));
+        }
+    };
+    match run(&rt, &asked) {
         Ok(()) => Ok(ExitCode::SUCCESS),
         Err(error) => {
             eprintln!(rt; "vmmem_boot: {error:#}")?;

@@ -25,6 +25,13 @@ pub fn last_low_address(mib: u64) -> u64 {
     mib.saturating_mul(MIB).min(HOLE).saturating_sub(1)
 }
 
+/// Whether a machine with so many MiB has memory at each address from one up to another.
+pub fn fits(mib: u64, start: u64, end: u64) -> bool {
+    let low = last_low_address(mib).saturating_add(1);
+    let rest = mib.saturating_mul(MIB).saturating_sub(low);
+    end <= low || (start >= BEHIND_HOLE && end <= BEHIND_HOLE.saturating_add(rest))
+}
+
 /// Memory of so many MiB: the first of them, the others up to the hole, and the rest behind it.
 pub fn memory_of(alloc: Global, host: &mut Host, mib: u64) -> Result<GuestMemoryMmap> {
     let low = last_low_address(mib).saturating_add(1);
