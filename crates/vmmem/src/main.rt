@@ -1,16 +1,18 @@
 //! Runs the script on standard input, and writes its replies to standard output.
 #![tactic(auto)]
 
+use clap::error::ErrorKind;
 use clap::{Command, Error};
 use std::alloc::Global;
+use std::env::{Env, FillError};
+use std::io;
 use std::process::ExitCode;
-use std::{env, io};
-use vm_memory::drive;
+use vm_memory::{DriveFault, drive};
 
 // The names of the Rust crate 0.18.0, and the number of the port.
 const VERSION: &str = "0.18.0+1";
 
-// What `--help` prints behind the usage. docs/SCRIPT.md has the same lines with their replies and refusals.
+// What `--help` prints after the usage. docs/SCRIPT.md has the same lines with their replies and refusals.
 const LINES: &str = "\
 Setup, before the first command:
   block SIZE PAGE           make a block of host memory, with dirty pages of PAGE bytes
@@ -40,8 +42,8 @@ Commands:
   check M A N PERM          ask whether N bytes may be accessed
   copy B A N B2 A2 N2       copy bytes of a block to a block
   set T A TARGET N PERM     map N I/O addresses from A to those from TARGET
-  invalidate T A N          take back the mappings of N I/O addresses
-  clear T                   take back all mappings
+  invalidate T A N          invalidate the mappings of N I/O addresses
+  clear T                   invalidate all mappings
   lookup T A N PERM         ask where N I/O addresses lead
   dirty block|space NUMBER  list the dirty pages
   harvest block|space NUMBER
@@ -52,47 +54,67 @@ Words:
   SINK is - or steps t:NUMBER, i, f: take at most, be interrupted, fail
   steps have commas between; numbers are decimal or 0x..; a line # .. is a comment";
 
-// Reads the arguments: there are none but those that ask for help or for the version.
-fn read_words(alloc: Global, words: &[String]) -> Result<(), Error> {
-    Command::new(alloc, "vmmem")
-        .version(VERSION)
-        .about("Runs the script on standard input, and prints a reply for each line")
-        .after_help(LINES)
-        .try_get_matches_from(words)?;
-    Ok(())
-}
-
-// Prints the help, the version or what is wrong with the arguments, and answers the status then: none where there are
-// no arguments.
-fn answer_words(rt: &HostRuntime) -> io::Result<Option<u8>> {
-    let words: Vec<String> = env::args(rt)?.collect(rt.alloc())?;
-    match read_words(rt.alloc(), words.as_slice()) {
-        Ok(()) => Ok(None),
-        Err(error) => {
-            error.print(rt)?;
-            Ok(Some(if error.use_stderr() { 2 } else { 0 }))
-        }
+// The option that an argument is, if it is one.
+fn option_of(word: &[u8]) -> Option<&'static str> {
+    match word {
+        b"--help" | b"-h" => Some("--help"),
+        b"--version" | b"-V" => Some("--version"),
+        _ => None,
     }
 }
 
-// Runs the script, and answers the status.
-fn run_script(rt: &HostRuntime) -> u8 {
-    match drive(rt.alloc(), &mut rt.reader(), &mut io::writer(rt)) {
-        Ok(()) => 0,
-        Err(fault) => {
-            let _ = eprintln!(rt; "{fault}");
-            fault.status()
+// The first option among the arguments. All other arguments are ignored, also one that is longer than this buffer.
+fn option_asked(rt: &HostRuntime) -> Option<&'static str> {
+    let mut buf = [0u8; 16];
+    for place in 1..usize::MAX {
+        let asked = match rt.arg(place, &mut buf) {
+            Ok(len) => option_of(&buf[..len]),
+            Err(FillError::TooLong) => None,
+            Err(FillError::NotPresent) => return None,
+        };
+        if asked.is_some() {
+            return asked;
         }
+    }
+    None
+}
+
+// The text of the help or of the version. It comes as an error, which may also be that memory is wanting.
+fn text_of(alloc: Global, option: &str) -> Result<(), Error> {
+    let words = ["vmmem", option];
+    Command::new(alloc, "vmmem")
+        .version(VERSION)
+        .about(
+            "Runs the script on standard input, and prints a reply for each line. Other arguments are ignored",
+        )
+        .after_help(LINES)
+        .try_get_matches_from(&words)?;
+    Ok(())
+}
+
+// Prints the help or the version.
+fn answer_option(rt: &HostRuntime, option: &str) -> Result<(), DriveFault> {
+    match text_of(rt.alloc(), option) {
+        Ok(()) => Ok(()),
+        Err(error) if error.kind() == ErrorKind::OutOfMemory => Err(DriveFault::Memory),
+        Err(error) => error.print(rt).map_err(|_| DriveFault::Write),
+    }
+}
+
+// Does what the arguments ask for, or else runs the script.
+fn run(rt: &HostRuntime) -> Result<(), DriveFault> {
+    match option_asked(rt) {
+        Some(option) => answer_option(rt, option),
+        None => drive(rt.alloc(), &mut rt.reader(), &mut io::writer(rt)),
     }
 }
 
 fn main(rt: HostRuntime) -> ExitCode {
-    match answer_words(&rt) {
-        Ok(None) => ExitCode::from(run_script(&rt)),
-        Ok(Some(status)) => ExitCode::from(status),
-        Err(error) => {
-            let _ = eprintln!(rt; "{error}");
-            ExitCode::from(3)
+    match run(&rt) {
+        Ok(()) => ExitCode::SUCCESS,
+        Err(fault) => {
+            let _ = eprintln!(rt; "{fault}");
+            ExitCode::from(fault.status())
         }
     }
 }
