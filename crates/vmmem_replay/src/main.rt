@@ -8,6 +8,7 @@ mod sections;
 #[cfg(test)]
 mod tests;
 
+use clap::error::ErrorKind;
 use clap::{Arg, ArgAction, Command, Error};
 use replay::{ReplayFault, Replies, Tally, record};
 use sections::{Section, sections_of};
@@ -15,6 +16,10 @@ use std::alloc::Global;
 use std::io::{self, IsTerminal, Write};
 use std::process::ExitCode;
 use std::{env, fs};
+
+const ABOUT: &str = "\
+Runs scripts, each on a machine of its own, and compares the replies with recorded ones. It prints the first line of \
+each script that differs, and ends with status 1 if any does";
 
 // What the program was asked to do.
 #[derive(Drop)]
@@ -28,10 +33,10 @@ struct Asked<'a> {
 
 fn read_words<'a>(alloc: Global, words: &'a [String]) -> Result<Asked<'a>, Error> {
     let scripts = Arg::new(alloc, "SCRIPTS")
-        .help("A file of scripts, each behind a line `# script N`")
+        .help("A file of scripts, each after a line `# script N`")
         .required(true);
     let replies = Arg::new(alloc, "REPLIES")
-        .help("A file of the replies to each, behind the same lines")
+        .help("A file of the replies to each, after the same lines; not with --record")
         .required_unless_present("record")?;
     let record = Arg::new(alloc, "record")
         .long("record")
@@ -40,9 +45,10 @@ fn read_words<'a>(alloc: Global, words: &'a [String]) -> Result<Asked<'a>, Error
         .conflicts_with("REPLIES")?;
     let all = Arg::new(alloc, "all")
         .long("all")
-        .help("Tell of all scripts that differ, and not of the first ten alone")
+        .help("Show all scripts that differ, and not only the first ten")
         .action(ArgAction::SetTrue);
     let command = Command::new(alloc, "vmmem_replay")
+        .about(ABOUT)
         .arg(scripts)?
         .arg(replies)?
         .arg(record)?
@@ -62,12 +68,21 @@ fn read_words<'a>(alloc: Global, words: &'a [String]) -> Result<Asked<'a>, Error
 // Why the program ends with another status than 0 or 1.
 #[derive(Drop)]
 enum Stop {
-    // Its arguments are none of its own, or its help was asked for.
+    // Its arguments are wrong, or its help was asked for.
     Asked(Error),
-    // A file cannot be read, or has no script.
+    // An argument or a file cannot be read, or a file has no script.
     File,
     // There is no memory, or the output failed.
     Replay(ReplayFault),
+}
+
+impl From<Error> for Stop {
+    fn from(error: Error) -> Stop {
+        if error.kind() == ErrorKind::OutOfMemory {
+            return Stop::Replay(ReplayFault::Memory);
+        }
+        Stop::Asked(error)
+    }
 }
 
 impl From<ReplayFault> for Stop {
@@ -76,15 +91,26 @@ impl From<ReplayFault> for Stop {
     }
 }
 
-// The bytes of a file. Where it cannot be read, that is told.
-fn read_file(rt: &HostRuntime, path: &str) -> Result<Vec<u8>, Stop> {
-    fs::read(rt, path).map_err(|error| {
-        let _ = eprintln!(rt; "{path}: {error}");
-        Stop::File
-    })
+// Why an argument or a file cannot be read: there is no memory, or what it says of the place.
+fn stop_at(rt: &HostRuntime, place: &str, error: &io::Error) -> Stop {
+    if error.kind() == io::ErrorKind::OutOfMemory {
+        return Stop::Replay(ReplayFault::Memory);
+    }
+    let _ = eprintln!(rt; "{place}: {error}");
+    Stop::File
 }
 
-// The sections of the text of a file. Where it has none, that is told.
+fn arguments(rt: &HostRuntime) -> Result<Vec<String>, Stop> {
+    let words = env::args(rt).map_err(|error| stop_at(rt, "arguments", &error))?;
+    Ok(words.collect(rt.alloc()).map_err(ReplayFault::from)?)
+}
+
+// The bytes of a file. If it cannot be read, the program says so.
+fn read_file(rt: &HostRuntime, path: &str) -> Result<Vec<u8>, Stop> {
+    fs::read(rt, path).map_err(|error| stop_at(rt, path, &error))
+}
+
+// The sections of the text of a file. If it has none, the program says so.
 fn sections_in<'a>(rt: &HostRuntime, path: &str, text: &'a [u8]) -> Result<Vec<Section<'a>>, Stop> {
     match sections_of(rt.alloc(), text) {
         Ok(Some(sections)) => Ok(sections),
@@ -142,7 +168,7 @@ fn replay_all<W: Write>(
 
 // Does what was asked, and answers whether nothing differs.
 fn run<W: Write>(rt: &HostRuntime, words: &[String], out: &mut W) -> Result<bool, Stop> {
-    let asked = read_words(rt.alloc(), words).map_err(Stop::Asked)?;
+    let asked = read_words(rt.alloc(), words)?;
     let text = read_file(rt, asked.scripts)?;
     let scripts = sections_in(rt, asked.scripts, text.as_slice())?;
     let Some(path) = asked.replies else {
@@ -153,8 +179,8 @@ fn run<W: Write>(rt: &HostRuntime, words: &[String], out: &mut W) -> Result<bool
     replay_all(rt, scripts.as_slice(), replies.as_slice(), asked.most, out)
 }
 
-// The status: 0 where nothing differs, 1 where something does, 2 where a file or an argument is none, 3 for memory and
-// output.
+// The status: 0 if nothing differs, 1 if something does, 2 if a file cannot be used or an argument is wrong, 3 if there
+// is no memory or the output fails.
 fn status_of(rt: &HostRuntime, outcome: Result<bool, Stop>) -> io::Result<u8> {
     match outcome {
         Ok(true) => Ok(0),
@@ -172,7 +198,9 @@ fn status_of(rt: &HostRuntime, outcome: Result<bool, Stop>) -> io::Result<u8> {
 }
 
 fn main(rt: HostRuntime) -> io::Result<ExitCode> {
-    let words: Vec<String> = env::args(&rt)?.collect(rt.alloc())?;
-    let outcome = run(&rt, words.as_slice(), &mut io::writer(&rt));
+    let outcome = match arguments(&rt) {
+        Ok(words) => run(&rt, words.as_slice(), &mut io::writer(&rt)),
+        Err(stop) => Err(stop),
+    };
     Ok(ExitCode::from(status_of(&rt, outcome)?))
 }

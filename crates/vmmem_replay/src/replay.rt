@@ -126,7 +126,7 @@ impl<'a, 'b> Replies<'a, 'b> {
     }
 }
 
-/// Prints the machine's replies to a script behind a line of its number, and answers the number of its bad line in the
+/// Prints the machine's replies to a script after a line of its number, and returns the number of its bad line in the
 /// file, if it has one.
 pub fn record<W: Write>(
     alloc: Global,
@@ -261,7 +261,7 @@ fn write_place<W: Write>(
 ) -> Result<(), ReplayFault> {
     let number = script.number;
     let Some(place) = place else {
-        return writeln!(out, "script {number}, behind its last line").map_err(
+        return writeln!(out, "script {number}, after its last line").map_err(
             |_| ReplayFault::Write,
         );
     };

@@ -1,4 +1,4 @@
-//! Files of scripts and of their replies: sections, each behind a line `# script N`.
+//! Files of scripts and of their replies: sections, each after a line `# script N`.
 
 use std::alloc::{AllocError, Global};
 use std::str;
@@ -27,7 +27,7 @@ fn is_line_end(byte: &u8) -> bool {
     *byte == b'\n'
 }
 
-// The number of the script that begins behind this line.
+// The number of the script that begins after this line.
 fn number_of(line: &[u8]) -> Option<u64> {
     let digits = line.strip_prefix(b"# script ")?;
     match str::from_utf8(digits) {
@@ -36,7 +36,7 @@ fn number_of(line: &[u8]) -> Option<u64> {
     }
 }
 
-/// The sections of a text, or nothing where its first line does not begin one.
+/// The sections of a text, or nothing if its first line does not begin one.
 pub fn sections_of(alloc: Global, text: &[u8]) -> Result<Option<Vec<Section<'_>>>, AllocError> {
     let mut sections: Vec<Section<'_>> = Vec::new(alloc);
     let lines = lines_of(alloc, text)?;

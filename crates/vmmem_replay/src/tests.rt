@@ -47,10 +47,10 @@ const CASES: [(&str, &str, u8, &str); 13] = [
         SCRIPT,
         "# script 7\nblock 0\nregion 0\nlayout 0\nok\n",
         1,
-        "script 7, behind its last line\n  wanted: ok\n  came:   no reply\n\
+        "script 7, after its last line\n  wanted: ok\n  came:   no reply\n\
          1 scripts, 5 lines, 1 differ\n",
     ),
-    // A bad line ends its script, whatever replies are recorded for it and those behind it.
+    // A bad line ends its script, whatever replies are recorded for it and those after it.
     (
         "# script 7\nblock 1 1\nregon 0 0\nlayout 0\n# script 8\ntable\n",
         "# script 7\nblock 0\nregion 0\nlayout 0\n# script 8\ntable 0\n",
