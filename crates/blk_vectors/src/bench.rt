@@ -170,15 +170,20 @@ impl<M: GuestMemory, B: Bitmap, D: Disk> Bench<M, B, D> {
         Ok(())
     }
 
-    /// Lets the device serve what was published.
-    pub fn kick(&mut self) -> Result<Served, Fail> {
+    /// Lets the device serve what was published, at most so many chains.
+    pub fn kick_at_most(&mut self, most: u32) -> Result<Served, Fail> {
         if !self.host.holds(&self.memory) {
             return Err(Fail::new("the host does not hold the memory"));
         }
         Ok(
             self.device
-                .process(&mut self.queue, &self.memory, &mut self.host),
+                .process(&mut self.queue, &self.memory, &mut self.host, most),
         )
+    }
+
+    /// Lets the device serve all that was published.
+    pub fn kick(&mut self) -> Result<Served, Fail> {
+        self.kick_at_most(1000)
     }
 
     /// Takes a used entry.

@@ -6,6 +6,10 @@ mod bench;
 #[cfg(test)]
 mod disks;
 #[cfg(test)]
+mod flushes;
+#[cfg(test)]
+mod kicks;
+#[cfg(test)]
 mod queues;
 #[cfg(test)]
 mod random;
