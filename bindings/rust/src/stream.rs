@@ -14,9 +14,9 @@ const PIECE: usize = 0x1_0000;
 const RETRIES: usize = 64;
 
 impl GuestMemory<'_> {
-    /// Receives at most `count` bytes from a source, up to the first piece that it does not fill at one try, and returns
-    /// how many came. It takes no more from the source than the access reaches, and nothing if an IOMMU does not allow all
-    /// of it.
+    /// Receives at most `count` bytes from a source, up to the first piece that it does not fill at one try, and
+    /// returns how many came. It takes no more from the source than the access reaches, and nothing if an IOMMU does
+    /// not allow all of it.
     pub fn read_volatile_from<F: Read>(
         &self,
         addr: GuestAddress,
@@ -26,8 +26,8 @@ impl GuestMemory<'_> {
         self.receive(addr, src, count, false)
     }
 
-    /// Receives `count` bytes from a source. If it ends before, or the memory does after the first byte, the error says how
-    /// many came.
+    /// Receives `count` bytes from a source. If it ends before, or the memory does after the first byte, the error says
+    /// how many came.
     pub fn read_exact_volatile_from<F: Read>(
         &self,
         addr: GuestAddress,
@@ -37,8 +37,8 @@ impl GuestMemory<'_> {
         all_of(count, self.receive(addr, src, count, true)?)
     }
 
-    /// Sends at most `count` bytes to a sink, and returns how many it took. It gets none if an IOMMU does not allow all of
-    /// the access.
+    /// Sends at most `count` bytes to a sink, and returns how many it took. It gets none if an IOMMU does not allow all
+    /// of the access.
     pub fn write_volatile_to<F: Write>(
         &self,
         addr: GuestAddress,
@@ -132,8 +132,8 @@ impl GuestMemory<'_> {
         self.expect_first(addr, &mut [0])
     }
 
-    // Fails if an IOMMU does not allow a read of all these bytes, each of which is mapped. A call that sends bytes has to
-    // have room for them, so they are asked for in pieces.
+    // Fails if an IOMMU does not allow a read of all these bytes, each of which is mapped. A call that sends bytes has
+    // to have room for them, so they are asked for in pieces.
     fn expect_readable(&self, addr: GuestAddress, count: usize) -> Result<(), GuestMemoryError> {
         let mut room = vec![0; count.min(PIECE)];
         let mut asked = 0;
