@@ -9,7 +9,8 @@ use virtio_blk::{
     VIRTIO_BLK_T_GET_ID, VIRTIO_BLK_T_IN, VIRTIO_BLK_T_OUT,
 };
 use virtio_queue::{
-    Descriptor, DriverQueue, Queue, VRING_DESC_F_INDIRECT, VRING_DESC_F_NEXT, VRING_DESC_F_WRITE,
+    Descriptor, DriverQueue, Queue, QueueField, VRING_DESC_F_INDIRECT, VRING_DESC_F_NEXT,
+    VRING_DESC_F_WRITE, VRING_USED_F_NO_NOTIFY,
 };
 use vm_memory::{
     Bytes, GuestAddress, GuestMemoryMmap, GuestRegionMmap, HostMemory, IommuMemory, MachineMemory,
@@ -37,6 +38,11 @@ const PAGES: u64 = END / PAGE;
 
 // A chain: a header, data in two segments, and a status.
 const PARTS: u16 = 4;
+
+// How many chains a call of the device serves at most, and how many calls follow one notification.
+const CHAINS: u32 = 16;
+
+const CALLS: u32 = 16;
 
 type Host = HostMemory<()>;
 
@@ -70,6 +76,12 @@ fn memory_of(alloc: Global, host: &mut Host, iommu: bool) -> anyhow::Result<Memo
     Ok(MachineMemory::Translated(IommuMemory::new(alloc, layout, iommu, true, space)))
 }
 
+// Whether a driver whose index went from one to another notifies a device that waits for an event: the event is one of
+// those between, modulo 2^16.
+fn passes(event: u16, new: u16, old: u16) -> bool {
+    new.wrapping_sub(event).wrapping_sub(1) < new.wrapping_sub(old)
+}
+
 // The bytes of a header.
 fn header_of(kind: u32, sector: u64) -> [u8; 16] {
     let [a, b, c, d] = kind.to_le_bytes();
@@ -84,6 +96,8 @@ pub struct Guest {
     memory: Memory,
     driver: DriverQueue,
     queue: Queue,
+    // The driver's index when it last decided whether to notify the device.
+    decided: u16,
 }
 
 impl Guest {
@@ -98,6 +112,7 @@ impl Guest {
             memory,
             driver,
             queue,
+            decided: 0,
         })
     }
 
@@ -185,14 +200,47 @@ impl Guest {
         Ok(())
     }
 
-    // Kicks the device, and takes what it returns.
-    fn kick<D: Disk>(&mut self, device: &mut BlockDevice<D>) -> anyhow::Result<()> {
+    // Whether the driver notifies the device of what it has published since it last decided that.
+    fn notifies(&mut self) -> anyhow::Result<bool> {
         if !self.host.holds(&self.memory) {
             bail!("the host does not hold the memory");
         }
-        let served = device.process(&mut self.queue, &self.memory, &mut self.host);
-        if let Some(error) = served.failed {
-            bail!("the device fails: {error}");
+        let (new, old) = (self.driver.next_avail, self.decided);
+        self.decided = new;
+        if self.queue.event_idx_enabled() {
+            let event = self
+                .driver
+                .field(&self.memory, &self.host, QueueField::AvailEvent)?;
+            return Ok(passes(event, new, old));
+        }
+        let flags = self
+            .driver
+            .field(&self.memory, &self.host, QueueField::UsedFlags)?;
+        Ok(flags & VRING_USED_F_NO_NOTIFY == 0)
+    }
+
+    // Lets the device serve what was published, as its owner does when the driver notifies it. It says whether the
+    // owner calls it again.
+    fn kick<D: Disk>(&mut self, device: &mut BlockDevice<D>) -> anyhow::Result<bool> {
+        if !self.host.holds(&self.memory) {
+            bail!("the host does not hold the memory");
+        }
+        let served = device.process(&mut self.queue, &self.memory, &mut self.host, CHAINS);
+        match served.failed {
+            Some(error) => bail!("the device fails: {error}"),
+            None => Ok(served.more),
+        }
+    }
+
+    // Notifies the device, where the rule says so, and takes what it returns.
+    fn complete<D: Disk>(&mut self, device: &mut BlockDevice<D>) -> anyhow::Result<()> {
+        if !self.notifies()? {
+            bail!("the device does not ask to be notified of the request");
+        }
+        for _ in 0..CALLS {
+            if !self.kick(device)? {
+                break;
+            }
         }
         if !self.host.holds(&self.memory) {
             bail!("the host does not hold the memory");
@@ -225,7 +273,7 @@ impl Guest {
             (DATA + front as u64, (len - front) as u32, flags),
             (STATUS, 1, VRING_DESC_F_WRITE),
         ])?;
-        self.kick(device)?;
+        self.complete(device)?;
         let mut status = [0];
         self.get(STATUS, &mut status)?;
         Ok(status[0])

@@ -1,6 +1,7 @@
 //! Requests, as lines tell them.
 
 use std::alloc::Global;
+use thiserror::Error;
 
 /// The greatest number of sectors that a request moves.
 pub const MOST: usize = 2048;
@@ -16,41 +17,95 @@ pub enum Request {
     Id,
 }
 
-// The bytes of a word, with zeros up to whole sectors.
-fn sectors_of(alloc: Global, word: &str) -> Option<Vec<u8>> {
-    let mut bytes = hex::decode(alloc, word).ok()?;
-    let short = (512 - bytes.len() % 512) % 512;
-    for _ in 0..short {
-        bytes.push(0).ok()?;
-    }
-    if bytes.len() > 512 * MOST {
-        return None;
-    }
-    Some(bytes)
+/// Why a line is no request.
+#[derive(Debug, Drop, Error)]
+pub enum LineError {
+    #[error("there is no request: write, read, flush or id")]
+    Empty,
+    #[error("no request has this name: write, read, flush and id are known")]
+    Unknown,
+    #[error("{0} is missing")]
+    Missing(&'static str),
+    #[error("there are more words than the request has")]
+    TooManyWords,
+    #[error("SECTOR is not a number below 2^64")]
+    Sector,
+    #[error("COUNT is not a number from 0 to 2048")]
+    Count,
+    #[error("HEX is not an even number of hexadecimal digits")]
+    Hex,
+    #[error("HEX has more than 1048576 bytes")]
+    TooLong,
+    #[error("out of memory")]
+    Memory,
 }
 
-/// The request of a line, if it is one.
-pub fn request_of(alloc: Global, line: &str) -> Option<Request> {
+// The bytes of a word, with zeros up to whole sectors.
+fn sectors_of(alloc: Global, word: &str) -> Result<Vec<u8>, LineError> {
+    if word.len() / 2 > 512 * MOST {
+        return Err(LineError::TooLong);
+    }
+    let mut bytes = match hex::decode(alloc, word) {
+        Ok(bytes) => bytes,
+        Err(hex::FromHexError::OutOfMemory) => return Err(LineError::Memory),
+        Err(_) => return Err(LineError::Hex),
+    };
+    let short = (512 - bytes.len() % 512) % 512;
+    for _ in 0..short {
+        if bytes.push(0).is_err() {
+            return Err(LineError::Memory);
+        }
+    }
+    Ok(bytes)
+}
+
+fn sector_of(word: Option<&str>) -> Result<u64, LineError> {
+    let Some(word) = word else {
+        return Err(LineError::Missing("SECTOR"));
+    };
+    word.parse().map_err(|_| LineError::Sector)
+}
+
+fn count_of(word: Option<&str>) -> Result<usize, LineError> {
+    let Some(word) = word else {
+        return Err(LineError::Missing("COUNT"));
+    };
+    match word.parse::<usize>() {
+        Ok(count) if count <= MOST => Ok(count),
+        _ => Err(LineError::Count),
+    }
+}
+
+fn bytes_of(alloc: Global, word: Option<&str>) -> Result<Vec<u8>, LineError> {
+    let Some(word) = word else {
+        return Err(LineError::Missing("HEX"));
+    };
+    sectors_of(alloc, word)
+}
+
+/// The request of a line, or why it is none. `Memory` says that an allocation failed.
+pub fn request_of(alloc: Global, line: &str) -> Result<Request, LineError> {
     let mut words = line.split(' ');
-    let kind = words.next()?;
+    let kind = words.next().unwrap_or("");
     let first = words.next();
     let second = words.next();
-    if words.next().is_some() {
-        return None;
-    }
-    match (kind.as_bytes(), first, second) {
-        (b"write", Some(sector), Some(word)) => {
-            Some(Request::Write(sector.parse().ok()?, sectors_of(alloc, word)?))
+    let more = words.next();
+    let (request, extra) = match kind.as_bytes() {
+        b"write" => {
+            let sector = sector_of(first)?;
+            (Request::Write(sector, bytes_of(alloc, second)?), more)
         }
-        (b"read", Some(sector), Some(count)) => {
-            let count: usize = count.parse().ok()?;
-            if count > MOST {
-                return None;
-            }
-            Some(Request::Read(sector.parse().ok()?, count))
+        b"read" => {
+            let sector = sector_of(first)?;
+            (Request::Read(sector, count_of(second)?), more)
         }
-        (b"flush", None, None) => Some(Request::Flush),
-        (b"id", None, None) => Some(Request::Id),
-        _ => None,
+        b"flush" => (Request::Flush, first),
+        b"id" => (Request::Id, first),
+        b"" => return Err(LineError::Empty),
+        _ => return Err(LineError::Unknown),
+    };
+    if extra.is_some() {
+        return Err(LineError::TooManyWords);
     }
+    Ok(request)
 }
