@@ -5,8 +5,8 @@
  * the name and the order of a script's line (docs/SCRIPT.md); docs/BINDINGS.md has the rules.
  *
  * The caller opens a session before it calls it, and closes it once. It makes one call at a time of a session, from any
- * thread, keeps no pointer into it, copies its handle nowhere, and gives lengths that are true. A program links the
- * static library and then the allocator that it wants (`liblibc_c.a`).
+ * thread, keeps no pointer into it but those that vmm_shared_block gives, copies its handle nowhere, and gives lengths
+ * that are true. A program is built with vm_memory_heap.c, which has the allocator that the static library wants.
  */
 #ifndef VM_MEMORY_H
 #define VM_MEMORY_H
@@ -48,7 +48,8 @@ enum vmm_code {
     VMM_IOMMU_MISSING = 42, VMM_IOMMU_NOT_ALLOWED = 43, VMM_IOMMU_NOT_CONFIGURED = 44, VMM_IOMMU_FRAGMENTED = 45,
     VMM_MISCONFIGURED_MISSING = 46, VMM_MISCONFIGURED_NOT_ALLOWED = 47, VMM_MISCONFIGURED_NOT_CONFIGURED = 48,
     VMM_IOMMU_MEMORY = 49,
-    VMM_NO_MEMORY_REGION = 50, VMM_MEMORY_REGION_OVERLAP = 51, VMM_UNSORTED_MEMORY_REGIONS = 52
+    VMM_NO_MEMORY_REGION = 50, VMM_MEMORY_REGION_OVERLAP = 51, VMM_UNSORTED_MEMORY_REGIONS = 52,
+    VMM_NOT_PAGED = 64, VMM_NO_FILE = 65, VMM_FILE_SHORT = 66, VMM_NOT_MAPPED = 67, VMM_NOT_SHARED = 68
 };
 
 /* The numbers that close a step of a source, behind the numbers of its bytes, and those of the steps of a sink:
@@ -111,6 +112,13 @@ static inline vmm_answer vmm_block(vmm_session *s, size_t size, size_t page) {
     call.other_length = page;
     return vmm_asked(s, &call, NULL, 0, NULL, 0);
 }
+
+/* A block whose bytes the caller shares with its guest: those of the file `fd` from `offset` on, or with `fd` -1
+ * private memory. `*address` is where they lie, until the session is closed. It is refused as vmm_block is, or with
+ * VMM_NOT_PAGED (the size or the offset is no multiple of the system's page), VMM_NO_FILE (`fd` is no regular file),
+ * VMM_FILE_SHORT, or VMM_NOT_MAPPED (`count` is the system's error), and nothing changed then. With VMM_NOT_SHARED
+ * there is a block, `value`, but it has private memory: `count` is the system's error. vm_memory_heap.c has this. */
+vmm_answer vmm_shared_block(vmm_session *session, size_t size, size_t page, int fd, uint64_t offset, void **address);
 
 static inline vmm_answer vmm_space(vmm_session *s, size_t size, size_t page) {
     vmm_request call = vmm_at(VMM_SPACE, 0, 0, size);

@@ -2,8 +2,7 @@
 //!
 //! `VM_MEMORY_C_LIB` names a `libvm_memory_c.a` that is built already. Without it the library is the one that `rt lib`
 //! leaves in the folder of its crate, if it is newer than all that it is built from; else this stops and says so. With
-//! `VM_MEMORY_BUILD=1` this runs `rt lib` then. `VM_MEMORY_C_ALLOC` names the library of the allocator that it wants,
-//! `liblibc_c.a` of the kit of `rt`.
+//! `VM_MEMORY_BUILD=1` this runs `rt lib` then. The allocator that it wants is a module of this crate.
 
 use std::env;
 use std::fs;
@@ -19,7 +18,6 @@ crates below is kept, and half a minute if all is.
 
   VM_MEMORY_BUILD=1     has this build run `rt lib`
   VM_MEMORY_C_LIB       names a libvm_memory_c.a that is built already
-  VM_MEMORY_C_ALLOC     names the allocator's library, c/liblibc_c.a of the kit, if `rt` is not on the path
 ";
 
 fn main() {
@@ -28,14 +26,11 @@ fn main() {
     let repository = repository.canonicalize().unwrap_or(repository);
     let sources = sources_of(&repository);
     let library = library(&repository, &sources).unwrap_or_else(|text| stop(&text));
-    let allocator = allocator().unwrap_or_else(|text| stop(&text));
-    for file in [library, allocator] {
-        link(&file).unwrap_or_else(|text| stop(&text));
-    }
+    link(&library).unwrap_or_else(|text| stop(&text));
     for source in sources.unwrap_or_default() {
         println!("cargo:rerun-if-changed={}", source.display());
     }
-    for name in ["VM_MEMORY_C_LIB", "VM_MEMORY_C_ALLOC", "VM_MEMORY_BUILD", "VMMEM"] {
+    for name in ["VM_MEMORY_C_LIB", "VM_MEMORY_BUILD", "VMMEM"] {
         println!("cargo:rerun-if-env-changed={name}");
     }
     find_vmmem(&repository);
@@ -155,22 +150,6 @@ pub(crate) fn expect_new(library: &Path, sources: &[PathBuf]) -> Result<(), Stri
             library.display(),
             newer.display()
         )),
-    }
-}
-
-// The allocator's library: the one that is named, or the one beside the command `rt`, in its kit.
-fn allocator() -> Result<PathBuf, String> {
-    if let Some(path) = env::var_os("VM_MEMORY_C_ALLOC") {
-        return Ok(PathBuf::from(path));
-    }
-    let paths = env::var_os("PATH").unwrap_or_default();
-    let rt = env::split_paths(&paths)
-        .map(|folder| folder.join("rt"))
-        .find(|file| file.is_file())
-        .and_then(|file| file.canonicalize().ok());
-    match rt.as_deref().and_then(Path::parent).and_then(Path::parent) {
-        Some(kit) => Ok(kit.join("c/liblibc_c.a")),
-        None => Err("`rt` is not on the path, and VM_MEMORY_C_ALLOC names no library of the allocator".to_string()),
     }
 }
 

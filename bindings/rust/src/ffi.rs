@@ -1,7 +1,8 @@
-//! The calls of the static library. All `unsafe` of this crate lies here.
+//! The calls of the static library and of the system. All `unsafe` of this crate lies here and in the allocator.
 
 use crate::raw::{Answer, Call};
 use std::cell::Cell;
+use std::ffi::{c_char, c_int, c_long, c_uint};
 use std::ptr::null_mut;
 
 // The handle of a session: where it lies.
@@ -26,6 +27,48 @@ unsafe extern "C" {
     );
 
     fn vmm_close(session: *mut Handle);
+}
+
+// Of the C library, as Linux on x86-64 has it.
+unsafe extern "C" {
+    pub(crate) fn malloc(size: usize) -> *mut u8;
+
+    pub(crate) fn realloc(at: *mut u8, size: usize) -> *mut u8;
+
+    pub(crate) fn free(at: *mut u8);
+
+    pub(crate) fn mmap(at: *mut u8, size: usize, access: c_int, flags: c_int, fd: c_int, offset: i64) -> *mut u8;
+
+    pub(crate) fn munmap(at: *mut u8, size: usize) -> c_int;
+
+    pub(crate) fn mremap(at: *mut u8, size: usize, new_size: usize, flags: c_int, ...) -> *mut u8;
+
+    pub(crate) fn memfd_create(name: *const c_char, flags: c_uint) -> c_int;
+
+    pub(crate) fn fcntl(fd: c_int, command: c_int, ...) -> c_int;
+
+    pub(crate) fn sysconf(name: c_int) -> c_long;
+}
+
+/// The numbers of the calls of the system.
+pub(crate) mod system {
+    use std::ffi::{c_int, c_uint};
+
+    pub(crate) const PROT_NONE: c_int = 0;
+    pub(crate) const PROT_READ: c_int = 1;
+    pub(crate) const PROT_WRITE: c_int = 2;
+    pub(crate) const MAP_SHARED: c_int = 1;
+    pub(crate) const MAP_PRIVATE: c_int = 2;
+    pub(crate) const MAP_FIXED: c_int = 0x10;
+    pub(crate) const MAP_ANONYMOUS: c_int = 0x20;
+    pub(crate) const MAP_POPULATE: c_int = 0x8000;
+    pub(crate) const MREMAP_MAYMOVE: c_int = 1;
+    pub(crate) const MREMAP_FIXED: c_int = 2;
+    pub(crate) const MFD_CLOEXEC: c_uint = 1;
+    pub(crate) const MFD_ALLOW_SEALING: c_uint = 2;
+    pub(crate) const F_ADD_SEALS: c_int = 1033;
+    pub(crate) const F_SEAL_SHRINK: c_int = 2;
+    pub(crate) const SC_PAGESIZE: c_int = 30;
 }
 
 /// An open session. It is closed when it is dropped.

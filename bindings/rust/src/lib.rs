@@ -18,20 +18,24 @@
 //! assert_eq!(machine.harvest_block(block)?, [0, 1]);
 //! # Ok::<(), Box<dyn std::error::Error>>(())
 //! ```
-#![deny(unsafe_code)]
+#![deny(unsafe_code, unsafe_op_in_unsafe_fn)]
 #![warn(missing_docs)]
 
 mod error;
 #[allow(unsafe_code)]
 mod ffi;
+#[allow(unsafe_code)]
+mod heap;
 mod machine;
 mod memory;
 pub mod raw;
 pub mod script;
+mod shared;
 mod stream;
 mod value;
 
 pub use error::{GuestMemoryError, GuestRegionCollectionError, IommuError, MachineError, Reason};
 pub use machine::{IotlbFails, IovaRange, Machine, MappedRange, Permissions};
 pub use memory::{GuestAddress, GuestMemory};
+pub use shared::{memfd, SharedBlock, SharedBlockError};
 pub use value::{AtomicAccess, ByteValued};

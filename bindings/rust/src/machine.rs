@@ -106,6 +106,10 @@ impl Machine {
         self.session.call(call, input, output, answer);
     }
 
+    pub(crate) fn session(&self) -> &Session {
+        &self.session
+    }
+
     // A call without input and output.
     #[inline]
     pub(crate) fn ask(&self, call: Call) -> Result<Answer, MachineError> {

@@ -1,0 +1,94 @@
+//! What a guest has of a block: another mapping of its file, or the block's own bytes.
+#![allow(dead_code)]
+
+use std::ffi::c_int;
+use std::os::fd::{AsFd, AsRawFd};
+use std::ptr::{copy, null_mut};
+
+// Of the C library, as Linux on x86-64 has it.
+unsafe extern "C" {
+    fn mmap(at: *mut u8, size: usize, access: c_int, flags: c_int, fd: c_int, offset: i64) -> *mut u8;
+    fn munmap(at: *mut u8, size: usize) -> c_int;
+    fn prctl(option: c_int, ...) -> c_int;
+}
+
+pub struct Guest {
+    at: *mut u8,
+    len: usize,
+    is_mapping: bool,
+}
+
+impl Guest {
+    /// A mapping of the first bytes of a file.
+    pub fn of_file(file: impl AsFd, len: usize) -> Guest {
+        // SAFETY: the declaration fits the function. The system takes addresses that nothing has.
+        let at = unsafe { mmap(null_mut(), len, 3, 1, file.as_fd().as_raw_fd(), 0) };
+        assert_ne!(at as isize, -1);
+        let is_mapping = true;
+        Guest { at, len, is_mapping }
+    }
+
+    /// The bytes of a block, whose machine has to be there.
+    pub fn of_block(block: &vm_memory_proved::SharedBlock) -> Guest {
+        let (at, len, is_mapping) = (block.as_ptr(), block.len(), false);
+        Guest { at, len, is_mapping }
+    }
+
+    pub fn read(&self, from: usize, len: usize) -> Vec<u8> {
+        assert!(from + len <= self.len);
+        let mut bytes = vec![0; len];
+        // SAFETY: both have these bytes, and no call of the machine runs.
+        unsafe { copy(self.at.add(from), bytes.as_mut_ptr(), len) };
+        bytes
+    }
+
+    pub fn write(&self, from: usize, bytes: &[u8]) {
+        assert!(from + bytes.len() <= self.len);
+        // SAFETY: both have these bytes, and no call of the machine runs.
+        unsafe { copy(bytes.as_ptr(), self.at.add(from), bytes.len()) };
+    }
+}
+
+impl Drop for Guest {
+    fn drop(&mut self) {
+        if self.is_mapping {
+            // SAFETY: this mapping is its own.
+            unsafe { munmap(self.at, self.len) };
+        }
+    }
+}
+
+/// Has the system refuse a call by its number, on this thread and for good, with the error EPERM. Whether it does.
+pub fn refuse(call: u32) -> bool {
+    #[repr(C)]
+    struct Rule {
+        code: u16,
+        then: u8,
+        or: u8,
+        value: u32,
+    }
+    #[repr(C)]
+    struct Rules {
+        count: u16,
+        rules: *const Rule,
+    }
+    let rule = |code, or, value| Rule {
+        code,
+        then: 0,
+        or,
+        value,
+    };
+    // Loads the number of the call, and compares it: the error EPERM, or leave.
+    let rules = [
+        rule(0x20, 0, 0),
+        rule(0x15, 1, call),
+        rule(6, 0, 0x5_0001),
+        rule(6, 0, 0x7fff_0000),
+    ];
+    let all = Rules {
+        count: 4,
+        rules: rules.as_ptr(),
+    };
+    // SAFETY: the first sets a flag of this thread, and the second reads four rules there.
+    unsafe { prctl(38, 1_u64, 0_u64, 0_u64, 0_u64) == 0 && prctl(22, 2_u64, &all as *const Rules) == 0 }
+}
