@@ -2,6 +2,8 @@
 #define _GNU_SOURCE
 #include "vm_memory.h"
 
+#include <pthread.h>
+#include <stdio.h>
 #include <string.h>
 #include <sys/mman.h>
 #include <unistd.h>
@@ -42,6 +44,53 @@ static int refusals(vmm_session *session, size_t page) {
     return 0;
 }
 
+/* Sessions with small blocks, large ones and shared ones, one after the other. Returns `end` if one fails, or null. */
+static void *sessions(void *end) {
+    static const size_t sizes[] = {0x1000, 0x1ff000, 0x200000, 0x601000};
+    for (size_t i = 0; i < 100; i++) {
+        size_t size = sizes[i % 4];
+        vmm_session session = {0};
+        void *at = NULL;
+        int made = vmm_open(&session) == VMM_DONE && vmm_block(&session, size, 0x1000).code == VMM_DONE &&
+                   vmm_shared_block(&session, size, 0x1000, -1, 0, &at).code == VMM_DONE &&
+                   vmm_copy(&session, 0, 0, size, 1, 0, size).code == VMM_DONE;
+        if (!made || memcmp(at, "\0", 2) != 0 || (size >= 0x200000 && (uintptr_t)at % 0x200000 != 0)) {
+            return end;
+        }
+        memcpy((char *)at + size - 1, "\7", 1);
+        if (vmm_copy(&session, 1, size - 1, 1, 0, 0, 1).code != VMM_DONE) {
+            return end;
+        }
+        vmm_close(&session);
+    }
+    return NULL;
+}
+
+/* How many mappings the process has. */
+static int mappings(void) {
+    FILE *maps = fopen("/proc/self/maps", "r");
+    int lines = 0;
+    for (int c; maps && (c = getc(maps)) != EOF;) {
+        lines += c == '\n';
+    }
+    return maps && fclose(maps) == 0 ? lines : -1;
+}
+
+/* Two threads at once, and then one, which leaves no mapping. */
+static int threads(void) {
+    pthread_t other;
+    char end;
+    void *failed = &end;
+    if (pthread_create(&other, NULL, sessions, &end) != 0) {
+        return 40;
+    }
+    if (sessions(&end) || pthread_join(other, &failed) != 0 || failed) {
+        return 41;
+    }
+    int before = mappings();
+    return !sessions(&end) && before > 0 && mappings() == before ? 0 : 42;
+}
+
 int main(void) {
     size_t page = (size_t)sysconf(_SC_PAGESIZE);
     int file = memfd_create("guest", MFD_CLOEXEC | MFD_ALLOW_SEALING);
@@ -54,6 +103,7 @@ int main(void) {
         return 2;
     }
     int failed = refusals(&session, page);
+    failed = failed ? failed : threads();
     if (failed) {
         return failed;
     }

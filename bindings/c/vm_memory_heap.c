@@ -218,11 +218,11 @@ static vmm_answer checked(size_t size, int fd, uint64_t offset) {
     if (size == 0 || size >> 63) {
         return refused(VMM_INVALID_SIZE, 0);
     }
-    if (size % page != 0 || offset % page != 0 || (fd < 0 && offset != 0)) {
+    if (size % page != 0 || offset % page != 0 || (fd == -1 && offset != 0)) {
         return refused(VMM_NOT_PAGED, 0);
     }
     struct stat file;
-    if (fd >= 0) {
+    if (fd != -1) {
         if (fstat(fd, &file) != 0) {
             return refused(VMM_NOT_MAPPED, errno);
         }
@@ -260,8 +260,8 @@ vmm_answer vmm_shared_block(vmm_session *session, size_t size, size_t page, int 
     if (answer.code != VMM_DONE) {
         return answer;
     }
-    int flags = fd < 0 ? MAP_PRIVATE | MAP_ANONYMOUS : MAP_SHARED;
-    void *shared = mmap(NULL, size, PROT_READ | PROT_WRITE, flags, fd < 0 ? -1 : fd, (off_t)offset);
+    int flags = fd == -1 ? MAP_PRIVATE | MAP_ANONYMOUS : MAP_SHARED;
+    void *shared = mmap(NULL, size, PROT_READ | PROT_WRITE, flags, fd, (off_t)offset);
     if (shared == MAP_FAILED) {
         return refused(VMM_NOT_MAPPED, errno);
     }

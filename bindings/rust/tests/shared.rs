@@ -3,9 +3,11 @@
 mod guest;
 
 use guest::{refuse, Guest};
+use std::env;
 use std::fs::{self, File};
 use std::io::{Cursor, ErrorKind};
 use std::os::fd::{AsFd, AsRawFd, OwnedFd};
+use std::process::Command;
 use std::sync::atomic::Ordering::SeqCst;
 use std::thread;
 use vm_memory_proved::{
@@ -576,4 +578,19 @@ fn a_machine_takes_its_blocks_to_another_thread() {
         fs::read(format!("/proc/self/fd/{}", file.as_raw_fd())).unwrap()[..5],
         *b"there"
     );
+}
+
+// The example, which `cargo test` builds beside this test: what both processes read, and the pages that were written.
+#[test]
+fn the_guest_of_the_example_is_answered() {
+    let folder = env::current_exe().unwrap().ancestors().nth(2).unwrap().join("examples");
+    let Ok(run) = Command::new(folder.join("guest")).output() else {
+        println!("left out, as the example is not built");
+        return;
+    };
+    assert_eq!(
+        String::from_utf8(run.stdout).unwrap(),
+        "the monitor reads \"hello\"\nthe guest reads \"olleh\"\ndirty pages: [2, 3]\n"
+    );
+    assert!(run.status.success());
 }
