@@ -6,7 +6,7 @@ use std::alloc::Global;
 use std::io::{Read, Write};
 use std::sync::{Mutex, Wait};
 use vhost_iotlb::{
-    ChannelError, DeviceIotlb, Handled, LockedHost, MissError, Outcome, ReadChain, Request,
+    ChannelError, DeviceIotlb, Frame, Handled, LockedHost, MissError, Outcome, ReadChain, Request,
     SharedHost, WriteChain, reach,
 };
 use virtio_blk::{BlockDevice, MemoryDisk, VIRTIO_BLK_S_IOERR};
@@ -19,6 +19,9 @@ use vm_memory::{
 // The most bytes of a chain.
 const MOST: usize = 0x1_0000;
 
+// How many looks are made at the queue before the channel is looked at again.
+const LOOKS: u32 = 1024;
+
 /// What a back end did.
 #[derive(Clone, Copy, Debug)]
 pub struct Done {
@@ -28,33 +31,52 @@ pub struct Done {
     pub given_up: u64,
 }
 
-// A turn at the queue: a chain is popped, or one is returned.
+// What is done with the queue.
+#[derive(Clone, Copy)]
+enum Act {
+    // The next chain is popped.
+    Pop,
+    // The chain of this head is returned, of which so many bytes were written.
+    Return(u16, u32),
+    // The driver is asked not to notify.
+    Disable,
+    // The driver is asked to notify.
+    Enable,
+}
+
+// A turn at the queue.
 #[derive(Drop)]
 struct QueueTurn {
     alloc: Global,
     memory: Memory,
     table: TlbId,
     queue: Queue,
-    returned: Option<(u16, u32)>,
+    act: Act,
     popped: Option<(u16, Chain)>,
 }
 
 impl QueueTurn {
-    // What an access of a range comes to that was refused.
+    // What an access of a range comes to, unless the table allows it.
     fn refused<B>(
         &self,
         host: &HostMemory<B>,
         iova: u64,
         len: usize,
         access: Permissions,
-    ) -> Outcome {
+    ) -> Option<Outcome> {
         if !host.shape().has_table(self.table) {
-            return Outcome::Failed;
+            return Some(Outcome::Failed);
         }
         match reach(host.table(self.table), iova, len, access).1 {
-            Outcome::Done => Outcome::Failed,
-            outcome => outcome,
+            Outcome::Done => None,
+            outcome => Some(outcome),
         }
+    }
+
+    // What a write of the used ring comes to, unless the table allows it: all of it is mapped before any is written.
+    fn refused_ring<B>(&self, host: &HostMemory<B>) -> Option<Outcome> {
+        let size = 6 + 8 * usize::from(self.queue.size());
+        self.refused(host, self.queue.used_ring().0, size, Permissions::Write)
     }
 
     fn pop<B: Bitmap>(&mut self, host: &mut HostMemory<B>) -> Outcome {
@@ -76,24 +98,30 @@ impl QueueTurn {
             ) => iova_range,
             Err(_) => return Outcome::Failed,
         };
-        self.refused(host, range.base.0, range.length, Permissions::Read)
+        match self.refused(host, range.base.0, range.length, Permissions::Read) {
+            Some(outcome) => outcome,
+            None => Outcome::Failed,
+        }
     }
+}
 
-    // The used ring is mapped before anything is written to it.
-    fn give_back<B: Bitmap>(&mut self, host: &mut HostMemory<B>, head: u16, len: u32) -> Outcome {
-        let ring = self.queue.used_ring().0;
-        let size = 6 + 8 * usize::from(self.queue.size());
-        if !host.shape().has_table(self.table) || !host.holds(&self.memory) {
-            return Outcome::Failed;
+// Whether a call of a queue was refused as the table misses an address.
+fn is_missed(error: &QueueError) -> bool {
+    match error {
+        QueueError::GuestMemory(GuestMemoryError::IommuError(error)) => {
+            matches!(error, IommuError::CannotResolve { .. })
         }
-        match reach(host.table(self.table), ring, size, Permissions::Write).1 {
-            Outcome::Done => {}
-            outcome => return outcome,
-        }
-        match self.queue.add_used(&self.memory, host, head, len) {
-            Ok(()) => Outcome::Done,
-            Err(_) => Outcome::Failed,
-        }
+        _ => false,
+    }
+}
+
+// What comes of asking the driver to notify, by a used ring that is mapped. If the available ring is missed then, the
+// next pop asks for it.
+fn asked(answer: Result<bool, QueueError>) -> Result<(), QueueError> {
+    match answer {
+        Ok(_) => Ok(()),
+        Err(error) if is_missed(&error) => Ok(()),
+        Err(error) => Err(error),
     }
 }
 
@@ -101,9 +129,23 @@ impl Request for QueueTurn {
     ghost is_done = { λ _. Unit {0} };
 
     fn attempt<B: Bitmap>(&mut self, host: &mut HostMemory<B>) -> Outcome {
-        match self.returned {
-            Some((head, len)) => self.give_back(host, head, len),
-            None => self.pop(host),
+        if let Act::Pop = self.act {
+            return self.pop(host);
+        }
+        if let Some(outcome) = self.refused_ring(host) {
+            return outcome;
+        }
+        if !host.holds(&self.memory) {
+            return Outcome::Failed;
+        }
+        let done = match self.act {
+            Act::Return(head, len) => self.queue.add_used(&self.memory, host, head, len),
+            Act::Disable => self.queue.disable_notification(&self.memory, host),
+            Act::Enable | Act::Pop => asked(self.queue.enable_notification(&self.memory, host)),
+        };
+        match done {
+            Ok(()) => Outcome::Done,
+            Err(_) => Outcome::Failed,
         }
     }
 }
@@ -189,7 +231,7 @@ impl<F: Read + Write + Drop, O: Read + Write + Drop> BackEnd<F, O> {
                 memory,
                 table,
                 queue,
-                returned: None,
+                act: Act::Pop,
                 popped: None,
             },
             desk: Desk {
@@ -268,35 +310,72 @@ impl<F: Read + Write + Drop, O: Read + Write + Drop> BackEnd<F, O> {
         Ok(u32::from(room == 1))
     }
 
-    // Serves the chains that the driver has published.
-    fn serve_queue<H: SharedHost>(&mut self, host: &mut H) -> anyhow::Result<()> {
-        for _ in 0..self.turn.queue.size() {
-            self.turn.returned = None;
-            self.iotlb.with_misses(host, &mut self.turn)?;
-            let Some((head, chain)) = self.turn.popped.take() else {
-                return Ok(());
-            };
-            let len = self.serve_chain(host, &chain)?;
-            self.turn.returned = Some((head, len));
-            self.iotlb.with_misses(host, &mut self.turn)?;
-        }
+    // Does something with the queue, and waits for what the table misses of it.
+    fn take_turn<H: SharedHost>(&mut self, host: &mut H, act: Act) -> anyhow::Result<()> {
+        self.turn.act = act;
+        self.iotlb.with_misses(host, &mut self.turn)?;
         Ok(())
+    }
+
+    // Serves the chains that the driver publishes, until there is none: then the device asks to be notified, and looks
+    // once more, for what was published before the driver could know. Answers whether there may be more, after so many
+    // looks.
+    fn serve_queue<H: SharedHost>(&mut self, host: &mut H) -> anyhow::Result<bool> {
+        self.take_turn(host, Act::Disable)?;
+        let mut enabled = false;
+        for _ in 0..LOOKS {
+            self.take_turn(host, Act::Pop)?;
+            let Some((head, chain)) = self.turn.popped.take() else {
+                if enabled {
+                    return Ok(false);
+                }
+                self.take_turn(host, Act::Enable)?;
+                enabled = true;
+                continue;
+            };
+            if enabled {
+                self.take_turn(host, Act::Disable)?;
+                enabled = false;
+            }
+            let len = self.serve_chain(host, &chain)?;
+            self.take_turn(host, Act::Return(head, len))?;
+        }
+        Ok(true)
+    }
+
+    // Serves what the driver published, and calls it. Answers whether there may be more.
+    fn serve_and_call<H: SharedHost>(&mut self, host: &mut H) -> anyhow::Result<bool> {
+        let more = self.serve_queue(host)?;
+        self.iotlb.notify(CALL)?;
+        // A kick that came meanwhile was for a chain that the last look found.
+        if let Some(frame) = self.iotlb.take_other() {
+            self.answer_other(&frame)?;
+        }
+        Ok(more)
+    }
+
+    // Answers a message of another request: a kick is done, and others are refused.
+    fn answer_other(&mut self, frame: &Frame) -> Result<(), ChannelError> {
+        let value = if frame.header.request == KICK { 0 } else { 1 };
+        self.iotlb.reply(frame, value)
     }
 
     /// Serves messages and requests until the front end closes its channel.
     pub fn run<W: Wait>(mut self, rt: &W, lock: &Mutex<Host>) -> anyhow::Result<Done> {
         let mut host = LockedHost { rt, lock };
+        let mut more = false;
         for _ in rt.forever() {
             match self.iotlb.handle(&mut host) {
-                Ok(Handled::Other(frame)) if frame.header.request == KICK => {
-                    self.serve_queue(&mut host)?;
-                    self.iotlb.reply(&frame, 0)?;
-                    self.iotlb.notify(CALL)?;
+                Ok(Handled::Other(frame)) => {
+                    self.answer_other(&frame)?;
+                    more = more || frame.header.request == KICK;
                 }
-                Ok(Handled::Other(frame)) => self.iotlb.reply(&frame, 1)?,
                 Ok(_) => {}
                 Err(ChannelError::Ended) => return Ok(self.done),
                 Err(error) => bail!("the front end's channel: {error}"),
+            }
+            if more {
+                more = self.serve_and_call(&mut host)?;
             }
         }
         unreachable!()

@@ -3,8 +3,8 @@ ghost use Rattle.std.specs.Prelude.{◌<◌};
 
 use crate::hostile::{MALFORMED, malformed};
 use crate::world::{
-    CALL, DATA_PAGE, FRAMES, HEADER_PAGE, Host, IOVA, KICK, Layout, Memory, PAGE, PAGES,
-    QUEUE_SIZE, SECTORS, STATUS_PAGE, user_of,
+    CALL, DATA_PAGE, FRAMES, HEADER_PAGE, Host, IOVA, KICK, Layout, Memory, PAGE, PAGES, SECTORS,
+    SLOT_DESCRIPTORS, SLOT_PAGES, SLOTS, STATUS_PAGE, user_of,
 };
 use anyhow::bail;
 use rand_core::Rng;
@@ -17,7 +17,10 @@ use vhost_iotlb::{
     VHOST_USER_IOTLB_MSG, VHOST_USER_NEED_REPLY, VHOST_USER_REPLY, encode_reply, send,
 };
 use virtio_blk::{VIRTIO_BLK_S_IOERR, VIRTIO_BLK_S_OK, VIRTIO_BLK_T_IN, VIRTIO_BLK_T_OUT};
-use virtio_queue::{Descriptor, DriverQueue, VRING_DESC_F_NEXT, VRING_DESC_F_WRITE};
+use virtio_queue::{
+    Descriptor, DriverQueue, QueueField, VRING_DESC_F_NEXT, VRING_DESC_F_WRITE,
+    VRING_USED_F_NO_NOTIFY,
+};
 use vm_memory::{Bytes, GuestAddress, Permissions, TlbId};
 
 /// What a front end did and saw.
@@ -26,10 +29,12 @@ pub struct Seen {
     /// The requests that were done, and those that failed.
     pub requests: u64,
     pub failed: u64,
+    /// How often the device was kicked.
+    pub kicks: u64,
     /// The addresses that the back end missed, and those of them that it had and evicted.
     pub misses: u64,
     pub evictions: u64,
-    /// The ranges that were taken back, and the accesses that a mapping forbade.
+    /// The ranges that were invalidated, and the accesses that a mapping forbade.
     pub invalidations: u64,
     pub forbidden: u64,
     /// The malformed messages that were refused.
@@ -43,6 +48,7 @@ pub struct Seen {
 pub const NOTHING: Seen = Seen {
     requests: 0,
     failed: 0,
+    kicks: 0,
     misses: 0,
     evictions: 0,
     invalidations: 0,
@@ -79,12 +85,12 @@ pub struct Pages {
     pub told: [bool; PAGES as usize],
 }
 
-// What goes wrong with a page in a request: the front end does not map it, or not for the access.
+/// What goes wrong with the first page of data of a request: the front end does not map it, or not for the access.
 #[derive(Clone, Copy, PartialEq, Eq)]
-enum Trouble {
+pub enum Trouble {
     None,
-    Refused(u64),
-    Forbidden(u64),
+    Refused,
+    Forbidden,
 }
 
 /// A front end.
@@ -93,6 +99,8 @@ pub struct FrontEnd<C> {
     pub alloc: Global,
     pub rng: Xoshiro256PlusPlus,
     pub hostile: bool,
+    /// Whether notifications go by event indices.
+    pub events: bool,
     pub layout: Layout,
     pub memory: Memory,
     pub table: TlbId,
@@ -101,18 +109,29 @@ pub struct FrontEnd<C> {
     pub front: End<C>,
     pub own: End<C>,
     pub disk: Vec<u8>,
+    /// How many requests are still to be made, and those that are under way.
+    pub left: u64,
+    pub sent: [Option<Asked>; SLOTS],
     pub seen: Seen,
 }
 
-// A request: its sector, how many sectors, where its data lies, and whether it writes.
+/// A request: whether it writes, its sector, how many sectors, where its parts lie, and what goes wrong with it.
 #[derive(Clone, Copy)]
-struct Asked {
+pub struct Asked {
     writes: bool,
     sector: u64,
     count: u64,
     header: u64,
     data: u64,
     status: u64,
+    trouble: Trouble,
+}
+
+impl Asked {
+    // The page where its data begins.
+    fn page(&self) -> u64 {
+        self.data.wrapping_sub(IOVA) / PAGE
+    }
 }
 
 // The bytes of a header.
@@ -207,6 +226,18 @@ impl<C: Read + Write + Drop> FrontEnd<C> {
         Ok(())
     }
 
+    // Takes all pages back, by a range up to the last address.
+    fn take_all_back(&mut self) -> anyhow::Result<()> {
+        let invalidate = IotlbMessage::Invalidate {
+            iova: IOVA,
+            size: IOVA.wrapping_neg(),
+        };
+        self.tell(invalidate, VHOST_USER_NEED_REPLY)?;
+        self.pages.told = [false; PAGES as usize];
+        self.seen.invalidations = self.seen.invalidations.saturating_add(1);
+        Ok(())
+    }
+
     // Copies a frame to another, leaves other bytes in the old one, and maps the page to the new one.
     fn copy_page<W: Wait>(
         &mut self,
@@ -252,11 +283,14 @@ impl<C: Read + Write + Drop> FrontEnd<C> {
     // Sends a malformed message, which has to be refused.
     fn harass(&mut self) -> anyhow::Result<()> {
         let pick = self.below(MALFORMED as u64) as usize;
-        let (header, payload) = malformed(pick, IOVA);
+        let (header, payload, invalidates) = malformed(pick, IOVA);
         let len = (header.size as usize).min(payload.len());
         let front = payload.get(..len).unwrap_or(&[]);
         if self.tell_header(header, front)? == 0 {
             bail!("malformed message {pick} was not refused");
+        }
+        if invalidates {
+            self.pages.told = [false; PAGES as usize];
         }
         self.seen.refused = self.seen.refused.saturating_add(1);
         Ok(())
@@ -276,6 +310,7 @@ impl<C: Read + Write + Drop> FrontEnd<C> {
                 let count = 1 + self.below(PAGES - page.min(PAGES - 1));
                 self.take_back(page, count)
             }
+            7 if self.below(8) == 0 => self.take_all_back(),
             _ => Ok(()),
         }
     }
@@ -291,58 +326,70 @@ impl<C: Read + Write + Drop> FrontEnd<C> {
         Ok(())
     }
 
-    // Answers a miss: pages are moved and taken back first, and sometimes another page is set alone.
+    // What goes wrong with a page, by the request that is under way there.
+    fn trouble_of(&self, page: u64) -> Trouble {
+        for sent in &self.sent {
+            match sent {
+                Some(asked) if asked.page() == page => return asked.trouble,
+                _ => {}
+            }
+        }
+        Trouble::None
+    }
+
+    // Answers a miss: pages are moved and unmapped first, and sometimes another request is published, or another page
+    // is mapped alone.
     fn answer_miss<W: Wait>(
         &mut self,
         rt: &W,
         lock: &Mutex<Host>,
         iova: u64,
         access: Permissions,
-        trouble: Trouble,
     ) -> anyhow::Result<()> {
         let page = iova.wrapping_sub(IOVA) / PAGE;
+        let trouble = self.trouble_of(page);
         self.seen.misses = self.seen.misses.saturating_add(1);
-        if page >= PAGES || trouble == Trouble::Refused(page) {
+        if page >= PAGES || trouble == Trouble::Refused {
             return self.answer(1);
         }
         if self.was_told(page) {
             self.seen.evictions = self.seen.evictions.saturating_add(1);
         }
         self.stir(rt, lock, page)?;
+        if self.below(8) == 0 {
+            self.publish_some(rt, lock, 1)?;
+        }
         if self.below(16) == 0 {
             let other = self.below(PAGES);
-            let forbidden = trouble == Trouble::Forbidden(other);
-            if other != page && !forbidden && trouble != Trouble::Refused(other) {
+            if other != page && self.trouble_of(other) == Trouble::None {
                 self.set_page(other, Permissions::ReadWrite, VHOST_USER_NEED_REPLY)?;
                 return self.answer(0);
             }
         }
         let permissions = match (trouble, access) {
-            (Trouble::Forbidden(forbidden), Permissions::Read) if forbidden == page => {
-                Permissions::Write
-            }
-            (Trouble::Forbidden(forbidden), _) if forbidden == page => Permissions::Read,
+            (Trouble::Forbidden, Permissions::Read) => Permissions::Write,
+            (Trouble::Forbidden, _) => Permissions::Read,
             _ => Permissions::ReadWrite,
         };
         self.set_page(page, permissions, 0)?;
         self.answer(0)
     }
 
-    // Serves messages of the back end until it calls the driver.
-    fn wait_for_call<W: Wait>(
-        &mut self,
-        rt: &W,
-        lock: &Mutex<Host>,
-        trouble: Trouble,
-    ) -> anyhow::Result<()> {
+    // Serves messages of the back end until the device has returned all requests. What it returned is looked for at
+    // each call.
+    fn wait_for_all<W: Wait>(&mut self, rt: &W, lock: &Mutex<Host>) -> anyhow::Result<()> {
         for _ in 0..u64::MAX {
+            if self.sent.iter().all(|asked| asked.is_none()) {
+                return Ok(());
+            }
             let frame = self.own.next()?;
             if frame.header.request == CALL {
-                return Ok(());
+                self.collect_all(rt, lock)?;
+                continue;
             }
             match frame.message() {
                 Ok(IotlbMessage::Miss { iova, access }) => {
-                    self.answer_miss(rt, lock, iova, access, trouble)?;
+                    self.answer_miss(rt, lock, iova, access)?;
                 }
                 Ok(IotlbMessage::AccessFail { .. }) => {
                     self.seen.forbidden = self.seen.forbidden.saturating_add(1);
@@ -353,17 +400,20 @@ impl<C: Read + Write + Drop> FrontEnd<C> {
         bail!("no call")
     }
 
-    // A request at random.
-    fn next_request(&mut self) -> Asked {
+    // A request at random, with a part of the pages for itself.
+    fn next_request(&mut self, slot: usize) -> Asked {
+        let slot = slot as u64 % SLOTS as u64;
+        let part = PAGE / SLOTS as u64;
         let count = 1 + self.below(16);
-        let places = (PAGES - DATA_PAGE) * (PAGE / 512) - count;
+        let places = SLOT_PAGES * (PAGE / 512) - count;
         Asked {
             writes: self.below(2) == 0,
             sector: self.below(SECTORS - count + 1),
             count,
-            header: iova_of(HEADER_PAGE).wrapping_add(16 * self.below(PAGE / 16)),
-            data: iova_of(DATA_PAGE).wrapping_add(512 * self.below(places + 1)),
-            status: iova_of(STATUS_PAGE).wrapping_add(self.below(PAGE)),
+            header: iova_of(HEADER_PAGE).wrapping_add(part * slot + 16 * self.below(part / 16)),
+            data: iova_of(DATA_PAGE + SLOT_PAGES * slot).wrapping_add(512 * self.below(places + 1)),
+            status: iova_of(STATUS_PAGE).wrapping_add(part * slot + self.below(part)),
+            trouble: Trouble::None,
         }
     }
 
@@ -376,7 +426,13 @@ impl<C: Read + Write + Drop> FrontEnd<C> {
     }
 
     // Writes a request to guest memory, and publishes it.
-    fn publish(&mut self, host: &mut Host, asked: Asked, data: &[u8]) -> anyhow::Result<()> {
+    fn publish(
+        &mut self,
+        host: &mut Host,
+        slot: usize,
+        asked: Asked,
+        data: &[u8],
+    ) -> anyhow::Result<()> {
         let count = asked.count.clamp(1, 16);
         let len = count as u32 * 512;
         let front = self.below(count) as u32 * 512;
@@ -392,7 +448,7 @@ impl<C: Read + Write + Drop> FrontEnd<C> {
             ),
             (asked.status, 1, VRING_DESC_F_WRITE),
         ];
-        let head = self.below(u64::from(QUEUE_SIZE) - 3) as u16;
+        let head = (slot % SLOTS) as u16 * SLOT_DESCRIPTORS;
         self.put(host, &header_of(asked), asked.header)?;
         self.put(host, data, asked.data)?;
         self.put(host, &[255], asked.status)?;
@@ -419,22 +475,50 @@ impl<C: Read + Write + Drop> FrontEnd<C> {
         Ok(())
     }
 
-    // What came of a request: its status, and its data.
-    fn collect(&mut self, host: &mut Host, asked: Asked) -> anyhow::Result<(u8, Vec<u8>)> {
-        let len = (asked.count as usize).saturating_mul(512);
-        let mut data = vec![in self.alloc; 0u8; len]?;
-        let mut status = [0];
+    // A request that the device returned: its status, and its data.
+    fn collect(&mut self, host: &mut Host) -> anyhow::Result<Option<(Asked, u8, Vec<u8>)>> {
         if !host.holds(&self.memory) {
             bail!("the host does not hold the memory");
         }
-        if self.driver.take_used(&self.memory, host)?.is_none() {
-            bail!("the device returned nothing");
-        }
+        let Some((head, _len)) = self.driver.take_used(&self.memory, host)? else {
+            return Ok(None);
+        };
+        let slot = (head / u32::from(SLOT_DESCRIPTORS)) as usize;
+        let sent = match self.sent.get_mut(slot) {
+            Some(sent) => sent.take(),
+            None => None,
+        };
+        let Some(asked) = sent else {
+            bail!("the device returns a head that was not published: {head}");
+        };
+        let len = (asked.count as usize).saturating_mul(512);
+        let mut data = vec![in self.alloc; 0u8; len]?;
+        let mut status = [0];
         self.memory
             .read_slice(host, &mut status, GuestAddress(asked.status))?;
         self.memory
             .read_slice(host, data.as_mut_slice(), GuestAddress(asked.data))?;
-        Ok((status[0], data))
+        Ok(Some((asked, status[0], data)))
+    }
+
+    // Takes all requests that the device returned.
+    fn collect_all<W: Wait>(&mut self, rt: &W, lock: &Mutex<Host>) -> anyhow::Result<()> {
+        for _ in 0..SLOTS {
+            let collected = self.collect(&mut lock.lock(rt))?;
+            let Some((asked, status, data)) = collected else {
+                return Ok(());
+            };
+            match (status, asked.trouble) {
+                (VIRTIO_BLK_S_OK, Trouble::None) => self.compare(asked, data.as_slice()),
+                (VIRTIO_BLK_S_IOERR, Trouble::Refused | Trouble::Forbidden) => {
+                    self.seen.failed = self.seen.failed.saturating_add(1);
+                    self.take_back(asked.page(), 1)?;
+                }
+                _ => bail!("the status is {status}"),
+            }
+            self.seen.requests = self.seen.requests.saturating_add(1);
+        }
+        Ok(())
     }
 
     // Compares what was read with what was written, or takes what was written for the disk's.
@@ -460,56 +544,95 @@ impl<C: Read + Write + Drop> FrontEnd<C> {
         }
     }
 
-    // What goes wrong with a request, which has to be taken back before.
+    // What goes wrong with a request, whose page is invalidated before.
     fn next_trouble(&mut self, asked: Asked) -> anyhow::Result<Trouble> {
-        let page = asked.data.wrapping_sub(IOVA) / PAGE;
         let trouble = match self.below(40) {
-            0 => Trouble::Refused(page),
-            1 => Trouble::Forbidden(page),
+            0 => Trouble::Refused,
+            1 => Trouble::Forbidden,
             _ => return Ok(Trouble::None),
         };
-        self.take_back(page, 1)?;
+        self.take_back(asked.page(), 1)?;
         Ok(trouble)
     }
 
-    // Makes one request.
-    fn request<W: Wait>(&mut self, rt: &W, lock: &Mutex<Host>) -> anyhow::Result<()> {
-        self.stir(rt, lock, PAGES)?;
-        let asked = self.next_request();
+    // Makes a request, and publishes it.
+    fn publish_one<W: Wait>(
+        &mut self,
+        rt: &W,
+        lock: &Mutex<Host>,
+        slot: usize,
+    ) -> anyhow::Result<()> {
+        let asked = self.next_request(slot);
         let trouble = self.next_trouble(asked)?;
+        let asked = Asked { trouble, ..asked };
         let len = (asked.count as usize).saturating_mul(512);
         let mut data = vec![in self.alloc; 0u8; len]?;
         self.rng.fill_bytes(data.as_mut_slice());
-        self.publish(&mut lock.lock(rt), asked, data.as_slice())?;
+        self.publish(&mut lock.lock(rt), slot, asked, data.as_slice())?;
+        if let Some(place) = self.sent.get_mut(slot) {
+            *place = Some(asked);
+        }
+        Ok(())
+    }
+
+    // Publishes so many requests, or fewer if there is no place for them, and then kicks the device if it asked for
+    // that.
+    fn publish_some<W: Wait>(
+        &mut self,
+        rt: &W,
+        lock: &Mutex<Host>,
+        count: u64,
+    ) -> anyhow::Result<()> {
+        let old = self.driver.next_avail;
+        for _ in 0..count.min(self.left) {
+            let Some(slot) = self.sent.iter().position(|asked| asked.is_none()) else {
+                break;
+            };
+            self.publish_one(rt, lock, slot)?;
+            self.left = self.left.saturating_sub(1);
+        }
+        let new = self.driver.next_avail;
+        if new == old || !self.must_kick(&lock.lock(rt), old, new)? {
+            return Ok(());
+        }
+        self.seen.kicks = self.seen.kicks.saturating_add(1);
         let kick = Header {
             request: KICK,
             flags: VERSION,
             size: 0,
         };
         self.tell_header(kick, &[])?;
-        self.wait_for_call(rt, lock, trouble)?;
-        let (status, found) = self.collect(&mut lock.lock(rt), asked)?;
-        match (status, trouble) {
-            (VIRTIO_BLK_S_OK, Trouble::None) => self.compare(asked, found.as_slice()),
-            (VIRTIO_BLK_S_IOERR, Trouble::Refused(page) | Trouble::Forbidden(page)) => {
-                self.seen.failed = self.seen.failed.saturating_add(1);
-                self.take_back(page, 1)?;
-            }
-            _ => bail!("the status is {status}"),
-        }
-        self.seen.requests = self.seen.requests.saturating_add(1);
         Ok(())
     }
 
-    /// Makes so many requests, moves and takes back pages meanwhile, and closes the channels.
-    pub fn run<W: Wait>(
-        mut self,
-        rt: &W,
-        lock: &Mutex<Host>,
-        requests: u64,
-    ) -> anyhow::Result<Seen> {
-        for _ in 0..requests {
-            self.request(rt, lock)?;
+    // Whether the device has to be kicked when the available index went from one to another: if the index that it waits
+    // for was passed, or by flags, unless it asked for no kick.
+    fn must_kick(&self, host: &Host, old: u16, new: u16) -> anyhow::Result<bool> {
+        if !host.holds(&self.memory) {
+            bail!("the host does not hold the memory");
+        }
+        if self.events {
+            let event = self
+                .driver
+                .field(&self.memory, host, QueueField::AvailEvent)?;
+            return Ok(new.wrapping_sub(event).wrapping_sub(1) < new.wrapping_sub(old));
+        }
+        let flags = self
+            .driver
+            .field(&self.memory, host, QueueField::UsedFlags)?;
+        Ok(flags & VRING_USED_F_NO_NOTIFY == 0)
+    }
+
+    /// Makes all requests, in bursts, moves and unmaps pages meanwhile, and closes the channels.
+    pub fn run<W: Wait>(mut self, rt: &W, lock: &Mutex<Host>) -> anyhow::Result<Seen> {
+        for _ in 0..self.left {
+            if self.left == 0 {
+                break;
+            }
+            self.stir(rt, lock, PAGES)?;
+            let count = 1 + self.below(SLOTS as u64);
+            self.publish_some(rt, lock, count)?;
+            self.wait_for_all(rt, lock)?;
         }
         Ok(self.seen)
     }

@@ -32,8 +32,9 @@ const CASES: [(u32, u32, (u64, u64, u64, u8, u8)); 20] = [
 /// How many malformed messages there are.
 pub const MALFORMED: usize = CASES.len();
 
-/// The header and the payload of a malformed message.
-pub fn malformed(pick: usize, first: u64) -> (Header, [u8; 32]) {
+/// The header and the payload of a malformed message, and whether the back end invalidates everything for it: its frame
+/// and its kind are those of an INVALIDATE.
+pub fn malformed(pick: usize, first: u64) -> (Header, [u8; 32], bool) {
     let (flags, size, (iova, len, user, permissions, kind)) = CASES[pick % CASES.len()];
     let address = if iova == 0 { first } else { iova };
     let [a, b, c, d, e, f, g, h] = address.to_le_bytes();
@@ -78,5 +79,5 @@ pub fn malformed(pick: usize, first: u64) -> (Header, [u8; 32]) {
         flags,
         size,
     };
-    (header, payload)
+    (header, payload, flags == 9 && size == 32 && kind == 3)
 }

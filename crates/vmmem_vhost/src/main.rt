@@ -14,9 +14,10 @@ use clap::{Arg, ArgAction, Command, value_parser};
 use front::{End, FrontEnd, NOTHING, Pages, Seen, map_page};
 use rand_core::SeedableRng;
 use rand_xoshiro::Xoshiro256PlusPlus;
-use std::alloc::Global;
+use std::alloc::{AllocError, Global};
 use std::net::Net;
 use std::os::unix::net::UnixStream;
+use std::process::ExitCode;
 use std::sync::{Mutex, Wait};
 use std::thread::Threads;
 use std::time::Duration;
@@ -24,7 +25,7 @@ use std::{env, thread};
 use vhost_iotlb::{DeviceIotlb, DeviceTable, Incoming, Limits};
 use virtio_blk::MemoryDisk;
 use vm_memory::TlbId;
-use world::{FRAMES, Host, PAGES, SECTORS, announced, behind, driver_queue, make_host};
+use world::{FRAMES, Host, PAGES, SECTORS, SLOTS, announced, behind, driver_queue, make_host};
 
 // What the arguments ask for.
 #[derive(Clone, Copy)]
@@ -33,49 +34,70 @@ struct Options {
     seed: u64,
     requests: u64,
     hostile: bool,
+    events: bool,
 }
 
-// The options, or none where the arguments ask for help.
-fn read_options(rt: &HostRuntime) -> anyhow::Result<Option<Options>> {
-    let alloc = rt.alloc();
-    let words: Vec<String> = env::args(rt)?.collect(alloc)?;
-    let command = Command::new(alloc, "vmmem_vhost")
-        .about("Serves a block device behind an I/O table that is filled by vhost messages")
+const ABOUT: &str = "\
+Runs a vhost front end and a back end in two threads. The front end's driver reads and writes sectors at random, and
+moves and unmaps pages meanwhile. The back end serves a block device behind an I/O table of few ranges. It prints what
+they did, and whether each byte that was read is the one that was written; else it fails.";
+
+// The arguments that it takes.
+fn command<'a>(alloc: Global) -> Result<Command<'a>, AllocError> {
+    Command::new(alloc, "vmmem_vhost")
+        .about(ABOUT)
         .arg(
             Arg::new(alloc, "limit")
                 .long("limit")
-                .value_parser(value_parser!(u32)),
+                .value_name("RANGES")
+                .value_parser(value_parser!(u32).range(1..))
+                .help("How many ranges the back end's table keeps at most, 1 or more [default: 8]"),
         )?
         .arg(
             Arg::new(alloc, "seed")
                 .long("seed")
-                .value_parser(value_parser!(u64)),
+                .value_name("NUMBER")
+                .value_parser(value_parser!(u64))
+                .help("Where the random numbers begin [default: 1]"),
         )?
         .arg(
             Arg::new(alloc, "requests")
                 .long("requests")
-                .value_parser(value_parser!(u64)),
+                .value_name("COUNT")
+                .value_parser(value_parser!(u64))
+                .help("How many requests the driver makes [default: 1000]"),
         )?
         .arg(
             Arg::new(alloc, "hostile")
                 .long("hostile")
-                .action(ArgAction::SetTrue),
-        )?;
-    let matches = match command.try_get_matches_from(words.as_slice()) {
+                .action(ArgAction::SetTrue)
+                .help("Send malformed messages, too, each of which has to be refused"),
+        )?
+        .arg(
+            Arg::new(alloc, "no-event-idx")
+                .long("no-event-idx")
+                .action(ArgAction::SetTrue)
+                .help("Notify by the flags of the rings, and not by event indices"),
+        )
+}
+
+// The options, or the status to end with where there are none: the help or what is wrong with them is printed.
+fn read_options(rt: &HostRuntime) -> anyhow::Result<Result<Options, u8>> {
+    let alloc = rt.alloc();
+    let words: Vec<String> = env::args(rt)?.collect(alloc)?;
+    let matches = match command(alloc)?.try_get_matches_from(words.as_slice()) {
         Ok(matches) => matches,
         Err(error) => {
             error.print(rt)?;
-            if error.use_stderr() {
-                bail!("these are no arguments");
-            }
-            return Ok(None);
+            return Ok(Err(if error.use_stderr() { 2 } else { 0 }));
         }
     };
-    Ok(Some(Options {
+    Ok(Ok(Options {
         limit: matches.get_one::<u32>("limit").unwrap_or(8) as usize,
         seed: matches.get_one::<u64>("seed").unwrap_or(1),
         requests: matches.get_one::<u64>("requests").unwrap_or(1000),
         hostile: matches.get_flag("hostile"),
+        events: !matches.get_flag("no-event-idx"),
     }))
 }
 
@@ -123,6 +145,8 @@ fn make_ends<R: Net>(rt: &R, alloc: Global, options: Options) -> anyhow::Result<
     let bounded = DeviceTable::new(alloc, &mut host, limit, announced(alloc)?)?;
     let behind_bounded = behind(alloc, &layout, bounded.table, space)?;
     let driver = driver_queue()?;
+    let mut queue = driver.queue()?;
+    queue.set_event_idx(options.events);
     let len = SECTORS as usize * 512;
     let limits = Limits {
         tries: 100_000,
@@ -132,13 +156,14 @@ fn make_ends<R: Net>(rt: &R, alloc: Global, options: Options) -> anyhow::Result<
         alloc,
         DeviceIotlb::new(bounded, coming, back, limits),
         behind_bounded,
-        driver.queue()?,
+        queue,
         MemoryDisk::new(vec![in alloc; 0u8; len]?),
     )?;
     let front_end = FrontEnd {
         alloc,
         rng: Xoshiro256PlusPlus::seed_from_u64(options.seed),
         hostile: options.hostile,
+        events: options.events,
         memory: behind(alloc, &layout, table, space)?,
         layout,
         table,
@@ -153,30 +178,24 @@ fn make_ends<R: Net>(rt: &R, alloc: Global, options: Options) -> anyhow::Result<
             coming: Incoming::new(),
         },
         disk: vec![in alloc; 0u8; len]?,
+        left: options.requests,
+        sent: [None; SLOTS],
         seen: NOTHING,
     };
     Ok((host, (front_end, back_end)))
 }
 
 // Runs both ends at once, each in a thread.
-fn run<R: Sync + Threads + Wait>(
-    rt: &R,
-    host: Host,
-    ends: Ends,
-    requests: u64,
-) -> anyhow::Result<(Seen, Done)> {
+fn run<R: Sync + Threads + Wait>(rt: &R, host: Host, ends: Ends) -> anyhow::Result<(Seen, Done)> {
     let (front, back) = ends;
     let lock = Mutex::new(host);
-    let (seen, done) = thread::join(
-        rt,
-        || front.run(rt, &lock, requests),
-        || back.run(rt, &lock),
-    );
+    let (seen, done) = thread::join(rt, || front.run(rt, &lock), || back.run(rt, &lock));
     Ok((seen?, done?))
 }
 
 fn report<R: Print>(rt: &R, seen: &Seen, done: &Done) -> anyhow::Result<()> {
     println!(rt; "requests served: {}", done.served)?;
+    println!(rt; "kicks: {}", seen.kicks)?;
     println!(rt; "misses asked: {}", seen.misses)?;
     println!(rt; "evictions: {}", seen.evictions)?;
     println!(rt; "invalidations: {}", seen.invalidations)?;
@@ -184,7 +203,7 @@ fn report<R: Print>(rt: &R, seen: &Seen, done: &Done) -> anyhow::Result<()> {
     println!(rt; "of these forbidden: {}", seen.forbidden)?;
     println!(rt; "malformed messages refused: {}", seen.refused)?;
     if seen.requests != done.served || seen.failed != done.given_up {
-        bail!("the two ends tell otherwise");
+        bail!("the two ends do not agree on the requests");
     }
     if seen.wrong > 0 {
         bail!("{} bytes are not what was written", seen.wrong);
@@ -193,11 +212,13 @@ fn report<R: Print>(rt: &R, seen: &Seen, done: &Done) -> anyhow::Result<()> {
     Ok(())
 }
 
-fn main(rt: HostRuntime) -> anyhow::Result<()> {
-    let Some(options) = read_options(&rt)? else {
-        return Ok(());
+fn main(rt: HostRuntime) -> anyhow::Result<ExitCode> {
+    let options = match read_options(&rt)? {
+        Ok(options) => options,
+        Err(status) => return Ok(ExitCode::from(status)),
     };
     let (host, ends) = make_ends(&rt, rt.alloc(), options)?;
-    let (seen, done) = run(&rt, host, ends, options.requests)?;
-    report(&rt, &seen, &done)
+    let (seen, done) = run(&rt, host, ends)?;
+    report(&rt, &seen, &done)?;
+    Ok(ExitCode::SUCCESS)
 }

@@ -21,21 +21,30 @@ pub const PAGE: u64 = 0x1000;
 
 pub const FRAMES: u64 = 64;
 
-/// Where I/O addresses begin, and how many pages of them a driver uses: one with the queue, one with the headers, one
-/// with the statuses, and then those of data.
+/// Where I/O addresses begin, and how many pages of them a driver uses: one with the descriptors and the available
+/// ring, one with the used ring, one with the headers, one with the statuses, and then those of data.
 pub const IOVA: u64 = 0x10_0000_0000;
 
 pub const QUEUE_PAGE: u64 = 0;
 
-pub const HEADER_PAGE: u64 = 1;
+pub const USED_PAGE: u64 = 1;
 
-pub const STATUS_PAGE: u64 = 2;
+pub const HEADER_PAGE: u64 = 2;
 
-pub const DATA_PAGE: u64 = 3;
+pub const STATUS_PAGE: u64 = 3;
+
+pub const DATA_PAGE: u64 = 4;
 
 pub const PAGES: u64 = 24;
 
-/// How many descriptors the queue has.
+/// How many requests may be under way at once, and how many pages of data each of them has for itself.
+pub const SLOTS: usize = 4;
+
+pub const SLOT_PAGES: u64 = 5;
+
+/// How many descriptors each has, and how many the queue.
+pub const SLOT_DESCRIPTORS: u16 = 4;
+
 pub const QUEUE_SIZE: u16 = 16;
 
 /// How many sectors the disk has.
@@ -97,5 +106,9 @@ pub fn make_host(alloc: Global) -> anyhow::Result<(Host, Layout)> {
 
 /// The driver's half of the queue.
 pub fn driver_queue() -> anyhow::Result<DriverQueue> {
-    Ok(DriverQueue::new(GuestAddress(IOVA + QUEUE_PAGE * PAGE), QUEUE_SIZE)?)
+    let driver = DriverQueue::new(GuestAddress(IOVA + QUEUE_PAGE * PAGE), QUEUE_SIZE)?;
+    Ok(DriverQueue {
+        used_ring: IOVA + USED_PAGE * PAGE,
+        ..driver
+    })
 }
