@@ -79,7 +79,8 @@ fn mapped_bytes(alloc: Global, world: &mut World) -> Result<String, Fail> {
     Ok(text)
 }
 
-// Handles UPDATEs of the pages and then a message, and answers the value of the reply to that and which bytes are mapped.
+// Handles UPDATEs of the pages and then a message. Answers the value of the reply to that, and which bytes are mapped
+// then.
 fn run(alloc: Global, limit: usize, message: &[u8]) -> Result<(u8, String), Fail> {
     let mut world = make_world(alloc, limit)?;
     let mut input = Vec::new(alloc);
