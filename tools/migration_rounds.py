@@ -81,7 +81,7 @@ def main():
     guest = Guest(size, page_size, seed)
     randoms = [Xoshiro256PlusPlus((seed + k + 1) & MASK) for k in range(threads)]
     count = len(guest.pages)
-    dirty, left, written, rows = set(range(count)), count, 0, []
+    dirty, left, before, written, rows = set(range(count)), count, count, 0, []
     print("round   pages sent        bytes   left behind")
     while True:
         is_last = len(rows) + 1 >= max_rounds or left < stop_below
@@ -96,6 +96,9 @@ def main():
         left = len(dirty)
         bar = "#" * min(max(pages * 32 // count, pages > 0), 32)
         print(f"{len(rows):>5} {pages:>12} {size_of_round:>12} {left:>13}  {bar}")
+        if rows and not is_last and left >= before:
+            print(f"      no headway: the round before left {before} pages")
+        before = left
         rows.append((pages, size_of_round))
         if is_last:
             break

@@ -20,6 +20,7 @@ use picture::picture_of;
 use receiving::{Received, TwoDigests};
 use report::Rounds;
 use std::alloc::Global;
+use std::fs::OpenOptions;
 use std::net::{Net, Shutdown, TcpListener, TcpStream};
 use std::process::ExitCode;
 use std::rt::Files;
@@ -34,6 +35,15 @@ fn new_guest(alloc: Global, load: Load) -> Result<Shared> {
     let (mut host, layout) = guest_of(alloc, &load)?;
     fill(alloc, &mut host, &layout, load.seed)?;
     Ok(share(host, layout, load))
+}
+
+// Fails if a picture is asked whose file cannot be written. What the file has stays as it is.
+fn check_picture<R: Files>(rt: &R, asked: &Sending) -> Result<()> {
+    if let Some(path) = asked.svg {
+        let file = rt.open_file(OpenOptions::new().write(true).create(true), path);
+        file.context(format_args!("{path}"))?;
+    }
+    Ok(())
 }
 
 // Draws the rounds, if that is asked.
@@ -61,6 +71,7 @@ where
         + Threads
         + Wait,
 {
+    check_picture(rt, &asked)?;
     let shared = new_guest(alloc, asked.load)?;
     let stream = TcpStream::connect(rt, address).context(format_args!("{address}"))?;
     stream.set_nodelay(true)?;
@@ -131,7 +142,7 @@ where
     for stream in listener.incoming() {
         let stream = stream?;
         let _ = stream.set_nodelay(true);
-        match receiving::receive(rt, alloc, &stream, asked.limit) {
+        match receiving::receive(rt, alloc, &stream, asked.limit, true) {
             Ok(received) => return take_in(rt, alloc, received, asked.verify),
             Err(error) => eprintln!(rt; "vmmem_migrate: {error:#}")?,
         }
@@ -140,13 +151,13 @@ where
 }
 
 // The receiving end of a demonstration: it prints nothing, and answers the digests if they are asked.
-fn receive_quietly<R: Clock>(
+fn receive_quietly<R: Clock + Print>(
     rt: &R,
     alloc: Global,
     stream: &TcpStream,
     asked: Receiving,
 ) -> Result<Option<TwoDigests>> {
-    let mut received = receiving::receive(rt, alloc, stream, asked.limit)?;
+    let mut received = receiving::receive(rt, alloc, stream, asked.limit, false)?;
     if received.guest.is_none() {
         bail!("leave to run the guest did not come");
     }
@@ -175,6 +186,7 @@ where
         + Threads
         + Wait,
 {
+    check_picture(rt, &asked)?;
     let shared = new_guest(alloc, asked.load)?;
     let listener = TcpListener::bind(rt, "127.0.0.1:0")?;
     let near = TcpStream::connect(rt, listener.local_addr()?)?;
@@ -200,12 +212,14 @@ where
 fn main(rt: HostRuntime) -> Result<ExitCode> {
     let alloc = rt.alloc();
     let words: Vec<String> = env::args(&rt)?.collect(alloc)?;
-    let done = match read_words(&rt, words.as_slice()) {
-        Ok(Some(Asked::Receive(address, asked))) => receive(&rt, alloc, address, asked),
-        Ok(Some(Asked::Send(address, asked))) => send(&rt, alloc, address, asked),
-        Ok(Some(Asked::Demo(receiving, asked))) => demo(&rt, alloc, receiving, asked),
-        Ok(None) => Ok(()),
-        Err(error) => Err(error),
+    let done = match read_words(alloc, words.as_slice()) {
+        Ok(Asked::Receive(address, asked)) => receive(&rt, alloc, address, asked),
+        Ok(Asked::Send(address, asked)) => send(&rt, alloc, address, asked),
+        Ok(Asked::Demo(receiving, asked)) => demo(&rt, alloc, receiving, asked),
+        Err(error) => {
+            error.print(&rt)?;
+            return Ok(ExitCode::from(if error.use_stderr() { 2 } else { 0 }));
+        }
     };
     match done {
         Ok(()) => Ok(ExitCode::SUCCESS),

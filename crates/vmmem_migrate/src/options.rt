@@ -1,8 +1,9 @@
 //! What the program is asked for.
 ghost use Rattle.std.specs.Prelude.{◌≡◌, ◌+◌, ◌<◌, ◌≤◌, ◌⊎◌, ◌↔◌, IsTrue};
 
-use anyhow::{Context, Result, bail};
-use clap::{Arg, ArgAction, ArgMatches, Command, value_parser};
+use clap::builder::ValueParser;
+use clap::error::ErrorKind;
+use clap::{Arg, ArgAction, ArgMatches, Command, Error};
 use live_migration::Policy;
 use std::alloc::{AllocError, Global};
 
@@ -63,10 +64,10 @@ const MOST_PAGE: u64 = 0x10_0000;
 // How many threads write at most.
 const MOST_THREADS: u64 = 64;
 
-const ABOUT: &str = "Moves a guest's memory to another process while threads write it";
+const ABOUT: &str = "Moves a guest's memory to another process in rounds, while threads write it";
 
 const UNITS: &str = "\
-SIZE is a number of bytes, with K, M or G behind it of so many KiB, MiB or GiB. The stream is neither encrypted nor
+SIZE is a number of bytes, or of KiB, MiB or GiB with K, M or G after it. The stream is neither encrypted nor
 authenticated: it belongs in a tunnel.";
 
 // An option with a text.
@@ -84,9 +85,16 @@ fn text<'a>(
         .help(help)
 }
 
-// An option with a number.
-fn number<'a>(alloc: Global, name: &'a str, default: &'a str, help: &'a str) -> Arg<'a> {
-    text(alloc, name, "N", default, help).value_parser(value_parser!(u64))
+// An option with a number from `least` to `most`.
+fn number<'a>(
+    alloc: Global,
+    name: &'a str,
+    bounds: (u64, u64),
+    default: &'a str,
+    help: &'a str,
+) -> Arg<'a> {
+    let (least, most) = bounds;
+    text(alloc, name, "N", default, help).value_parser(ValueParser::unsigned(least, most))
 }
 
 fn flag<'a>(alloc: Global, name: &'a str, help: &'a str) -> Arg<'a> {
@@ -107,7 +115,7 @@ fn verify<'a>(alloc: Global) -> Arg<'a> {
     flag(
         alloc,
         "verify",
-        "compare SHA-256 of whole blocks behind the pause, at both ends",
+        "compare SHA-256 of whole blocks after the pause; both ends have to be asked for it [default: off]",
     )
 }
 
@@ -117,7 +125,7 @@ fn limit<'a>(alloc: Global) -> Arg<'a> {
         "limit",
         "SIZE",
         "4G",
-        "the memory that a sender may ask for",
+        "the most memory that a sender may ask for, its blocks and the states of its devices",
     )
 }
 
@@ -126,18 +134,26 @@ fn with_load<'a>(alloc: Global, command: Command<'a>) -> Result<Command<'a>, All
     command
         .arg(text(alloc, "size", "SIZE", "64M", "the memory of the guest"))?
         .arg(text(alloc, "page-size", "SIZE", "4K", "the bytes of a page"))?
-        .arg(number(alloc, "threads", "4", "how many threads write it"))?
+        .arg(number(
+            alloc,
+            "threads",
+            (1, MOST_THREADS),
+            "4",
+            "how many threads write the guest, 1 to 64",
+        ))?
         .arg(number(
             alloc,
             "rate",
+            (0, u64::MAX),
             "10000",
-            "how many pages they write in a second",
+            "how many pages they write in a second, all together",
         ))?
         .arg(number(
             alloc,
             "seed",
+            (0, u64::MAX),
             "1",
-            "what decides its bytes and the pages that are written",
+            "what decides the bytes of the memory and which pages are written",
         ))
 }
 
@@ -147,28 +163,34 @@ fn with_sending<'a>(alloc: Global, command: Command<'a>) -> Result<Command<'a>, 
         .arg(number(
             alloc,
             "max-rounds",
+            (1, u64::MAX),
             "30",
-            "how many rounds there are at most",
+            "how many rounds there are at most, with the last one, in which the guest stands",
         ))?
         .arg(number(
             alloc,
             "stop-below",
+            (0, u64::MAX),
             "100",
-            "the guest stops where fewer pages are dirty",
+            "the guest stops when fewer pages than these are dirty",
         ))?
         .arg(
-            Arg::new(alloc, "svg")
-                .long("svg")
-                .value_name("FILE")
-                .help("draw the rounds"),
+            Arg::new(alloc, "svg").long("svg").value_name("FILE").help(
+                "draw the rounds as a picture into this file [default: no picture]",
+            ),
         )?
-        .arg(flag(alloc, "times", "print times"))?
+        .arg(flag(
+            alloc,
+            "times",
+            "print how long each round took, in milliseconds [default: off]",
+        ))?
         .arg(verify(alloc))
 }
 
 fn receive_command<'a>(alloc: Global) -> Result<Command<'a>, AllocError> {
     Command::new(alloc, "receive")
         .about("Waits for a guest, and takes it")
+        .after_help(UNITS)
         .arg(address(alloc, "where to listen"))?
         .arg(limit(alloc))?
         .arg(verify(alloc))
@@ -176,7 +198,8 @@ fn receive_command<'a>(alloc: Global) -> Result<Command<'a>, AllocError> {
 
 fn send_command<'a>(alloc: Global) -> Result<Command<'a>, AllocError> {
     let command = Command::new(alloc, "send")
-        .about("Sends a guest that is written by the clock")
+        .about("Makes a guest, lets threads write it by the clock, and sends it")
+        .after_help(UNITS)
         .arg(address(alloc, "where the receiver listens"))?;
     with_sending(alloc, command)
 }
@@ -184,8 +207,9 @@ fn send_command<'a>(alloc: Global) -> Result<Command<'a>, AllocError> {
 fn demo_command<'a>(alloc: Global) -> Result<Command<'a>, AllocError> {
     let command = Command::new(alloc, "demo")
         .about(
-            "Sends a guest to itself over loopback; the writes are counted, so that it prints the same each time",
+            "Is both ends, over loopback; the writes are counted, so that it prints the same each time",
         )
+        .after_help(UNITS)
         .arg(limit(alloc))?;
     with_sending(alloc, command)
 }
@@ -193,7 +217,7 @@ fn demo_command<'a>(alloc: Global) -> Result<Command<'a>, AllocError> {
 fn command<'a>(alloc: Global) -> Result<Command<'a>, AllocError> {
     Command::new(alloc, "vmmem_migrate")
         .about(ABOUT)
-        .after_help(UNITS)
+        .subcommand_required(true)
         .subcommand(receive_command(alloc)?)?
         .subcommand(send_command(alloc)?)?
         .subcommand(demo_command(alloc)?)
@@ -209,40 +233,41 @@ fn bytes_of(text: &str) -> Option<u64> {
     text.parse::<u64>().ok()
 }
 
+// An option whose value is no size of 1 to so many bytes.
+struct NoSize<'a> {
+    name: &'static str,
+    value: &'a str,
+    most: u64,
+}
+
 // The bytes that an option says, from 1 to so many.
-fn bytes_in(found: &ArgMatches<'_>, name: &str, most: u64) -> Result<u64> {
+fn bytes_in<'a>(found: &ArgMatches<'a>, name: &'static str, most: u64) -> Result<u64, NoSize<'a>> {
     let value = found.get_str(name).unwrap_or("");
-    let bytes = bytes_of(value).context(format_args!("--{name}: no size: {value}"))?;
-    if bytes == 0 || bytes > most {
-        bail!("--{name}: a size of 1 to {most} bytes: {value}");
+    match bytes_of(value) {
+        Some(bytes) if bytes > 0 && bytes <= most => Ok(bytes),
+        _ => Err(NoSize { name, value, most }),
     }
-    Ok(bytes)
 }
 
-fn number_in(found: &ArgMatches<'_>, name: &str) -> Result<u64> {
-    found
-        .get_one::<u64>(name)
-        .context(format_args!("--{name}: no number"))
+// The number that an option says. Each has a default.
+fn number_in(found: &ArgMatches<'_>, name: &str) -> u64 {
+    found.get_one::<u64>(name).unwrap_or(0)
 }
 
-fn load_in(found: &ArgMatches<'_>) -> Result<Load> {
-    let threads = number_in(found, "threads")?;
-    if threads > MOST_THREADS {
-        bail!("--threads: at most {MOST_THREADS}: {threads}");
-    }
+fn load_in<'a>(found: &ArgMatches<'a>) -> Result<Load, NoSize<'a>> {
     Ok(Load {
         size: bytes_in(found, "size", MOST_MEMORY)? as usize,
         page_size: bytes_in(found, "page-size", MOST_PAGE)? as usize,
-        threads,
-        rate: number_in(found, "rate")?,
-        seed: number_in(found, "seed")?,
+        threads: number_in(found, "threads"),
+        rate: number_in(found, "rate"),
+        seed: number_in(found, "seed"),
     })
 }
 
-fn sending_in<'a>(found: &ArgMatches<'a>) -> Result<Sending<'a>> {
+fn sending_in<'a>(found: &ArgMatches<'a>) -> Result<Sending<'a>, NoSize<'a>> {
     let policy = Policy {
-        max_rounds: number_in(found, "max-rounds")?,
-        stop_below: number_in(found, "stop-below")? as usize,
+        max_rounds: number_in(found, "max-rounds"),
+        stop_below: number_in(found, "stop-below") as usize,
     };
     Ok(Sending {
         load: load_in(found)?,
@@ -253,14 +278,14 @@ fn sending_in<'a>(found: &ArgMatches<'a>) -> Result<Sending<'a>> {
     })
 }
 
-fn receiving_in(found: &ArgMatches<'_>) -> Result<Receiving> {
+fn receiving_in<'a>(found: &ArgMatches<'a>) -> Result<Receiving, NoSize<'a>> {
     Ok(Receiving {
         limit: bytes_in(found, "limit", u64::MAX)?,
         verify: found.get_flag("verify"),
     })
 }
 
-fn asked_in<'a>(name: &str, found: &ArgMatches<'a>) -> Result<Asked<'a>> {
+fn asked_in<'a>(name: &str, found: &ArgMatches<'a>) -> Result<Asked<'a>, NoSize<'a>> {
     let address = found.get_str("address").unwrap_or(LOOPBACK);
     match name {
         "receive" => Ok(Asked::Receive(address, receiving_in(found)?)),
@@ -269,20 +294,21 @@ fn asked_in<'a>(name: &str, found: &ArgMatches<'a>) -> Result<Asked<'a>> {
     }
 }
 
-/// Reads the words of a command line, or answers none where they ask for help.
-pub fn read_words<'a>(rt: &HostRuntime, words: &'a [String]) -> Result<Option<Asked<'a>>> {
-    let matches = match command(rt.alloc())?.try_get_matches_from(words) {
-        Ok(matches) => matches,
-        Err(error) => {
-            error.print(rt)?;
-            if error.use_stderr() {
-                bail!("these are no arguments");
-            }
-            return Ok(None);
+/// Reads the words of a command line. Where they ask for help, the help is the error.
+pub fn read_words<'a>(alloc: Global, words: &'a [String]) -> Result<Asked<'a>, Error> {
+    let mut command = command(alloc)?;
+    let matches = command.try_get_matches_from_mut(words)?;
+    let (name, found) = match matches.subcommand() {
+        Some(subcommand) => subcommand,
+        None => return Err(command.error(ErrorKind::MissingSubcommand, "no subcommand")?),
+    };
+    match asked_in(name, found) {
+        Ok(asked) => Ok(asked),
+        Err(NoSize { name, value, most }) => {
+            let text = format!(in alloc;
+                "invalid value '{value}' for '--{name} <SIZE>': a size is 1 to {most} bytes"
+            )?;
+            Err(command.error(ErrorKind::ValueValidation, text.as_str())?)
         }
-    };
-    let Some((name, found)) = matches.subcommand() else {
-        bail!("receive, send or demo? --help tells more");
-    };
-    Ok(Some(asked_in(name, found)?))
+    }
 }

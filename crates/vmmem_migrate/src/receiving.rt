@@ -3,6 +3,7 @@
 use crate::connection::{Connection, PATIENCE, VERIFY_PATIENCE};
 use crate::digests::{read_digests, send_digests};
 use crate::guest::{Host, digests_of};
+use crate::report::tell_round;
 use anyhow::{Result, anyhow, bail};
 use live_migration::{Guest, Receiver, Refusal, Reply, Stage};
 use std::alloc::Global;
@@ -31,9 +32,11 @@ pub struct TwoDigests {
     pub theirs: Vec<[u8; 32]>,
 }
 
-// The receiving end of a migration.
+// The receiving end of a migration, which prints its rounds as they end if it is to.
 #[derive(Drop)]
 struct ReceivingEnd<'a, R> {
+    rt: &'a R,
+    tells: bool,
     host: Host,
     reader: BufReader<Connection<'a, R>>,
     writer: Connection<'a, R>,
@@ -64,6 +67,7 @@ fn begin<'a, R: Clock>(
     alloc: Global,
     stream: &'a TcpStream,
     limit: u64,
+    tells: bool,
 ) -> Result<ReceivingEnd<'a, R>> {
     let connection = Connection::new(rt, stream, PATIENCE)?;
     let mut reader = BufReader::with_capacity(alloc, AHEAD, connection)?;
@@ -76,6 +80,8 @@ fn begin<'a, R: Clock>(
     writer.allow(PATIENCE)?;
     writer.write_all(&Reply::Ready.encode())?;
     Ok(ReceivingEnd {
+        rt,
+        tells,
         reader,
         writer,
         host,
@@ -85,7 +91,7 @@ fn begin<'a, R: Clock>(
     })
 }
 
-impl<'a, R: Clock> ReceivingEnd<'a, R> {
+impl<'a, R: Clock + Print> ReceivingEnd<'a, R> {
     // Takes the next frame, which has its time as a whole.
     fn take(&mut self) -> Result<Stage, Refusal> {
         let connection = self.reader.get_mut();
@@ -95,13 +101,22 @@ impl<'a, R: Clock> ReceivingEnd<'a, R> {
         self.receiver.take(&mut self.reader, &mut self.host)
     }
 
+    // Counts a round, and tells how many frames have come.
+    fn end_round(&mut self) -> Result<()> {
+        if self.tells {
+            tell_round(self.rt, self.rounds, self.frames)?;
+        }
+        self.rounds = self.rounds.saturating_add(1);
+        Ok(())
+    }
+
     // Takes all frames up to done. Where one is refused, that goes back.
     fn take_guest(&mut self) -> Result<()> {
         for _ in 0..u64::MAX {
             self.frames = self.frames.saturating_add(1);
             match self.take() {
                 Ok(Stage::Done) => return Ok(()),
-                Ok(Stage::RoundEnded) => self.rounds = self.rounds.saturating_add(1),
+                Ok(Stage::RoundEnded) => self.end_round()?,
                 Ok(Stage::Round) => {}
                 Ok(Stage::Gone) | Ok(Stage::Failed) => bail!("frame out of order"),
                 Err(refusal) => return Err(refuse(&self.reader, &mut self.writer, refusal)),
@@ -128,6 +143,7 @@ impl<'a, R: Clock> ReceivingEnd<'a, R> {
             receiver,
             rounds,
             frames,
+            ..
         } = self;
         Received {
             guest: receiver.into_guest().ok(),
@@ -157,14 +173,16 @@ impl<'a, R: Clock> Received<'a, R> {
     }
 }
 
-/// Takes a guest from a connection. What fails, fails before the sender may have given its guest up.
-pub fn receive<'a, R: Clock>(
+/// Takes a guest from a connection, and prints its rounds as they end if `tells`. What fails, fails before the sender
+/// may have given its guest up.
+pub fn receive<'a, R: Clock + Print>(
     rt: &'a R,
     alloc: Global,
     stream: &'a TcpStream,
     limit: u64,
+    tells: bool,
 ) -> Result<Received<'a, R>> {
-    let mut end = begin(rt, alloc, stream, limit)?;
+    let mut end = begin(rt, alloc, stream, limit, tells)?;
     end.take_guest()?;
     end.await_leave();
     Ok(end.hand_out())

@@ -97,6 +97,18 @@ pub fn tell_row(
     Ok(())
 }
 
+/// The line below a round that left no fewer pages than the one before it.
+pub fn tell_no_headway(rt: &impl Print, before: usize) -> Result<()> {
+    println!(rt; "      no headway: the round before left {before} pages")?;
+    Ok(())
+}
+
+/// The line of a round at the receiver, where so many frames have come.
+pub fn tell_round(rt: &impl Print, number: u64, frames: u64) -> Result<()> {
+    println!(rt; "round {number} ended, {frames} frames so far")?;
+    Ok(())
+}
+
 // The sums of rows: how many there are, their pages, their bytes and their microseconds.
 fn sums(rows: &[Row]) -> (usize, usize, u64, u64) {
     let mut pages = 0usize;

@@ -3,7 +3,9 @@
 use crate::connection::{Connection, PATIENCE, READY_PATIENCE, VERIFY_PATIENCE};
 use crate::digests::{compare, read_digests, send_digests};
 use crate::options::Sending;
-use crate::report::{Rounds, Row, micros_since, tell_head, tell_row, tell_table, tell_writers};
+use crate::report::{
+    Rounds, Row, micros_since, tell_head, tell_no_headway, tell_row, tell_table, tell_writers,
+};
 use crate::writers::{Pace, Shared, write_on};
 use anyhow::{Context, Result, anyhow, bail};
 use live_migration::{Refusal, Reply, SendError, Sender};
@@ -41,15 +43,11 @@ fn first_sender<R: Wait>(
 }
 
 // Waits for the receiver to be ready.
-fn read_ready<R: Read>(reader: &mut R) -> Result<()> {
-    let mut bytes = [0; 8];
-    reader
-        .read_exact(&mut bytes)
-        .context("the receiver was not ready in time")?;
-    match Reply::decode(bytes) {
-        Some(Reply::Ready) => Ok(()),
-        Some(Reply::Refused(refusal)) => bail!("refused: {refusal}"),
-        Some(Reply::Accepted) | None => bail!("unknown reply"),
+fn await_ready<R: Read>(sender: &mut Sender, reader: &mut R) -> Result<()> {
+    match sender.ready(reader) {
+        Ok(()) => Ok(()),
+        Err(SendError::Failed) => bail!("the receiver was not ready in time"),
+        Err(error) => Err(error.into()),
     }
 }
 
@@ -154,6 +152,9 @@ impl<'a, R: Clock + Print + Wait> SendingEnd<'a, R> {
             if is_last {
                 return Ok(start);
             }
+            if number > 0 && row.left >= left {
+                tell_no_headway(self.rt, left)?;
+            }
             left = row.left;
         }
         bail!("there were too many rounds")
@@ -236,11 +237,11 @@ fn begin<'a, R: Clock + Wait>(
     stream: &'a TcpStream,
     how: (Sending<'a>, Pace),
 ) -> Result<SendingEnd<'a, R>> {
-    let (sender, header) = first_sender(rt, alloc, shared)?;
+    let (mut sender, header) = first_sender(rt, alloc, shared)?;
     let mut connection = Connection::new(rt, stream, PATIENCE)?;
     connection.write_all(header.as_slice())?;
     connection.allow(READY_PATIENCE)?;
-    read_ready(&mut connection)?;
+    await_ready(&mut sender, &mut connection)?;
     let (asked, pace) = how;
     Ok(SendingEnd {
         rt,
