@@ -1,8 +1,8 @@
 /*
  * The proved machine, for C11 and C++17.
  *
- * A session is a machine that is set up, and runs from its first command on. Each function below is one call of it, with
- * the name and the order of a script's line (docs/SCRIPT.md); docs/BINDINGS.md has the rules.
+ * A session is a machine that is set up, and runs from its first command on. Each function below is one call of it,
+ * with the name and the order of a script's line (docs/SCRIPT.md); docs/BINDINGS.md has the rules.
  *
  * The caller opens a session before it calls it, and closes it once. It makes one call at a time of a session, from any
  * thread, keeps no pointer into it but those that vmm_shared_block gives, copies its handle nowhere, and gives lengths
