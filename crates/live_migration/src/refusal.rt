@@ -23,7 +23,7 @@ pub enum Refusal {
     /// A block begins before the end of the block before it, or ends past the last address.
     #[error("invalid place of a block")]
     Place,
-    /// The blocks have more bytes than the receiver may take.
+    /// The blocks, or they and the sections, cost more than the receiver's limit.
     #[error("more memory than is allowed")]
     TooMuchMemory,
     /// No kind of frames has this number.
