@@ -6,20 +6,23 @@ use virtio_blk::{BlockDevice, Disk};
 use virtio_queue::{Queue, QueueError};
 use vm_memory::{Bitmap, GuestMemory, HostMemory};
 
-/// Serves what a driver has published, where the driver notified the device. It answers whether the driver is to be
-/// interrupted. After an error the device has to be reset.
+/// Serves what a driver has published, where the driver notified the device. `interrupt` is set if the driver is to be
+/// interrupted. If the answer is true, there may be more: the VMM looks after its other devices, and then calls this
+/// once more without a notification. After an error the device has to be reset.
 pub fn kicked<D: Disk, M: GuestMemory, B: Bitmap>(
     device: &mut BlockDevice<D>,
     queue: &mut Queue,
     memory: &M,
     host: &mut HostMemory<B>,
+    interrupt: &mut bool,
 ) -> Result<bool, QueueError>
     requires { Holds (shape_of host.old) (M.names memory.now) }
     ensures { shape_of host.new ≡ shape_of host.old }
 {
-    let served = device.process(queue, memory, host);
+    let served = device.process(queue, memory, host, 64);
+    *interrupt = *interrupt || served.interrupt;
     match served.failed {
         Some(error) => Err(error),
-        None => Ok(served.interrupt),
+        None => Ok(served.more),
     }
 }

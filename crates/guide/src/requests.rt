@@ -4,10 +4,12 @@ use crate::block_device::kicked;
 use anyhow::{Context, bail};
 use std::alloc::Global;
 use std::sync::Arc;
-use virtio_blk::{BlockDevice, MemoryDisk};
-use virtio_queue::{Descriptor, DriverQueue, VRING_DESC_F_NEXT, VRING_DESC_F_WRITE};
+use virtio_blk::{BlockDevice, Disk, MemoryDisk};
+use virtio_queue::{
+    Descriptor, DriverQueue, Queue, QueueField, VRING_DESC_F_NEXT, VRING_DESC_F_WRITE,
+};
 use vm_memory::{
-    Bytes, Chain, ExclusiveBitmap, GuestAddress, GuestMemory, GuestMemoryMmap, HostMemory,
+    Bitmap, Bytes, Chain, ExclusiveBitmap, GuestAddress, GuestMemory, GuestMemoryMmap, HostMemory,
     IommuMemory, NewBitmap, Permissions, Segment, TableIommu,
 };
 
@@ -102,11 +104,23 @@ fn serve_one<M: GuestMemory>(
     Ok(())
 }
 
-// Publishes the first request in a queue.
-fn publish(
-    host: &mut Host,
-    memory: &GuestMemoryMmap,
-    driver: &mut DriverQueue,
+// How many requests go over a queue, and how many descriptors that has.
+const COUNT: u32 = 10_000;
+
+const SIZE: u16 = 16;
+
+// A driver, and the device's half of its queue.
+#[derive(Drop)]
+struct Halves {
+    driver: DriverQueue,
+    queue: Queue,
+}
+
+// Puts the descriptors of the first request.
+fn describe<M: GuestMemory, B: Bitmap>(
+    host: &mut HostMemory<B>,
+    memory: &M,
+    driver: &DriverQueue,
 ) -> anyhow::Result<()> {
     let next = VRING_DESC_F_NEXT;
     let parts = [
@@ -129,41 +143,107 @@ fn publish(
         driver.put_descriptor(memory, host, index, descriptor)?;
         index = after;
     }
-    if !host.holds(memory) {
-        bail!("the host does not hold the memory");
-    }
-    Ok(driver.publish(memory, host, 0)?)
-}
-
-// Has a request served over a queue: the driver publishes it and notifies the device.
-fn ask(
-    rt: &impl Print,
-    host: &mut Host,
-    memory: &GuestMemoryMmap,
-    device: &mut BlockDevice<MemoryDisk>,
-) -> anyhow::Result<()> {
-    let mut driver = DriverQueue::new(GuestAddress(0x2000), 4)?;
-    let mut queue = driver.queue()?;
-    publish(host, memory, &mut driver)?;
-    if !host.holds(memory) {
-        bail!("the host does not hold the memory");
-    }
-    let interrupt = kicked(device, &mut queue, memory, host)?;
-    let used = driver.take_used(memory, host)?;
-    println!(rt;
-        "interrupt {interrupt}, {used:?}, {:?}",
-        beginnings(device.disk())?
-    )?;
     Ok(())
 }
 
-// A request over a queue in plain memory.
+// Publishes the request so many times, and says whether the driver notifies the device then: the head that the device
+// waits for is among these.
+fn publish<M: GuestMemory, B: Bitmap>(
+    host: &mut HostMemory<B>,
+    memory: &M,
+    driver: &mut DriverQueue,
+    count: u16,
+) -> anyhow::Result<bool> {
+    let old = driver.next_avail;
+    for _ in 0..count {
+        if !host.holds(memory) {
+            bail!("the host does not hold the memory");
+        }
+        driver.publish(memory, host, 0)?;
+    }
+    if !host.holds(memory) {
+        bail!("the host does not hold the memory");
+    }
+    let new = driver.next_avail;
+    let event = driver.field(memory, host, QueueField::AvailEvent)?;
+    Ok(new.wrapping_sub(event).wrapping_sub(1) < new.wrapping_sub(old))
+}
+
+// Takes what the device returned, and says how many requests that are.
+fn take<M: GuestMemory, B: Bitmap>(
+    host: &HostMemory<B>,
+    memory: &M,
+    driver: &mut DriverQueue,
+) -> anyhow::Result<u32> {
+    let mut count = 0u32;
+    for _ in 0..SIZE {
+        if !host.holds(memory) {
+            bail!("the host does not hold the memory");
+        }
+        if driver.take_used(memory, host)?.is_none() {
+            break;
+        }
+        count = count.saturating_add(1);
+    }
+    Ok(count)
+}
+
+// Has a burst of requests served: the device is called where the driver notifies it, and as long as there is more.
+fn ask<D: Disk, M: GuestMemory, B: Bitmap>(
+    host: &mut HostMemory<B>,
+    memory: &M,
+    halves: &mut Halves,
+    device: &mut BlockDevice<D>,
+    count: u16,
+) -> anyhow::Result<u32> {
+    let mut more = publish(host, memory, &mut halves.driver, count)?;
+    let mut interrupt = false;
+    for _ in 0..SIZE {
+        if !more {
+            break;
+        }
+        if !host.holds(memory) {
+            bail!("the host does not hold the memory");
+        }
+        more = kicked(device, &mut halves.queue, memory, host, &mut interrupt)?;
+    }
+    take(host, memory, &mut halves.driver)
+}
+
+// Has requests served in bursts, and says how many were answered.
+fn ask_all<D: Disk, M: GuestMemory, B: Bitmap>(
+    host: &mut HostMemory<B>,
+    memory: &M,
+    device: &mut BlockDevice<D>,
+) -> anyhow::Result<u32> {
+    let driver = DriverQueue::new(GuestAddress(0x2000), SIZE)?;
+    let mut queue = driver.queue()?;
+    queue.set_event_idx(device.event_idx());
+    let mut halves = Halves { driver, queue };
+    describe(host, memory, &halves.driver)?;
+    let (mut published, mut answered) = (0u32, 0u32);
+    for burst in 0..COUNT {
+        let count = (burst % u32::from(SIZE) + 1).min(COUNT.saturating_sub(published));
+        published = published.saturating_add(count);
+        let done = ask(host, memory, &mut halves, device, count as u16)?;
+        answered = answered.saturating_add(done);
+    }
+    Ok(answered)
+}
+
+// Requests over a queue in plain memory, with event indices: the driver notifies the device only of what that waits
+// for.
 fn serve_over_a_queue(rt: &impl Print, alloc: Global) -> anyhow::Result<()> {
     let mut host = HostMemory::new(alloc);
     let memory = layout(alloc, &mut host)?;
     prepare(&mut host, &memory)?;
     let mut device = device_of(alloc)?;
-    ask(rt, &mut host, &memory, &mut device)
+    if !device.ack_features(device.features()) {
+        bail!("the device refuses its features");
+    }
+    let answered = ask_all(&mut host, &memory, &mut device)?;
+    println!(rt; "{answered} answered, {:?}", beginnings(device.disk())?)?;
+    Ok(())
 }
 
 // All requests over plain memory.
@@ -195,7 +275,7 @@ fn serve_translated(rt: &impl Print, alloc: Global) -> anyhow::Result<()> {
     Ok(())
 }
 
-/// Serves each request over both, and one over a queue.
+/// Serves each request over both, and many over a queue.
 pub fn serve_requests(rt: &impl Print, alloc: Global) -> anyhow::Result<()> {
     serve_plain(rt, alloc)?;
     serve_translated(rt, alloc)?;
