@@ -65,7 +65,9 @@ int main(void) {
     if (vmm_harvest_space(&session, 0, list, sizeof list).count != 1 || vmm_number(list, 0) != 8) {
         return 12;
     }
-    if (vmm_block(&session, 0x1000, 0x1000).code != VMM_LATE) {
+    /* A block that comes later gets the next number. */
+    answer = vmm_block(&session, 0x1000, 0x1000);
+    if (answer.code != VMM_DONE || answer.value != 1) {
         return 13;
     }
     vmm_close(&session);

@@ -142,7 +142,9 @@ int main(void) {
     if (vmm_dirty_block(&session, 0, bytes, sizeof bytes).count != 1 || vmm_number(bytes, 0) != 1) {
         return 9;
     }
-    if (vmm_shared_block(&session, page, page, -1, 0, &own).code != VMM_LATE) {
+    /* A block that is shared later, while the machine runs. */
+    answer = vmm_shared_block(&session, page, page, -1, 0, &own);
+    if (answer.code != VMM_DONE || answer.value != 2) {
         return 10;
     }
     vmm_close(&session);

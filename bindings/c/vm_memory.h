@@ -1,8 +1,9 @@
 /*
  * The proved machine, for C11 and C++17.
  *
- * A session is a machine that is set up, and runs from its first command on. Each function below is one call of it,
- * with the name and the order of a script's line (docs/SCRIPT.md); docs/BINDINGS.md has the rules.
+ * A session is a machine. Each function below is one call of it, with the name and the order of a script's line
+ * (docs/SCRIPT.md), but what a script makes before its first command alone is made at any time; docs/BINDINGS.md has
+ * the rules.
  *
  * The caller opens a session before it calls it, and closes it once. It makes one call at a time of a session, from any
  * thread, keeps no pointer into it but those that vmm_shared_block gives, copies its handle nowhere, and gives lengths
@@ -23,14 +24,15 @@ typedef struct vmm_session {
     unsigned char *at;
 } vmm_session;
 
-/* What is called, in the order of the lines of a script. */
+/* What is called, in the order of the lines of a script, and then what no script has a line for. */
 enum vmm_kind {
     VMM_BLOCK, VMM_SPACE, VMM_TABLE, VMM_LIMITED_TABLE, VMM_REGION, VMM_TRANSLATOR,
     VMM_LAYOUT, VMM_INSERT, VMM_REMOVE, VMM_PLAIN, VMM_MEMORY, VMM_REPLACE, VMM_ENABLE,
     VMM_READ, VMM_WRITE, VMM_READX, VMM_WRITEX, VMM_STORE, VMM_LOAD,
     VMM_FROM, VMM_FROMX, VMM_TO, VMM_TOX, VMM_CHECK, VMM_COPY,
     VMM_SET, VMM_INVALIDATE, VMM_CLEAR, VMM_LOOKUP,
-    VMM_DIRTY_BLOCK, VMM_DIRTY_SPACE, VMM_HARVEST_BLOCK, VMM_HARVEST_SPACE
+    VMM_DIRTY_BLOCK, VMM_DIRTY_SPACE, VMM_HARVEST_BLOCK, VMM_HARVEST_SPACE,
+    VMM_MARK_BLOCK, VMM_MARK_REACHED
 };
 
 /* An access. */
@@ -40,7 +42,7 @@ enum vmm_access { VMM_NO, VMM_R, VMM_W, VMM_RW };
 enum vmm_code {
     VMM_DONE = 0, VMM_NO_SUCH = 1, VMM_BAD_RANGE = 2, VMM_OUT_OF_MEMORY = 3, VMM_FAILS = 4,
     VMM_INVALID_SIZE = 5, VMM_INVALID_REGION = 6,
-    VMM_BAD_CALL = 16, VMM_LATE = 17, VMM_SHORT = 18,
+    VMM_BAD_CALL = 16, VMM_SHORT = 18,
     VMM_INVALID_GUEST_ADDRESS = 32,
     VMM_IO_INTERRUPTED = 33, VMM_IO_WRITE_ZERO = 34, VMM_IO_UNEXPECTED_EOF = 35, VMM_IO_OTHER = 36,
     VMM_PARTIAL_BUFFER = 37, VMM_INVALID_BACKEND_ADDRESS = 38, VMM_HOST_ADDRESS_NOT_AVAILABLE = 39,
@@ -309,6 +311,18 @@ static inline vmm_answer vmm_harvest_block(vmm_session *s, size_t block, void *l
 static inline vmm_answer vmm_harvest_space(vmm_session *s, size_t space, void *list, size_t list_size) {
     vmm_request call = vmm_at(VMM_HARVEST_SPACE, space, 0, 0);
     return vmm_asked(s, &call, NULL, 0, list, list_size);
+}
+
+/* Marks the pages of a range of a block as dirty, as a write of these bytes would, and reads and writes none of them. */
+static inline vmm_answer vmm_mark_block(vmm_session *s, size_t block, size_t offset, size_t size) {
+    vmm_request call = vmm_at(VMM_MARK_BLOCK, block, offset, size);
+    return vmm_asked(s, &call, NULL, 0, NULL, 0);
+}
+
+/* Marks the pages of the blocks that a write would reach, also behind an IOMMU. `count` is the number of its bytes. */
+static inline vmm_answer vmm_mark_reached(vmm_session *s, size_t memory, uint64_t address, size_t size) {
+    vmm_request call = vmm_at(VMM_MARK_REACHED, memory, address, size);
+    return vmm_asked(s, &call, NULL, 0, NULL, 0);
 }
 
 /* A number of a list, from 0. */

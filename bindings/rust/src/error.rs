@@ -178,8 +178,6 @@ pub enum MachineError {
     InvalidRegion,
     /// A page or a limit is 0, or a call of plain numbers means nothing.
     BadCall,
-    /// A setup call behind a command.
-    Late,
     /// An output of a call of plain numbers is too short: it has to have so many bytes.
     Short(usize),
     /// The regions make no layout.
@@ -197,7 +195,6 @@ impl fmt::Display for MachineError {
             MachineError::InvalidSize => write!(f, "invalid size of a block"),
             MachineError::InvalidRegion => write!(f, "invalid guest region"),
             MachineError::BadCall => write!(f, "a call means nothing"),
-            MachineError::Late => write!(f, "a setup call behind a command"),
             MachineError::Short(needed) => write!(f, "the output has to have {needed} bytes"),
             MachineError::Layout(error) => error.fmt(f),
             MachineError::GuestMemory(error) => error.fmt(f),
@@ -238,7 +235,6 @@ pub(crate) fn error_of(answer: &Answer) -> Option<MachineError> {
         code::INVALID_SIZE => return Some(MachineError::InvalidSize),
         code::INVALID_REGION => return Some(MachineError::InvalidRegion),
         code::BAD_CALL => return Some(MachineError::BadCall),
-        code::LATE => return Some(MachineError::Late),
         code::SHORT => return Some(MachineError::Short(answer.count)),
         code::NO_MEMORY_REGION => return Some(MachineError::Layout(GuestRegionCollectionError::NoMemoryRegion)),
         code::MEMORY_REGION_OVERLAP => {

@@ -1,4 +1,4 @@
-//! The machine: what is set up, and what commands make and change.
+//! The machine: what is made for it, and what commands make and change.
 
 use crate::error::{error_of, MachineError};
 use crate::ffi::Session;
@@ -68,11 +68,9 @@ pub struct IotlbFails {
     pub access_fails: Vec<IovaRange>,
 }
 
-/// A machine that is set up, and runs from its first command on.
+/// A machine, for which blocks, spaces, tables, regions and translators are made at any time.
 ///
-/// Blocks, spaces, tables, regions, translators, layouts and memories go by number, from 0 in the order of making, each
-/// kind by itself. The first call that is none of setup ends the setup, unless it is refused: as one that means
-/// nothing, or for too short an output.
+/// These, layouts and memories go by number, from 0 in the order of making, each kind by itself.
 pub struct Machine {
     session: Session,
 }
@@ -379,6 +377,20 @@ impl Machine {
     /// Takes the dirty pages of a space: none of them is dirty then.
     pub fn harvest_space(&self, space: usize) -> Result<Vec<usize>, MachineError> {
         self.pages(kind::HARVEST_SPACE, space)
+    }
+
+    /// Marks the pages of `len` bytes of a block from `offset` on as dirty, as a write of these bytes would. It reads and
+    /// writes none of them: it is for bytes of a shared block that a guest wrote by itself. `NoSuch` if there is no such
+    /// block, `BadRange` if the range passes its end.
+    pub fn mark_block(&self, block: usize, offset: usize, len: usize) -> Result<(), MachineError> {
+        let call = Call {
+            kind: kind::MARK_BLOCK,
+            first: block,
+            address: offset as u64,
+            length: len,
+            ..Call::default()
+        };
+        self.ask(call).map(drop)
     }
 
     fn pages(&self, kind: u32, number: usize) -> Result<Vec<usize>, MachineError> {

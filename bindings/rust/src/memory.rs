@@ -69,6 +69,15 @@ impl<'a> GuestMemory<'a> {
         Ok(answer.count)
     }
 
+    /// Marks the pages that a write of `count` bytes at an address would reach, and returns the number of these bytes. It
+    /// reads and writes none of them. It marks the blocks themselves, also behind an IOMMU, where a write marks its space
+    /// alone.
+    pub fn mark_reached(&self, addr: GuestAddress, count: usize) -> Result<usize, GuestMemoryError> {
+        let mut answer = Answer::default();
+        self.access(&self.at(kind::MARK_REACHED, addr, count), &[], &mut [], &mut answer)?;
+        Ok(answer.count)
+    }
+
     /// Reads into the beginning of the buffer, and answers how many bytes that is.
     #[inline]
     pub fn read(&self, buf: &mut [u8], addr: GuestAddress) -> Result<usize, GuestMemoryError> {

@@ -65,6 +65,8 @@ pub mod kind {
     pub const DIRTY_SPACE: u32 = 30;
     pub const HARVEST_BLOCK: u32 = 31;
     pub const HARVEST_SPACE: u32 = 32;
+    pub const MARK_BLOCK: u32 = 33;
+    pub const MARK_REACHED: u32 = 34;
 }
 
 /// Why a call was refused, or `DONE`.
@@ -78,7 +80,6 @@ pub mod code {
     pub const INVALID_SIZE: u32 = 5;
     pub const INVALID_REGION: u32 = 6;
     pub const BAD_CALL: u32 = 16;
-    pub const LATE: u32 = 17;
     pub const SHORT: u32 = 18;
     pub const INVALID_GUEST_ADDRESS: u32 = 32;
     pub const IO_INTERRUPTED: u32 = 33;

@@ -419,6 +419,12 @@ fn session(numbers: &mut Numbers, count: usize) -> (String, Vec<Told>) {
         } else {
             kind_of(numbers, place)
         };
+        // A script sets up before its first command only: tests/later.rs makes these calls.
+        let kind = if has.commanded && SETUPS.contains(&kind) {
+            kind::LOAD
+        } else {
+            kind
+        };
         let call = call_of(numbers, &has, kind);
         let (input, word) = input_of(numbers, &has, kind);
         let lists = matches!(kind, kind::LOOKUP..=kind::HARVEST_SPACE);
@@ -444,7 +450,6 @@ fn session(numbers: &mut Numbers, count: usize) -> (String, Vec<Told>) {
         );
         let line = word.as_ref().and_then(|word| line_of(&call, word));
         let wanted = match line {
-            _ if sets_up && has.commanded => refused(code::LATE, 0),
             None => refused(code::BAD_CALL, 0),
             Some(_) if takes && call.length > size => refused(code::SHORT, call.length),
             Some(line) if answer.code == code::SHORT => {

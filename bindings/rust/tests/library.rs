@@ -59,6 +59,7 @@ fn all_crates_below_are_watched() {
             "vm_memory",
             "vm_memory_base",
             "vm_memory_c",
+            "vm_memory_device",
             "vm_memory_guest",
             "vm_session"
         ]

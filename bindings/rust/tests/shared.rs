@@ -2,12 +2,13 @@
 
 mod guest;
 
-use guest::{refuse, Guest};
+use guest::{refuse, BusyGuest, Guest};
 use std::env;
 use std::fs::{self, File};
 use std::io::{Cursor, ErrorKind};
 use std::os::fd::{AsFd, AsRawFd, OwnedFd};
 use std::process::Command;
+use std::sync::atomic::AtomicBool;
 use std::sync::atomic::Ordering::SeqCst;
 use std::thread;
 use vm_memory_proved::{
@@ -456,7 +457,53 @@ fn each_refusal_changes_nothing() {
     let block = shared(&machine, 1, Some((&file, 2)));
     assert_eq!(block.number(), 0);
     memories(&machine, &[block]);
-    assert!(matches!(make(size, Some((&file, 0))), Refused(MachineError::Late)));
+}
+
+// A guest stores one of two patterns in each word of the first pages, all the time. A call finds one of them in each word
+// and each byte, and what the guest does not write is as calls left it.
+#[test]
+fn a_guest_may_write_while_calls_run() {
+    const OLD: u64 = 0x0101_0101_0101_0101;
+    const NEW: u64 = 0xfefe_fefe_fefe_fefe;
+    let file = file_of(4);
+    let machine = Machine::new().unwrap();
+    let block = shared(&machine, 4, Some((&file, 0)));
+    let numbers = memories(&machine, &[block]);
+    let guest = BusyGuest(Guest::of_file(&file, 4 * PAGE));
+    (0..2 * PAGE).step_by(8).for_each(|word| guest.store(word, OLD));
+    let is_over = AtomicBool::new(false);
+    thread::scope(|scope| {
+        scope.spawn(|| {
+            for value in [NEW, OLD].into_iter().cycle() {
+                (0..2 * PAGE).step_by(8).for_each(|word| guest.store(word, value));
+                if is_over.load(SeqCst) {
+                    return;
+                }
+            }
+        });
+        let mut seen = [false; 2];
+        for turn in 0..20_000u64 {
+            let memory = machine.memory(numbers[turn as usize % 2]).unwrap();
+            let word = at(BASE + turn * 8 % (2 * PAGE as u64));
+            let value: u64 = memory.load(word, SeqCst).unwrap();
+            assert!(value == OLD || value == NEW, "{value:#x}");
+            seen[usize::from(value == NEW)] = true;
+            let mut bytes = [0; 100];
+            memory.read_slice(&mut bytes, at(BASE + turn % PAGE as u64)).unwrap();
+            assert!(bytes.iter().all(|&byte| byte == 1 || byte == 0xfe));
+            let mut sink = Vec::new();
+            memory.write_all_volatile_to(at(BASE + turn % 64), &mut sink, PAGE).unwrap();
+            assert!(sink.iter().all(|&byte| byte == 1 || byte == 0xfe));
+            machine.copy((0, turn as usize % PAGE, 64), (0, 3 * PAGE, 64)).unwrap();
+            memory.write_obj(turn, at(BASE + 2 * PAGE as u64 + 3)).unwrap();
+            assert_eq!(memory.read_obj::<u64>(at(BASE + 2 * PAGE as u64 + 3)).unwrap(), turn);
+        }
+        is_over.store(true, SeqCst);
+        assert_eq!(seen, [true; 2]);
+    });
+    let copied = guest.0.read(3 * PAGE, 64);
+    assert!(copied.iter().all(|&byte| byte == 1 || byte == 0xfe));
+    assert_eq!(guest.0.read(3 * PAGE + 64, PAGE - 64), [0; PAGE - 64]);
 }
 
 // On a thread whose system calls fail. Then there is no block, or one with private memory, and the file is as it was.

@@ -29,8 +29,7 @@ fn round() {
         let layout = machine.layout(&[machine.region(shared.number(), GuestAddress(0)).unwrap()]);
         assert_eq!(layout.unwrap(), 0);
         let late = machine.shared_block(pages * PAGE, PAGE, Some((file.as_fd(), 0)));
-        assert!(matches!(late, Err(SharedBlockError::Machine(MachineError::Late))));
-        assert_eq!((private.number(), other), (1, 2));
+        assert_eq!((private.number(), other, late.unwrap().number()), (1, 2, 3));
     }
     // No memory for the list of dirty pages, and none for the bytes: a process has 2^47 addresses, and the file half.
     for page in [1, 1 << 20] {

@@ -58,14 +58,13 @@ pub fn bare_machine(alloc: Global) -> Result<TestMachine, Fail> {
     Ok(Machine::new(alloc, host, regions, translators))
 }
 
-// Commands that have lists. The source gives three bytes less than the second of its two transfers asks for.
-fn push_lists(
+// Commands that write bytes.
+fn push_writes(
     alloc: Global,
     commands: &mut Vec<Command>,
     byte: u8,
     count: usize,
 ) -> Result<(), AllocError> {
-    let (memory, addr) = (0, GuestAddress(0x10));
     let bytes = vec![in alloc; byte; count]?;
     commands.push(write_of(alloc, 0, 0, bytes.as_slice())?)?;
     let bytes = ByteList::from_vec(vec![in alloc; byte, 2, 3]?);
@@ -75,6 +74,12 @@ fn push_lists(
         addr: iova,
         bytes,
     })?;
+    Ok(())
+}
+
+// Commands that transfer bytes. Each source gives three bytes less than it is asked for.
+fn push_transfers(alloc: Global, commands: &mut Vec<Command>, byte: u8) -> Result<(), AllocError> {
+    let (memory, addr) = (0, GuestAddress(0x10));
     let step = SourceStep::Give(ByteList::from_vec(vec![in alloc; 4u8, byte, 6]?));
     let source = SourceList::from_vec(vec![in alloc; step]?);
     commands.push(Command::ReadFrom {
@@ -108,9 +113,8 @@ fn push_lists(
     Ok(())
 }
 
-// Commands that make layouts, memories and mappings. Memory 0 is plain, and memory 1 behind the IOMMU.
-fn makers() -> [Command; 8] {
-    let iova = GuestAddress(0x5000);
+// Commands that make layouts and memories. Memory 0 is plain, and memory 1 behind the IOMMU.
+fn makers() -> [Command; 5] {
     [
         Command::Insert {
             layout: 0,
@@ -132,6 +136,13 @@ fn makers() -> [Command; 8] {
             memory: 1,
             layout: 1,
         },
+    ]
+}
+
+// Commands on mappings of the table.
+fn mappings() -> [Command; 3] {
+    let iova = GuestAddress(0x5000);
+    [
         Command::Set {
             table: 0,
             iova,
@@ -229,8 +240,11 @@ pub fn round_of(alloc: Global, round: usize) -> Result<Vec<Command>, AllocError>
     let mut commands = Vec::new(alloc);
     commands.push(layout_of(alloc, &[0])?)?;
     commands.append(&mut Vec::from_array(alloc, makers())?)?;
+    commands.append(&mut Vec::from_array(alloc, mappings())?)?;
+    let byte = (round % 200) as u8;
     let count = if round == 0 { SIZE } else { 4 };
-    push_lists(alloc, &mut commands, (round % 200) as u8, count)?;
+    push_writes(alloc, &mut commands, byte, count)?;
+    push_transfers(alloc, &mut commands, byte)?;
     commands.append(&mut Vec::from_array(alloc, accesses())?)?;
     commands.append(&mut Vec::from_array(alloc, others())?)?;
     Ok(commands)

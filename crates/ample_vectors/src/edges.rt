@@ -165,24 +165,8 @@ fn mapped(perm: Permissions) -> [Command; 2] {
     ]
 }
 
-// Calls that name nothing, or whose range is too long.
-fn absent() -> [Command; 13] {
-    let from = BlockRange {
-        block: 0,
-        offset: SIZE,
-        len: 0,
-    };
-    let long = BlockRange {
-        block: 0,
-        offset: SIZE,
-        len: 1,
-    };
-    let none = BlockRange {
-        block: 9,
-        offset: 0,
-        len: 0,
-    };
-    let iova = GuestAddress(0x5000);
+// Calls that name no region or translator, or a memory that is plain.
+fn absent_parts() -> [Command; 5] {
     [
         Command::Insert {
             layout: 0,
@@ -207,10 +191,38 @@ fn absent() -> [Command; 13] {
             space: 0,
             on: true,
         },
+    ]
+}
+
+// Calls that name no block or bitmap, and one whose range is too long.
+fn absent_blocks() -> [Command; 4] {
+    let from = BlockRange {
+        block: 0,
+        offset: SIZE,
+        len: 0,
+    };
+    let long = BlockRange {
+        block: 0,
+        offset: SIZE,
+        len: 1,
+    };
+    let none = BlockRange {
+        block: 9,
+        offset: 0,
+        len: 0,
+    };
+    [
         Command::Copy { from, to: long },
         Command::Copy { from, to: none },
         Command::Dirty(BitmapId::Block(9)),
         Command::Harvest(BitmapId::Space(9)),
+    ]
+}
+
+// Calls that name no table, or a range past the last address or past what is mapped.
+fn absent_mappings() -> [Command; 4] {
+    let iova = GuestAddress(0x5000);
+    [
         Command::Invalidate {
             table: 0,
             iova: GuestAddress(u64::MAX),
@@ -306,7 +318,9 @@ fn expect_each<R: GuestMemoryRegion, I: Iommu, B: ExactBitmap>(
             expect_edges(alloc, machine, called, memory)?;
             expect_failing(alloc, machine, called, memory)?;
         }
-        expect_all(alloc, machine, called, &absent())?;
+        expect_all(alloc, machine, called, &absent_parts())?;
+        expect_all(alloc, machine, called, &absent_blocks())?;
+        expect_all(alloc, machine, called, &absent_mappings())?;
     }
     expect_all(alloc, machine, called, &last())
 }

@@ -110,6 +110,25 @@ fn read_into<R: GuestMemoryRegion, I: Iommu, B: ExactBitmap>(
     }
 }
 
+fn write_bytes<R: GuestMemoryRegion, I: Iommu, B: ExactBitmap>(
+    machine: &mut Machine<R, I, B>,
+    command: &Command,
+) -> Result<Reply, Fail> {
+    Ok(match command {
+        Command::Write {
+            memory,
+            addr,
+            bytes,
+        } => counted(machine.write(*memory, *addr, bytes.as_slice())),
+        Command::WriteSlice {
+            memory,
+            addr,
+            bytes,
+        } => done(machine.write_slice(*memory, *addr, bytes.as_slice())),
+        _ => return Err(Fail::new("no write")),
+    })
+}
+
 fn typed<R: GuestMemoryRegion, I: Iommu, B: ExactBitmap>(
     machine: &mut Machine<R, I, B>,
     command: &Command,
@@ -156,8 +175,7 @@ fn sent(reply: Reply, sink: ScriptSink<'_>) -> Reply {
     Reply::Sent { ending, taken }
 }
 
-fn transferred<R: GuestMemoryRegion, I: Iommu, B: ExactBitmap>(
-    alloc: Global,
+fn read_from_source<R: GuestMemoryRegion, I: Iommu, B: ExactBitmap>(
     machine: &mut Machine<R, I, B>,
     command: &Command,
 ) -> Result<Reply, Fail> {
@@ -180,6 +198,16 @@ fn transferred<R: GuestMemoryRegion, I: Iommu, B: ExactBitmap>(
             let mut source = ScriptSource::new(source.as_slice());
             done(machine.read_exact_volatile_from(*memory, *addr, &mut source, *count))
         }
+        _ => return Err(Fail::new("no source")),
+    })
+}
+
+fn write_to_sink<R: GuestMemoryRegion, I: Iommu, B: ExactBitmap>(
+    alloc: Global,
+    machine: &Machine<R, I, B>,
+    command: &Command,
+) -> Result<Reply, Fail> {
+    Ok(match command {
         Command::WriteTo {
             memory,
             addr,
@@ -200,7 +228,7 @@ fn transferred<R: GuestMemoryRegion, I: Iommu, B: ExactBitmap>(
             let answer = machine.write_all_volatile_to(*memory, *addr, &mut sink, *count);
             sent(done(answer), sink)
         }
-        _ => return Err(Fail::new("no transfer")),
+        _ => return Err(Fail::new("no sink")),
     })
 }
 
@@ -266,6 +294,24 @@ fn looked_up<R: GuestMemoryRegion, I: Iommu, B: ExactBitmap>(
     })
 }
 
+// The dirty pages of a bitmap, in place of what was in the buffer.
+fn dirty_pages<R: GuestMemoryRegion, I: Iommu, B: ExactBitmap>(
+    alloc: Global,
+    machine: &mut Machine<R, I, B>,
+    command: &Command,
+) -> Result<Reply, Fail> {
+    let mut pages = vec![in alloc; 7usize]?;
+    let answer = match command {
+        Command::Dirty(bitmap) => machine.dirty(*bitmap, &mut pages),
+        Command::Harvest(bitmap) => machine.harvest(*bitmap, &mut pages),
+        _ => return Err(Fail::new("no bitmap")),
+    };
+    Ok(match answer {
+        Ok(()) => Reply::Pages(NumberList::from_vec(pages)),
+        Err(refusal) => refused(refusal),
+    })
+}
+
 // The reply of a command, by its call.
 fn reply_of<R: GuestMemoryRegion, I: Iommu, B: ExactBitmap>(
     alloc: Global,
@@ -274,21 +320,14 @@ fn reply_of<R: GuestMemoryRegion, I: Iommu, B: ExactBitmap>(
 ) -> Result<Reply, Fail> {
     match command {
         Command::Read { .. } | Command::ReadSlice { .. } => read_into(alloc, machine, command),
-        Command::Write {
-            memory,
-            addr,
-            bytes,
-        } => Ok(counted(machine.write(*memory, *addr, bytes.as_slice()))),
-        Command::WriteSlice {
-            memory,
-            addr,
-            bytes,
-        } => Ok(done(machine.write_slice(*memory, *addr, bytes.as_slice()))),
+        Command::Write { .. } | Command::WriteSlice { .. } => write_bytes(machine, command),
         Command::Store { .. } | Command::Load { .. } => typed(machine, command),
-        Command::ReadFrom { .. }
-        | Command::ReadExactFrom { .. }
-        | Command::WriteTo { .. }
-        | Command::WriteAllTo { .. } => transferred(alloc, machine, command),
+        Command::ReadFrom { .. } | Command::ReadExactFrom { .. } => {
+            read_from_source(machine, command)
+        }
+        Command::WriteTo { .. } | Command::WriteAllTo { .. } => {
+            write_to_sink(alloc, machine, command)
+        }
         Command::CheckRange {
             memory,
             addr,
@@ -298,20 +337,7 @@ fn reply_of<R: GuestMemoryRegion, I: Iommu, B: ExactBitmap>(
             Ok(truth) => Reply::Truth(truth),
             Err(refusal) => refused(refusal),
         }),
-        Command::Dirty(bitmap) => {
-            let mut pages = vec![in alloc; 7usize]?;
-            Ok(match machine.dirty(*bitmap, &mut pages) {
-                Ok(()) => Reply::Pages(NumberList::from_vec(pages)),
-                Err(refusal) => refused(refusal),
-            })
-        }
-        Command::Harvest(bitmap) => {
-            let mut pages = vec![in alloc; 7usize]?;
-            Ok(match machine.harvest(*bitmap, &mut pages) {
-                Ok(()) => Reply::Pages(NumberList::from_vec(pages)),
-                Err(refusal) => refused(refusal),
-            })
-        }
+        Command::Dirty(_) | Command::Harvest(_) => dirty_pages(alloc, machine, command),
         Command::Copy { from, to } => Ok(done(machine.copy(*from, *to))),
         Command::Set { .. }
         | Command::Invalidate { .. }

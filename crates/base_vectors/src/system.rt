@@ -29,50 +29,51 @@ fn expect_once(
     Ok(())
 }
 
-#[test]
-fn answers_are_those_of_one_call(rt: HostRuntime) -> Result<(), Fail> {
+// Fails if a call that moves at most so many bytes does not return their count, or a read does not write just these.
+fn expect_count(alloc: Global, bytes: &mut [u8], most: usize) -> Result<(), Fail> {
+    let count = bytes.len().min(most);
+    let wanted = format!(in alloc; "Ok({count})")?;
+    let stub = Stub { most, ..STUB };
+    bytes.fill(0);
+    expect_once(alloc, stub, bytes, true, wanted.as_str())?;
+    let mut places = bytes.iter().enumerate();
+    if !places.all(|(k, byte)| (*byte == 7) == (k < count)) {
+        return Err(Fail::new(format_args!("not the first {count} bytes were read")));
+    }
+    expect_once(alloc, stub, bytes, false, wanted.as_str())
+}
+
+fn expect_counts(alloc: Global) -> Result<(), Fail> {
     for len in [0usize, 1, 5, 0x1000, 0x1001, 0x10_0001] {
-        let mut bytes = vec![in rt.alloc(); 0u8; len]?;
+        let mut bytes = vec![in alloc; 0u8; len]?;
         for most in [0usize, 3, usize::MAX] {
-            let count = len.min(most);
-            let wanted = format!(in rt.alloc(); "Ok({count})")?;
-            bytes.fill(0);
-            expect_once(
-                rt.alloc(),
-                Stub { most, ..STUB },
-                &mut bytes,
-                true,
-                wanted.as_str(),
-            )?;
-            assert!(rt;
-                bytes
-                    .iter()
-                    .enumerate()
-                    .all(|(k, byte)| (*byte == 7) == (k < count))
-            );
-            expect_once(
-                rt.alloc(),
-                Stub { most, ..STUB },
-                &mut bytes,
-                false,
-                wanted.as_str(),
-            )?;
+            expect_count(alloc, &mut bytes, most)?;
         }
     }
+    Ok(())
+}
+
+fn expect_errors(alloc: Global) -> Result<(), Fail> {
     for kind in KINDS {
-        let wanted = format!(in rt.alloc(); "{kind:?}")?;
+        let wanted = format!(in alloc; "{kind:?}")?;
+        let stub = Stub {
+            error: Some(kind),
+            ..STUB
+        };
         for len in [0usize, 5, 0x1001] {
-            let mut bytes = vec![in rt.alloc(); 0u8; len]?;
+            let mut bytes = vec![in alloc; 0u8; len]?;
             for is_read in [false, true] {
-                let stub = Stub {
-                    error: Some(kind),
-                    ..STUB
-                };
-                expect_once(rt.alloc(), stub, &mut bytes, is_read, wanted.as_str())?;
+                expect_once(alloc, stub, &mut bytes, is_read, wanted.as_str())?;
             }
         }
     }
     Ok(())
+}
+
+#[test]
+fn answers_are_those_of_one_call(rt: HostRuntime) -> Result<(), Fail> {
+    expect_counts(rt.alloc())?;
+    expect_errors(rt.alloc())
 }
 
 // All of ten bytes, of which six come before the error, and three at a call. One that was interrupted is asked again.

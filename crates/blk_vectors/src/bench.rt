@@ -5,10 +5,9 @@ use std::sync::Arc;
 use std::test::Fail;
 use virtio_blk::{BlockDevice, Disk, Served};
 use virtio_queue::{Descriptor, DriverQueue, Queue};
-use vm_memory::{
-    Bitmap, Bytes, ExclusiveBitmap, GuestAddress, GuestMemory, GuestMemoryMmap, GuestRegionMmap,
-    HostMemory, IommuMemory, MachineMemory, NewBitmap, Permissions, TableIommu, TlbId,
-};
+use vm_memory_base::{Bitmap, ExclusiveBitmap, GuestAddress, NewBitmap, Permissions};
+use vm_memory_device::{IommuMemory, MachineMemory, TableIommu};
+use vm_memory_guest::{Bytes, GuestMemory, GuestMemoryMmap, GuestRegionMmap, HostMemory, TlbId};
 
 pub type Host = HostMemory<ExclusiveBitmap>;
 

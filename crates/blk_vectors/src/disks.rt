@@ -9,7 +9,8 @@ use std::io::Write;
 use std::test::Fail;
 use test_text::expect_text;
 use virtio_blk::{Disk, DiskError, FileDisk, MemoryDisk};
-use vm_memory::{Bitmap, GuestMemory};
+use vm_memory_base::Bitmap;
+use vm_memory_guest::GuestMemory;
 
 // A disk that refuses what comes after so many calls.
 #[derive(Drop)]

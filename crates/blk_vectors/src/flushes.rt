@@ -6,7 +6,8 @@ use std::alloc::Global;
 use std::test::Fail;
 use test_text::expect_text;
 use virtio_blk::{Disk, DiskError, MemoryDisk};
-use vm_memory::{Bitmap, GuestMemory};
+use vm_memory_base::Bitmap;
+use vm_memory_guest::GuestMemory;
 
 // A disk that records its calls by their first letters, and refuses the call of one number.
 #[derive(Drop)]

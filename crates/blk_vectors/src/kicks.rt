@@ -7,7 +7,8 @@ use std::test::Fail;
 use test_text::next_number;
 use virtio_blk::MemoryDisk;
 use virtio_queue::QueueField;
-use vm_memory::{Bitmap, GuestMemory};
+use vm_memory_base::Bitmap;
+use vm_memory_guest::GuestMemory;
 
 // How many requests are asked for, and how many of them the queue has room for: each takes two descriptors.
 const REQUESTS: u32 = 10_000;

@@ -6,7 +6,8 @@ use std::test::Fail;
 use test_text::expect_text;
 use virtio_blk::{BlockDevice, MemoryDisk};
 use virtio_queue::QueueField;
-use vm_memory::{Bitmap, GuestAddress, GuestMemory};
+use vm_memory_base::{Bitmap, GuestAddress};
+use vm_memory_guest::GuestMemory;
 
 fn set<M: GuestMemory, B: Bitmap>(
     bench: &mut Bench<M, B, MemoryDisk>,

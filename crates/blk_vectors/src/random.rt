@@ -5,7 +5,8 @@ use std::alloc::Global;
 use std::test::Fail;
 use test_text::next_number;
 use virtio_blk::MemoryDisk;
-use vm_memory::{Bitmap, GuestMemory};
+use vm_memory_base::Bitmap;
+use vm_memory_guest::GuestMemory;
 
 const SECTORS: u64 = 40;
 

@@ -5,7 +5,8 @@ use std::alloc::Global;
 use std::test::Fail;
 use test_text::expect_text;
 use virtio_blk::MemoryDisk;
-use vm_memory::{Bitmap, GuestMemory};
+use vm_memory_base::Bitmap;
+use vm_memory_guest::GuestMemory;
 
 // A header, a sector of data and a status, in the order of a chain.
 const H: Part = (HEADER, 16, false);

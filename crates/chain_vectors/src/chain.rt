@@ -4,11 +4,11 @@ use std::alloc::Global;
 use std::sync::Arc;
 use std::test::Fail;
 use test_text::expect_text;
-use vm_memory::{
-    BitmapId, Bytes, Chain, ChainFault, ExactBitmap, ExclusiveBitmap, GuestAddress,
-    GuestMemoryMmap, GuestRegionMmap, HostMemory, IommuMemory, MachineMemory, NewBitmap,
-    Permissions, Segment, TableIommu,
+use vm_memory_base::{
+    BitmapId, ExactBitmap, ExclusiveBitmap, GuestAddress, NewBitmap, Permissions,
 };
+use vm_memory_device::{Chain, ChainFault, IommuMemory, MachineMemory, Segment, TableIommu};
+use vm_memory_guest::{Bytes, GuestMemoryMmap, GuestRegionMmap, HostMemory};
 
 pub type Host = HostMemory<ExclusiveBitmap>;
 

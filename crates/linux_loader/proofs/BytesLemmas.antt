@@ -20,7 +20,7 @@ use Rattle.linux_loader.specs.Load.{Clears, ClearsRest, FillsFront, FillsFrom, L
 use Rattle.linux_loader.specs.Loaded.{blocks_after, front_windows, rest_windows, windows_at, with_segment}
 use Rattle.linux_loader.specs.declared.error.LoaderError.{LoaderError}
 use Rattle.linux_loader.specs.declared.error.LoaderError.TheVariants as errors
-use Rattle.linux_loader.specs.declared.plan.Segment.{Segment}
+use Rattle.linux_loader.specs.declared.segment.Segment.{Segment}
 use Rattle.linux_loader.proofs.DirtyLemmas.{far, far_outside, received_whole}
 use Rattle.linux_loader.proofs.KeepLemmas.{clears_keeps, front_keeps}
 

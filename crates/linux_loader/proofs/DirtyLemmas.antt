@@ -27,7 +27,7 @@ use Rattle.linux_loader.specs.Load.{Clears, ClearsRest, FillsFront, FillsFrom, L
 use Rattle.linux_loader.specs.Loaded.{IsDirtySegment, Outside, front_windows, rest_windows, windows_at}
 use Rattle.linux_loader.specs.declared.error.LoaderError.{LoaderError}
 use Rattle.linux_loader.specs.declared.error.LoaderError.TheVariants as errors
-use Rattle.linux_loader.specs.declared.plan.Segment.{Segment}
+use Rattle.linux_loader.specs.declared.segment.Segment.{Segment}
 use Rattle.linux_loader.proofs.KeepLemmas.{clears_keeps, front_keeps}
 
 -- ---- a cell that lies in no window of some

@@ -6,7 +6,7 @@ use Rattle.linux_loader.specs.Elf.{program_header, program_headers, segment_of, 
 use Rattle.linux_loader.specs.Error.{and_then}
 use Rattle.linux_loader.specs.declared.elf.header.ProgramHeader.{ProgramHeader}
 use Rattle.linux_loader.specs.declared.error.LoaderError.{LoaderError}
-use Rattle.linux_loader.specs.declared.plan.Segment.{Segment}
+use Rattle.linux_loader.specs.declared.segment.Segment.{Segment}
 
 -- one program header more is read
 pub headers_step : (n : ℕ) (table : List ℕ)

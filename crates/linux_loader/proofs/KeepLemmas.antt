@@ -16,7 +16,7 @@ use Rattle.linux_loader.specs.Load.{Clears, ClearsRest, FillsFront, FillsFrom, L
 use Rattle.linux_loader.specs.Loaded.{IsUnnamed, Keeps, Outside, windows_at}
 use Rattle.linux_loader.specs.declared.error.LoaderError.{LoaderError}
 use Rattle.linux_loader.specs.declared.error.LoaderError.TheVariants as errors
-use Rattle.linux_loader.specs.declared.plan.Segment.{Segment}
+use Rattle.linux_loader.specs.declared.segment.Segment.{Segment}
 
 -- ---- cells
 

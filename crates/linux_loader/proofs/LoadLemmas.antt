@@ -8,7 +8,7 @@ use Rattle.vm_memory_guest.specs.Host.{Host}
 use Rattle.vm_memory_guest.specs.Memory.{Memory}
 use Rattle.linux_loader.specs.Load.{Clears, ClearsRest, LoadsAll, LoadsSegment}
 use Rattle.linux_loader.specs.declared.error.LoaderError.{LoaderError}
-use Rattle.linux_loader.specs.declared.plan.Segment.{Segment}
+use Rattle.linux_loader.specs.declared.segment.Segment.{Segment}
 
 -- the rest of a segment, of so many bytes at an address, was made zero
 pub clears_rest : {B : Type 0} (marks : B → ℕ → ℕ → B → Type 0) (m : Memory) (s : Segment) (old new : Host B)

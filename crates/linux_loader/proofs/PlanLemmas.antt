@@ -14,7 +14,7 @@ use Rattle.linux_loader.specs.declared.elf.header.ProgramHeader.{ProgramHeader}
 use Rattle.linux_loader.specs.declared.error.LoaderError.{LoaderError}
 use Rattle.linux_loader.specs.declared.error.LoaderError.TheVariants as errors
 use Rattle.linux_loader.specs.declared.plan.KernelPlan.{KernelPlan}
-use Rattle.linux_loader.specs.declared.plan.Segment.{Segment}
+use Rattle.linux_loader.specs.declared.segment.Segment.{Segment}
 use Rattle.linux_loader.specs.declared.runtime.RuntimeArea.{RuntimeArea}
 
 -- a list that was expected

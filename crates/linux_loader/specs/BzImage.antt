@@ -9,7 +9,7 @@ use Rattle.linux_loader.specs.Runtime.{runtime_area}
 use Rattle.linux_loader.specs.declared.error.LoaderError.{LoaderError}
 use Rattle.linux_loader.specs.declared.error.LoaderError.TheVariants as errors
 use Rattle.linux_loader.specs.declared.plan.PvhBootCapability.TheVariants.{PvhEntryNotPresent}
-use Rattle.linux_loader.specs.declared.plan.Segment.{Segment}
+use Rattle.linux_loader.specs.declared.segment.Segment.{Segment}
 use Rattle.linux_loader.specs.declared.runtime.RuntimeArea.{RuntimeArea}
 
 -- what is read of a header, which has 272 bytes at most: some more than it has, and those up to the end of

@@ -11,7 +11,7 @@ use Rattle.linux_loader.specs.declared.error.LoaderError.{LoaderError}
 use Rattle.linux_loader.specs.declared.error.LoaderError.TheVariants as errors
 use Rattle.linux_loader.specs.declared.plan.PvhBootCapability.{PvhBootCapability}
 use Rattle.linux_loader.specs.declared.plan.PvhBootCapability.TheVariants.{PvhEntryPresent, PvhEntryNotPresent}
-use Rattle.linux_loader.specs.declared.plan.Segment.{Segment}
+use Rattle.linux_loader.specs.declared.segment.Segment.{Segment}
 
 -- ---- the header
 

@@ -12,7 +12,7 @@ use Rattle.linux_loader.specs.Runtime.{field_since, first_free}
 use Rattle.linux_loader.specs.declared.error.LoaderError.{LoaderError}
 use Rattle.linux_loader.specs.declared.error.LoaderError.TheVariants as errors
 use Rattle.linux_loader.specs.declared.plan.KernelLoaderResult.{KernelLoaderResult}
-use Rattle.linux_loader.specs.declared.plan.Segment.{Segment}
+use Rattle.linux_loader.specs.declared.segment.Segment.{Segment}
 
 -- the greatest address that an initrd may have: a bzImage of version 2.03 says it at 0x22c
 abbrev pub greatest : ℕ → Option (List ℕ) → ℕ

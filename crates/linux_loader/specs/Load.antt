@@ -20,7 +20,7 @@ use Rattle.linux_loader.specs.declared.error.LoaderError.{LoaderError}
 use Rattle.linux_loader.specs.declared.error.LoaderError.TheVariants as errors
 use Rattle.linux_loader.specs.declared.plan.KernelLoaderResult.{KernelLoaderResult}
 use Rattle.linux_loader.specs.declared.plan.KernelPlan.{KernelPlan}
-use Rattle.linux_loader.specs.declared.plan.Segment.{Segment}
+use Rattle.linux_loader.specs.declared.segment.Segment.{Segment}
 
 -- the call `read_exact_volatile_from`: a source was lent the windows of count bytes at an address, one after the
 -- other, each until it is full

@@ -7,7 +7,7 @@ use Rattle.vm_memory_guest.specs.Lent.{AreDirty}
 use Rattle.vm_memory_guest.specs.Memory.{Memory}
 use Rattle.vm_memory_guest.specs.Walk.{reached}
 use Rattle.vm_memory_guest.specs.Window.{Window, cells, cells_of}
-use Rattle.linux_loader.specs.declared.plan.Segment.{Segment}
+use Rattle.linux_loader.specs.declared.segment.Segment.{Segment}
 
 -- the windows of n bytes at an address, as a write reaches them
 abbrev pub windows_at : {B : Type 0} → Memory → Host B → ℕ → ℕ → List Window

@@ -6,7 +6,7 @@ use Rattle.linux_loader.specs.declared.error.LoaderError.{LoaderError}
 use Rattle.linux_loader.specs.declared.error.LoaderError.TheVariants as errors
 use Rattle.linux_loader.specs.declared.plan.KernelLoaderResult.{KernelLoaderResult}
 use Rattle.linux_loader.specs.declared.plan.KernelPlan.{KernelPlan}
-use Rattle.linux_loader.specs.declared.plan.Segment.{Segment}
+use Rattle.linux_loader.specs.declared.segment.Segment.{Segment}
 
 -- the segments, and what a loader answers
 pub record Planned : Type 0 where

@@ -9,10 +9,12 @@ ghost use Rattle.linux_loader.specs.Plan.{Apart, HasBytes, Lists, Names, Plans, 
 use crate::error::LoaderError;
 use crate::image::KernelImage;
 use crate::numbers::{u16_at, u32_at};
-use crate::plan::{KernelLoaderResult, KernelPlan, PvhBootCapability, Segment, SetupHeader, apart};
+use crate::plan::{KernelLoaderResult, KernelPlan, PvhBootCapability, SetupHeader, apart};
 use crate::runtime::{RuntimeArea, runtime_area};
+use crate::segment::Segment;
 use std::alloc::{AllocError, Global};
-use vm_memory::{Bitmap, GuestAddress, GuestMemory, HostMemory};
+use vm_memory_base::{Bitmap, GuestAddress};
+use vm_memory_guest::{GuestMemory, HostMemory};
 
 // Where the setup header begins, and how many bytes it has at most.
 const HEADER_START: u64 = 0x1f1;

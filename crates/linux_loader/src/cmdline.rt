@@ -10,7 +10,8 @@ use crate::plan::KernelLoaderResult;
 use std::alloc::{AllocError, Global};
 use std::marker::Model;
 use thiserror::Error;
-use vm_memory::{Bitmap, Bytes, GuestAddress, GuestMemory, HostMemory};
+use vm_memory_base::{Bitmap, GuestAddress};
+use vm_memory_guest::{Bytes, GuestMemory, HostMemory};
 
 /// Why a command line is as it was.
 #[derive(Clone, Copy, Debug, PartialEq, Eq, Error)]

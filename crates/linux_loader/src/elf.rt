@@ -18,9 +18,11 @@ use self::notes::pvh_entry;
 use crate::error::LoaderError;
 use crate::image::KernelImage;
 use crate::layout::highest_end;
-use crate::plan::{KernelLoaderResult, KernelPlan, PvhBootCapability, Segment, apart};
+use crate::plan::{KernelLoaderResult, KernelPlan, PvhBootCapability, apart};
+use crate::segment::Segment;
 use std::alloc::Global;
-use vm_memory::{Bitmap, GuestAddress, GuestMemory, HostMemory};
+use vm_memory_base::{Bitmap, GuestAddress};
+use vm_memory_guest::{GuestMemory, HostMemory};
 
 /// ELF files of 64 bits for x86-64: executables and shared objects.
 pub struct Elf;

@@ -2,7 +2,8 @@
 
 use std::alloc::AllocError;
 use thiserror::Error;
-use vm_memory::{GuestMemoryError, VolatileMemoryError};
+use vm_memory_base::VolatileMemoryError;
+use vm_memory_guest::GuestMemoryError;
 
 /// Why an image, a command line or an initrd is not placed in guest memory.
 #[derive(Debug, Drop, Error)]

@@ -6,7 +6,7 @@ ghost use Rattle.linux_loader.specs.Image.{ReadsFrom, Tells, StandsAt};
 
 use std::fs::File;
 use std::io::{self, Cursor, ErrorKind, Seek, SeekFrom};
-use vm_memory::{IoError, ReadVolatile, VolatileMemoryError, VolatileMemoryResult};
+use vm_memory_base::{IoError, ReadVolatile, VolatileMemoryError, VolatileMemoryResult};
 
 /// An image of a kernel: bytes that can be read from any place on. Its size and its bytes are those of one moment:
 /// an image that changes while it is loaded may give bytes of before and of after.

@@ -7,9 +7,11 @@ ghost use Rattle.linux_loader.specs.Runtime.{lies_outside};
 
 use crate::error::LoaderError;
 use crate::image::KernelImage;
-use crate::plan::{KernelLoaderResult, Segment, load_segment};
+use crate::plan::{KernelLoaderResult, load_segment};
 use crate::runtime::{field_since, first_free};
-use vm_memory::{Bitmap, GuestAddress, GuestMemory, HostMemory};
+use crate::segment::Segment;
+use vm_memory_base::{Bitmap, GuestAddress};
+use vm_memory_guest::{GuestMemory, HostMemory};
 
 // The place of a field after the first byte of a setup header.
 const INITRD_ADDR_MAX: usize = 0x3b;

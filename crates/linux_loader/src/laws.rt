@@ -6,11 +6,11 @@ ghost use Rattle.vm_memory_guest.specs.Memory.{Memory};
 ghost use Rattle.linux_loader.specs.Load.{LoadsAll};
 ghost use Rattle.linux_loader.specs.Loaded.{IsDirtySegment, IsUnnamed, Keeps, blocks_after};
 ghost use Rattle.linux_loader.specs.declared.error.LoaderError.{LoaderError};
-ghost use Rattle.linux_loader.specs.declared.plan.Segment.{Segment};
+ghost use Rattle.linux_loader.specs.declared.segment.Segment.{Segment};
 
 use crate::image::KernelImage;
-use vm_memory::{Bitmap, ExactBitmap};
 use vm_memory_base::laws::pages::{mark_is_by_bytes, mark_keeps_shape, marked_bytes_are_dirty};
+use vm_memory_base::{Bitmap, ExactBitmap};
 
 /// However a load of segments ends, a byte that none of them names is as it was, and so are the tables of the host.
 pub fn loads_keep_what_no_segment_names<F: KernelImage, B: Bitmap>()

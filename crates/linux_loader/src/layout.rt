@@ -5,7 +5,7 @@ ghost use Rattle.std.specs.Ordering.{nat_cmp};
 ghost use Rattle.std.specs.List.Sorted.{IsSortedByKey};
 ghost use Rattle.linux_loader.specs.Plan.{Apart, HasBytes, highest_end};
 
-use crate::plan::Segment;
+use crate::segment::Segment;
 use std::alloc::{AllocError, Global};
 
 // The segments by their addresses.

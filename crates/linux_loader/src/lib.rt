@@ -12,6 +12,7 @@ mod layout;
 mod numbers;
 mod plan;
 mod runtime;
+mod segment;
 mod zeros;
 
 pub use bzimage::BzImage;
@@ -20,5 +21,6 @@ pub use elf::Elf;
 pub use error::LoaderError;
 pub use image::{ImageBytes, KernelImage};
 pub use initrd::{initrd_address, load_initrd};
-pub use plan::{KernelLoaderResult, KernelPlan, PvhBootCapability, Segment, SetupHeader};
+pub use plan::{KernelLoaderResult, KernelPlan, PvhBootCapability, SetupHeader};
 pub use runtime::RuntimeArea;
+pub use segment::Segment;

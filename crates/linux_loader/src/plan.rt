@@ -9,23 +9,12 @@ use crate::error::LoaderError;
 use crate::image::KernelImage;
 use crate::layout::lie_apart;
 use crate::runtime::{RuntimeArea, check_in_memory, check_outside};
+use crate::segment::Segment;
 use crate::zeros::Zeros;
 use std::alloc::Global;
 use std::marker::Model;
-use vm_memory::{Bitmap, Bytes, GuestAddress, GuestMemory, GuestUsize, HostMemory};
-
-/// A part of an image that is loaded to guest memory.
-#[derive(Clone, Copy, Debug, PartialEq, Eq)]
-pub struct Segment {
-    /// Where its bytes begin in the image.
-    pub file_offset: u64,
-    /// The guest address of its first byte.
-    pub addr: GuestAddress,
-    /// How many bytes come from the image.
-    pub file_size: u64,
-    /// How many bytes it has in memory. Those behind the image's are zero.
-    pub size: u64,
-}
+use vm_memory_base::{Bitmap, GuestAddress, GuestUsize};
+use vm_memory_guest::{Bytes, GuestMemory, HostMemory};
 
 /// Whether a kernel can be entered by the PVH boot protocol.
 #[derive(Clone, Copy, Debug, PartialEq, Eq)]

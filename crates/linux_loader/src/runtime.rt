@@ -5,7 +5,8 @@ ghost use Rattle.linux_loader.specs.Runtime.{FindsArea, area_at, check_outside, 
 
 use crate::error::LoaderError;
 use crate::numbers::{u16_at, u32_at, u64_at};
-use vm_memory::{Bitmap, GuestAddress, GuestMemory, GuestUsize, HostMemory, Permissions};
+use vm_memory_base::{Bitmap, GuestAddress, GuestUsize, Permissions};
+use vm_memory_guest::{GuestMemory, HostMemory};
 
 // The places of fields after the first byte of a setup header.
 const VERSION: usize = 0x15;

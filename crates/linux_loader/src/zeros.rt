@@ -1,7 +1,7 @@
 //! So many zeros as a source.
 
 use std::marker::Model;
-use vm_memory::{ReadVolatile, VolatileMemoryResult};
+use vm_memory_base::{ReadVolatile, VolatileMemoryResult};
 
 // A source of so many zeros.
 #[derive(Drop)]

@@ -1,13 +1,13 @@
 -- What is read of a header is spelled so, and what is spelled so is read.
 use Rattle.std.proofs.Common.{◌≡◌, ℕ, zero, suc, ◌+◌, ◌-◌, ◌^◌, ◌<◌, ◌≤◌, Bool, true, false, cond, ltb, leb, eqb, ◌&&◌, List, [], ◌∷◌, ◌++◌, length, take, get_or, Result, Ok, Err, refl, sym, ap, subst, ◌∙◌, append_assoc, arith, lit<}
-use Rattle.std.specs.Prelude.{IfOk, flat_map}
+use Rattle.std.specs.Prelude.{IfOk, IsOk, ◌↔◌, flat_map}
 use Rattle.std.specs.Int.{w32, w64, to_le_bytes}
 use Rattle.std.specs.Borrow.{Bor}
 use Rattle.std.specs.Global.{Vec}
 use Rattle.std.proofs.lemmas.Bool.{eqb-true, ltb-true, ltb-false, le-ltb, lt-ltb, leb-true, le-leb, and_parts, and_from}
 use Rattle.std.proofs.lemmas.List.{append-nil, nil_from_length, flat_map_more, take_more}
 use Rattle.std.proofs.lemmas.List.Concat.{flat_map-cons}
-use Rattle.live_migration.specs.Header.{entry_bytes, header_bytes, IsEntry, AreEntries, IsHeader, GivesUnlessMemory, front_in, checked, entry_in, entries_in, header_in}
+use Rattle.live_migration.specs.Header.{entry_bytes, header_bytes, FitsFields, IsEntry, AreEntries, IsHeader, GivesUnlessMemory, front_in, checked, entry_in, entries_in, header_in}
 use Rattle.live_migration.specs.Reading.{◌>>=◌, Gives, number_at}
 use Rattle.live_migration.specs.declared.header.BlockEntry.{BlockEntry}
 use Rattle.live_migration.specs.declared.refusal.Refusal.{Refusal}
@@ -68,15 +68,28 @@ front_again n rest few =
       count,
     ) refl
 
+front_many : (n : ℕ) (rest : List ℕ) → 256 < n → n < 2 ^ 32
+    → front_in (to_le_bytes w64 0x5441_5247_494d_4d56 ++ (to_le_bytes w32 1 ++ (to_le_bytes w32 n ++ rest)))
+    ≡ Err BlockCount
+unfolding front_in
+front_many n rest many fits =
+    let count : ltb 256 n ≡ true = lt-ltb _ _ many in
+    rw (
+      number_again w64 (2 ^ 64) wide64 0x5441_5247_494d_4d56
+          (to_le_bytes w32 1 ++ (to_le_bytes w32 n ++ rest)) (lit< tt),
+      number_again w32 (2 ^ 32) wide32 1 (to_le_bytes w32 n ++ rest) (lit< tt),
+      number_again w32 (2 ^ 32) wide32 n rest fits,
+      count,
+    ) refl
+
 -- ---- an entry
 
-checked_is : (from left : ℕ) (e : BlockEntry) (rest : List ℕ) (x : BlockEntry × List ℕ)
-    → checked from left e rest ≡ Ok x → IsEntry from left e × ((e, rest) ≡ x)
-checked_is from left e rest x h =
+checked_is : (from left : ℕ) (e x : BlockEntry) → checked from left e ≡ Ok x → IsEntry from left e × (e ≡ x)
+checked_is from left e x h =
     let a = passed (ltb 0 e.len && ltb e.len (2 ^ 63)) _ BlockLength x h in
     let b = passed (ltb 0 e.page_size && leb e.page_size (2 ^ 20)) _ PageSize x a.1 in
     let c = passed (leb from e.address && ltb (e.address + e.len) (2 ^ 64)) _ Place x b.1 in
-    let d = guard_true (leb e.len left) TooMuchMemory (e, rest) x c.1 in
+    let d = guard_true (leb e.len left) TooMuchMemory e x c.1 in
     let pa = and_parts _ _ a.0 in
     let pb = and_parts _ _ b.0 in
     let pc = and_parts _ _ c.0 in (
@@ -92,9 +105,8 @@ checked_is from left e rest x h =
       d.1,
     )
 
-checked_again : (from left : ℕ) (e : BlockEntry) (rest : List ℕ) → IsEntry from left e
-    → checked from left e rest ≡ Ok (e, rest)
-checked_again from left e rest is =
+checked_again : (from left : ℕ) (e : BlockEntry) → IsEntry from left e → checked from left e ≡ Ok e
+checked_again from left e is =
     let a : (ltb 0 e.len && ltb e.len (2 ^ 63)) ≡ true = and_from _ _ (lt-ltb _ _ is.some) (lt-ltb _ _ is.short) in
     let b : (ltb 0 e.page_size && leb e.page_size (2 ^ 20)) ≡ true =
     and_from _ _ (lt-ltb _ _ is.paged) (le-leb _ _ is.small) in
@@ -103,38 +115,45 @@ checked_again from left e rest is =
     let d : leb e.len left ≡ true = le-leb _ _ is.allowed in
     rw (a, b, c, d) refl
 
-pub entry_takes : (from left : ℕ) (bytes : List ℕ) (x : BlockEntry × List ℕ) → IsBytes bytes
+entry_takes : (from left : ℕ) (bytes : List ℕ) (x : BlockEntry × List ℕ) → IsBytes bytes
     → entry_in from left bytes ≡ Ok x → Takes bytes (entry_bytes x.0) x.1 × IsEntry from left x.0
 unfolding entry_in
 entry_takes from left bytes x fits e =
     let a = bind_ok (number_at w64 bytes) (λ len. number_at w64 len.1 >>= λ size. number_at w64 size.1 >>= λ address.
-    checked from left (record { len = len.0; page_size = size.0; address = address.0 }) address.1) x e in
+    checked from left (record { len = len.0; page_size = size.0; address = address.0 }) >>= λ y. Ok (y, address.1))
+    x e in
     let b = bind_ok (number_at w64 a.0.1) (λ size. number_at w64 size.1 >>= λ address.
-    checked from left (record { len = a.0.0; page_size = size.0; address = address.0 }) address.1) x a.2 in
+    checked from left (record { len = a.0.0; page_size = size.0; address = address.0 }) >>= λ y. Ok (y, address.1))
+    x a.2 in
     let c = bind_ok (number_at w64 b.0.1) (λ address.
-    checked from left (record { len = a.0.0; page_size = b.0.0; address = address.0 }) address.1) x b.2 in
+    checked from left (record { len = a.0.0; page_size = b.0.0; address = address.0 }) >>= λ y. Ok (y, address.1))
+    x b.2 in
     let made : BlockEntry = record { len = a.0.0; page_size = b.0.0; address = c.0.0 } in
-    let d = checked_is from left made c.0.1 x c.2 in
+    let d = bind_ok (checked from left made) (λ y. Ok (y, c.0.1)) x c.2 in
+    let is = checked_is from left made d.0 d.1 in
     let t = number_takes w64 (2 ^ 64) wide64 bytes a.0.0 a.0.1 fits a.1 in
     let u = number_takes w64 (2 ^ 64) wide64 a.0.1 b.0.0 b.0.1 t.0.rest_fits b.1 in
     let v = number_takes w64 (2 ^ 64) wide64 b.0.1 c.0.0 c.0.1 u.0.rest_fits c.1 in
     let uv = Takes-then a.0.1 (to_le_bytes w64 b.0.0) b.0.1 (to_le_bytes w64 c.0.0) c.0.1 u.0 v.0 in
     let all = Takes-then bytes (to_le_bytes w64 a.0.0) a.0.1 (to_le_bytes w64 b.0.0 ++ to_le_bytes w64 c.0.0) c.0.1
     t.0 uv in
-    subst (λ (y : BlockEntry × List ℕ). Takes bytes (entry_bytes y.0) y.1 × IsEntry from left y.0) d.1 (all, d.0)
+    let whole : Takes bytes (entry_bytes d.0) c.0.1 × IsEntry from left d.0 =
+    subst (λ (y : BlockEntry). Takes bytes (entry_bytes y) c.0.1 × IsEntry from left y) is.1 (all, is.0) in
+    subst (λ (y : BlockEntry × List ℕ). Takes bytes (entry_bytes y.0) y.1 × IsEntry from left y.0)
+    (ok_is (d.0, c.0.1) x d.2) whole
 
-entry_again : (from left : ℕ) (e : BlockEntry) (rest : List ℕ) → IsEntry from left e
+-- what was spelled is read, and then checked
+entry_read : (from left : ℕ) (e : BlockEntry) (rest : List ℕ) → FitsFields e
     → entry_in from left (to_le_bytes w64 e.len ++ (to_le_bytes w64 e.page_size ++ (to_le_bytes w64 e.address ++ rest)))
-    ≡ Ok (e, rest)
+    ≡ (checked from left e >>= λ y. Ok (y, rest))
 unfolding entry_in
-entry_again from left e rest is =
+entry_read from left e rest fits =
     rw (
       number_again w64 (2 ^ 64) wide64 e.len (to_le_bytes w64 e.page_size ++ (to_le_bytes w64 e.address ++ rest))
-          (omega (arith, is.short)),
-      number_again w64 (2 ^ 64) wide64 e.page_size (to_le_bytes w64 e.address ++ rest) (omega (arith, is.small)),
-      number_again w64 (2 ^ 64) wide64 e.address rest (omega (arith, is.addressed)),
-    )
-    (checked_again from left e rest is)
+          fits.len,
+      number_again w64 (2 ^ 64) wide64 e.page_size (to_le_bytes w64 e.address ++ rest) fits.page_size,
+      number_again w64 (2 ^ 64) wide64 e.address rest fits.address,
+    ) refl
 
 entries_take : (n from left : ℕ) (bytes : List ℕ) (x : List BlockEntry × List ℕ) → IsBytes bytes
     → entries_in n from left bytes ≡ Ok x
@@ -159,17 +178,30 @@ entries_take (suc n) from left bytes x fits e =
     Takes bytes (flat_map entry_bytes y.0) y.1 × (length y.0 ≡ suc n) × AreEntries from left y.0)
     (ok_is made x b.2) (rw flat_map-cons both, ap suc second.1, (first.1, second.2))
 
+entry_again : (from left : ℕ) (e : BlockEntry) (rest : List ℕ) → IsEntry from left e
+    → entry_in from left (to_le_bytes w64 e.len ++ (to_le_bytes w64 e.page_size ++ (to_le_bytes w64 e.address ++ rest)))
+    ≡ Ok (e, rest)
+entry_again from left e rest is =
+    let short = is.short in
+    let small = is.small in
+    let addressed = is.addressed in
+    entry_read from left e rest (record { len = omega arith; page_size = omega arith; address = omega arith })
+    ∙ rw (checked_again from left e is) refl
+
+entry_first : (e : BlockEntry) (es : List BlockEntry) (rest : List ℕ) → flat_map entry_bytes (e ∷ es) ++ rest
+    ≡ to_le_bytes w64 e.len ++ (to_le_bytes w64 e.page_size ++ (to_le_bytes w64 e.address
+    ++ (flat_map entry_bytes es ++ rest)))
+entry_first e es rest =
+    ap (λ (x : List ℕ). x ++ rest) (flat_map-cons entry_bytes e es)
+    ∙ append_assoc (entry_bytes e) (flat_map entry_bytes es) rest
+
 entries_again : (es : List BlockEntry) (from left : ℕ) (rest : List ℕ) → AreEntries from left es
     → entries_in (length es) from left (flat_map entry_bytes es ++ rest) ≡ Ok (es, rest)
 unfolding entries_in
 entries_again [] from left rest are = refl
 entries_again (e ∷ es) from left rest are =
     let tail = flat_map entry_bytes es ++ rest in
-    let regrouped : flat_map entry_bytes (e ∷ es) ++ rest
-    ≡ to_le_bytes w64 e.len ++ (to_le_bytes w64 e.page_size ++ (to_le_bytes w64 e.address ++ tail)) =
-    ap (λ (x : List ℕ). x ++ rest) (flat_map-cons entry_bytes e es)
-    ∙ append_assoc (entry_bytes e) (flat_map entry_bytes es) rest in
-    ap (entries_in (suc (length es)) from left) regrouped
+    ap (entries_in (suc (length es)) from left) (entry_first e es rest)
     ∙ rw (entry_again from left e tail are.0, entries_again es (e.address + e.len) (left - e.len) rest are.1) refl
 
 -- ---- all of it
@@ -201,6 +233,12 @@ header_again limit es is =
     ap (entries_in (length es) 0 limit) (sym (append-nil (flat_map entry_bytes es)))
     ∙ entries_again es 0 limit [] is.1 in
     rw (front_again (length es) (flat_map entry_bytes es) is.0, last) refl
+
+-- a header of too many blocks
+pub header_many : (limit : ℕ) (es : List BlockEntry) → 256 < length es → length es < 2 ^ 32
+    → header_in limit (header_bytes es) ≡ Err BlockCount
+unfolding header_in header_bytes
+header_many limit es many fits = rw (front_many (length es) (flat_map entry_bytes es) many fits) refl
 
 pub header_found : (limit : ℕ) (bytes : List ℕ) (r : Result (Vec BlockEntry) Refusal) → IsBytes bytes
     → GivesUnlessMemory (λ v. v.items) r (header_in limit bytes)
@@ -261,13 +299,53 @@ same_header limit most es fs x y a b e =
     ∙ entries_again fs 0 (limit + most) y (wider_entries fs 0 most (limit + most) (omega arith) b.1) in
     same_pairs es fs x y (ok_is (es, x) (fs, y) lists)
 
--- an entry that was read has room behind it
-pub room_behind : (from left : ℕ) (bytes : List ℕ) (r : Result (BlockEntry × Bor (List ℕ)) Refusal) → IsBytes bytes
-    → Gives (λ x. (x.0, x.1.now)) r (entry_in from left bytes)
-    → IfOk r (λ x. x.0.address + x.0.len < 2 ^ 64) × IfOk r (λ x. x.0.len ≤ left)
-room_behind from left bytes (Ok x) fits given =
-    let t = entry_takes from left bytes (x.0, x.1.now) fits given in (t.1.addressed, t.1.allowed)
-room_behind from left bytes (Err e) fits given = (tt, tt)
+-- ---- blocks that are checked one after the other
+
+-- some are left, and what comes of them comes of all
+pub record StillLeft (limit : ℕ) (es : List BlockEntry) (from left : ℕ) (rest : List BlockEntry) : Type 0 where
+  pub are : AreEntries from left rest → AreEntries 0 limit es
+  pub refused : (f : Refusal) → entries_in (length rest) from left (flat_map entry_bytes rest) ≡ Err f
+      → entries_in (length es) 0 limit (flat_map entry_bytes es) ≡ Err f
+
+pub all_left : (limit : ℕ) (es : List BlockEntry) → StillLeft limit es 0 limit es
+all_left limit es = record { are = λ are. are; refused = λ f h. h }
+
+module _ (limit : ℕ) (es : List BlockEntry) (from left : ℕ) (e : BlockEntry) (rest : List BlockEntry)
+    (still : StillLeft limit es from left (e ∷ rest))
+  where
+    first_is : flat_map entry_bytes (e ∷ rest)
+        ≡ to_le_bytes w64 e.len ++ (to_le_bytes w64 e.page_size ++ (to_le_bytes w64 e.address ++ flat_map entry_bytes rest))
+    first_is = flat_map-cons entry_bytes e rest ∙ simp append_assoc
+
+    pub one_refused : (f : Refusal) → FitsFields e → checked from left e ≡ Err f
+        → entries_in (length es) 0 limit (flat_map entry_bytes es) ≡ Err f
+    unfolding entries_in
+    one_refused f fits h =
+        still.refused f (ap (entries_in (suc (length rest)) from left) first_is
+        ∙ rw (entry_read from left e (flat_map entry_bytes rest) fits, h) refl)
+
+    pub one_passed : (y : BlockEntry) → checked from left e ≡ Ok y
+        → StillLeft limit es (y.address + y.len) (left - y.len) rest
+    unfolding entries_in
+    one_passed y h =
+        let is = checked_is from left e y h in
+        let next : StillLeft limit es (e.address + e.len) (left - e.len) rest = record {
+          are = λ are. still.are (is.0, are);
+          refused = λ f later. still.refused f (ap (entries_in (suc (length rest)) from left) first_is
+              ∙ rw (entry_again from left e (flat_map entry_bytes rest) is.0, later) refl);
+        } in
+        subst (λ (z : BlockEntry). StillLeft limit es (z.address + z.len) (left - z.len) rest) is.1 next
+
+-- what it means for the header that one was refused
+pub is_refused : (limit : ℕ) (es : List BlockEntry) (f : Refusal) (r : Result (Unit {0}) Refusal) → r ≡ Err f
+    → length es ≤ 256 → entries_in (length es) 0 limit (flat_map entry_bytes es) ≡ Err f
+    → (IsOk r ↔ IsHeader limit es) × Gives (λ _. es) r (header_in limit (header_bytes es))
+unfolding header_in header_bytes
+is_refused limit es f r is few h =
+    let read : header_in limit (header_bytes es) ≡ Err f =
+    rw (front_again (length es) (flat_map entry_bytes es) few, h) refl in
+    let none : IsHeader limit es → ⊥ = λ are. let again = header_again limit es are in absurd cc in
+    rw is (((λ ok. absurd cc), (λ are. absurd (none are))), read)
 
 -- an error that reading gives
 pub unless_memory : (e : Refusal) (read : Result (List BlockEntry × List ℕ) Refusal) → read ≡ Err e

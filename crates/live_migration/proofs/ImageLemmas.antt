@@ -7,8 +7,8 @@ use Rattle.std.proofs.lemmas.List.FromFn.{length-range_with_len, get_or-range_wi
 use Rattle.std.proofs.lemmas.List.Folds.{list_all_at}
 use Rattle.std.proofs.lemmas.Nat.{div_below, le-div, mul-le}
 use Rattle.std.proofs.lemmas.List.{ext_get_or}
-use Rattle.vm_memory.proofs.RoundsLemmas.{get_or-patched, length-patched}
-use Rattle.vm_memory.specs.Rounds.{patched}
+use Rattle.vm_memory_guest.proofs.PatchLemmas.{get_or-patched, length-patched}
+use Rattle.vm_memory_guest.specs.Patch.{patched}
 use Rattle.std.specs.Int.{div_ceil}
 use Rattle.std.specs.List.{list_all, list_any, flat_map, range_with_len}
 use Rattle.vm_memory_base.specs.Address.{is_within, numbers}

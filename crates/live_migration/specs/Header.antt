@@ -15,6 +15,12 @@ unfoldable pub header_bytes : List BlockEntry → List ℕ
 header_bytes es = to_le_bytes w64 0x5441_5247_494d_4d56
     ++ (to_le_bytes w32 1 ++ (to_le_bytes w32 (length es) ++ flat_map entry_bytes es))
 
+-- numbers that eight bytes hold
+pub record FitsFields (e : BlockEntry) : Type 0 where
+  pub len : e.len < 2 ^ 64
+  pub page_size : e.page_size < 2 ^ 64
+  pub address : e.address < 2 ^ 64
+
 -- a block that begins no earlier than this address, where so many bytes are left of what is allowed
 pub record IsEntry (from left : ℕ) (e : BlockEntry) : Type 0 where
   pub some : 0 < e.len
@@ -50,11 +56,11 @@ front_in bytes = do
   if nat_lt 256 count.0 then Err BlockCount else Ok count
 
 -- an entry that is one
-abbrev pub checked : ℕ → ℕ → BlockEntry → List ℕ → Result (BlockEntry × List ℕ) Refusal
-checked from left e rest = if nat_lt 0 e.len && nat_lt e.len (2 ^ 63)
+abbrev pub checked : ℕ → ℕ → BlockEntry → Result BlockEntry Refusal
+checked from left e = if nat_lt 0 e.len && nat_lt e.len (2 ^ 63)
     then (if nat_lt 0 e.page_size && nat_le e.page_size (2 ^ 20)
     then (if nat_le from e.address && nat_lt (e.address + e.len) (2 ^ 64)
-    then (if nat_le e.len left then Ok (e, rest) else Err TooMuchMemory)
+    then (if nat_le e.len left then Ok e else Err TooMuchMemory)
     else Err Place) else Err PageSize) else Err BlockLength
 
 unfoldable pub entry_in : ℕ → ℕ → List ℕ → Result (BlockEntry × List ℕ) Refusal
@@ -62,7 +68,8 @@ entry_in from left bytes = do
   len ← number_at w64 bytes
   size ← number_at w64 len.1
   address ← number_at w64 size.1
-  checked from left (record { len = len.0; page_size = size.0; address = address.0 }) address.1
+  e ← checked from left (record { len = len.0; page_size = size.0; address = address.0 })
+  Ok (e, address.1)
 
 unfoldable pub entries_in : ℕ → ℕ → ℕ → List ℕ → Result (List BlockEntry × List ℕ) Refusal
 entries_in zero from left bytes = Ok ([], bytes)

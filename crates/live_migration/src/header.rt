@@ -1,7 +1,7 @@
 //! The header of the stream: which blocks there are.
-ghost use Rattle.std.specs.Prelude.{◌≡◌, ◌+◌, ◌^◌, ◌<◌, ◌≤◌, ◌++◌, List, length, IfOk, Ok};
+ghost use Rattle.std.specs.Prelude.{◌≡◌, ◌+◌, ◌^◌, ◌<◌, ◌≤◌, ◌++◌, List, length, IfOk, IsOk, Ok, ◌↔◌};
 ghost use Rattle.std.specs.Int.{w32, w64, to_le_bytes};
-ghost use Rattle.live_migration.specs.Header.{GivesUnlessMemory, entry_bytes, IsHeader, checked, entries_in, entry_in, front_in, header_bytes, header_in};
+ghost use Rattle.live_migration.specs.Header.{FitsFields, GivesUnlessMemory, entry_bytes, IsHeader, checked, entries_in, entry_in, front_in, header_bytes, header_in};
 ghost use Rattle.live_migration.specs.Reading.{Gives};
 ghost use Rattle.live_migration.specs.declared.header.BlockEntry.{BlockEntry};
 
@@ -56,13 +56,12 @@ pub(crate) fn front_in(bytes: &[u8]) -> Result<(u32, &[u8]), Refusal>
     Ok((count, rest))
 }
 
-fn checked(
-    from: u64,
-    left: u64,
-    entry: BlockEntry,
-    rest: &[u8],
-) -> Result<(BlockEntry, &[u8]), Refusal>
-    ensures { Gives (λ x. (x.0, x.1.now)) result (checked from left entry rest.now) }
+// A block that begins no earlier than `from`, if so many bytes are left of what is allowed.
+fn checked(from: u64, left: u64, entry: BlockEntry) -> Result<BlockEntry, Refusal>
+    ensures value { result ≡ checked from left entry }
+    ensures addressed { IfOk result (λ e. e.address + e.len < 2 ^ 64) }
+    ensures allowed { IfOk result (λ e. e.len ≤ left) }
+    ensures fields { FitsFields entry }
 {
     if !(entry.len > 0 && entry.len <= MOST_LEN) {
         return Err(Refusal::BlockLength);
@@ -76,35 +75,24 @@ fn checked(
     if entry.len > left {
         return Err(Refusal::TooMuchMemory);
     }
-    Ok((entry, rest))
+    Ok(entry)
 }
 
 #[tactic(auto, unfolding(crate::specs::Header::entry_in))]
 fn entry_in(from: u64, left: u64, bytes: &[u8]) -> Result<(BlockEntry, &[u8]), Refusal>
-    ensures { Gives (λ x. (x.0, x.1.now)) result (entry_in from left bytes.now) }
-{
-    let (len, rest) = u64_at(bytes)?;
-    let (page_size, rest) = u64_at(rest)?;
-    let (address, rest) = u64_at(rest)?;
-    checked(
-        from,
-        left,
-        BlockEntry {
-            len,
-            page_size,
-            address,
-        },
-        rest,
-    )
-}
-
-// An entry has room for the next behind it.
-fn next_entry(from: u64, left: u64, bytes: &[u8]) -> Result<(BlockEntry, &[u8]), Refusal>
     ensures gives { Gives (λ x. (x.0, x.1.now)) result (entry_in from left bytes.now) }
     ensures addressed { IfOk result (λ x. x.0.address + x.0.len < 2 ^ 64) }
     ensures allowed { IfOk result (λ x. x.0.len ≤ left) }
 {
-    entry_in(from, left, bytes)
+    let (len, rest) = u64_at(bytes)?;
+    let (page_size, rest) = u64_at(rest)?;
+    let (address, rest) = u64_at(rest)?;
+    let entry = BlockEntry {
+        len,
+        page_size,
+        address,
+    };
+    Ok((checked(from, left, entry)?, rest))
 }
 
 fn entries_in(
@@ -120,7 +108,7 @@ fn entries_in(
     let mut left = limit;
     let mut rest = bytes;
     for _ in 0..count {
-        let (entry, after) = next_entry(from, left, rest)?;
+        let (entry, after) = entry_in(from, left, rest)?;
         if entries.push(entry).is_err() {
             return Err(Refusal::Memory);
         }
@@ -156,6 +144,26 @@ pub fn decode_header(alloc: Global, limit: u64, bytes: &[u8]) -> Result<Vec<Bloc
     ensures exact { GivesUnlessMemory (λ v. v.items) result (header_in limit bytes.now) }
 {
     header_in(alloc, limit, bytes)
+}
+
+/// Refuses blocks whose header `decode_header` refuses, for the same fault.
+pub(crate) fn check_header(limit: u64, entries: &[BlockEntry]) -> Result<(), Refusal>
+    ensures accepted { IsOk result ↔ IsHeader limit entries.now }
+    // What `decode_header` says of the header of these blocks.
+    ensures same { length entries.now < 2 ^ 32
+        → Gives (λ _. entries.now) result (header_in limit (header_bytes entries.now)) }
+{
+    if entries.len() > MOST_BLOCKS as usize {
+        return Err(Refusal::BlockCount);
+    }
+    let mut from = 0;
+    let mut left = limit;
+    for entry in entries {
+        let BlockEntry { len, address, .. } = checked(from, left, *entry)?;
+        from = address + len;
+        left -= len;
+    }
+    Ok(())
 }
 
 // The bytes of a block in the header.

@@ -35,7 +35,7 @@ ghost use Rattle.vm_memory_guest.specs.Region.{IsRegion};
 ghost use Rattle.vm_memory_guest.specs.Typed.{given, place_of};
 ghost use Rattle.vm_memory_guest.specs.Walk.{reached};
 ghost use Rattle.vm_memory_guest.specs.Window.{Window, Writes, block_window, part};
-ghost use Rattle.vm_memory.specs.Rounds.{patched};
+ghost use Rattle.vm_memory_guest.specs.Patch.{patched};
 ghost use Rattle.live_migration.specs.Rounds.{Ends, Event, Harvest, Copy, Send, EndRound, Source, after, AllMay, AllStill, IsBeginning, IsKept, IsThrough, story};
 
 use vm_memory_base::laws::pages::{

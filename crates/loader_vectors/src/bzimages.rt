@@ -10,10 +10,10 @@ use std::alloc::Global;
 use std::io::ErrorKind;
 use std::test::Fail;
 use test_text::expect_text;
-use vm_memory::{
-    Bitmap, GuestAddress, GuestMemory, HostMemory, IoError, ReadVolatile, VolatileMemoryError,
-    VolatileMemoryResult,
+use vm_memory_base::{
+    Bitmap, GuestAddress, IoError, ReadVolatile, VolatileMemoryError, VolatileMemoryResult,
 };
+use vm_memory_guest::{GuestMemory, HostMemory};
 
 // How many bytes of the image there are, edits of it, the offset of the kernel, where high memory begins, and what is
 // told: the answer, how many bytes the header has, and its `code32_start`.

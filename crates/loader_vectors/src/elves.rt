@@ -6,7 +6,8 @@ use linux_loader::{Elf, ImageBytes, KernelLoaderResult, LoaderError};
 use std::alloc::Global;
 use std::test::Fail;
 use test_text::expect_text;
-use vm_memory::{Bitmap, GuestAddress, GuestMemory, HostMemory};
+use vm_memory_base::{Bitmap, GuestAddress};
+use vm_memory_guest::{GuestMemory, HostMemory};
 
 // How many bytes of the file there are, edits of it, the offset of the kernel, where high memory begins, and what is
 // told.

@@ -3,10 +3,8 @@
 use linux_loader::{KernelLoaderResult, LoaderError, PvhBootCapability};
 use std::alloc::{AllocError, Global};
 use std::test::Fail;
-use vm_memory::{
-    Bitmap, Bytes, ExclusiveBitmap, GuestAddress, GuestMemory, GuestMemoryMmap, HostMemory,
-    Permissions,
-};
+use vm_memory_base::{Bitmap, ExclusiveBitmap, GuestAddress, Permissions};
+use vm_memory_guest::{Bytes, GuestMemory, GuestMemoryMmap, HostMemory};
 
 pub type Host = HostMemory<ExclusiveBitmap>;
 

@@ -7,7 +7,8 @@ use linux_loader::{
 use std::alloc::Global;
 use std::test::Fail;
 use test_text::expect_text;
-use vm_memory::{Bitmap, Bytes, GuestAddress, GuestMemory, HostMemory};
+use vm_memory_base::{Bitmap, GuestAddress};
+use vm_memory_guest::{Bytes, GuestMemory, HostMemory};
 
 // A capacity, texts that are added (a pair where there is a value), and what is told.
 type Line = (

@@ -5,7 +5,8 @@ use linux_loader::{BzImage, ImageBytes, LoaderError};
 use std::alloc::{AllocError, Global};
 use std::test::Fail;
 use test_text::expect_text;
-use vm_memory::{Bitmap, Bytes, GuestAddress, GuestMemory, GuestMemoryMmap, HostMemory};
+use vm_memory_base::{Bitmap, GuestAddress};
+use vm_memory_guest::{Bytes, GuestMemory, GuestMemoryMmap, HostMemory};
 
 const START: u64 = 0x10_0000;
 

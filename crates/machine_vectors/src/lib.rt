@@ -6,6 +6,8 @@ mod iommu;
 #[cfg(test)]
 mod machines;
 #[cfg(test)]
+mod marks;
+#[cfg(test)]
 mod rounds;
 #[cfg(test)]
 mod texts;

@@ -1,7 +1,8 @@
-//! Rounds that are refused: a harvest that finds no memory, and bitmaps that do not cover their block.
+//! What a sender refuses: a harvest that finds no memory, bitmaps that do not cover their block, and blocks of which no
+//! receiver accepts the header.
 
 use crate::guests::{Host, hear_ready, put};
-use live_migration::{SendError, Sender};
+use live_migration::{Refusal, SendError, Sender};
 use std::alloc::{AllocError, Global};
 use std::num::NonZeroUsize;
 use std::test::Fail;
@@ -165,5 +166,51 @@ fn bitmaps_cover_their_block(rt: HostRuntime) -> Result<(), Fail> {
         };
         assert!(rt; is_right, "{bytes} bytes");
     }
+    Ok(())
+}
+
+// Why a sender refuses blocks of these lengths, page sizes and addresses, if their header is the reason.
+fn refusal_of(alloc: Global, blocks: &[(usize, usize, u64)]) -> Result<Option<Refusal>, Fail> {
+    let mut host = Host::new(alloc);
+    let mut places = Vec::new(alloc);
+    for (len, page_size, address) in blocks {
+        let size = NonZeroUsize::new(*page_size).ok_or("a page has no bytes")?;
+        let bitmap = ExclusiveBitmap::new(alloc, *len, size)?;
+        let block = host.new_block_with(*len, bitmap)?;
+        places.push((block, GuestAddress(*address)))?;
+    }
+    let mut stream = Vec::new(alloc);
+    match Sender::begin(alloc, &host, places.as_slice(), &mut stream) {
+        Ok(_) => Ok(None),
+        Err(SendError::Header(refusal)) if stream.is_empty() => Ok(Some(refusal)),
+        Err(error) => Err(error)?,
+    }
+}
+
+#[test]
+fn blocks_that_no_receiver_accepts_are_refused(rt: HostRuntime) -> Result<(), Fail> {
+    let alloc = rt.alloc();
+    let cases: [(&[(usize, usize, u64)], Option<Refusal>); 8] = [
+        (&[(8, 2, 0), (8, 2, 8)], None),
+        (&[(8, 2, 0), (8, 2, u64::MAX - 8)], None),
+        (&[(8, 2, 0), (8, 2, u64::MAX - 7)], Some(Refusal::Place)),
+        (&[(8, 2, 0), (8, 2, 7)], Some(Refusal::Place)),
+        (&[(8, 2, 8), (8, 2, 0)], Some(Refusal::Place)),
+        (&[(8, 0x10_0000, 0)], None),
+        (&[(8, 0x10_0001, 0)], Some(Refusal::PageSize)),
+        // The first fault from the left.
+        (&[(8, 2, 8), (8, 0x10_0001, 0)], Some(Refusal::PageSize)),
+    ];
+    for (blocks, wanted) in cases {
+        let refusal = refusal_of(alloc, blocks)?;
+        assert!(rt; refusal == wanted, "{blocks:?}: {refusal:?}");
+    }
+    let mut many = Vec::new(alloc);
+    for i in 0..256 {
+        many.push((1, 1, i))?;
+    }
+    assert!(rt; refusal_of(alloc, many.as_slice())? == None);
+    many.push((1, 1, 256))?;
+    assert!(rt; refusal_of(alloc, many.as_slice())? == Some(Refusal::BlockCount));
     Ok(())
 }

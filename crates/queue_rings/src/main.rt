@@ -10,7 +10,9 @@ use rings::{BEGIN, Image, Numbers, SIZE, Setup};
 use slow::{Outcome, readable_bytes};
 use std::alloc::Global;
 use virtio_queue::{Queue, QueueError};
-use vm_memory::{Bytes, Chain, ChainFault, GuestAddress, GuestMemoryMmap, HostMemory, Segment};
+use vm_memory_base::GuestAddress;
+use vm_memory_device::{Chain, ChainFault, Segment};
+use vm_memory_guest::{Bytes, GuestMemoryMmap, HostMemory};
 
 const RINGS: u64 = 1_000_000;
 

@@ -4,7 +4,7 @@ ghost use Rattle.std.specs.Prelude.{◌≡◌, ◌⊎◌, ◌<◌, ◌^◌};
 use std::alloc::{AllocError, Global};
 use test_text::next_number;
 use virtio_queue::{DriverQueue, Queue, QueueError};
-use vm_memory::GuestAddress;
+use vm_memory_base::GuestAddress;
 
 /// Where memory begins, and how many bytes it has.
 pub const BEGIN: u64 = 0x1000;

@@ -2,7 +2,8 @@
 
 use crate::rings::{BEGIN, Image, Setup};
 use std::alloc::{AllocError, Global};
-use vm_memory::{GuestAddress, Segment};
+use vm_memory_base::GuestAddress;
+use vm_memory_device::Segment;
 
 /// What a ring holds for a queue that pops.
 #[derive(Drop)]
@@ -41,23 +42,28 @@ enum Step {
     Refused(&'static str),
 }
 
-fn met(
-    image: &Image,
-    table: &Table,
-    index: u64,
-    segments: &mut Vec<Segment>,
-) -> Result<Step, AllocError> {
+// A descriptor of a table.
+#[derive(Clone, Copy)]
+struct Descriptor {
+    addr: u64,
+    len: u64,
+    flags: u64,
+    next: u64,
+}
+
+// The descriptor of an index, or why the table has none.
+fn descriptor_at(image: &Image, table: &Table, index: u64) -> Result<Descriptor, &'static str> {
     if index >= table.len {
-        return Ok(Step::Refused("InvalidDescriptorIndex"));
+        return Err("InvalidDescriptorIndex");
     }
     if table.seen.iter().any(|i| *i == index) {
-        return Ok(Step::Refused("DescriptorLoop"));
+        return Err("DescriptorLoop");
     }
     let Some(at) = table.addr.checked_add(index.wrapping_mul(16)) else {
-        return Ok(Step::Refused("AddressOverflow"));
+        return Err("AddressOverflow");
     };
     if at > u64::MAX - 15 {
-        return Ok(Step::Refused("AddressOverflow"));
+        return Err("AddressOverflow");
     }
     let (Some(addr), Some(len), Some(flags), Some(next)) = (
         number(image, at, 8),
@@ -65,7 +71,30 @@ fn met(
         number(image, at.wrapping_add(12), 2),
         number(image, at.wrapping_add(14), 2),
     ) else {
-        return Ok(Step::Refused("GuestMemory"));
+        return Err("GuestMemory");
+    };
+    Ok(Descriptor {
+        addr,
+        len,
+        flags,
+        next,
+    })
+}
+
+fn met(
+    image: &Image,
+    table: &Table,
+    index: u64,
+    segments: &mut Vec<Segment>,
+) -> Result<Step, AllocError> {
+    let Descriptor {
+        addr,
+        len,
+        flags,
+        next,
+    } = match descriptor_at(image, table, index) {
+        Ok(descriptor) => descriptor,
+        Err(name) => return Ok(Step::Refused(name)),
     };
     let (has_next, writes, indirect) = (flags % 2 == 1, flags / 2 % 2 == 1, flags / 4 % 2 == 1);
     if indirect && table.inner {

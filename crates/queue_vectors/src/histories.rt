@@ -5,7 +5,8 @@ use std::alloc::Global;
 use std::test::Fail;
 use test_text::next_number;
 use virtio_queue::{DriverQueue, Queue};
-use vm_memory::{GuestAddress, HostMemory};
+use vm_memory_base::GuestAddress;
+use vm_memory_guest::HostMemory;
 
 const SIZE: u32 = 4;
 

@@ -7,7 +7,9 @@ use std::alloc::Global;
 use std::test::Fail;
 use test_text::expect_text;
 use virtio_queue::{DriverQueue, Queue, QueueError, QueueField};
-use vm_memory::{Bytes, Chain, GuestAddress, HostMemory};
+use vm_memory_base::GuestAddress;
+use vm_memory_device::Chain;
+use vm_memory_guest::{Bytes, HostMemory};
 
 // Rings as lines, and what popping answers until there is no more or something is refused, with `next_avail` then. Of a
 // chain it tells the head, the first bytes that can be read, and how many can be read and written.

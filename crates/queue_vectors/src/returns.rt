@@ -5,7 +5,7 @@ use std::alloc::Global;
 use std::test::Fail;
 use test_text::expect_text;
 use virtio_queue::{DriverQueue, Queue, QueueField, QueueState};
-use vm_memory::HostMemory;
+use vm_memory_guest::HostMemory;
 
 // A driver whose table and available ring lie at fixed places, and its used ring anywhere.
 fn driver_of(size: u16, used_ring: u64, next_used: u16) -> DriverQueue {

@@ -4,10 +4,9 @@ use std::alloc::Global;
 use std::sync::Arc;
 use std::test::Fail;
 use virtio_queue::{Descriptor, DriverQueue, Queue, QueueField};
-use vm_memory::{
-    Bytes, ExclusiveBitmap, GuestAddress, GuestMemoryMmap, GuestRegionMmap, HostMemory,
-    IommuMemory, MachineMemory, NewBitmap, Permissions, TableIommu, TlbId,
-};
+use vm_memory_base::{ExclusiveBitmap, GuestAddress, NewBitmap, Permissions};
+use vm_memory_device::{IommuMemory, MachineMemory, TableIommu};
+use vm_memory_guest::{Bytes, GuestMemoryMmap, GuestRegionMmap, HostMemory, TlbId};
 
 pub type Host = HostMemory<ExclusiveBitmap>;
 

@@ -21,18 +21,18 @@ const SETUPS: [&str; 12] = [
     "4 first=1 address=0x1000: 1 0 0 0",
     "4 address=0xffffffffffffffc0: 6 0 0 0",
     "5: 0 0 0 0",
-    // No kind of call. The setup goes on.
-    "33 output=1: 16 0 0 0 ee",
+    // No kind of call.
+    "35 output=1: 16 0 0 0 ee",
 ];
 
 const MAKINGS: [&str; 13] = [
     "0 length=0x20 other_length=0x10: 0 0 1 0",
     "4 first=1 address=0x1040: 0 0 1 0",
     "6 bytes=0,0,0: 16 0 0 0",
-    // A call that means nothing leaves the setup going, and one that fails ends it.
+    // Blocks are made at any time, whatever the calls before came to.
     "0 length=0x40 other_length=0x10: 0 0 2 0",
     "6: 50 0 0 0",
-    "0 length=0x40 other_length=0x10: 17 0 0 0",
+    "0 length=0x40 other_length=0x10: 0 0 3 0",
     "6 list=0: 0 0 0 0",
     "7 second=1: 0 0 1 0",
     "8 first=1 address=0x1040 length=0x20: 0 0 2 0",
@@ -87,6 +87,28 @@ const TABLES: [&str; 18] = [
     "12 first=1: 0 0 0 0",
     "26 address=0x40 length=1: 0 0 0 0",
     "24 second=1 address=0x30 target=0x1f length=0x10 other_length=2: 2 0 0 0",
+];
+
+const MARKS: [&str; 17] = [
+    "33 address=0x11 length=0x10 output=1: 0 0 0 0 ee",
+    "31 output=16: 0 2 0 0 01 00 00 00 00 00 00 00 02 00 00 00 00 00 00 00",
+    "33 first=9 length=1: 1 0 0 0",
+    "33 address=0x31 length=0x10: 2 0 0 0",
+    "33 address=0x40: 0 0 0 0",
+    "31 output=1: 0 0 0 0 ee",
+    "34 address=0x103f length=4 output=1: 0 1 0 0 ee",
+    "31 output=8: 0 1 0 0 03 00 00 00 00 00 00 00",
+    "34 address=0x2000 length=4: 32 0 0 8192",
+    "34 first=7 address=0x1000 length=1: 1 0 0 0",
+    // The IOMMU is on again, and leads the I/O address 0x42 to 0x1002. The block is marked, and not the space.
+    "12 first=1 value=1: 0 0 0 0",
+    "34 first=1 address=0x42 length=2: 0 2 0 0",
+    "31 output=8: 0 1 0 0 00 00 00 00 00 00 00 00",
+    "30 output=1: 0 0 0 0 ee",
+    "34 first=1 address=0x40 length=2: 42 0 2 64",
+    "31 output=1: 0 0 0 0 ee",
+    // What was marked has the bytes of before.
+    "13 address=0x1002 length=2 output=2: 0 2 0 0 03 04",
 ];
 
 // A call, its input and its output.
@@ -175,7 +197,7 @@ fn told(alloc: Global, session: &mut Session, words: &str) -> Result<String, Fai
 #[test]
 fn calls_are_answered_by_numbers(rt: HostRuntime) -> Result<(), Fail> {
     let mut session = Session::new(rt.alloc());
-    let tables: [&[&str]; 4] = [&SETUPS, &MAKINGS, &ACCESSES, &TABLES];
+    let tables: [&[&str]; 5] = [&SETUPS, &MAKINGS, &ACCESSES, &TABLES, &MARKS];
     for (table, cases) in tables.iter().enumerate() {
         for (number, case) in cases.iter().enumerate() {
             let (words, wanted) = case.split_once(": ").unwrap_or((case, ""));

@@ -20,7 +20,7 @@ use Rattle.vhost_iotlb.specs.declared.message.IotlbMessage.TheVariants.{Update, 
 use Rattle.vhost_iotlb.specs.declared.table.Refusal.{Refusal}
 use Rattle.vhost_iotlb.specs.declared.table.Refusal.TheVariants as refusal
 use Rattle.vhost_iotlb.specs.declared.user_memory.UserRegion.{UserRegion}
-use Rattle.vhost_iotlb.proofs.CommandLemmas.{IsCall, MadeOf, made_of, takes_by}
+use Rattle.vhost_iotlb.proofs.CallLemmas.{IsCall, MadeOf, made_of, takes_by}
 
 -- ---- events that leave an address without a mapping
 

@@ -1,6 +1,6 @@
 pub mod ApplyLemmas
+pub mod CallLemmas
 pub mod CodecLemmas
-pub mod CommandLemmas
 pub mod CutLemmas
 pub mod HandlingLemmas
 pub mod InvalidationLemmas

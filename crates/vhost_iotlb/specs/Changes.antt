@@ -97,3 +97,8 @@ Handles {B} number regions (m ∷ ms) calls old new =
     (answer : Result (Unit {0}) Refusal) × (first later : List TableEvent) × (mid : Host B)
     × Applies number regions m answer first old mid × (calls ≡ first ++ later)
     × Handles number regions ms later mid new
+
+-- one of a list
+abbrev pub IsAmong : {X : Type 0} → X → List X → Type 0
+IsAmong x [] = ⊥
+IsAmong x (y ∷ ys) = (y ≡ x) ⊎ IsAmong x ys

@@ -1,5 +1,4 @@
 pub mod Changes
-pub mod Commands
 pub mod Frames
 pub mod Handling
 pub mod Header

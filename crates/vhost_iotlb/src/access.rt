@@ -5,10 +5,10 @@ ghost use Rattle.vm_memory_base.specs.Table.{says};
 ghost use Rattle.vhost_iotlb.specs.Reaches.{Reaches, first_of, front_of, stopped_at};
 
 use crate::request::{Outcome, Request};
-use vm_memory::{
-    Bitmap, Bytes, GuestAddress, GuestMemory, HostMemory, Iotlb, IovaRange, LookupError,
-    Permissions, TlbId,
+use vm_memory_base::{
+    Bitmap, GuestAddress, IommuError, Iotlb, IovaRange, LookupError, Permissions,
 };
+use vm_memory_guest::{Bytes, GuestMemory, GuestMemoryError, HostMemory, TlbId};
 
 /// How many bytes of an access from an address on a table allows, up to the first that it misses or forbids, and what
 /// the access comes to: it misses the first address that has no mapping, or is forbidden by the first mapping that does
@@ -74,6 +74,14 @@ fn front_of(iova: u64, len: usize, outcome: Outcome) -> usize
     }
 }
 
+// Whether an access was refused because its table does not allow all of it. Then no byte was moved.
+fn is_untranslated(error: &GuestMemoryError) -> bool {
+    matches!(
+        error,
+        GuestMemoryError::IommuError(IommuError::CannotResolve { .. })
+    )
+}
+
 /// A read of guest memory behind a table, as far as its mappings go, and on from there at the next try.
 #[derive(Drop)]
 pub struct ReadBytes<'a, M> {
@@ -118,13 +126,25 @@ impl<M: GuestMemory> Request for ReadBytes<'_, M> {
         let Some(at) = self.address.0.checked_add(self.done as u64) else {
             return Outcome::Failed;
         };
-        let left = self.bytes.len() - self.done;
+        let rest = &mut self.bytes.as_mut_slice()[self.done..];
+        let left = rest.len();
+        // The access looks up by itself: how far it gets is asked only after a refusal.
+        let Err(error) = self.memory.read_slice(host, rest, GuestAddress(at)) else {
+            self.done = self.bytes.len();
+            return Outcome::Done;
+        };
+        if !is_untranslated(&error) {
+            return Outcome::Failed;
+        }
         let (count, outcome) = reach(host.table(self.table), at, left, Permissions::Read);
+        if count == 0 {
+            return outcome;
+        }
         let end = self.done + count;
-        let part = &mut self.bytes.as_mut_slice()[self.done..end];
+        let front = &mut self.bytes.as_mut_slice()[self.done..end];
         if self
             .memory
-            .read_slice(host, part, GuestAddress(at))
+            .read_slice(host, front, GuestAddress(at))
             .is_err()
         {
             return Outcome::Failed;
@@ -173,13 +193,25 @@ impl<M: GuestMemory> Request for WriteBytes<'_, M> {
         let Some(at) = self.address.0.checked_add(self.done as u64) else {
             return Outcome::Failed;
         };
-        let left = self.bytes.len() - self.done;
+        let rest = &self.bytes[self.done..];
+        let left = rest.len();
+        // The access looks up by itself: how far it gets is asked only after a refusal.
+        let Err(error) = self.memory.write_slice(host, rest, GuestAddress(at)) else {
+            self.done = self.bytes.len();
+            return Outcome::Done;
+        };
+        if !is_untranslated(&error) {
+            return Outcome::Failed;
+        }
         let (count, outcome) = reach(host.table(self.table), at, left, Permissions::Write);
+        if count == 0 {
+            return outcome;
+        }
         let end = self.done + count;
-        let part = &self.bytes[self.done..end];
+        let front = &self.bytes[self.done..end];
         if self
             .memory
-            .write_slice(host, part, GuestAddress(at))
+            .write_slice(host, front, GuestAddress(at))
             .is_err()
         {
             return Outcome::Failed;

@@ -1,106 +1,102 @@
 //! Chains of descriptors whose bytes are read and written in tries.
-ghost use Rattle.std.specs.Prelude.{◌≡◌, ◌<◌, ◌≤◌, length, vec_len, IfOk};
+ghost use Rattle.std.specs.Prelude.{◌≡◌, ◌<◌, ◌≤◌, length, vec_len};
 ghost use Rattle.vm_memory_guest.specs.Host.{shape_of, Holds};
 
 use crate::access::reach;
 use crate::request::{Outcome, Request};
-use vm_memory::{
-    Bitmap, Chain, ChainReader, ChainWriter, GuestMemory, GuestMemoryError, HostMemory, IommuError,
-    Permissions, TlbId,
-};
+use vm_memory_base::{Bitmap, IommuError, IovaRange, Permissions};
+use vm_memory_device::{Chain, ChainReader, ChainWriter};
+use vm_memory_guest::{GuestMemory, GuestMemoryError, HostMemory, TlbId};
 
-// How many of so many bytes an access may move that was refused for this error: those in front of the first address
-// that the table misses or forbids, if there are some.
+// How far an access of so many bytes gets that was refused for this error, and what it comes to: it stops at the first
+// address that the table misses or forbids, if it was refused for that.
 fn front_of<B: Bitmap>(
     host: &HostMemory<B>,
     table: TlbId,
     error: &GuestMemoryError,
     len: usize,
     access: Permissions,
-) -> Result<usize, Outcome>
+) -> (usize, Outcome)
     requires { table.0 < length host.now.tables }
-    ensures { IfOk result (λ n. n ≤ len) }
+    ensures most { result.0 ≤ len }
+    ensures undone { result.1 ≡ Outcome.Done → ⊥ }
 {
     let GuestMemoryError::IommuError(IommuError::CannotResolve { iova_range, .. }) = error else {
-        return Err(Outcome::Failed);
+        return (0, Outcome::Failed);
     };
-    let (count, outcome) = reach(
-        host.table(table),
-        iova_range.base.0,
-        iova_range.length,
-        access,
-    );
-    match count.min(len) {
-        0 => Err(outcome),
-        front => Ok(front),
+    let IovaRange { base, length } = *iova_range;
+    match reach(host.table(table), base.0, length, access) {
+        (_, Outcome::Done) => (0, Outcome::Failed),
+        (count, outcome) => (count.min(len), outcome),
     }
 }
 
 // What a try came to that moved so many of so many bytes: none of some is a failure.
-fn some_of(count: usize, len: usize) -> Result<usize, Outcome>
-    ensures { IfOk result (λ n. n ≤ len) }
+fn some_of(count: usize, len: usize) -> (usize, Outcome)
+    ensures most { result.0 ≤ len }
+    ensures some { result.1 ≡ Outcome.Done → 0 < result.0 }
 {
     match count.min(len) {
-        0 => Err(Outcome::Failed),
-        moved => Ok(moved),
+        0 => (0, Outcome::Failed),
+        moved => (moved, Outcome::Done),
     }
 }
 
-// What a try came to that did not do all.
-fn undone(outcome: Outcome) -> Outcome
-    ensures { result ≡ Outcome.Done → ⊥ }
-{
-    match outcome {
-        Outcome::Done => Outcome::Failed,
-        other => other,
-    }
-}
-
-// Reads what comes next in a chain, some bytes at least, or tells why there are none. Of an access that is refused it
-// reads the bytes in front of the address for that.
+// Reads what comes next in a chain, and returns how many bytes that were, with `Done` if the next may follow. Of an
+// access that is refused it reads the bytes in front of the address for that.
 fn read_some<M: GuestMemory, B: Bitmap>(
     memory: &M,
     host: &HostMemory<B>,
     table: TlbId,
     reader: &mut ChainReader<'_>,
     bytes: &mut [u8],
-) -> Result<usize, Outcome>
+) -> (usize, Outcome)
     requires held { Holds (shape_of host.now) (M.names memory.now) }
     requires there { table.0 < length host.now.tables }
-    ensures most { IfOk result (λ n. n ≤ length bytes.old) }
+    ensures most { result.0 ≤ length bytes.old }
+    ensures some { result.1 ≡ Outcome.Done → 0 < result.0 }
 {
     let len = bytes.len();
-    let front = match reader.read(memory, host, bytes) {
+    let (front, outcome) = match reader.read(memory, host, bytes) {
         Ok(count) => return some_of(count, len),
-        Err(error) => front_of(host, table, &error, len, Permissions::Read)?,
+        Err(error) => front_of(host, table, &error, len, Permissions::Read),
     };
+    if front == 0 {
+        return (0, outcome);
+    }
     match reader.read(memory, host, &mut bytes[..front]) {
+        Ok(count) if count == front => (front, outcome),
         Ok(count) => some_of(count, len),
-        Err(_) => Err(Outcome::Failed),
+        Err(_) => (0, Outcome::Failed),
     }
 }
 
-// Writes to what comes next in a chain, some bytes at least, or tells why there are none.
+// Writes to what comes next in a chain, as `read_some` reads it.
 fn write_some<M: GuestMemory, B: Bitmap>(
     memory: &M,
     host: &mut HostMemory<B>,
     table: TlbId,
     writer: &mut ChainWriter<'_>,
     bytes: &[u8],
-) -> Result<usize, Outcome>
+) -> (usize, Outcome)
     requires held { Holds (shape_of host.old) (M.names memory.now) }
     requires there { table.0 < length host.old.tables }
-    ensures most { IfOk result (λ n. n ≤ length bytes.now) }
+    ensures most { result.0 ≤ length bytes.now }
+    ensures some { result.1 ≡ Outcome.Done → 0 < result.0 }
     ensures shape { shape_of host.new ≡ shape_of host.old }
 {
     let len = bytes.len();
-    let front = match writer.write(memory, host, bytes) {
+    let (front, outcome) = match writer.write(memory, host, bytes) {
         Ok(count) => return some_of(count, len),
-        Err(error) => front_of(host, table, &error, len, Permissions::Write)?,
+        Err(error) => front_of(host, table, &error, len, Permissions::Write),
     };
+    if front == 0 {
+        return (0, outcome);
+    }
     match writer.write(memory, host, &bytes[..front]) {
+        Ok(count) if count == front => (front, outcome),
         Ok(count) => some_of(count, len),
-        Err(_) => Err(Outcome::Failed),
+        Err(_) => (0, Outcome::Failed),
     }
 }
 
@@ -146,9 +142,10 @@ impl<M: GuestMemory> Request for ReadChain<'_, M> {
                 return Outcome::Failed;
             }
             let part = &mut self.bytes.as_mut_slice()[self.done..];
-            match read_some(self.memory, host, self.table, &mut self.reader, part) {
-                Ok(count) => self.done += count,
-                Err(outcome) => return undone(outcome),
+            let (count, outcome) = read_some(self.memory, host, self.table, &mut self.reader, part);
+            self.done += count;
+            if !matches!(outcome, Outcome::Done) {
+                return outcome;
             }
         }
         Outcome::Failed
@@ -201,9 +198,16 @@ impl<M: GuestMemory> Request for WriteChain<'_, M> {
                 return Outcome::Failed;
             }
             let part = &self.bytes[self.done..];
-            match write_some(self.memory, host, self.table, &mut self.writer, part) {
-                Ok(count) => self.done += count,
-                Err(outcome) => return undone(outcome),
+            let (count, outcome) = write_some(
+                self.memory,
+                host,
+                self.table,
+                &mut self.writer,
+                part,
+            );
+            self.done += count;
+            if !matches!(outcome, Outcome::Done) {
+                return outcome;
             }
         }
         Outcome::Failed

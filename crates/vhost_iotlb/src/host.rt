@@ -10,7 +10,8 @@ use crate::message::IotlbMessage;
 use crate::request::{Outcome, Request};
 use crate::table::{DeviceTable, Refusal};
 use std::sync::{Mutex, Wait};
-use vm_memory::{Bitmap, HostMemory};
+use vm_memory_base::Bitmap;
+use vm_memory_guest::HostMemory;
 
 /// A host that is lent for one step at a time, as a lock lends it: when a call returns the host is free, whatever the
 /// caller then waits for.

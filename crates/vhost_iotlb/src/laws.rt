@@ -11,12 +11,9 @@ ghost use Rattle.vm_memory_guest.specs.Access.{Reached};
 ghost use Rattle.vm_memory_guest.specs.Host.{Host};
 ghost use Rattle.vm_memory_guest.specs.Memory.{Memory, Translation, behind_of};
 ghost use Rattle.vm_memory_guest.specs.Region.{Backed, cell};
-ghost use Rattle.vm_memory.specs.History.{GoesThrough, IsLast, table_events};
-ghost use Rattle.vm_memory.specs.Machine.{Run};
-ghost use Rattle.vm_memory.specs.Reply.{reached_by};
-ghost use Rattle.vm_memory.specs.State.{State};
-ghost use Rattle.vhost_iotlb.specs.Changes.{Handles};
-ghost use Rattle.vhost_iotlb.specs.Commands.{IsAmong, all_done, commands_of};
+ghost use Rattle.vm_memory_device.specs.Reach.{GoesThrough, IsLast};
+ghost use Rattle.vm_memory_device.specs.Reach.{reached_by};
+ghost use Rattle.vhost_iotlb.specs.Changes.{Handles, IsAmong};
 ghost use Rattle.vhost_iotlb.specs.Invalidation.{unmaps, updates};
 ghost use Rattle.vhost_iotlb.specs.Message.{IsMessage, Spells, fields_in, fields_of, message_in, payload_bytes};
 ghost use Rattle.vhost_iotlb.specs.Stream.{AllLook, Given, IsCut, IsPart, Pending, Reads, bytes_of, frames_of};
@@ -28,8 +25,9 @@ ghost use Rattle.vhost_iotlb.specs.declared.message.IotlbMessage.TheVariants.{In
 ghost use Rattle.vhost_iotlb.specs.declared.user_memory.UserRegion.{UserRegion};
 
 use crate::channel::Receive;
-use vm_memory::laws::machine::{
-    accesses_go_through_what_was_set_last, tables_say_what_was_set_last,
+use vm_memory_base::laws::table::tables_keep_to_their_limits;
+use vm_memory_device::laws::tables::{
+    accesses_go_through_what_calls_left, tables_say_what_calls_left,
 };
 
 /// What is encoded is decoded as it was: the payload of a message spells it, and what spells it is decoded to it.
@@ -55,16 +53,9 @@ pub fn looks_cut_streams<R: Receive>()
         → (gave : List Given) × Reads R.gives gave before after × IsCut old (frames_of answers) (bytes_of gave) new }
 {}
 
-/// What messages make of a table of a host are commands of a machine, each of which is done. So what holds of every
-/// run of a machine holds of every list of messages.
-pub fn messages_are_commands()
-    ensures run { (number : ℕ) (regions : List UserRegion) (ms : List IotlbMessage) (calls : List TableEvent)
-        (old new : Host PageSet) (s : State) → Handles number regions ms calls old new
-        → Run (record s { host = old }) (commands_of number calls) (all_done calls) (record s { host = new }) }
-    ensures events { (number : ℕ) (regions : List UserRegion) (ms : List IotlbMessage) (calls : List TableEvent)
-        (old new : Host PageSet) (t : Table) → Handles number regions ms calls old new
-        → table_events number t (commands_of number calls) (all_done calls) ≡ events_of calls t }
-    ensures updates { (number : ℕ) (regions : List UserRegion) (ms : List IotlbMessage) (calls : List TableEvent)
+/// A range that messages set is one that an UPDATE among them asked for.
+pub fn ranges_are_set_for_updates()
+    ensures { (number : ℕ) (regions : List UserRegion) (ms : List IotlbMessage) (calls : List TableEvent)
         (old new : Host PageSet) (iova to len : ℕ) (perm : Permissions) → Handles number regions ms calls old new
         → IsAmong (table.Set iova to len perm) calls
         → (user : ℕ) × IsAmong (Update iova len user perm) ms
@@ -85,8 +76,8 @@ pub fn tables_say_what_was_updated_last()
         → slice_get old.tables number ≡ Some t → slice_get new.tables number ≡ Some u → x < 2 ^ 64
         → IsLast x (events_of calls t) call → says u x ≡ says_after call x None }
 {
-    messages_are_commands();
-    tables_say_what_was_set_last();
+    tables_keep_to_their_limits();
+    tables_say_what_calls_left();
 }
 
 /// After any list of messages an access behind the table reaches each byte through the mapping that an UPDATE set last
@@ -111,8 +102,7 @@ pub fn accesses_go_through_what_was_updated_last()
         → slice_get (reached_by m new.tables a n access).path i ≡ Some x
         → IsLast (a + i) (events_of calls t) call → says_after call (a + i) None ≡ None → ⊥ }
 {
-    messages_are_commands();
-    accesses_go_through_what_was_set_last();
+    accesses_go_through_what_calls_left();
 }
 
 /// After an INVALIDATE that names an address, and no UPDATE of that address since, the table misses it, and no access

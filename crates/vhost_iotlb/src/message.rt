@@ -5,7 +5,7 @@ ghost use Rattle.vhost_iotlb.specs.Message.{IsMessage, Spells, fields_in, fields
 ghost use Rattle.vhost_iotlb.specs.declared.message.IotlbMessage.{IotlbMessage};
 
 use crate::malformed::Malformed;
-use vm_memory::Permissions;
+use vm_memory_base::Permissions;
 
 /// How many bytes a payload has.
 pub const PAYLOAD_LEN: usize = 32;

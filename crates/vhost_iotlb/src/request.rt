@@ -1,7 +1,8 @@
 //! What is tried on guest memory, again and again until it misses nothing.
 ghost use Rattle.std.specs.Prelude.{◌≡◌};
 
-use vm_memory::{Bitmap, HostMemory, Permissions};
+use vm_memory_base::{Bitmap, Permissions};
+use vm_memory_guest::HostMemory;
 
 /// What one try of a request came to.
 #[derive(Clone, Copy, Debug, PartialEq, Eq)]

@@ -10,7 +10,8 @@ use crate::message::IotlbMessage;
 use crate::user_memory::UserMemory;
 use std::alloc::{AllocError, Global};
 use thiserror::Error;
-use vm_memory::{GuestAddress, HostMemory, Iotlb, Permissions, TlbId};
+use vm_memory_base::{GuestAddress, Iotlb, Permissions};
+use vm_memory_guest::{HostMemory, TlbId};
 
 /// Why a message was not applied. Then nothing changed, but a malformed INVALIDATE invalidated everything.
 #[derive(Clone, Copy, Debug, PartialEq, Eq, Error)]

@@ -3,7 +3,7 @@ ghost use Rattle.std.specs.Prelude.{◌≡◌, ◌≤◌};
 ghost use Rattle.vhost_iotlb.specs.UserMemory.{guest_address, guest_of, has_range};
 
 use std::marker::Model;
-use vm_memory::GuestAddress;
+use vm_memory_base::GuestAddress;
 
 /// A part of the front end's memory, and the guest memory that it is.
 #[derive(Clone, Copy, Debug)]

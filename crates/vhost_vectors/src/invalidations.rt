@@ -6,7 +6,7 @@ use std::alloc::Global;
 use std::test::Fail;
 use test_text::expect_text;
 use vhost_iotlb::{Limits, Outcome, ReadBytes, Request};
-use vm_memory::GuestAddress;
+use vm_memory_base::GuestAddress;
 
 const MAX: u64 = u64::MAX;
 
@@ -62,6 +62,15 @@ static OTHERS: [(u32, u32, (u64, u64), u8, u8); 7] = [
     // An INVALIDATE of another version, and one in a payload of another size.
     (10, 32, (0, 0x1000), 0, 3),
     (9, 31, (0, 0x1000), 0, 3),
+];
+
+// What QEMU sends for a guest that runs its IOMMU lazily: a page near 2^32 is mapped, and all addresses but those of
+// interrupts are invalidated in two messages. Each has its range, its user address, its permissions, its kind, and which
+// bytes are mapped after it.
+static LAZY: [((u64, u64), u64, u8, u8, &str); 3] = [
+    ((0xffff_d000, 0x1000), 0x7fff_0000_0000, 3, 2, "..m."),
+    ((0, 0xfee0_0000), 0, 0, 3, "..m."),
+    ((0xfef0_0000, 0xffff_ffff_0110_0000), 0, 0, 3, "...."),
 ];
 
 // Which of the bytes are mapped.
@@ -162,43 +171,34 @@ fn other_messages_unmap_nothing(rt: HostRuntime) -> Result<(), Fail> {
     Ok(())
 }
 
-// What QEMU sends for a guest that runs its IOMMU lazily: a page near 2^32 is mapped, and all addresses but those of
-// interrupts are invalidated in two messages.
+// The bytes of the messages of QEMU.
+fn lazy_messages(alloc: Global) -> Result<Vec<u8>, Fail> {
+    let mut messages = Vec::new(alloc);
+    for ((iova, size), user, permissions, kind, _mapped) in LAZY.iter() {
+        let parts = Parts {
+            iova: *iova,
+            size: *size,
+            user: *user,
+            permissions: *permissions,
+            kind: *kind,
+        };
+        put_message(&mut messages, 9, parts)?;
+    }
+    Ok(messages)
+}
+
 #[test]
 fn messages_of_qemu(rt: HostRuntime) -> Result<(), Fail> {
     let alloc = rt.alloc();
-    let mut messages = Vec::new(alloc);
-    let page = Parts {
-        iova: 0xffff_d000,
-        size: 0x1000,
-        user: 0x7fff_0000_0000,
-        permissions: 3,
-        kind: 2,
-    };
-    let first = Parts {
-        iova: 0,
-        size: 0xfee0_0000,
-        user: 0,
-        permissions: 0,
-        kind: 3,
-    };
-    let second = Parts {
-        iova: 0xfef0_0000,
-        size: 0xffff_ffff_0110_0000,
-        ..first
-    };
-    for parts in [page, first, second] {
-        put_message(&mut messages, 9, parts)?;
-    }
     let mut world = make_world(alloc, 64)?;
-    let front = giving(alloc, messages, 1000, false, false);
+    let front = giving(alloc, lazy_messages(alloc)?, 1000, false, false);
     let own = giving(alloc, Vec::new(alloc), 1000, false, false);
     let limits = Limits { tries: 1, looks: 1 };
     let mut iotlb = make_iotlb(alloc, world.table, front, own, limits)?;
-    for wanted in ["..m.", "..m.", "...."] {
+    for (_range, _user, _permissions, _kind, wanted) in LAZY.iter() {
         iotlb.handle(&mut world.host)?;
         let mapped = mapped_bytes(alloc, &mut world)?;
-        assert_eq!(rt; mapped.as_str(), wanted);
+        assert_eq!(rt; mapped.as_str(), *wanted);
     }
     let (_table, front, _own) = iotlb.into_parts();
     let output = front.output.as_slice();

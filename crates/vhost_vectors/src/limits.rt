@@ -6,7 +6,7 @@ use std::alloc::Global;
 use std::test::Fail;
 use test_text::next_number;
 use vhost_iotlb::{Handled, Limits, Outcome, ReadBytes, Request, WriteBytes};
-use vm_memory::GuestAddress;
+use vm_memory_base::GuestAddress;
 
 // How many pages of I/O addresses there are, and how many messages come.
 const SPACE: usize = 24;

@@ -5,7 +5,7 @@ use std::alloc::Global;
 use std::test::Fail;
 use test_text::expect_text;
 use vhost_iotlb::{Header, IotlbMessage, Malformed, decode_reply, encode_reply};
-use vm_memory::Permissions;
+use vm_memory_base::Permissions;
 
 const MAX: u64 = u64::MAX;
 

@@ -9,7 +9,8 @@ use std::alloc::Global;
 use std::test::Fail;
 use test_text::expect_text;
 use vhost_iotlb::{Limits, MissError, ReadBytes, WriteBytes};
-use vm_memory::{Bytes, GuestAddress, TlbId};
+use vm_memory_base::GuestAddress;
+use vm_memory_guest::{Bytes, TlbId};
 
 // What is asked for, from where on in the first page, and how many bytes of it.
 enum Ask {

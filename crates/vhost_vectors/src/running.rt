@@ -13,7 +13,8 @@ use vhost_iotlb::{
     ChannelError, DeviceIotlb, DeviceTable, Header, IotlbMessage, Limits, LockedHost, Outcome,
     ReadBytes, SharedHost, send,
 };
-use vm_memory::{Bytes, GuestAddress, Permissions, TlbId};
+use vm_memory_base::{GuestAddress, Permissions};
+use vm_memory_guest::{Bytes, TlbId};
 
 // How often pages are taken back, and how often one is read.
 const TURNS: u64 = 200;

@@ -5,9 +5,10 @@ use std::alloc::Global;
 use std::sync::Arc;
 use std::test::Fail;
 use vhost_iotlb::{DeviceIotlb, DeviceTable, Limits, UserMemory, UserRegion};
-use vm_memory::{
-    Bytes, GuestAddress, GuestMemoryMmap, GuestRegionCollection, GuestRegionMmap, HostMemory,
-    IommuMemory, TableIommu, TlbId,
+use vm_memory_base::GuestAddress;
+use vm_memory_device::{IommuMemory, TableIommu};
+use vm_memory_guest::{
+    Bytes, GuestMemoryMmap, GuestRegionCollection, GuestRegionMmap, HostMemory, TlbId,
 };
 
 pub type Host = HostMemory<()>;
@@ -150,7 +151,7 @@ pub fn mapped(world: &World, iova: u64) -> Option<u64> {
     }
     let table = world.host.table(world.table);
     let mut found = table
-        .lookup(GuestAddress(iova), 1, vm_memory::Permissions::No)
+        .lookup(GuestAddress(iova), 1, vm_memory_base::Permissions::No)
         .ok()?;
     Some(found.next()?.base.0)
 }

@@ -4,7 +4,7 @@ use Rattle.std.proofs.lemmas.Bool.{eq-eqb}
 use Rattle.std.specs.Option.{option_or}
 use Rattle.vm_memory_guest.specs.Host.{Host, shape_of}
 use Rattle.vm_memory_guest.specs.Memory.{Memory, IsOn}
-use Rattle.vm_memory.specs.declared.chain.Segment.{Segment}
+use Rattle.vm_memory_device.specs.declared.chain.Segment.{Segment}
 use Rattle.virtio_queue.specs.Available.{MayWantChain, after_pop, avail_idx, popped}
 use Rattle.virtio_queue.specs.Fields.{Answers}
 use Rattle.virtio_queue.specs.Notification.{Enables, EnablesIfReady, after_asked, has_more}

@@ -6,7 +6,7 @@ use Rattle.vm_memory_base.specs.Table.{Table}
 use Rattle.vm_memory_base.specs.declared.iotlb.Permissions.TheVariants.{Read}
 use Rattle.vm_memory_guest.specs.Host.{Host, shape_of}
 use Rattle.vm_memory_guest.specs.Memory.{Memory}
-use Rattle.vm_memory.specs.Chain.{Entry}
+use Rattle.vm_memory_device.specs.Chain.{Entry}
 use Rattle.virtio_blk.specs.Disk.{Call, LieAt, Moves, after_write, joined, reads, writes}
 use Rattle.virtio_blk.specs.Config.{Device}
 use Rattle.virtio_blk.specs.Inside.{Asks, Did, Performed}

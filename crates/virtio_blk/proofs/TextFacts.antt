@@ -22,7 +22,7 @@ use Rattle.vm_memory_guest.specs.Window.{Marks, MarksAll, Window, Writes, cells,
 use Rattle.vm_memory_guest.proofs.MarkLaws.{Writes-append, Writes-take, tables-Writes}
 use Rattle.vm_memory_guest.proofs.WrittenLaws.{length-cells, span-cons}
 use Rattle.vm_memory_guest.specs.declared.region.error.GuestMemoryError.{GuestMemoryError}
-use Rattle.vm_memory.specs.Chain.{AreWindowsOf, Entry, Extends, Extent, ReadsText, WritesText, access_len, text_fault, text_path, text_windows}
+use Rattle.vm_memory_device.specs.Chain.{AreWindowsOf, Entry, Extends, Extent, ReadsText, WritesText, access_len, text_fault, text_path, text_windows}
 use Rattle.virtio_blk.specs.Texts.{Accessed, AreAllowed, StopsAt, StopsWithin, WritesAt, reached, text_bytes}
 
 module _ (m : Memory) (tables : List Table) where

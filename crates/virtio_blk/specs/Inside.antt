@@ -3,7 +3,7 @@ use Rattle.std.specs.Prelude.{◌≡◌, ◌⊎◌, ℕ, ◌-◌, ◌<◌, ◌�
 use Rattle.vm_memory_base.specs.declared.iotlb.Permissions.TheVariants as permissions
 use Rattle.vm_memory_guest.specs.Host.{Host}
 use Rattle.vm_memory_guest.specs.Memory.{Memory}
-use Rattle.vm_memory.specs.Chain.{Entry}
+use Rattle.vm_memory_device.specs.Chain.{Entry}
 use Rattle.virtio_blk.specs.Config.{Device}
 use Rattle.virtio_blk.specs.Disk.{Call}
 use Rattle.virtio_blk.specs.Request.{fits, task_of}

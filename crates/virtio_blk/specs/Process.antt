@@ -3,7 +3,7 @@ use Rattle.std.specs.Prelude.{◌≡◌, ◌⊎◌, ℕ, zero, suc, ◌<◌, Boo
 use Rattle.std.specs.Option.{option_or}
 use Rattle.vm_memory_guest.specs.Host.{Host}
 use Rattle.vm_memory_guest.specs.Memory.{Memory, IsOn}
-use Rattle.vm_memory.specs.declared.chain.Segment.{Segment}
+use Rattle.vm_memory_device.specs.declared.chain.Segment.{Segment}
 use Rattle.virtio_queue.specs.Available.{MayWantChain, after_pop, popped}
 use Rattle.virtio_queue.specs.Fields.{Answers, Refuses}
 use Rattle.virtio_queue.specs.Notification.{EnablesIfReady, after_asked, needs_notification}

@@ -3,8 +3,8 @@ use Rattle.std.specs.Prelude.{◌≡◌, ◌⊎◌, ℕ, ◌+◌, ◌-◌, ◌*�
 use Rattle.vm_memory_base.specs.declared.iotlb.Permissions.TheVariants as permissions
 use Rattle.vm_memory_guest.specs.Host.{Host}
 use Rattle.vm_memory_guest.specs.Memory.{Memory}
-use Rattle.vm_memory.specs.Chain.{Entry, readable, text, writable}
-use Rattle.vm_memory.specs.declared.chain.Segment.{Segment}
+use Rattle.vm_memory_device.specs.Chain.{Entry, readable, text, writable}
+use Rattle.vm_memory_device.specs.declared.chain.Segment.{Segment}
 use Rattle.virtio_blk.specs.Config.{Device, must_stay}
 use Rattle.virtio_blk.specs.Disk.{Call, reads, writes, flushes, LieAt, Moves, after_write, joined}
 use Rattle.virtio_blk.specs.Request.{task_of}

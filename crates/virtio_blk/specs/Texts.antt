@@ -8,7 +8,7 @@ use Rattle.vm_memory_guest.specs.Dirt.{path_cells}
 use Rattle.vm_memory_guest.specs.Host.{Host, bytes_at}
 use Rattle.vm_memory_guest.specs.Memory.{Memory, IsOn, route}
 use Rattle.vm_memory_guest.specs.Window.{Window, Writes}
-use Rattle.vm_memory.specs.Chain.{AreWindowsOf, Entry, text_path}
+use Rattle.vm_memory_device.specs.Chain.{AreWindowsOf, Entry, text_path}
 
 module _ (m : Memory) (tables : List Table) where
   -- the bytes that the addresses of a text lead to, up to the first that leads to none

@@ -2,7 +2,7 @@
 ghost use Rattle.std.specs.Prelude.{◌≡◌, ◌*◌, ◌^◌, ◌<◌, length};
 ghost use Rattle.virtio_blk.specs.Request.{fits, task_of};
 
-use vm_memory::ByteValued;
+use vm_memory_base::ByteValued;
 
 /// The kind of a request that reads from the disk.
 pub const VIRTIO_BLK_T_IN: u32 = 0;

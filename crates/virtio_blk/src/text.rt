@@ -4,7 +4,9 @@ ghost use Rattle.vm_memory_base.specs.declared.iotlb.Permissions.TheVariants.{Re
 ghost use Rattle.vm_memory_guest.specs.Host.{shape_of, Holds};
 ghost use Rattle.virtio_blk.specs.Texts.{Accessed, StopsAt, StopsWithin, WritesAt, reached, text_bytes};
 
-use vm_memory::{Bitmap, ChainReader, ChainWriter, GuestMemory, HostMemory};
+use vm_memory_base::Bitmap;
+use vm_memory_device::{ChainReader, ChainWriter};
+use vm_memory_guest::{GuestMemory, HostMemory};
 
 // Fills the buffer with the next bytes of a text. Where it answers false, one of them cannot be read.
 #[inline]

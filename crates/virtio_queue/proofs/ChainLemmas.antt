@@ -1,7 +1,7 @@
 -- Chains: what following `next` adds to the segments, turn by turn.
 use Rattle.std.proofs.Common.{◌≡◌, ◌∙◌, ℕ, suc, ◌+◌, ◌-◌, ◌<◌, ◌≤◌, if◌then◌else◌, true, false, List, [], ◌∷◌, ◌++◌, Some, None, Result, Ok, Err, ap, inl, inr, refl, sym, arith, append_assoc, append-nil, lt-ltb, le-ltb}
 use Rattle.std.proofs.lemmas.Bool.{cond_above, cond_below}
-use Rattle.vm_memory.specs.declared.chain.Segment.{Segment}
+use Rattle.vm_memory_device.specs.declared.chain.Segment.{Segment}
 use Rattle.virtio_queue.specs.Available.{Followed, entry, followed, prefixed}
 use Rattle.virtio_queue.specs.Descriptor.{has_next, is_indirect, segment_of}
 use Rattle.virtio_queue.specs.Fields.{Answers, Refuses}

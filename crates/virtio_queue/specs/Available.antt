@@ -1,8 +1,8 @@
 -- What the driver publishes: the available ring, and the chains of descriptors that its heads lead to.
 use Rattle.std.specs.Prelude.{◌≡◌, ◌⊎◌, ℕ, zero, suc, ◌+◌, ◌*◌, ◌/◌, ◌%◌, ◌^◌, nat_lt, ◌&&◌, ◌==◌, if◌then◌else◌, List, [], ◌∷◌, ◌++◌, Option, Some, None, Result, Ok, Err}
-use Rattle.vm_memory.specs.Chain.{chain_fault}
-use Rattle.vm_memory.specs.declared.chain.ChainFault.{ChainFault}
-use Rattle.vm_memory.specs.declared.chain.Segment.{Segment}
+use Rattle.vm_memory_device.specs.Chain.{chain_fault}
+use Rattle.vm_memory_device.specs.declared.chain.ChainFault.{ChainFault}
+use Rattle.vm_memory_device.specs.declared.chain.Segment.{Segment}
 use Rattle.vm_memory_guest.specs.Host.{Host}
 use Rattle.vm_memory_guest.specs.Memory.{Memory, IsOn}
 use Rattle.virtio_queue.specs.Descriptor.{has_next, is_indirect, segment_of}

@@ -1,6 +1,6 @@
 -- What the code that follows descriptors adds to the segments of a chain. No public clause cites this module.
 use Rattle.std.specs.Prelude.{◌≡◌, List, ◌++◌, Option, Result, Ok, MatchResult}
-use Rattle.vm_memory.specs.declared.chain.Segment.{Segment}
+use Rattle.vm_memory_device.specs.declared.chain.Segment.{Segment}
 use Rattle.virtio_queue.specs.Available.{Followed}
 use Rattle.virtio_queue.specs.Fields.{Refuses}
 use Rattle.virtio_queue.specs.declared.descriptor.Descriptor.{Descriptor}

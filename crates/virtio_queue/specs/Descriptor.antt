@@ -1,6 +1,6 @@
 -- Descriptors: their flags, and the segment of a chain that one tells of.
 use Rattle.std.specs.Prelude.{ℕ, Bool, not, ◌==◌, bit_and}
-use Rattle.vm_memory.specs.declared.chain.Segment.{Segment}
+use Rattle.vm_memory_device.specs.declared.chain.Segment.{Segment}
 use Rattle.virtio_queue.specs.declared.descriptor.Descriptor.{Descriptor}
 
 -- whether a flag, which is a power of two, is set

@@ -10,7 +10,9 @@ use crate::error::QueueError;
 use crate::fields::descriptor_at;
 use crate::state::QueueState;
 use std::alloc::Global;
-use vm_memory::{Bitmap, Chain, GuestMemory, HostMemory, Segment};
+use vm_memory_base::Bitmap;
+use vm_memory_device::{Chain, Segment};
+use vm_memory_guest::{GuestMemory, HostMemory};
 
 // Follows `next` from an index in a table of so many descriptors, and adds the segments of direct ones. It answers
 // the indirect descriptor that ends them, if one does.

@@ -4,7 +4,8 @@ ghost use Rattle.std.specs.Int.{w16, w32, w64};
 ghost use Rattle.vm_memory_base.specs.lemmas.ByteCodes.{wrapped_code, unsigned_code, length-low};
 ghost use Rattle.vm_memory_base.specs.lemmas.PairCodes.{pair_code};
 
-use vm_memory::{ByteSized, ByteValued, GuestAddress, Segment};
+use vm_memory_base::{ByteSized, ByteValued, GuestAddress};
+use vm_memory_device::Segment;
 
 /// The flag of a descriptor that leads to a next one.
 pub const VRING_DESC_F_NEXT: u16 = 1;

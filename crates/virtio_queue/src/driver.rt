@@ -9,7 +9,8 @@ use crate::descriptor::Descriptor;
 use crate::error::QueueError;
 use crate::fields::{load_word, put_value, read_pair, store_word};
 use crate::queue::{Queue, is_size};
-use vm_memory::{Bitmap, ByteValued, GuestAddress, GuestMemory, HostMemory};
+use vm_memory_base::{Bitmap, ByteValued, GuestAddress};
+use vm_memory_guest::{GuestMemory, HostMemory};
 
 /// A field of 16 bits of the rings of a queue.
 #[derive(Clone, Copy, Debug, PartialEq, Eq)]

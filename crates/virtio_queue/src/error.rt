@@ -1,7 +1,8 @@
 //! Why calls of a queue are refused.
 
 use thiserror::Error;
-use vm_memory::{ChainFault, GuestMemoryError};
+use vm_memory_device::ChainFault;
+use vm_memory_guest::GuestMemoryError;
 
 /// Why a call of a queue was refused.
 #[derive(Debug, Drop, Error)]

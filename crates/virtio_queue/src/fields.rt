@@ -10,12 +10,13 @@ ghost use Rattle.virtio_queue.specs.Fields.{Answers, StoresWord, WritesBytes, de
 use crate::descriptor::Descriptor;
 use crate::error::QueueError;
 use std::sync::atomic::Ordering;
-use vm_memory::{Bitmap, ByteValued, Bytes, GuestAddress, GuestMemory, HostMemory, Permissions};
+use vm_memory_base::{Bitmap, ByteValued, GuestAddress, Permissions};
 use vm_memory_guest::laws::accesses::{accesses_are_by_bytes, windows_of_accesses_are_their_paths};
 use vm_memory_guest::laws::effects::{writes_keep_shapes, written_is_read_back};
 use vm_memory_guest::laws::host::names_are_held_one_by_one;
 use vm_memory_guest::laws::paths::windows_are_the_path;
 use vm_memory_guest::laws::typed::loads_and_stores_are_by_bytes;
+use vm_memory_guest::{Bytes, GuestMemory, HostMemory};
 
 // The address of a field of `size` bytes that lies so far behind an address.
 #[inline]

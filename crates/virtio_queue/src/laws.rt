@@ -21,7 +21,7 @@ ghost use Rattle.virtio_queue.specs.declared.error.QueueError.{QueueError};
 ghost use Rattle.virtio_queue.specs.declared.error.QueueError.TheVariants.{DescriptorLoop};
 ghost use Rattle.virtio_queue.specs.declared.state.QueueState.{QueueState};
 
-use vm_memory::{Bitmap, ExactBitmap};
+use vm_memory_base::{Bitmap, ExactBitmap};
 use vm_memory_guest::laws::accesses::accesses_are_by_bytes;
 use vm_memory_guest::laws::typed::loads_and_stores_are_by_bytes;
 

@@ -11,7 +11,7 @@ pub use self::notification::{VRING_AVAIL_F_NO_INTERRUPT, VRING_USED_F_NO_NOTIFY}
 use crate::error::QueueError;
 use crate::state::QueueState;
 use std::marker::Model;
-use vm_memory::GuestAddress;
+use vm_memory_base::GuestAddress;
 
 /// A split virtqueue, as the device sees it: docs/VIRTQUEUE.md.
 ///

@@ -1,6 +1,5 @@
 -- Answers of accesses.
-use Rattle.std.proofs.Common.{◌≡◌, ◌⊎◌, ◌≤◌, ◌∙◌, ◌++◌, refl, sym, ap, inl, inr, arith, ℕ, Bool, true, false, ◌==◌, cond, List, length, take, drop, All, Option, Some, None, option_map, Result, Ok, Err}
-use Rattle.std.proofs.lemmas.Bool.{eqb-true}
+use Rattle.std.proofs.Common.{◌≡◌, ◌⊎◌, ◌≤◌, ◌∙◌, ◌++◌, sym, ap, inl, inr, arith, ℕ, List, length, take, drop, All, Some, option_map, Result, Ok, Err}
 use Rattle.std.proofs.lemmas.List.{length-map, take_all}
 use Rattle.vm_memory_base.specs.Pages.{PageSet}
 use Rattle.vm_memory_base.specs.declared.iotlb.Permissions.TheVariants as permissions
@@ -12,42 +11,18 @@ use Rattle.vm_memory_guest.specs.Host.{Cell, Host, bytes_at}
 use Rattle.vm_memory_guest.specs.Memory.{Memory, route}
 use Rattle.vm_memory_guest.specs.Walk.{NeedsPieces}
 use Rattle.vm_memory_guest.specs.Region.{IsRegion}
-use Rattle.vm_memory_guest.specs.Transfer.{all_of, ended}
 use Rattle.vm_memory_guest.specs.Window.{cells}
 use Rattle.vm_memory_guest.specs.declared.region.error.GuestMemoryError.{GuestMemoryError}
 use Rattle.vm_memory_guest.specs.declared.region.error.GuestMemoryError.TheVariants as errors
 use Rattle.vm_memory_guest.proofs.AccessLaws.{cells-access}
+use Rattle.vm_memory_device.specs.Reach.{reached_by}
+use Rattle.vm_memory_device.proofs.ReachLemmas.{ended_is, whole_is}
 use Rattle.vm_memory.specs.Calls.{filled_from}
-use Rattle.vm_memory.specs.Reply.{access_result, all_moved, reached_by, reads, reads_whole, refusal_of, refused_as, replied, reply_of}
+use Rattle.vm_memory_device.specs.Reach.{reached_by}
+use Rattle.vm_memory.specs.Reply.{access_result, all_moved, reads, reads_whole, refusal_of, refused_as, replied, reply_of}
 use Rattle.vm_memory.specs.declared.machine.command.Reply.{Reply}
 use Rattle.vm_memory.specs.declared.machine.command.Reply.TheVariants.{Bytes}
 use Rattle.vm_memory.specs.declared.machine.refusal.Refusal.TheVariants as refusal
-
--- the count that is answered is what was reached
-pub ended_is : {E : Type 0} (reached : ℕ) (fault : Option E) (k : ℕ) → Ok k ≡ ended reached fault → k ≡ reached
-ended_is reached None k e = cc
-ended_is reached (Some f) k e = go (reached == 0) e
-  where
-    go : (b : Bool) → Ok k ≡ cond b (Err f) (Ok reached) → k ≡ reached
-    go true e = absurd (cc)
-    go false e = cc
-
--- and where all are wanted, and it is answered that they were reached, they were
-pub whole_is : {E : Type 0} (partial : ℕ → ℕ → E) (reached : ℕ) (fault : Option E) (n : ℕ) (u : Unit {0})
-    → Ok u ≡ all_of partial n (ended reached fault) → reached ≡ n
-whole_is {E} partial reached fault n u e = from fault e
-  where
-    all : (b : Bool) → (reached == n) ≡ b → Ok u ≡ cond b (Ok tt) (Err (partial n reached)) → reached ≡ n
-    all true h e = eqb-true reached n h
-    all false h e = absurd (cc)
-
-    stopped : (f : E) (b : Bool) → Ok u ≡ all_of partial n (cond b (Err f) (Ok reached)) → reached ≡ n
-    stopped f true e = absurd (cc)
-    stopped f false e = all (reached == n) refl e
-
-    from : (o : Option E) → Ok u ≡ all_of partial n (ended reached o) → reached ≡ n
-    from None e = all (reached == n) refl e
-    from (Some f) e = stopped f (reached == 0) e
 
 -- a read of a buffer in a memory
 module _ (m : Memory) (host : Host PageSet) (a : ℕ) (buffer : List ℕ) (each : All IsRegion m.regions) where

@@ -1,12 +1,6 @@
--- What calls make of the table of one number.
-use Rattle.std.proofs.Common.{◌≡◌, ◌≢◌, Bool, cond, ◌==◌, ℕ, zero, suc, ◌^◌, ◌<◌, List, [], ◌∷◌, ◌++◌, length, set, Option, Some, refl, sym}
-use Rattle.std.proofs.Common.{ap, subst, ◌∙◌, inl, inr, arith, slice_get}
-use Rattle.std.proofs.lemmas.Bool.{cases_Bool, cond-true, cond-false, eqb-true, eqb-false}
-use Rattle.std.proofs.lemmas.List.{length-set}
-use Rattle.std.proofs.lemmas.Option.{slice_get_within, same_Some}
+-- What is taken from the laws of writes for the tables of a host.
+use Rattle.std.proofs.Common.{◌≡◌, Bool, ℕ, List, Option}
 use Rattle.vm_memory_base.specs.Pages.{PageSet}
-use Rattle.vm_memory_base.specs.Table.{TableEvent, says_after_all, Table}
-use Rattle.vm_memory_base.specs.Table.{says, changed, changed_by, events_of}
 use Rattle.vm_memory_base.specs.Transfer.{Next}
 use Rattle.vm_memory_guest.specs.Access.{Reached}
 use Rattle.vm_memory_guest.specs.Dealt.{received}
@@ -17,86 +11,19 @@ use Rattle.vm_memory_guest.specs.Lent.{MarksChanges}
 use Rattle.vm_memory_guest.specs.Window.{Window}
 use Rattle.vm_memory_guest.specs.declared.region.error.GuestMemoryError.{GuestMemoryError}
 
-changed_by-append : (xs ys : List TableEvent) (t : Table) → changed_by (xs ++ ys) t ≡ changed_by ys (changed_by xs t)
-changed_by-append [] ys t = refl
-changed_by-append (call ∷ xs) ys t = changed_by-append xs ys (changed call t)
-
-slice_get-set_same : {X : Type 0} (xs : List X) (i : ℕ) (y : X) → i < length xs → slice_get (set xs i y) i ≡ Some y
-slice_get-set_same [] i y within = absurd (omega arith)
-slice_get-set_same (x ∷ xs) zero y within = refl
-slice_get-set_same (x ∷ xs) (suc i) y within = slice_get-set_same xs i y (omega arith)
-
-slice_get-set_other : {X : Type 0} (xs : List X) (i j : ℕ) (y : X) → j ≢ i → slice_get (set xs i y) j ≡ slice_get xs j
-slice_get-set_other [] i j y other = refl
-slice_get-set_other (x ∷ xs) zero zero y other = absurd (other refl)
-slice_get-set_other (x ∷ xs) zero (suc j) y other = refl
-slice_get-set_other (x ∷ xs) (suc i) zero y other = refl
-slice_get-set_other (x ∷ xs) (suc i) (suc j) y other =
-    slice_get-set_other xs i j y (λ e. other (ap (λ (k : ℕ). suc k) e))
-
--- as many tables as before, of which the one of this number is what these calls made of it
-pub record AreLeftBy (number : ℕ) (calls : List TableEvent) (before after : List Table) : Type 0 where
-  pub count : length after ≡ length before
-  pub left : (t : Table) → slice_get before number ≡ Some t → slice_get after number ≡ Some (changed_by calls t)
-
-pub same : (number : ℕ) (before after : List Table) → after ≡ before → AreLeftBy number [] before after
-same number before after e = record {
-  count = ap (λ (ts : List Table). length ts) e;
-  left = λ t there. ap (λ (ts : List Table). slice_get ts number) e ∙ there;
-}
-
-pub one_after_the_other : (number : ℕ) (xs ys : List TableEvent) (before mid after : List Table)
-    → AreLeftBy number xs before mid → AreLeftBy number ys mid after → AreLeftBy number (xs ++ ys) before after
-one_after_the_other number xs ys before mid after first second = record {
-  count = second.count ∙ first.count;
-  left = λ t there.
-      second.left (changed_by xs t) (first.left t there)
-      ∙ ap (λ (u : Table). Some u) (sym (changed_by-append xs ys t));
-}
-
--- what is taken from the laws of tables and of writes
+-- what is taken from the laws of writes
 pub record HistoryLaws : Type 0 where
-  pub says_changed : (calls : List TableEvent) (t : Table) (x : ℕ) → x < 2 ^ 64
-      → says (changed_by calls t) x ≡ says_after_all (events_of calls t) x (says t x)
   pub writes_keep : (xs : List Reached) (bytes : List ℕ) (host : Host PageSet)
       → (after_write xs bytes host).tables ≡ host.tables
   pub lent_keep : (fault : Option GuestMemoryError) (until_full : Bool) (ws : List Window) (total : ℕ)
       (next : List Next)
       (host : Host PageSet) → (received of_window fault until_full ws total next host).host.tables ≡ host.tables
 
-pub history_laws : ((calls : List TableEvent) (t : Table) (x : ℕ) → x < 2 ^ 64
-    → says (changed_by calls t) x ≡ says_after_all (events_of calls t) x (says t x))
-    → ((xs : List Reached) (bytes : List ℕ) (host : Host PageSet) → (after_write xs bytes host).tables ≡ host.tables)
+pub history_laws : ((xs : List Reached) (bytes : List ℕ) (host : Host PageSet) → (after_write xs bytes host).tables ≡ host.tables)
     → ((fault : Option GuestMemoryError) (until_full : Bool) (ws : List Window) (total : ℕ) (next : List Next)
     (host : Host PageSet) → MarksChanges ws host (received of_window fault until_full ws total next host).host)
     → HistoryLaws
-history_laws says_changed writes_keep lent_mark = record {
-  says_changed = says_changed;
+history_laws writes_keep lent_mark = record {
   writes_keep = writes_keep;
   lent_keep = λ fault until_full ws total next host. (lent_mark fault until_full ws total next host).tables;
 }
-
-changed_own : (number : ℕ) (call : TableEvent) (t : Table) (ts : List Table) → slice_get ts number ≡ Some t
-    → AreLeftBy number (call ∷ []) ts (set ts number (changed call t))
-changed_own number call t ts there = record {
-  count = length-set ts number (changed call t);
-  left = λ u is.
-      slice_get-set_same ts number (changed call t) (slice_get_within ts number t there)
-      ∙ ap (λ (v : Table). Some (changed call v)) (same_Some t u (sym there ∙ is));
-}
-
-pub changed_at : (n number : ℕ) (call : TableEvent) (t : Table) (ts : List Table) → slice_get ts n ≡ Some t
-    → AreLeftBy number (cond (n == number) (call ∷ []) []) ts (set ts n (changed call t))
-changed_at n number call t ts there = elim (cases_Bool (n == number)) [
-  | inl e ↦
-      rw (cond-true (n == number) (call ∷ []) [] e)
-      (subst (λ (k : ℕ). AreLeftBy k (call ∷ []) ts (set ts n (changed call t))) (eqb-true n number e)
-      (changed_own n call t ts there))
-  | inr e ↦
-      rw (cond-false (n == number) (call ∷ []) [] e)
-      (let other : number ≢ n = λ f. eqb-false n number e (sym f) in
-      record {
-        count = length-set ts n (changed call t);
-        left = λ u is. slice_get-set_other ts n number (changed call t) other ∙ is;
-      })
-]

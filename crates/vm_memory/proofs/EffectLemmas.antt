@@ -26,7 +26,8 @@ use Rattle.vm_memory.specs.Effect.{if_there, laid_out, without, leaves}
 use Rattle.vm_memory.specs.Commands.{table_call}
 use Rattle.vm_memory.specs.Lawful.{IsLaidOut, IsLawful}
 use Rattle.vm_memory.specs.Commands.{effect}
-use Rattle.vm_memory.specs.Reply.{access_result, reached_by, reply_of, reply_of_layout_error, writes}
+use Rattle.vm_memory_device.specs.Reach.{reached_by}
+use Rattle.vm_memory.specs.Reply.{access_result, reply_of, reply_of_layout_error, writes}
 use Rattle.vm_memory.specs.Rounds.{IsDirect, image_after}
 use Rattle.vm_memory.specs.State.{State, named}
 use Rattle.vm_memory.specs.Tables.{changed_table}
@@ -38,7 +39,8 @@ use Rattle.vm_memory.specs.declared.machine.command.BlockRange.{BlockRange}
 use Rattle.vm_memory.specs.declared.machine.command.Fault.TheVariants as fault
 use Rattle.vm_memory.specs.declared.machine.command.Reply.{Reply}
 use Rattle.vm_memory.specs.declared.machine.command.Reply.TheVariants as reply
-use Rattle.vm_memory.proofs.CallLemmas.{AreLeftBy, HistoryLaws, same, changed_at}
+use Rattle.vm_memory_device.proofs.TableLemmas.{AreLeftBy, same, changed_at}
+use Rattle.vm_memory.proofs.CallLemmas.{HistoryLaws}
 use Rattle.vm_memory.proofs.LawfulLemmas.{PassesLaw, IsLayout-removed, layout_at, memory_at, region_at, named_fit}
 use Rattle.vm_memory.proofs.LayoutLemmas.{OfLeft, All-inserted, All-removed}
 use Rattle.vm_memory.proofs.RoundsLemmas.{AreListed, CleanedStay, WriteLaws, KeepsBlock, MarksItsCell, direct_marks}

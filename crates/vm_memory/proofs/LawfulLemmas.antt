@@ -10,10 +10,10 @@ use Rattle.vm_memory_guest.specs.Layout.{is_exactly, behind_first, removed}
 use Rattle.vm_memory_guest.specs.Memory.{Memory}
 use Rattle.vm_memory_guest.specs.Region.{Region, IsRegion, IsLayout, last, layout_error}
 use Rattle.vm_memory.specs.Lawful.{IsLaidOut, IsLawful}
-use Rattle.vm_memory.specs.Memories.{memory_meant, each_fits}
+use Rattle.vm_memory_device.specs.Memories.{memory_meant, each_fits}
 use Rattle.vm_memory.specs.Parts.{Parts, AreHeld, state_of}
 use Rattle.vm_memory.specs.State.{State, named}
-use Rattle.vm_memory.specs.declared.machine.machine_memory.MachineMemory.{MachineMemory}
+use Rattle.vm_memory_device.specs.declared.machine_memory.MachineMemory.{MachineMemory}
 use Rattle.vm_memory.proofs.LayoutLemmas.{OfLeft, OfLeft-behind}
 use Rattle.vm_memory.proofs.ListLemmas.{All-slice_get}
 use Rattle.vm_memory.proofs.NamedLemmas.{named-among}

@@ -10,8 +10,8 @@ use Rattle.vm_memory.specs.Reading.{Read, number_at, page_size_at, limit_at, add
 use Rattle.vm_memory.specs.LineReading.{IsShown, setup, command, shown, line_at, line_behind, command_at, setup_at, sized_at, table_at, limit_field}
 use Rattle.vm_memory.specs.declared.machine.command.Command as commands
 use Rattle.vm_memory.specs.declared.machine.command.Command.TheVariants as make
-use Rattle.vm_memory.specs.declared.script.setup.Setup as setups
-use Rattle.vm_memory.specs.declared.script.setup.Setup.TheVariants.{Block, Space, Table, Region, Translator}
+use Rattle.vm_memory.specs.declared.machine.setup.Setup as setups
+use Rattle.vm_memory.specs.declared.machine.setup.Setup.TheVariants.{Block, Space, Table, Region, Translator}
 use Rattle.vm_memory.specs.declared.script.words.LineError.{LineError}
 use Rattle.vm_memory.specs.declared.script.words.LineError.TheVariants as error
 use Rattle.vm_memory.specs.declared.script.line.Line.{Line}

@@ -5,22 +5,24 @@ use Rattle.std.proofs.lemmas.Option.{slice_get-map, slice_get_cases}
 use Rattle.vm_memory_base.specs.Pages.{PageSet}
 use Rattle.vm_memory_guest.specs.Memory as guest
 use Rattle.vm_memory_guest.specs.Region.{Region}
-use Rattle.vm_memory.specs.Iommu.{Behind}
+use Rattle.vm_memory_device.specs.Iommu.{Behind}
 use Rattle.vm_memory.specs.Commands.{MayWant}
 use Rattle.vm_memory.specs.Machine.{Step, outcome}
 use Rattle.vm_memory.specs.Effect.{AddsMemory, apply}
 use Rattle.vm_memory.proofs.BitmapLemmas.{set-same}
-use Rattle.vm_memory.specs.Memories.{memory_meant, turned_memory}
+use Rattle.vm_memory_device.specs.Memories.{memory_meant}
+use Rattle.vm_memory.specs.Memories.{turned_memory}
 use Rattle.vm_memory.specs.Parts.{Parts, state_of}
 use Rattle.vm_memory.specs.Reply.{replied}
-use Rattle.vm_memory.specs.Iommu.{behind}
-use Rattle.vm_memory.specs.State.{State, plain}
+use Rattle.vm_memory_device.specs.Iommu.{behind}
+use Rattle.vm_memory_device.specs.Memories.{plain}
+use Rattle.vm_memory.specs.State.{State}
 use Rattle.vm_memory.specs.declared.machine.command.Command.{Command}
 use Rattle.vm_memory.specs.declared.machine.command.Command.TheVariants as command
 use Rattle.vm_memory.specs.declared.machine.command.Reply.{Reply}
 use Rattle.vm_memory.specs.declared.machine.command.Reply.TheVariants as reply
-use Rattle.vm_memory.specs.declared.machine.machine_memory.MachineMemory.{MachineMemory}
-use Rattle.vm_memory.specs.declared.machine.machine_memory.MachineMemory.TheVariants.{Plain, Translated}
+use Rattle.vm_memory_device.specs.declared.machine_memory.MachineMemory.{MachineMemory}
+use Rattle.vm_memory_device.specs.declared.machine_memory.MachineMemory.TheVariants.{Plain, Translated}
 use Rattle.vm_memory.specs.declared.machine.refusal.Refusal.{Refusal}
 use Rattle.vm_memory.specs.declared.machine.refusal.Refusal.TheVariants as refusal
 

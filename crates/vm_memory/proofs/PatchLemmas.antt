@@ -7,8 +7,9 @@ use Rattle.std.proofs.lemmas.Nat.{div_below, le-div}
 use Rattle.std.proofs.lemmas.Option.{none-some, same_Some}
 use Rattle.std.specs.List.{list_any}
 use Rattle.vm_memory_base.specs.Pages.{PageSet, shape}
-use Rattle.vm_memory.specs.Rounds.{patched, patched_by}
-use Rattle.vm_memory.proofs.RoundsLemmas.{length-patched, get_or-patched}
+use Rattle.vm_memory_guest.specs.Patch.{patched}
+use Rattle.vm_memory.specs.Rounds.{patched_by}
+use Rattle.vm_memory_guest.proofs.PatchLemmas.{length-patched, get_or-patched}
 
 or_none : (b : Bool) → (b || false) ≡ b
 or_none true = refl

@@ -1,16 +1,14 @@
 -- An image that is patched in rounds, and the block that it mirrors.
-use Rattle.std.proofs.Common.{◌≡◌, ◌↔◌, Bool, ℕ, zero, suc, ◌+◌, ◌*◌, ◌/◌, ◌^◌, ◌<◌, ◌==◌, ◌≢◌, true, false, cond, List, [], ◌∷◌, map, length, get_or, Option, Some, None, option_map, Result, Ok, Err, IsSome, All, Contains, refl, sym, ap, subst, ◌∙◌, inl, inr, arith, zero-add}
+use Rattle.std.proofs.Common.{◌≡◌, ◌↔◌, Bool, ℕ, zero, suc, ◌+◌, ◌*◌, ◌/◌, ◌^◌, ◌<◌, ◌==◌, ◌≢◌, true, false, cond, List, [], ◌∷◌, map, length, get_or, Option, Some, None, option_map, Result, Ok, Err, IsSome, All, Contains, refl, sym, ap, subst, ◌∙◌, inl, inr, arith}
 use Rattle.std.proofs.lemmas.Bool.{eqb-true, eqb-false, cases_Bool, true≢false, cond-true, cond-false}
 use Rattle.std.proofs.lemmas.Cmp.{nat_eq_equiv}
 use Rattle.std.proofs.lemmas.List.{length-map, set-get_or, get_or-map, get_or-set_same, get_or-set_other, ext_get_or}
 use Rattle.std.proofs.lemmas.List.Elements.{All-nil, All-cons, All-head, All-tail, All-map, All-contains}
-use Rattle.std.proofs.lemmas.List.FromFn.{length-range_with_len, get_or-range_with_len}
 use Rattle.std.proofs.lemmas.Map.Views.{list_any-from_Contains, Contains-from_any}
 use Rattle.std.proofs.lemmas.Nat.{div_below}
 use Rattle.std.proofs.lemmas.Option.{slice_get_cases, slice_get_within, slice_get-map, get_or_from_slice_get}
 use Rattle.std.specs.Cmp.{both_ways}
-use Rattle.std.specs.List.{list_any, range_with_len, slice_get, slice_set}
-use Rattle.vm_memory_base.specs.Address.{numbers}
+use Rattle.std.specs.List.{list_any, slice_get, slice_set}
 use Rattle.vm_memory_base.specs.Pages.{Pages, PageSet, shape, is_dirty_at, dirty_pages, cleaned}
 use Rattle.vm_memory_base.specs.Table.{Table}
 use Rattle.vm_memory_base.specs.Transfer.{Next}
@@ -32,39 +30,17 @@ use Rattle.vm_memory_guest.specs.Typed.{path_given, whole_path}
 use Rattle.vm_memory_guest.specs.Window.{Window, with_bitmap}
 use Rattle.vm_memory_guest.specs.declared.region.error.GuestMemoryError.{GuestMemoryError}
 use Rattle.vm_memory_guest.specs.declared.region.error.GuestMemoryError.TheVariants as errors
+use Rattle.vm_memory_guest.specs.Patch.{patched}
+use Rattle.vm_memory_guest.proofs.PatchLemmas.{get_or-patched, length-patched}
 use Rattle.vm_memory.specs.Machine.{Step, outcome}
-use Rattle.vm_memory.specs.Reply.{reached_by, access_result, reply_of}
-use Rattle.vm_memory.specs.Rounds.{patched, patched_by, patched_with, bytes_of_block, pages_of_block, image_now, image_after, MirrorsBlock, RepliesAsImage, Cover, IsTracked}
+use Rattle.vm_memory_device.specs.Reach.{reached_by}
+use Rattle.vm_memory.specs.Reply.{access_result, reply_of}
+use Rattle.vm_memory.specs.Rounds.{patched_by, patched_with, bytes_of_block, pages_of_block, image_now, image_after, MirrorsBlock, RepliesAsImage, Cover, IsTracked}
 use Rattle.vm_memory.specs.State.{State}
 use Rattle.vm_memory.specs.declared.machine.command.Command.{Command}
 use Rattle.vm_memory.specs.declared.machine.command.Command.TheVariants as command
 use Rattle.vm_memory.specs.declared.machine.command.Reply.{Reply}
 use Rattle.vm_memory.specs.declared.machine.command.Reply.TheVariants as reply
-
--- ---- a patched image, byte by byte
-
-numbers-is_range : (a n : ℕ) → numbers a n ≡ range_with_len a n
-numbers-is_range a zero = refl
-numbers-is_range a (suc n) = ap (λ (xs : List ℕ). a ∷ xs) (numbers-is_range (a + 1) n)
-
-length-numbers : (a n : ℕ) → length (numbers a n) ≡ n
-length-numbers a n = rw (numbers-is_range a n) (length-range_with_len a n)
-
-get_or-numbers : (a n i d : ℕ) → i < n → get_or (numbers a n) i d ≡ a + i
-get_or-numbers a n i d l = rw (numbers-is_range a n) (get_or-range_with_len a n i d l)
-
-pub length-patched : (size : ℕ) (pages now image : List ℕ) → length (patched size pages now image) ≡ length image
-length-patched size pages now image = simp (length-map, length-numbers)
-
-pub get_or-patched : (size : ℕ) (pages now image : List ℕ) (k : ℕ) → k < length image
-    → get_or (patched size pages now image) k 0
-    ≡ cond (list_any (λ (page : ℕ). k / size == page) pages) (get_or now k 0) (get_or image k 0)
-get_or-patched size pages now image k l =
-    let byte : ℕ → ℕ = λ x. cond (list_any (λ (page : ℕ). x / size == page) pages) (get_or now x 0)
-    (get_or image x 0) in
-    let count : length (numbers 0 (length image)) ≡ length image = length-numbers 0 (length image) in
-    get_or-map byte (numbers 0 (length image)) k 0 0 (omega arith)
-    ∙ ap byte (get_or-numbers 0 (length image) k 0 l ∙ zero-add k)
 
 -- ---- what is taken from the laws of page sets and of writes
 

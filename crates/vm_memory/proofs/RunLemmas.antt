@@ -17,7 +17,8 @@ use Rattle.vm_memory.specs.declared.machine.command.Command.{Command}
 use Rattle.vm_memory.specs.declared.machine.command.Command.TheVariants as command
 use Rattle.vm_memory.specs.declared.machine.command.Reply.{Reply}
 use Rattle.vm_memory.specs.declared.machine.command.Reply.TheVariants as reply
-use Rattle.vm_memory.proofs.CallLemmas.{AreLeftBy, HistoryLaws, same, one_after_the_other}
+use Rattle.vm_memory_device.proofs.TableLemmas.{AreLeftBy, same, one_after_the_other}
+use Rattle.vm_memory.proofs.CallLemmas.{HistoryLaws}
 use Rattle.vm_memory.proofs.EffectLemmas.{IsOf, IsSilent, ImageLaws, quiet_is_silent, command_has_effect}
 use Rattle.vm_memory.proofs.LawfulLemmas.{PassesLaw, with_layout, with_memory, with_memory_at, with_other_host}
 use Rattle.vm_memory.proofs.RoundsLemmas.{KeepsBlock, mirrors_from_clean, replies_as_image}

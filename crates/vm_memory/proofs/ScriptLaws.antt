@@ -18,9 +18,9 @@ use Rattle.vm_memory.specs.declared.machine.command.Command.TheVariants as make
 use Rattle.vm_memory.specs.declared.machine.command.Reply.{Reply}
 use Rattle.vm_memory.specs.declared.script.line.Line.{Line}
 use Rattle.vm_memory.specs.declared.script.line.Line.TheVariants.{Nothing, Setup, Command}
-use Rattle.vm_memory.specs.declared.script.reply.SetupReply.{SetupReply}
-use Rattle.vm_memory.specs.declared.script.setup.Setup as setups
-use Rattle.vm_memory.specs.declared.script.setup.Setup.TheVariants.{Block, Space, Table, Region, Translator}
+use Rattle.vm_memory.specs.declared.machine.setup.SetupReply.{SetupReply}
+use Rattle.vm_memory.specs.declared.machine.setup.Setup as setups
+use Rattle.vm_memory.specs.declared.machine.setup.Setup.TheVariants.{Block, Space, Table, Region, Translator}
 use Rattle.vm_memory.proofs.CommandLemmas.{command-from}
 use Rattle.vm_memory.proofs.LineLemmas.{command-no_setup, command-some, no_words, setup-from, setup-some}
 

@@ -1,9 +1,9 @@
 -- What a session answers to a line, by its meaning.
-use Rattle.std.proofs.Common.{◌≡◌, ℕ, false, List, [], ◌∷◌, ◌++◌, Option, Some, None, is_some, Result, Ok, Err, refl, sym, subst, inr}
+use Rattle.std.proofs.Common.{◌≡◌, ℕ, Bool, true, false, List, [], ◌∷◌, ◌++◌, Option, Result, Ok, Err, refl, sym, subst, inr}
 use Rattle.std.proofs.lemmas.Bool.{false≢true}
 use Rattle.vm_memory.specs.Lines.{Means}
 use Rattle.vm_memory.specs.Machine.{Step}
-use Rattle.vm_memory.specs.Pools.{ScriptParts, state_made}
+use Rattle.vm_memory.specs.ScriptMachine.{ScriptParts, state_made}
 use Rattle.vm_memory.specs.Script.{Stage, setting, commanding, state_at}
 use Rattle.vm_memory.specs.Setup.{SetsUp}
 use Rattle.vm_memory.specs.State.{State}
@@ -15,8 +15,8 @@ use Rattle.vm_memory.specs.declared.script.DriveFault.{DriveFault}
 use Rattle.vm_memory.specs.declared.script.DriveFault.TheVariants as fault
 use Rattle.vm_memory.specs.declared.script.line.Line.{Line}
 use Rattle.vm_memory.specs.declared.script.line.Line.TheVariants.{Nothing, Setup, Command}
-use Rattle.vm_memory.specs.declared.script.reply.SetupReply.{SetupReply}
-use Rattle.vm_memory.specs.declared.script.setup.Setup as setups
+use Rattle.vm_memory.specs.declared.machine.setup.SetupReply.{SetupReply}
+use Rattle.vm_memory.specs.declared.machine.setup.Setup as setups
 
 -- the end of a line that was told, of some output and what waits
 module _ (before : Option (List ℕ)) (pending : List ℕ) (after : Option (List ℕ)) (left : List ℕ) where
@@ -68,10 +68,16 @@ module _ (before : Option (List ℕ)) (pending : List ℕ) (after : Option (List
   tells-meaning old new line m n (Err fault.Write) h told = (told.0, told.1, (m, h, told.2), told.3)
   tells-meaning old new line m n (Err fault.Memory) h told = told
 
-  -- before the first command there is no machine
-  pub no_machine : (machine : Option ScriptParts) (pools made : ScriptParts) (m : Line) (n : ℕ)
-      (r : Result (Unit {0}) DriveFault) → is_some machine ≡ false
-      → TellsMeaning (setting (state_made pools)) m n r (setting (state_made made)) before pending after left
-      → TellsMeaning (stage_of machine pools) m n r (stage_of machine made) before pending after left
-  no_machine None pools made m n r none told = told
-  no_machine (Some x) pools made m n r none told = absurd (false≢true (sym none))
+  -- before the first command
+  pub not_commanded : (commanded : Bool) (old new : ScriptParts) (m : Line) (n : ℕ)
+      (r : Result (Unit {0}) DriveFault) → commanded ≡ false
+      → TellsMeaning (setting (state_made old)) m n r (setting (state_made new)) before pending after left
+      → TellsMeaning (stage_of commanded old) m n r (stage_of commanded new) before pending after left
+  not_commanded false old new m n r none told = told
+  not_commanded true old new m n r none told = absurd (false≢true (sym none))
+
+-- its state, wherever it stands
+pub state_of_stage : (commanded : Bool) (machine : ScriptParts)
+    → state_made machine ≡ state_at (stage_of commanded machine)
+state_of_stage false machine = refl
+state_of_stage true machine = refl

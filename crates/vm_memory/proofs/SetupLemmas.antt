@@ -1,4 +1,4 @@
--- Regions that setup lines make.
+-- What is made for a machine.
 use Rattle.std.proofs.Common.{◌≡◌, ◌∙◌, ℕ, zero, suc, ◌+◌, ◌<◌, ◌^◌, true, List, [], ◌∷◌, ◌++◌, length, map, slice_get, Some, is_some, refl, sym, ap, subst, inl, inr, arith}
 use Rattle.std.proofs.lemmas.Bool.{false≢true, lt-ltb}
 use Rattle.std.proofs.lemmas.List.{map-append, length-map}
@@ -10,11 +10,11 @@ use Rattle.vm_memory_guest.specs.Region.{Region}
 use Rattle.vm_memory_guest.specs.declared.host.BlockId.{BlockId}
 use Rattle.vm_memory_guest.specs.declared.mmap.GuestRegionMmap.{GuestRegionMmap}
 use Rattle.vm_memory.specs.State.{State}
-use Rattle.vm_memory.specs.Pools.{ScriptParts, state_made}
+use Rattle.vm_memory.specs.ScriptMachine.{ScriptParts, state_made}
 use Rattle.vm_memory.specs.Setup.{SetsUp, IsMade, add_region, region_at, set_up}
-use Rattle.vm_memory.specs.declared.script.setup.Setup.TheVariants as setup
-use Rattle.vm_memory.specs.declared.script.reply.SetupReply.{SetupReply}
-use Rattle.vm_memory.specs.declared.script.reply.SetupReply.TheVariants.{RegionMade, Memory}
+use Rattle.vm_memory.specs.declared.machine.setup.Setup.TheVariants as setup
+use Rattle.vm_memory.specs.declared.machine.setup.SetupReply.{SetupReply}
+use Rattle.vm_memory.specs.declared.machine.setup.SetupReply.TheVariants.{RegionMade, Memory}
 use Rattle.vm_memory.proofs.SpellingLemmas.{first}
 
 block_there : (blocks : List (List ℕ)) (b : ℕ) → is_some (slice_get (map length blocks) b) ≡ true
@@ -22,16 +22,6 @@ block_there : (blocks : List (List ℕ)) (b : ℕ) → is_some (slice_get (map l
 block_there [] b h = absurd (false≢true h)
 block_there (x ∷ blocks) zero h = refl
 block_there (x ∷ blocks) (suc b) h = block_there blocks b h
-
--- pools of a host
-abbrev pools : Host ExclusiveBitmap → List GuestRegionMmap → List ℕ → ScriptParts
-pools host regions translators = record {
-  host = host;
-  regions = regions;
-  translators = translators;
-  layouts = [];
-  memories = [];
-}
 
 -- a region of a whole block that is there
 pub record IsWhole (host : Host ExclusiveBitmap) (block : BlockId) (addr : GuestAddress) (r : GuestRegionMmap)
@@ -41,48 +31,45 @@ pub record IsWhole (host : Host ExclusiveBitmap) (block : BlockId) (addr : Guest
   pub block_is : r.mapping.block ≡ block.0
   pub size : r.mapping.size ≡ length (block_at host.blocks block.0)
 
-made : (host : Host ExclusiveBitmap) (regions : List GuestRegionMmap) (translators : List ℕ) (block : BlockId)
-    (addr : GuestAddress) (r : GuestRegionMmap) → IsWhole host block addr r
-    → set_up (state_made (pools host regions translators)) (setup.Region block addr)
-    ≡ (RegionMade (length regions), state_made (pools host (regions ++ r ∷ []) translators))
-made host regions translators block addr r h =
-    let bytes = block_at host.blocks block.0 in
-    let old = state_made (pools host regions translators) in
+made : (m : ScriptParts) (block : BlockId) (addr : GuestAddress) (r : GuestRegionMmap) → IsWhole m.host block addr r
+    → set_up (state_made m) (setup.Region block addr)
+    ≡ (RegionMade (length m.regions), state_made (record m { regions = m.regions ++ r ∷ [] }))
+made m block addr r h =
+    let bytes = block_at m.host.blocks block.0 in
+    let old = state_made m in
     let fits = r.fits in
     let start = h.start in
     let size = h.size in
     let below : addr.0 + length bytes < 2 ^ 64 = omega arith in
     let is : region_at addr.0 block.0 (length bytes) ≡ mmap_region r = same (h.start) (h.block_is) (h.size) in
-    let grown : old.regions ++ region_at addr.0 block.0 (length bytes) ∷ [] ≡ map mmap_region (regions ++ r ∷ []) =
-    ap (λ q. old.regions ++ q ∷ []) is ∙ sym (map-append mmap_region regions (r ∷ [])) in
-    let count : length (map mmap_region regions) ≡ length regions = simp length-map in
+    let grown : old.regions ++ region_at addr.0 block.0 (length bytes) ∷ [] ≡ map mmap_region (m.regions ++ r ∷ []) =
+    ap (λ q. old.regions ++ q ∷ []) is ∙ sym (map-append mmap_region m.regions (r ∷ [])) in
+    let count : length (map mmap_region m.regions) ≡ length m.regions = simp length-map in
     let add : List Region → ℕ → SetupReply × State = λ rs n. (RegionMade n, record old { regions = rs }) in
-    ap (add_region old block.0 addr.0) (block_there host.blocks block.0 h.there)
+    ap (add_region old block.0 addr.0) (block_there m.host.blocks block.0 h.there)
     ∙ first _ _ _ (lt-ltb _ _ below)
     ∙ ap (λ rs. add rs (length old.regions)) grown
-    ∙ ap (λ n. add (map mmap_region (regions ++ r ∷ [])) n) count
+    ∙ ap (λ n. add (map mmap_region (m.regions ++ r ∷ [])) n) count
   where
-    same : r.start ≡ addr.0 → r.mapping.block ≡ block.0 → r.mapping.size ≡ length (block_at host.blocks block.0)
-        → region_at addr.0 block.0 (length (block_at host.blocks block.0)) ≡ mmap_region r
+    same : r.start ≡ addr.0 → r.mapping.block ≡ block.0 → r.mapping.size ≡ length (block_at m.host.blocks block.0)
+        → region_at addr.0 block.0 (length (block_at m.host.blocks block.0)) ≡ mmap_region r
     same a b c = cc
 
-pub region_added : (host : Host ExclusiveBitmap) (regions pool : List GuestRegionMmap) (translators : List ℕ)
-    (block : BlockId) (addr : GuestAddress) (r : GuestRegionMmap) (n : ℕ) → IsWhole host block addr r
-    → n ≡ length regions → pool ≡ regions ++ r ∷ []
-    → SetsUp (state_made (pools host regions translators)) (setup.Region block addr) (RegionMade n)
-    (state_made (pools host pool translators))
-region_added host regions pool translators block addr r n h count grown =
-    inl (ap (λ m. (RegionMade m, state_made (pools host pool translators))) count
-    ∙ ap (λ p. (RegionMade (length regions), state_made (pools host p translators))) grown
-    ∙ sym (made host regions translators block addr r h))
+pub region_added : (m : ScriptParts) (pool : List GuestRegionMmap) (block : BlockId) (addr : GuestAddress)
+    (r : GuestRegionMmap) (n : ℕ) → IsWhole m.host block addr r → n ≡ length m.regions
+    → pool ≡ m.regions ++ r ∷ []
+    → SetsUp (state_made m) (setup.Region block addr) (RegionMade n) (state_made (record m { regions = pool }))
+region_added m pool block addr r n h count grown =
+    inl (ap (λ k. (RegionMade k, state_made (record m { regions = pool }))) count
+    ∙ ap (λ p. (RegionMade (length m.regions), state_made (record m { regions = p }))) grown
+    ∙ sym (made m block addr r h))
 
-pub region_refused : (host : Host ExclusiveBitmap) (regions pool : List GuestRegionMmap) (translators : List ℕ)
-    (block : BlockId) (addr : GuestAddress) (r : GuestRegionMmap) → IsWhole host block addr r → pool ≡ regions
-    → SetsUp (state_made (pools host regions translators)) (setup.Region block addr) Memory
-    (state_made (pools host pool translators))
-region_refused host regions pool translators block addr r h same =
+pub region_refused : (m : ScriptParts) (pool : List GuestRegionMmap) (block : BlockId) (addr : GuestAddress)
+    (r : GuestRegionMmap) → IsWhole m.host block addr r → pool ≡ m.regions
+    → SetsUp (state_made m) (setup.Region block addr) Memory (state_made (record m { regions = pool }))
+region_refused m pool block addr r h same =
     inr (
       refl,
-      subst (λ (o : SetupReply × State). IsMade o.0) (sym (made host regions translators block addr r h)) tt,
-      ap (λ p. state_made (pools host p translators)) same,
+      subst (λ (o : SetupReply × State). IsMade o.0) (sym (made m block addr r h)) tt,
+      ap (λ p. state_made (record m { regions = p })) same,
     )

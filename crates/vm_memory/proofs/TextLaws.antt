@@ -26,8 +26,8 @@ use Rattle.vm_memory.specs.declared.machine.command.Ending.TheVariants as ending
 use Rattle.vm_memory.specs.declared.machine.command.Reply as replies
 use Rattle.vm_memory.specs.declared.machine.command.Reply.TheVariants as reply
 use Rattle.vm_memory.proofs.ReplyLemmas.{glyph-letter, glyph-value}
-use Rattle.vm_memory.specs.declared.script.reply.SetupReply as setups
-use Rattle.vm_memory.specs.declared.script.reply.SetupReply.TheVariants as setup
+use Rattle.vm_memory.specs.declared.machine.setup.SetupReply as setups
+use Rattle.vm_memory.specs.declared.machine.setup.SetupReply.TheVariants as setup
 use Rattle.vm_memory.proofs.SpellingLemmas.{first, other_word, second}
 use Rattle.vm_memory.proofs.WritingLemmas.{Apart, Letters, both, decimal-letters, in-word, no_space, parts-one, weaker}
 

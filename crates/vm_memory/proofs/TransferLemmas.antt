@@ -26,7 +26,8 @@ use Rattle.vm_memory_guest.specs.declared.region.error.GuestMemoryError.{GuestMe
 use Rattle.vm_memory_guest.specs.declared.region.error.GuestMemoryError.TheVariants as errors
 use Rattle.vm_memory_guest.proofs.AccessLaws.{cells-access}
 use Rattle.vm_memory.specs.Calls.{SentBy}
-use Rattle.vm_memory.specs.Reply.{all_moved, as_done, moved_as, reached_by, refused_as, replied, reply_of}
+use Rattle.vm_memory_device.specs.Reach.{reached_by}
+use Rattle.vm_memory.specs.Reply.{all_moved, as_done, moved_as, refused_as, replied, reply_of}
 use Rattle.vm_memory.specs.Transfers.{beside_taken, dealt_to, given_by, receives, sends}
 use Rattle.vm_memory.specs.declared.machine.command.Reply.{Reply}
 use Rattle.vm_memory.specs.declared.machine.command.Reply.TheVariants.{Count, Done}

@@ -30,7 +30,8 @@ use Rattle.vm_memory_guest.specs.declared.region.error.GuestMemoryError.{GuestMe
 use Rattle.vm_memory_guest.specs.declared.region.error.GuestMemoryError.TheVariants as errors
 use Rattle.vm_memory_guest.specs.declared.region.error.GuestRegionCollectionError.{GuestRegionCollectionError}
 use Rattle.vm_memory_guest.specs.declared.region.error.GuestRegionCollectionError.TheVariants as layouts
-use Rattle.vm_memory.specs.Reply.{access_result, all_moved, moved_as, reached_by, reads, reads_whole, reply_of, reply_of_error, reply_of_layout_error, writes}
+use Rattle.vm_memory_device.specs.Reach.{reached_by}
+use Rattle.vm_memory.specs.Reply.{access_result, all_moved, moved_as, reads, reads_whole, reply_of, reply_of_error, reply_of_layout_error, writes}
 use Rattle.vm_memory.specs.Tables.{looks_up}
 use Rattle.vm_memory.specs.Transfers.{beside_taken, dealt_to, given_by, receives, sends}
 use Rattle.vm_memory.specs.Typed.{loads, stores_bytes}

@@ -23,8 +23,8 @@ use Rattle.vm_memory.specs.Lines.{CanGive, CanSpell, CanTake, Field, IsField, Me
 use Rattle.vm_memory.specs.declared.machine.command.Command as commands
 use Rattle.vm_memory.specs.declared.machine.command.Command.TheVariants as make
 use Rattle.vm_memory.specs.declared.script.line.Line.TheVariants.{Command, Setup}
-use Rattle.vm_memory.specs.declared.script.setup.Setup as setups
-use Rattle.vm_memory.specs.declared.script.setup.Setup.TheVariants.{Block, Space, Table, Region, Translator}
+use Rattle.vm_memory.specs.declared.machine.setup.Setup as setups
+use Rattle.vm_memory.specs.declared.machine.setup.Setup.TheVariants.{Block, Space, Table, Region, Translator}
 use Rattle.vm_memory.proofs.SpellingLemmas.{first, second}
 
 -- ---- texts and their parts

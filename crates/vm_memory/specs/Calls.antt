@@ -22,7 +22,8 @@ use Rattle.vm_memory_guest.specs.declared.region.error.GuestMemoryError.TheVaria
 use Rattle.vm_memory.specs.Commands.{MayTranslate}
 use Rattle.vm_memory.specs.Effect.{apply, changes_by}
 use Rattle.vm_memory.specs.Machine.{Step, outcome}
-use Rattle.vm_memory.specs.Reply.{reached_by, refused_as, replied}
+use Rattle.vm_memory_device.specs.Reach.{reached_by}
+use Rattle.vm_memory.specs.Reply.{refused_as, replied}
 use Rattle.vm_memory.specs.State.{State}
 use Rattle.vm_memory.specs.Transfers.{beside_taken}
 use Rattle.vm_memory.specs.Typed.{fits_width, integer_of, taken_by}

@@ -1,5 +1,5 @@
 -- What is told of each command: what it does, where it may want memory, and which memory or table it is on.
-use Rattle.std.specs.Prelude.{◌≡◌, ◌≢◌, ◌<◌, ◌==◌, if◌then◌else◌, ℕ, true, false, IsTrue, List, [], ◌∷◌, length, slice_get}
+use Rattle.std.specs.Prelude.{◌≡◌, ◌≢◌, ◌<◌, ◌==◌, if◌then◌else◌, ℕ, Bool, true, false, IsTrue, List, [], ◌∷◌, length, slice_get}
 use Rattle.std.specs.Prelude.{Option, Some, None, IsSome, IsSomeAnd}
 use Rattle.std.specs.Int.{byte_len}
 use Rattle.vm_memory_base.specs.Pages.{dirty_pages, cleaned}
@@ -12,8 +12,9 @@ use Rattle.vm_memory_guest.specs.Layout.{inserted, removed}
 use Rattle.vm_memory_guest.specs.Region.{layout_error}
 use Rattle.vm_memory_guest.specs.Walk.{NeedsPieces}
 use Rattle.vm_memory_guest.specs.Window.{bitmap_of, with_bitmap}
-use Rattle.vm_memory.specs.Iommu.{behind}
-use Rattle.vm_memory.specs.State.{State, plain, named}
+use Rattle.vm_memory_device.specs.Iommu.{behind}
+use Rattle.vm_memory_device.specs.Memories.{plain}
+use Rattle.vm_memory.specs.State.{State, named}
 use Rattle.vm_memory.specs.Copy.{copies}
 use Rattle.vm_memory.specs.Effect.{Effect, Replies, AddsMemory, SetsMemory, Leaves}
 use Rattle.vm_memory.specs.Effect.{if_there, laid_out, without, leaves, asks, changes_by}
@@ -143,6 +144,14 @@ accessed_memory (WriteTo memory addr count sink) = Some memory
 accessed_memory (WriteAllTo memory addr count sink) = Some memory
 accessed_memory (CheckRange memory addr count access) = Some memory
 accessed_memory c = None
+
+-- whether it moves bytes from a source or to a sink
+abbrev pub is_transfer : Command → Bool
+is_transfer (ReadFrom memory addr count source) = true
+is_transfer (ReadExactFrom memory addr count source) = true
+is_transfer (WriteTo memory addr count sink) = true
+is_transfer (WriteAllTo memory addr count sink) = true
+is_transfer c = false
 
 -- the table that a command changes or asks, if it is one on tables
 abbrev pub table_of : Command → Option ℕ

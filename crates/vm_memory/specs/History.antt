@@ -1,16 +1,15 @@
 -- What the commands of a run made of I/O tables, and how an access goes through one.
-use Rattle.std.specs.Prelude.{◌≡◌, ℕ, ◌+◌, ◌<◌, true, false, List, [], ◌∷◌, ◌++◌, All, Option, Some}
+use Rattle.std.specs.Prelude.{◌≡◌, ℕ, ◌+◌, ◌<◌, true, List, [], ◌∷◌, ◌++◌, Some}
 use Rattle.std.specs.Prelude.{length, slice_get, slice_index_or}
-use Rattle.vm_memory_base.specs.Permissions.{allow}
-use Rattle.vm_memory_base.specs.Table.{Table, TableEvent, says, says_after_all, events_of, covers, Mapping, target}
+use Rattle.vm_memory_base.specs.Table.{Table, TableEvent, says, says_after_all, events_of}
 use Rattle.vm_memory_base.specs.declared.iotlb.Permissions.{Permissions}
 use Rattle.vm_memory_guest.specs.Access.{Reached}
 use Rattle.vm_memory_guest.specs.Memory.{Memory, Translation, behind_of}
-use Rattle.vm_memory_guest.specs.Region.{Region, Backed, cell, has_address}
+use Rattle.vm_memory_guest.specs.Region.{Region, has_address}
 use Rattle.vm_memory.specs.Commands.{table_call}
 use Rattle.vm_memory.specs.Lawful.{IsLawful}
 use Rattle.vm_memory.specs.Machine.{Step, Run}
-use Rattle.vm_memory.specs.Reply.{reached_by}
+use Rattle.vm_memory_device.specs.Reach.{GoesThrough, reached_by}
 use Rattle.vm_memory.specs.State.{State}
 use Rattle.vm_memory.specs.declared.machine.command.Command.{Command}
 use Rattle.vm_memory.specs.declared.machine.command.Reply.{Reply}
@@ -39,30 +38,12 @@ table_calls number cs rs = []
 abbrev pub table_events : ℕ → Table → List Command → List Reply → List TableEvent
 table_events number table cs rs = events_of (table_calls number cs rs) table
 
--- of these events, the last that covers an address is this one
-pub record IsLast (address : ℕ) (calls : List TableEvent) (call : TableEvent) : Type 0 where
-  pub earlier : List TableEvent
-  pub later : List TableEvent
-  pub is_among : calls ≡ earlier ++ call ∷ later
-  pub covers_it : covers call address ≡ true
-  pub none_later : All (λ other. covers other address ≡ false) later
-
 -- at every state of a run this holds of the commands before it, of their replies, and of it
 abbrev pub AtEachState : (List Command → List Reply → State → Type 0) → (old : State) (cs : List Command)
     (rs : List Reply) (new : State) → Run old cs rs new → Type 0
 AtEachState P old (c ∷ cs) (r ∷ rs) new run =
     P [] [] old × AtEachState (λ ds qs s. P (c ∷ ds) (r ∷ qs) s) run.0 cs rs new run.2
 AtEachState P old cs rs new run = P [] [] new
-
--- a byte that an access reaches at an address, of which this is said: it is mapped, with the permissions that the
--- access needs, and the byte is what lies at its target
-pub record GoesThrough (regions : List Region) (address : ℕ) (said : Option Mapping) (access : Permissions)
-    (x : Reached) : Type 0 where
-  pub mapping : Mapping
-  pub is_said : said ≡ Some mapping
-  pub is_taken : x.mapping ≡ Some mapping
-  pub permits : allow mapping.permissions access ≡ true
-  pub lies_there : cell regions (target address mapping) ≡ Backed x.region x.cell
 
 -- a state that commands with these replies left: its layouts are layouts, at most one region of a memory has an
 -- address, and behind an IOMMU that is on each byte is reached through the mapping that was set last for its address

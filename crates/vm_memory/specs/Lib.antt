@@ -1,6 +1,4 @@
 pub mod Calls
-pub mod Chain
-pub mod ChainText
 pub mod Commands
 pub mod Copy
 pub mod Tables
@@ -9,10 +7,10 @@ pub mod Effect
 pub mod examples
 pub mod History
 pub mod Inside
-pub mod Iommu
 pub mod Journal
 pub mod Lawful
 pub mod Machine
+pub mod Marks
 pub mod Memories
 pub mod Parts
 pub mod Reading
@@ -26,6 +24,6 @@ pub mod LineReading
 pub mod Lines
 pub mod Texts
 pub mod Setup
-pub mod Pools
+pub mod ScriptMachine
 pub mod Told
 pub mod ScriptRun

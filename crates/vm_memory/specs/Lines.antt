@@ -19,8 +19,8 @@ use Rattle.vm_memory.specs.declared.script.line.Line.{Line}
 use Rattle.vm_memory.specs.declared.script.line.Line.TheVariants.{Nothing, Setup, Command}
 use Rattle.vm_memory.specs.declared.script.words.LineError.{LineError}
 use Rattle.vm_memory.specs.declared.script.words.LineError.TheVariants.{Bad, Memory}
-use Rattle.vm_memory.specs.declared.script.setup.Setup as setups
-use Rattle.vm_memory.specs.declared.script.setup.Setup.TheVariants.{Block, Space, Table, Region, Translator}
+use Rattle.vm_memory.specs.declared.machine.setup.Setup as setups
+use Rattle.vm_memory.specs.declared.machine.setup.Setup.TheVariants.{Block, Space, Table, Region, Translator}
 
 -- a word of a line: one that stands for itself, or one that spells a value
 pub data Field : Type 0 where

@@ -6,10 +6,10 @@ use Rattle.vm_memory_guest.specs.Memory.{memory_names}
 use Rattle.vm_memory_guest.specs.Region.{Region, IsLayout, region_names}
 use Rattle.vm_memory_guest.specs.Dirt.{with_pages}
 use Rattle.vm_memory_guest.specs.Window.{Window, block_window}
-use Rattle.vm_memory.specs.Memories.{memory_meant}
+use Rattle.vm_memory_device.specs.Memories.{memory_meant}
 use Rattle.vm_memory.specs.State.{State}
 use Rattle.vm_memory.specs.declared.machine.command.BlockRange.{BlockRange}
-use Rattle.vm_memory.specs.declared.machine.machine_memory.MachineMemory.{MachineMemory}
+use Rattle.vm_memory_device.specs.declared.machine_memory.MachineMemory.{MachineMemory}
 
 -- a host, pools of regions and of translators, and the layouts and memories that were made
 pub record Parts (R I B : Type 0) : Type 0 where

@@ -1,12 +1,11 @@
 -- What a machine replies to calls, and what accesses reply and leave.
 use Rattle.std.specs.Prelude.{ℕ, Bool, true, false, List, length, Result, Ok, Err, option_map}
 use Rattle.vm_memory_base.specs.Pages.{PageSet}
-use Rattle.vm_memory_base.specs.Table.{Table}
 use Rattle.vm_memory_base.specs.declared.iotlb.Permissions.{Permissions}
 use Rattle.vm_memory_base.specs.declared.iotlb.Permissions.TheVariants as permissions
 use Rattle.vm_memory_guest.specs.Host.{Host}
-use Rattle.vm_memory_guest.specs.Memory.{Memory, route}
-use Rattle.vm_memory_guest.specs.Access.{Access, access_of}
+use Rattle.vm_memory_guest.specs.Memory.{Memory}
+use Rattle.vm_memory_guest.specs.Access.{Access}
 use Rattle.vm_memory_guest.specs.Dirt.{after_write, bytes_read}
 use Rattle.vm_memory_guest.specs.Error.{error_of}
 use Rattle.vm_memory_guest.specs.Queries.{is_whole}
@@ -15,6 +14,7 @@ use Rattle.vm_memory_guest.specs.declared.region.error.GuestMemoryError.{GuestMe
 use Rattle.vm_memory_guest.specs.declared.region.error.GuestMemoryError.TheVariants as errors
 use Rattle.vm_memory_guest.specs.declared.region.error.GuestRegionCollectionError.{GuestRegionCollectionError}
 use Rattle.vm_memory_guest.specs.declared.region.error.GuestRegionCollectionError.TheVariants as layouts
+use Rattle.vm_memory_device.specs.Reach.{reached_by}
 use Rattle.vm_memory.specs.declared.machine.command.Reply.{Reply}
 use Rattle.vm_memory.specs.declared.machine.command.Reply.TheVariants as reply
 use Rattle.vm_memory.specs.declared.machine.command.Fault as faults
@@ -80,10 +80,6 @@ reply_of_layout_error e = reply_of_refusal (refusal_of_layout e)
 abbrev pub reply_of : {T : Type 0} → (T → Reply) → Result T GuestMemoryError → Reply
 reply_of told (Ok given) = told given
 reply_of told (Err e) = reply_of_error e
-
--- what an access of n bytes at a reaches in a host with these tables
-abbrev pub reached_by : Memory → List Table → ℕ → ℕ → Permissions → Access
-reached_by m tables a n access = access_of m.regions (route m tables) a n access
 
 -- how many bytes an access reached, or the error where it reached none
 abbrev pub access_result : Access → Result ℕ GuestMemoryError

@@ -1,14 +1,13 @@
 -- An image of a block that is kept in rounds: each harvest of the block's bitmap patches it with the pages
 -- that the harvest takes.
-use Rattle.std.specs.Prelude.{◌≡◌, ℕ, ◌*◌, ◌/◌, ◌≤◌, ◌==◌, if◌then◌else◌, List, ◌∷◌, length, map}
-use Rattle.std.specs.Prelude.{slice_get, slice_set, slice_index, Option, Some, None, IfSome, option_and_then}
-use Rattle.std.specs.List.{list_any}
-use Rattle.vm_memory_base.specs.Address.{numbers}
+use Rattle.std.specs.Prelude.{◌≡◌, ℕ, ◌*◌, ◌≤◌, ◌==◌, if◌then◌else◌, List, ◌∷◌, length}
+use Rattle.std.specs.Prelude.{slice_get, slice_set, Option, Some, None, IfSome, option_and_then}
 use Rattle.vm_memory_base.specs.Pages.{PageSet, shape, dirty_pages, cleaned}
 use Rattle.vm_memory_base.specs.declared.bitmap.BitmapId.TheVariants as bitmap
 use Rattle.vm_memory_guest.specs.Dirt.{pages_at}
 use Rattle.vm_memory_guest.specs.Host.{Host, block_at}
 use Rattle.vm_memory_guest.specs.Memory.{IsOn}
+use Rattle.vm_memory_guest.specs.Patch.{patched}
 use Rattle.vm_memory_guest.specs.Window.{with_bitmap}
 use Rattle.vm_memory.specs.Commands.{written_memory}
 use Rattle.vm_memory.specs.Machine.{Run, outcome}
@@ -17,12 +16,6 @@ use Rattle.vm_memory.specs.declared.machine.command.Command.{Command}
 use Rattle.vm_memory.specs.declared.machine.command.Command.TheVariants.{Harvest}
 use Rattle.vm_memory.specs.declared.machine.command.Reply.{Reply}
 use Rattle.vm_memory.specs.declared.machine.command.Reply.TheVariants.{Pages}
-
--- an image in which each byte of a listed page was replaced by that byte of now
-abbrev pub patched : ℕ → List ℕ → List ℕ → List ℕ → List ℕ
-patched size pages now image =
-    map (λ x. if list_any (λ page. x / size == page) pages then slice_index now x else slice_index image x)
-    (numbers 0 (length image))
 
 -- the same by the pages of a bitmap: where it tracks nothing, there is nothing to replace
 abbrev pub patched_by : PageSet → List ℕ → List ℕ → List ℕ → List ℕ

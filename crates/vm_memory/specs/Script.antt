@@ -3,7 +3,7 @@ use Rattle.std.specs.Prelude.{◌≡◌, ◌⊎◌, ◌+◌, ◌++◌, ℕ, List
 use Rattle.std.specs.Fmt.{decimal}
 use Rattle.vm_memory.specs.Lines.{Means}
 use Rattle.vm_memory.specs.Machine.{Step}
-use Rattle.vm_memory.specs.Pools.{no_parts, state_made}
+use Rattle.vm_memory.specs.ScriptMachine.{no_parts, state_made}
 use Rattle.vm_memory.specs.Setup.{SetsUp}
 use Rattle.vm_memory.specs.State.{State}
 use Rattle.vm_memory.specs.Texts.{text_of, text_of_setup}
@@ -13,8 +13,8 @@ use Rattle.vm_memory.specs.declared.script.DriveFault.{DriveFault}
 use Rattle.vm_memory.specs.declared.script.DriveFault.TheVariants as fault
 use Rattle.vm_memory.specs.declared.script.line.Line.{Line}
 use Rattle.vm_memory.specs.declared.script.line.Line.TheVariants.{Nothing, Setup, Command}
-use Rattle.vm_memory.specs.declared.script.reply.SetupReply.{SetupReply}
-use Rattle.vm_memory.specs.declared.script.setup.Setup as setups
+use Rattle.vm_memory.specs.declared.machine.setup.SetupReply.{SetupReply}
+use Rattle.vm_memory.specs.declared.machine.setup.Setup as setups
 
 -- the status that a program ends with where a script did not run to its end
 abbrev pub status_of : DriveFault → ℕ

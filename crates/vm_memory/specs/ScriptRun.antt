@@ -7,8 +7,8 @@ use Rattle.vm_memory.specs.declared.machine.command.Command as commands
 use Rattle.vm_memory.specs.declared.machine.command.Reply.{Reply}
 use Rattle.vm_memory.specs.declared.script.line.Line.{Line}
 use Rattle.vm_memory.specs.declared.script.line.Line.TheVariants.{Nothing, Setup, Command}
-use Rattle.vm_memory.specs.declared.script.reply.SetupReply.{SetupReply}
-use Rattle.vm_memory.specs.declared.script.setup.Setup as setups
+use Rattle.vm_memory.specs.declared.machine.setup.SetupReply.{SetupReply}
+use Rattle.vm_memory.specs.declared.machine.setup.Setup as setups
 
 -- the setup lines among lines of these meanings, and the commands
 abbrev pub setups_of : List Line → List setups.Setup

@@ -6,11 +6,11 @@ use Rattle.vm_memory_base.specs.Pages.{new_pages}
 use Rattle.vm_memory_guest.specs.Host.{with_block, with_space, with_given_table}
 use Rattle.vm_memory_guest.specs.Region.{Region}
 use Rattle.vm_memory.specs.State.{State}
-use Rattle.vm_memory.specs.declared.script.setup.Setup as setups
-use Rattle.vm_memory.specs.declared.script.setup.Setup.TheVariants as setup
-use Rattle.vm_memory.specs.declared.script.reply.SetupReply.{SetupReply}
-use Rattle.vm_memory.specs.declared.script.reply.SetupReply.TheVariants.{BlockMade, SpaceMade, TableMade, RegionMade, TranslatorMade}
-use Rattle.vm_memory.specs.declared.script.reply.SetupReply.TheVariants.{InvalidSize, InvalidRegion, NoSuch, Memory}
+use Rattle.vm_memory.specs.declared.machine.setup.Setup as setups
+use Rattle.vm_memory.specs.declared.machine.setup.Setup.TheVariants as setup
+use Rattle.vm_memory.specs.declared.machine.setup.SetupReply.{SetupReply}
+use Rattle.vm_memory.specs.declared.machine.setup.SetupReply.TheVariants.{BlockMade, SpaceMade, TableMade, RegionMade, TranslatorMade}
+use Rattle.vm_memory.specs.declared.machine.setup.SetupReply.TheVariants.{InvalidSize, InvalidRegion, NoSuch, Memory}
 
 -- a whole block at a guest address
 abbrev pub region_at : ℕ → ℕ → ℕ → Region

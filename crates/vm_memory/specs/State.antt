@@ -5,10 +5,6 @@ use Rattle.vm_memory_guest.specs.Host.{Host}
 use Rattle.vm_memory_guest.specs.Region.{Region}
 use Rattle.vm_memory_guest.specs.Memory.{Memory}
 
--- a memory of these regions, without an IOMMU
-abbrev pub plain : List Region → Memory
-plain regions = record { regions = regions; iommu = None }
-
 -- the pool of regions, the tables of the translators, what was made, and the host
 pub record State : Type 0 where
   pub regions : List Region

@@ -16,8 +16,8 @@ use Rattle.vm_memory.specs.declared.machine.command.Ending as endings
 use Rattle.vm_memory.specs.declared.machine.command.Ending.TheVariants as ending
 use Rattle.vm_memory.specs.declared.machine.command.Reply as replies
 use Rattle.vm_memory.specs.declared.machine.command.Reply.TheVariants as reply
-use Rattle.vm_memory.specs.declared.script.reply.SetupReply as setups
-use Rattle.vm_memory.specs.declared.script.reply.SetupReply.TheVariants as setup
+use Rattle.vm_memory.specs.declared.machine.setup.SetupReply as setups
+use Rattle.vm_memory.specs.declared.machine.setup.SetupReply.TheVariants as setup
 
 -- a number in hexadecimal: lower case, without leading zeros
 abbrev pub hexadecimal : ℕ → List ℕ

@@ -2,7 +2,7 @@
 use Rattle.std.specs.Prelude.{◌≡◌, ◌++◌, ℕ, Bool, true, false, List, [], Option, Some, None, Result, Ok, Err}
 use Rattle.std.specs.Borrow.{Bor}
 use Rattle.std.specs.Io.KnownBytes.{Appends}
-use Rattle.vm_memory.specs.Pools.{ScriptParts, state_made}
+use Rattle.vm_memory.specs.ScriptMachine.{ScriptParts, state_made}
 use Rattle.vm_memory.specs.Script.{Stage, setting, commanding, Answer, AnswersLine, IsBad, Ends}
 use Rattle.vm_memory.specs.Lines.{Means}
 use Rattle.vm_memory.specs.Words.{parts_of}
@@ -16,10 +16,10 @@ abbrev pub lines_left : Option (Bor (List ℕ)) → List (List ℕ)
 lines_left None = []
 lines_left (Some text) = parts_of 10 text.now
 
--- where a session stands
-abbrev pub stage_of : Option ScriptParts → ScriptParts → Stage
-stage_of None pools = setting (state_made pools)
-stage_of (Some machine) pools = commanding (state_made machine)
+-- where a session stands, by whether a command ran, and its machine
+abbrev pub stage_of : Bool → ScriptParts → Stage
+stage_of false machine = setting (state_made machine)
+stage_of true machine = commanding (state_made machine)
 
 -- a text was taken behind what is not written yet, and what was sent of both is written
 abbrev pub Puts : Option (List ℕ) → List ℕ → List ℕ → Bool → Option (List ℕ) → List ℕ → Type 0

@@ -12,7 +12,8 @@ use Rattle.vm_memory_guest.specs.Host.{Host}
 use Rattle.vm_memory_guest.specs.Memory.{Memory}
 use Rattle.vm_memory_guest.specs.Typed.{path_given, typed_path}
 use Rattle.vm_memory_guest.specs.declared.region.error.GuestMemoryError.{GuestMemoryError}
-use Rattle.vm_memory.specs.Reply.{reached_by, reply_of}
+use Rattle.vm_memory_device.specs.Reach.{reached_by}
+use Rattle.vm_memory.specs.Reply.{reply_of}
 use Rattle.vm_memory.specs.declared.machine.command.Reply.{Reply}
 use Rattle.vm_memory.specs.declared.machine.command.Reply.TheVariants.{Done, Value, BadRange}
 use Rattle.vm_memory.specs.declared.machine.command.Width.{Width}

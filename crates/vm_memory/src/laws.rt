@@ -1,6 +1,5 @@
-//! What holds of every step and every run of a machine, and of calls over chains, and of every script, whatever the
-//! code does: each function here is a theorem, and does nothing.
+//! What holds of every step and every run of a machine, and of every script, whatever the code does: each function here
+//! is a theorem, and does nothing.
 
-pub mod chains;
 pub mod machine;
 pub mod scripts;

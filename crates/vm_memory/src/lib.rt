@@ -2,48 +2,129 @@
 //! theorems, and the machine.
 #![tactic(auto)]
 
-mod chain;
 pub mod examples;
-mod iommu;
 pub mod laws;
 pub mod machine;
 pub mod script;
 
-pub use iommu::{Iommu, IommuMemory, TableIommu};
 pub use machine::command::{BlockRange, Command, Ending, Fault, Reply, Width};
 pub use machine::journal::{CallError, Journal};
 pub use machine::list::{NumberList, PieceList, SinkList, SourceList};
-pub use machine::machine_memory::MachineMemory;
 pub use machine::refusal::Refusal;
+pub use machine::setup::{ScriptMachine, Setup, SetupReply};
 pub use machine::shared::SharedMachine;
 pub use machine::{Machine, run};
 pub use script::{DriveFault, drive};
-
-// Chains of descriptors.
-pub use chain::{Chain, ChainFault, ChainReader, ChainWriter, Segment};
 
 // Bitmaps that several threads mark.
 pub use vm_memory_base::{HarvestError, Harvester, Marker, MarkerBitmap, TrackedBitmap};
 
 // The crates below.
-pub use vm_memory_base::{
-    Address, AddressValue, AddressWord, ArcSlice, AtomicAccess, AtomicBitmap, AtomicInteger, BS,
-    BaseSlice, Be16, Be32, Be64, BeSize, BigEndian, Bitmap, BitmapId, BitmapRef, ByteList,
-    ByteSized, ByteValued, ExactBitmap, ExclusiveBitmap, FixedInteger, GuestAddress, GuestUsize,
-    IoError, IommuError, Iotlb, IotlbFails, IotlbIterator, IovaRange, IovaRangeList, Items, Le16,
-    Le32, Le64, LeSize, Lends, LittleEndian, LookupError, MS, MappedRange, MemoryRegionAddress,
-    NewBitmap, Permissions, RETRIES, ReadExactFault, ReadVolatile, Reason, RefSlice, ScriptSink,
-    ScriptSource, SharedBitmap, SinkStep, SourceStep, SystemSink, SystemSource,
-    VolatileMemoryError, VolatileMemoryResult, WriteVolatile, event_law, is_interrupted,
-    offer_again,
-};
-pub use vm_memory_guest::{
-    BlockId, Bytes, FromRangesError, GuestAddressSpace, GuestMemory, GuestMemoryAtomic,
-    GuestMemoryBackend, GuestMemoryBackendSliceIterator, GuestMemoryError,
-    GuestMemoryExclusiveGuard, GuestMemoryLoadGuard, GuestMemoryMmap, GuestMemoryReader,
-    GuestMemoryRegion, GuestMemoryRegionBytes, GuestMemoryResult, GuestMemorySliceIterator,
-    GuestRegionCollection, GuestRegionCollectionError, GuestRegionMmap, HostAddress, HostMemory,
-    HostShape, IommuMemorySliceIterator, MmapRegion, MmapRegionError, Named, RegionIter, SpaceId,
-    StopOnError, TlbId, VolatileArrayRef, VolatileMemory, VolatileRef, VolatileSlice,
-    compute_offset,
-};
+pub use vm_memory_base::Address;
+pub use vm_memory_base::AddressValue;
+pub use vm_memory_base::AddressWord;
+pub use vm_memory_base::ArcSlice;
+pub use vm_memory_base::AtomicAccess;
+pub use vm_memory_base::AtomicBitmap;
+pub use vm_memory_base::AtomicInteger;
+pub use vm_memory_base::BS;
+pub use vm_memory_base::BaseSlice;
+pub use vm_memory_base::Be16;
+pub use vm_memory_base::Be32;
+pub use vm_memory_base::Be64;
+pub use vm_memory_base::BeSize;
+pub use vm_memory_base::BigEndian;
+pub use vm_memory_base::Bitmap;
+pub use vm_memory_base::BitmapId;
+pub use vm_memory_base::BitmapRef;
+pub use vm_memory_base::ByteList;
+pub use vm_memory_base::ByteSized;
+pub use vm_memory_base::ByteValued;
+pub use vm_memory_base::ExactBitmap;
+pub use vm_memory_base::ExclusiveBitmap;
+pub use vm_memory_base::FixedInteger;
+pub use vm_memory_base::GuestAddress;
+pub use vm_memory_base::GuestUsize;
+pub use vm_memory_base::IoError;
+pub use vm_memory_base::IommuError;
+pub use vm_memory_base::Iotlb;
+pub use vm_memory_base::IotlbFails;
+pub use vm_memory_base::IotlbIterator;
+pub use vm_memory_base::IovaRange;
+pub use vm_memory_base::IovaRangeList;
+pub use vm_memory_base::Items;
+pub use vm_memory_base::Le16;
+pub use vm_memory_base::Le32;
+pub use vm_memory_base::Le64;
+pub use vm_memory_base::LeSize;
+pub use vm_memory_base::Lends;
+pub use vm_memory_base::LittleEndian;
+pub use vm_memory_base::LookupError;
+pub use vm_memory_base::MS;
+pub use vm_memory_base::MappedRange;
+pub use vm_memory_base::MemoryRegionAddress;
+pub use vm_memory_base::NewBitmap;
+pub use vm_memory_base::Permissions;
+pub use vm_memory_base::RETRIES;
+pub use vm_memory_base::ReadExactFault;
+pub use vm_memory_base::ReadVolatile;
+pub use vm_memory_base::Reason;
+pub use vm_memory_base::RefSlice;
+pub use vm_memory_base::ScriptSink;
+pub use vm_memory_base::ScriptSource;
+pub use vm_memory_base::SharedBitmap;
+pub use vm_memory_base::SinkStep;
+pub use vm_memory_base::SourceStep;
+pub use vm_memory_base::SystemSink;
+pub use vm_memory_base::SystemSource;
+pub use vm_memory_base::VolatileMemoryError;
+pub use vm_memory_base::VolatileMemoryResult;
+pub use vm_memory_base::WriteVolatile;
+pub use vm_memory_base::event_law;
+pub use vm_memory_base::is_interrupted;
+pub use vm_memory_base::offer_again;
+pub use vm_memory_device::Chain;
+pub use vm_memory_device::ChainFault;
+pub use vm_memory_device::ChainReader;
+pub use vm_memory_device::ChainWriter;
+pub use vm_memory_device::Iommu;
+pub use vm_memory_device::IommuMemory;
+pub use vm_memory_device::MachineMemory;
+pub use vm_memory_device::Segment;
+pub use vm_memory_device::TableIommu;
+pub use vm_memory_guest::BlockId;
+pub use vm_memory_guest::Bytes;
+pub use vm_memory_guest::FromRangesError;
+pub use vm_memory_guest::GuestAddressSpace;
+pub use vm_memory_guest::GuestMemory;
+pub use vm_memory_guest::GuestMemoryAtomic;
+pub use vm_memory_guest::GuestMemoryBackend;
+pub use vm_memory_guest::GuestMemoryBackendSliceIterator;
+pub use vm_memory_guest::GuestMemoryError;
+pub use vm_memory_guest::GuestMemoryExclusiveGuard;
+pub use vm_memory_guest::GuestMemoryLoadGuard;
+pub use vm_memory_guest::GuestMemoryMmap;
+pub use vm_memory_guest::GuestMemoryReader;
+pub use vm_memory_guest::GuestMemoryRegion;
+pub use vm_memory_guest::GuestMemoryRegionBytes;
+pub use vm_memory_guest::GuestMemoryResult;
+pub use vm_memory_guest::GuestMemorySliceIterator;
+pub use vm_memory_guest::GuestRegionCollection;
+pub use vm_memory_guest::GuestRegionCollectionError;
+pub use vm_memory_guest::GuestRegionMmap;
+pub use vm_memory_guest::HostAddress;
+pub use vm_memory_guest::HostMemory;
+pub use vm_memory_guest::HostShape;
+pub use vm_memory_guest::IommuMemorySliceIterator;
+pub use vm_memory_guest::MmapRegion;
+pub use vm_memory_guest::MmapRegionError;
+pub use vm_memory_guest::Named;
+pub use vm_memory_guest::RegionIter;
+pub use vm_memory_guest::SpaceId;
+pub use vm_memory_guest::StopOnError;
+pub use vm_memory_guest::TlbId;
+pub use vm_memory_guest::VolatileArrayRef;
+pub use vm_memory_guest::VolatileMemory;
+pub use vm_memory_guest::VolatileRef;
+pub use vm_memory_guest::VolatileSlice;
+pub use vm_memory_guest::compute_offset;

@@ -1,8 +1,8 @@
 //! A machine: a host, pools of regions and of translators, the layouts and memories that commands make, and the run
 //! of a list of commands.
-ghost use Rattle.std.specs.Prelude.{◌≡◌, ℕ, List, ◌++◌, [], IsSome, OnOk, OnErr};
+ghost use Rattle.std.specs.Prelude.{◌≡◌, ℕ, List, ◌++◌, [], IsSome, IsTrue, OnOk, OnErr};
 ghost use Rattle.vm_memory_guest.specs.Collection.{regions_of};
-ghost use Rattle.vm_memory.specs.Commands.{accessed_memory};
+ghost use Rattle.vm_memory.specs.Commands.{accessed_memory, is_transfer};
 ghost use Rattle.vm_memory.specs.History.{AtEachState, ReachesAsTold};
 ghost use Rattle.vm_memory.specs.Machine.{Step, Run};
 ghost use Rattle.vm_memory.specs.Parts.{HoldsRegions, HoldsTables, AreHeld, state_of};
@@ -14,29 +14,29 @@ mod copies;
 pub mod journal;
 mod layouts;
 pub mod list;
-pub mod machine_memory;
+mod marks;
 mod memories;
 mod pages;
 mod parts;
 pub mod refusal;
 mod replies;
 mod rounds;
+pub mod setup;
 pub mod shared;
 mod tables;
 mod transfers;
 mod typed;
 
-use crate::iommu::Iommu;
 use crate::laws::machine::{
     accesses_go_through_what_was_set_last, runs_keep_images, runs_keep_layouts,
 };
 use command::{Command, Reply};
-use machine_memory::MachineMemory;
-use refusal::{checked, done, layout_made, memory_made, told};
+use refusal::{checked, done, laid_out, memory_made, told};
 use std::alloc::{AllocError, Global};
 use std::marker::Model;
 use std::sync::Arc;
 use vm_memory_base::ExactBitmap;
+use vm_memory_device::{Iommu, MachineMemory};
 use vm_memory_guest::laws::host::blocks_are_short;
 use vm_memory_guest::{GuestMemoryRegion, GuestRegionCollection, HostMemory};
 
@@ -136,11 +136,9 @@ impl<R: GuestMemoryRegion, I: Iommu, B: ExactBitmap> Machine<R, I, B> {
             Step before command.now result (state_of R.region I.number B.pages self.new) }
     {
         match command {
-            Command::FromRegions(numbers) => layout_made(self.from_regions(numbers.as_slice())),
-            Command::Insert { layout, region } => layout_made(self.insert(*layout, *region)),
-            Command::Remove { layout, base, size } => {
-                layout_made(self.remove(*layout, *base, *size))
-            }
+            Command::FromRegions(numbers) => laid_out(self.from_regions(numbers.as_slice())),
+            Command::Insert { layout, region } => laid_out(self.insert(*layout, *region)),
+            Command::Remove { layout, base, size } => laid_out(self.remove(*layout, *base, *size)),
             Command::Plain(layout) => memory_made(self.plain(*layout)),
             Command::NewMemory {
                 layout,
@@ -216,6 +214,23 @@ impl<R: GuestMemoryRegion, I: Iommu, B: ExactBitmap> Machine<R, I, B> {
                 width,
                 addr,
             } => self.word_loaded(*memory, *width, *addr),
+            Command::CheckRange {
+                memory,
+                addr,
+                count,
+                access,
+            } => checked(self.check_range(*memory, *addr, *count, *access)),
+            _ => self.transfer(command),
+        }
+    }
+
+    // One command that moves bytes from a source or to a sink, by its call.
+    fn transfer(&mut self, command: &Command) -> Reply
+        requires { IsTrue (is_transfer command.now) }
+        ensures { let before = state_of R.region I.number B.pages self.old in
+            Step before command.now result (state_of R.region I.number B.pages self.new) }
+    {
+        match command {
             Command::ReadFrom {
                 memory,
                 addr,
@@ -240,12 +255,6 @@ impl<R: GuestMemoryRegion, I: Iommu, B: ExactBitmap> Machine<R, I, B> {
                 count,
                 sink,
             } => self.sent_whole(*memory, *addr, *count, sink.as_slice()),
-            Command::CheckRange {
-                memory,
-                addr,
-                count,
-                access,
-            } => checked(self.check_range(*memory, *addr, *count, *access)),
             _ => unreachable!(),
         }
     }

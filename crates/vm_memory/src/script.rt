@@ -12,7 +12,6 @@ mod commands;
 mod line;
 mod lines;
 mod output;
-mod pools;
 mod reply;
 mod session;
 mod setup;
@@ -20,10 +19,7 @@ mod words;
 
 use lines::Lines;
 use output::{ROOM, write_all};
-pub use pools::{Pools, ScriptMachine};
-pub use reply::SetupReply;
 use session::Session;
-pub use setup::Setup;
 use std::alloc::Global;
 use std::error::Error;
 use std::fmt;

@@ -17,7 +17,7 @@ use Rattle.core.proofs.cell.Inside.{Good}
 use Rattle.std.specs.contracts.alloc.Global
 use Rattle.std.proofs.alloc.Global.TheLaws.{the_row_laws}
 use Rattle.std.specs.contracts.impls.GlobalAllocator.TheImpl
-use Rattle.vm_memory.specs.Script.{Stage}
+use Rattle.vm_memory.specs.State.{State}
 use Rattle.vm_memory_c.specs.Handle.{handle_owns}
 use Rattle.vm_memory_c.specs.contracts.handle.Handle as handle
 
@@ -36,7 +36,7 @@ word p h = vstruct (of_list (ptr_val p ∷ h ∷ []))
 module _ {M : Type 1} {𝓤 : Ura M} {𝓛 : Logic 𝓤} {K : Type 0} {Γ : List (Item 𝓤)} {G : Goal 𝓤 𝓛.H} where
   pub handle_out : K → (d : Handle.Denot) (vs : List Val)
       → ((h : Val) → vs ≡ word d.at h ∷ [] → Good (layout Z) h
-      → Seq K 𝓛 (‵ (handle_owns d.at d.stage) ∷ ‵ (Z.own_val d.alloc (h ∷ [])) ∷ Γ) G)
+      → Seq K 𝓛 (‵ (handle_owns d.at d.state) ∷ ‵ (Z.own_val d.alloc (h ∷ [])) ∷ Γ) G)
       → Seq K 𝓛 (‵ (Handle.own_val d vs) ∷ Γ) G
   handle_out t d vs k =
       fsplit t $ fpick t (λ vss. fsplit t $ feq_l t (λ ev. fsplit t $ feq_l t (λ ep. fsplit t $
@@ -44,8 +44,8 @@ module _ {M : Type 1} {𝓤 : Ura M} {𝓛 : Logic 𝓤} {K : Type 0} {Γ : List
       (subst (λ (ws : List Val). vs ≡ vstruct (of_list (ptr_val d.at ∷ (ws ++ []))) ∷ []) ea
       (subst (λ (ps : List Val). vs ≡ vstruct (of_list (ps ++ (vss.1.0 ++ []))) ∷ []) ep ev)) fits))))
 
-  pub handle_in : K → (p : Ptr) (h : Val) (a : Z.Denot) (x : Option Stage)
-      → Step K 𝓛 (‵ (Handle.own_val (record { at = p; alloc = a; stage = x }) (word p h ∷ [])) ∷ Γ) G
+  pub handle_in : K → (p : Ptr) (h : Val) (a : Z.Denot) (x : Option State)
+      → Step K 𝓛 (‵ (Handle.own_val (record { at = p; alloc = a; state = x }) (word p h ∷ [])) ∷ Γ) G
       (‵ (handle_owns p x) ∷ ‵ (Z.own_val a (h ∷ [])) ∷ Γ) G
   handle_in t p h a x = step (λ s. let v : Val = word p h in
       nothing t $ move t (2 ∷ 0 ∷ []) $ fjoin t $ feq_i t (List Val) (ptr_val p ∷ []) (ptr_val p ∷ []) refl $ fjoin t $

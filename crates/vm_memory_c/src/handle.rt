@@ -1,6 +1,6 @@
 //! The handle of a session: where it lies.
 ghost use Rattle.std.specs.Prelude.{◌≡◌, Option, Some, None, IsSome};
-ghost use Rattle.vm_memory.specs.Script.{Stage};
+ghost use Rattle.vm_memory.specs.State.{State};
 ghost use Rattle.vm_memory_c.specs.Handle.{handle_owns};
 
 use crate::loose::Loose;
@@ -15,18 +15,18 @@ use vm_session::Session;
 pub struct Handle {
     at: *mut u8,
     alloc: Global,
-    pub ghost stage: { Option Stage },
+    pub ghost state: { Option State },
 }
 
 impl Model for Handle {
-    ghost also_owns = { λ h. handle_owns h.at h.stage };
+    ghost also_owns = { λ h. handle_owns h.at h.state };
 }
 
 impl Handle {
     // A handle of no session.
     #[inline(always)]
     pub(crate) fn closed(alloc: Global) -> Handle
-        ensures { result.stage ≡ None }
+        ensures { result.state ≡ None }
     {
         Handle {
             at: null_mut(),
@@ -37,7 +37,7 @@ impl Handle {
     // The handle of a session.
     #[inline(always)]
     pub(crate) fn of(session: Loose<Session, Global>) -> Handle
-        ensures { result.stage ≡ Some session.value }
+        ensures { result.state ≡ Some session.value }
     {
         let Loose { at, alloc } = session;
         Handle {
@@ -49,8 +49,8 @@ impl Handle {
     // The session of a handle.
     #[inline(always)]
     pub(crate) fn loosen(self) -> Loose<Session, Global>
-        requires { IsSome self.stage }
-        ensures { Some result.value ≡ self.stage }
+        requires { IsSome self.state }
+        ensures { Some result.value ≡ self.state }
     {
         let Handle { at, alloc } = self;
         Loose {

@@ -17,7 +17,7 @@ use vm_session::{Answer, Call, Session};
 /// allocation fails, and then the handle stays.
 #[unsafe(no_mangle)]
 pub extern "C" fn vmm_open(alloc: Global, session: &mut Handle) -> u32
-    ensures { Opens session.old.stage result session.new.stage }
+    ensures { Opens session.old.state result session.new.state }
 {
     match Box::new(alloc, Session::new(alloc)) {
         Ok(open) => {
@@ -38,8 +38,8 @@ pub extern "C" fn vmm_call(
     output: &mut [u8],
     answer: &mut Answer,
 )
-    requires { IsSome session.old.stage }
-    ensures { CallsAt session.old.stage call.now input.now output.old answer.new output.new session.new.stage }
+    requires { IsSome session.old.state }
+    ensures { CallsAt session.old.state call.now input.now output.old answer.new output.new session.new.state }
 {
     let handle = mem::replace(session, Handle::closed(alloc));
     let mut open = handle.loosen().into_box();
@@ -50,8 +50,8 @@ pub extern "C" fn vmm_call(
 /// Closes an open session, and frees all that it has.
 #[unsafe(no_mangle)]
 pub extern "C" fn vmm_close(alloc: Global, session: &mut Handle)
-    requires { IsSome session.old.stage }
-    ensures { session.new.stage ≡ None }
+    requires { IsSome session.old.state }
+    ensures { session.new.state ≡ None }
 {
     let handle = mem::replace(session, Handle::closed(alloc));
     drop(handle.loosen().into_box());

@@ -31,3 +31,4 @@ pub mod FilledLaws
 pub mod GivenLaws
 pub mod LentLaws
 pub mod VectorLaws
+pub mod PatchLemmas

@@ -24,3 +24,4 @@ pub mod Window
 pub mod Dealt
 pub mod Lent
 pub mod lemmas
+pub mod Patch

@@ -1,5 +1,5 @@
 //! Host memory: every block, bitmap, space and table, which each access is lent.
-ghost use Rattle.std.specs.Prelude.{◌≡◌, ◌+◌, ◌*◌, ◌^◌, ◌<◌, ◌≤◌, ◌↔◌, ◌⊎◌, [], ◌∷◌, ◌++◌, List, length, slice_get, nat_lt, All, IsTrue, Some, IfOk, OnOk, OnErr, IsErrOf};
+ghost use Rattle.std.specs.Prelude.{◌≡◌, ◌+◌, ◌*◌, ◌^◌, ◌<◌, ◌≤◌, ◌↔◌, ◌⊎◌, [], ◌∷◌, ◌++◌, ℕ, List, length, slice_get, nat_lt, All, IsTrue, Some, IfOk, OnOk, OnErr, IsErrOf};
 ghost use Rattle.vm_memory_guest.specs.Host as names;
 ghost use Rattle.vm_memory_guest.specs.Host.{Host, Shape, with_block, with_space, with_table, with_given_table, with_table_at, shape_of, Name, IsHeld, Holds, block_at};
 ghost use Rattle.vm_memory_guest.specs.Inside.{blocks_of};
@@ -189,6 +189,14 @@ impl<B> HostMemory<B> {
         ensures sized { All (λ len. (0 < len) × (len < 2 ^ 63)) (shape_of self.now).blocks }
     {
         &self.shape
+    }
+
+    /// Does nothing: each block is shorter than 2^63 bytes.
+    #[inline]
+    pub fn known(&self)
+        ensures { (block : ℕ) → length (block_at self.now.blocks block) < 2 ^ 63 }
+    {
+        let _shape = self.shape();
     }
 
     /// Whether the host holds everything that a value names.

@@ -4,6 +4,7 @@
 mod address_space;
 mod atomic;
 mod bytes;
+mod collection;
 pub mod examples;
 mod guest_memory;
 mod host;
@@ -17,6 +18,7 @@ pub use atomic::{
     GuestMemoryAtomic, GuestMemoryExclusiveGuard, GuestMemoryLoadGuard, GuestMemoryReader,
 };
 pub use bytes::Bytes;
+pub use collection::GuestRegionCollection;
 pub use guest_memory::backend::{GuestMemoryBackend, GuestMemoryBackendSliceIterator};
 pub use guest_memory::iter::RegionIter;
 pub use guest_memory::stop_on_error::{GuestMemorySliceIterator, StopOnError};
@@ -26,7 +28,6 @@ pub use host::{BlockId, HostMemory, HostShape, MmapRegionError, Named, SpaceId, 
 pub use mmap::{FromRangesError, GuestMemoryMmap, GuestRegionMmap, MmapRegion};
 pub use region::GuestMemoryRegion;
 pub use region::bytes::GuestMemoryRegionBytes;
-pub use region::collection::GuestRegionCollection;
 pub use region::error::{GuestMemoryError, GuestMemoryResult, GuestRegionCollectionError};
 pub use volatile_memory::array::VolatileArrayRef;
 pub use volatile_memory::reference::VolatileRef;

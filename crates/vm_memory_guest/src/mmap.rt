@@ -12,10 +12,10 @@ ghost use Rattle.vm_memory_guest.specs.Region.{slice_from, layout_error, region_
 ghost use Rattle.vm_memory_guest.specs.declared.mmap.FromRangesError.TheVariants as error;
 ghost use Rattle.vm_memory_guest.specs.declared.mmap.GuestRegionMmap.{GuestRegionMmap};
 
+use crate::collection::GuestRegionCollection;
 use crate::host::{BlockId, HostMemory, HostShape, MmapRegionError, Named};
 use crate::region::GuestMemoryRegion;
 use crate::region::bytes::GuestMemoryRegionBytes;
-use crate::region::collection::GuestRegionCollection;
 use crate::region::error::{GuestMemoryError, GuestMemoryResult, GuestRegionCollectionError};
 use crate::volatile_memory::VolatileMemory;
 use crate::volatile_memory::slice::VolatileSlice;

@@ -4,7 +4,6 @@ ghost use Rattle.vm_memory_guest.specs.Region.{Region, IsRegion, last, region_na
 ghost use Rattle.vm_memory_guest.specs.Queries.{bitmap_from, offset_in, offset_of, host_address_of};
 
 pub mod bytes;
-pub mod collection;
 pub mod error;
 
 use self::error::GuestMemoryResult;

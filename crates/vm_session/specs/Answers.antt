@@ -15,8 +15,8 @@ use Rattle.vm_memory.specs.declared.machine.command.Fault as faults
 use Rattle.vm_memory.specs.declared.machine.command.Fault.TheVariants as fault
 use Rattle.vm_memory.specs.declared.machine.command.Reply as replies
 use Rattle.vm_memory.specs.declared.machine.command.Reply.TheVariants as reply
-use Rattle.vm_memory.specs.declared.script.reply.SetupReply as setups
-use Rattle.vm_memory.specs.declared.script.reply.SetupReply.TheVariants as setup
+use Rattle.vm_memory.specs.declared.machine.setup.SetupReply as setups
+use Rattle.vm_memory.specs.declared.machine.setup.SetupReply.TheVariants as setup
 use Rattle.vm_session.specs.Codes.{coded, no_memory}
 use Rattle.vm_session.specs.Words.{row_bytes}
 use Rattle.vm_session.specs.declared.call.Answer.{Answer}

@@ -14,7 +14,8 @@ kinds = kind.Block ∷ kind.Space ∷ kind.Table ∷ kind.LimitedTable ∷ kind.
     ∷ kind.Read ∷ kind.Write ∷ kind.ReadSlice ∷ kind.WriteSlice ∷ kind.Store ∷ kind.Load
     ∷ kind.ReadFrom ∷ kind.ReadExactFrom ∷ kind.WriteTo ∷ kind.WriteAllTo ∷ kind.CheckRange ∷ kind.Copy
     ∷ kind.Set ∷ kind.Invalidate ∷ kind.InvalidateAll ∷ kind.Lookup
-    ∷ kind.DirtyBlock ∷ kind.DirtySpace ∷ kind.HarvestBlock ∷ kind.HarvestSpace ∷ []
+    ∷ kind.DirtyBlock ∷ kind.DirtySpace ∷ kind.HarvestBlock ∷ kind.HarvestSpace
+    ∷ kind.MarkBlock ∷ kind.MarkReached ∷ []
 
 -- an access by its number
 abbrev pub access_at : ℕ → Option Permissions
@@ -47,6 +48,12 @@ sets_up kind.LimitedTable = true
 sets_up kind.Region = true
 sets_up kind.Translator = true
 sets_up k = false
+
+-- whether a call of a kind marks pages
+abbrev pub marks : Kind → Bool
+marks kind.MarkBlock = true
+marks kind.MarkReached = true
+marks k = false
 
 -- whether the input of a call of a kind is a list
 abbrev pub takes_list : Kind → Bool

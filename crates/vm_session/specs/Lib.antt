@@ -1,6 +1,5 @@
 pub mod Answers
 pub mod Codes
-pub mod Inside
 pub mod Kinds
 pub mod Lists
 pub mod Requests

@@ -8,8 +8,8 @@ use Rattle.vm_memory_base.specs.declared.io.scripted.SinkStep.{SinkStep}
 use Rattle.vm_memory_base.specs.declared.io.scripted.SourceStep.{SourceStep}
 use Rattle.vm_memory.specs.declared.machine.command.Command as commands
 use Rattle.vm_memory.specs.declared.machine.command.Command.TheVariants as command
-use Rattle.vm_memory.specs.declared.script.setup.Setup as setups
-use Rattle.vm_memory.specs.declared.script.setup.Setup.TheVariants as setup
+use Rattle.vm_memory.specs.declared.machine.setup.Setup as setups
+use Rattle.vm_memory.specs.declared.machine.setup.Setup.TheVariants as setup
 use Rattle.vm_session.specs.Kinds.{access_at, switch_at, width_at}
 use Rattle.vm_session.specs.Words.{numbers_in, sinks_in, sources_in}
 use Rattle.vm_session.specs.declared.call.Call.{Call}

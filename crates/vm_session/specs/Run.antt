@@ -1,15 +1,17 @@
--- Calls of a session one after another, and the setup lines and the commands that they are.
-use Rattle.std.specs.Prelude.{◌≡◌, ◌⊎◌, ℕ, List, [], ◌∷◌, Some, slice_get}
-use Rattle.vm_memory.specs.Script.{Stage}
+-- What happens to a session, one after another: calls, and steps of a guest that has blocks in common with it.
+use Rattle.std.specs.Prelude.{◌≡◌, ◌⊎◌, ◌<◌, ℕ, List, [], ◌∷◌, All, Contains, Some, length, map, slice_get}
+use Rattle.vm_memory.specs.Machine.{Step}
+use Rattle.vm_memory.specs.Setup.{SetsUp}
+use Rattle.vm_memory.specs.State.{State}
 use Rattle.vm_memory.specs.declared.machine.command.Command as commands
 use Rattle.vm_memory.specs.declared.machine.command.Reply.{Reply}
-use Rattle.vm_memory.specs.declared.script.setup.Setup as setups
-use Rattle.vm_memory.specs.declared.script.reply.SetupReply.{SetupReply}
+use Rattle.vm_memory.specs.declared.machine.setup.Setup as setups
+use Rattle.vm_memory.specs.declared.machine.setup.SetupReply.{SetupReply}
 use Rattle.vm_session.specs.Answers.{answer_of, answer_of_setup}
-use Rattle.vm_session.specs.Codes.{bad_call, late, no_memory, short_of}
+use Rattle.vm_session.specs.Codes.{bad_call, no_memory, short_of}
 use Rattle.vm_session.specs.Kinds.{kinds}
 use Rattle.vm_session.specs.Requests.{IsSetup, command_at}
-use Rattle.vm_session.specs.Session.{Answers}
+use Rattle.vm_session.specs.Session.{Answers, Fills, Marks}
 use Rattle.vm_session.specs.declared.call.Answer.{Answer}
 use Rattle.vm_session.specs.declared.call.Call.{Call}
 use Rattle.vm_session.specs.declared.call.Kind.{Kind}
@@ -22,58 +24,71 @@ pub record Exchange : Type 0 where
   pub answer : Answer
   pub after : List ℕ
 
--- calls that are answered one after another
-abbrev pub AnswersAll : Stage → List Exchange → Stage → Type 0
-AnswersAll old [] new = new ≡ old
-AnswersAll old (e ∷ es) new =
-    (mid : Stage) × Answers old e.call e.input e.before e.answer e.after mid × AnswersAll mid es new
+-- a call, or a step of the guest, which leaves the blocks with these bytes
+pub data Event : Type 0 where
+  calls : Exchange → Event
+  writes : List (List ℕ) → Event
 
--- what a call did: nothing, or it set up, or ran a command
+-- the blocks of a state, after the guest wrote
+abbrev pub with_blocks : State → List (List ℕ) → State
+with_blocks s blocks = record s { host = record s.host { blocks = blocks } }
+
+-- a guest that has the blocks of these numbers in common with the session changes their bytes as it likes: no length
+-- changes, all are bytes, and other blocks stay
+pub record GuestWrites (shared : List ℕ) (old new : List (List ℕ)) : Type 0 where
+  pub lengths : map length new ≡ map length old
+  pub bytes : All (All (λ byte. byte < 256)) new
+  pub others : (block : ℕ) → (Contains shared block → ⊥) → slice_get new block ≡ slice_get old block
+
+-- an event leads from a state to a state
+abbrev pub Happens : List ℕ → State → Event → State → Type 0
+Happens shared old (calls e) new = Answers old e.call e.input e.before e.answer e.after new
+Happens shared old (writes blocks) new =
+    GuestWrites shared old.host.blocks blocks × (new ≡ with_blocks old blocks)
+
+-- events one after another
+abbrev pub HappenAll : List ℕ → State → List Event → State → Type 0
+HappenAll shared old [] new = new ≡ old
+HappenAll shared old (e ∷ es) new = (mid : State) × Happens shared old e mid × HappenAll shared mid es new
+
+-- a step of the model: nothing, something is made, a command runs, pages are marked, or the guest writes
 pub data Deed : Type 0 where
   nothing : Deed
   made : setups.Setup → SetupReply → Deed
   ran : commands.Command → Reply → Deed
+  marked : Reply → Deed
+  wrote : List (List ℕ) → Deed
 
 -- the answers of calls that did nothing
 abbrev pub Refuses : Answer → Type 0
-Refuses a = (a ≡ bad_call) ⊎ ((a ≡ late) ⊎ ((a ≡ no_memory) ⊎ ((n : ℕ) × (a ≡ short_of n))))
+Refuses a = (a ≡ bad_call) ⊎ ((a ≡ no_memory) ⊎ ((n : ℕ) × (a ≡ short_of n)))
 
--- a call did that: it was refused, or what it asks for was done and its answer is that of the reply
-abbrev pub Did : Exchange → Deed → Type 0
-Did e nothing = Refuses e.answer × (e.after ≡ e.before)
-Did e (made s r) = (kind : Kind) × (slice_get kinds e.call.kind ≡ Some kind) × IsSetup kind e.call s
-    × (e.answer ≡ answer_of_setup r) × (e.after ≡ e.before)
-Did e (ran c r) = (kind : Kind) × (slice_get kinds e.call.kind ≡ Some kind)
-    × (command_at kind e.call e.input ≡ Some c) × (e.answer ≡ answer_of r)
+-- a call asks for it, and its answer and its output are those of the reply
+abbrev pub Does : State → Exchange → Deed → State → Type 0
+Does old e nothing new = Refuses e.answer × (e.after ≡ e.before) × (new ≡ old)
+Does old e (made s r) new = (kind : Kind) × (slice_get kinds e.call.kind ≡ Some kind) × IsSetup kind e.call s
+    × SetsUp old s r new × (e.answer ≡ answer_of_setup r) × (e.after ≡ e.before)
+Does old e (ran c r) new = (kind : Kind) × (slice_get kinds e.call.kind ≡ Some kind)
+    × (command_at kind e.call e.input ≡ Some c) × Step old c r new × (e.answer ≡ answer_of r)
+    × Fills old c r e.before e.after
+Does old e (marked r) new = (kind : Kind) × (slice_get kinds e.call.kind ≡ Some kind) × Marks kind old e.call r new
+    × (e.answer ≡ answer_of r) × (e.after ≡ e.before)
+Does old e (wrote blocks) new = ⊥
 
-abbrev pub DidEach : List Exchange → List Deed → Type 0
-DidEach [] [] = Unit {0}
-DidEach (e ∷ es) (d ∷ ds) = Did e d × DidEach es ds
-DidEach [] (d ∷ ds) = ⊥
-DidEach (e ∷ es) [] = ⊥
+-- an event is this step of the model
+abbrev pub IsDeed : List ℕ → State → Event → Deed → State → Type 0
+IsDeed shared old (calls e) d new = Does old e d new
+IsDeed shared old (writes blocks) d new =
+    (d ≡ wrote blocks) × GuestWrites shared old.host.blocks blocks × (new ≡ with_blocks old blocks)
 
--- the setup lines among deeds, and their replies
-abbrev pub setups_in : List Deed → List setups.Setup
-setups_in [] = []
-setups_in (nothing ∷ ds) = setups_in ds
-setups_in (made s r ∷ ds) = s ∷ setups_in ds
-setups_in (ran c r ∷ ds) = setups_in ds
+-- events are these steps, one after another
+abbrev pub AreDeeds : List ℕ → State → List Event → List Deed → State → Type 0
+AreDeeds shared old [] [] new = new ≡ old
+AreDeeds shared old (e ∷ es) (d ∷ ds) new = (mid : State) × IsDeed shared old e d mid × AreDeeds shared mid es ds new
+AreDeeds shared old [] (d ∷ ds) new = ⊥
+AreDeeds shared old (e ∷ es) [] new = ⊥
 
-abbrev pub made_in : List Deed → List SetupReply
-made_in [] = []
-made_in (nothing ∷ ds) = made_in ds
-made_in (made s r ∷ ds) = r ∷ made_in ds
-made_in (ran c r ∷ ds) = made_in ds
-
--- the commands among them, and their replies
-abbrev pub commands_in : List Deed → List commands.Command
-commands_in [] = []
-commands_in (nothing ∷ ds) = commands_in ds
-commands_in (made s r ∷ ds) = commands_in ds
-commands_in (ran c r ∷ ds) = c ∷ commands_in ds
-
-abbrev pub replies_in : List Deed → List Reply
-replies_in [] = []
-replies_in (nothing ∷ ds) = replies_in ds
-replies_in (made s r ∷ ds) = replies_in ds
-replies_in (ran c r ∷ ds) = r ∷ replies_in ds
+-- commands and their replies, as steps
+abbrev pub all_ran : List commands.Command → List Reply → List Deed
+all_ran (c ∷ cs) (r ∷ rs) = ran c r ∷ all_ran cs rs
+all_ran cs rs = []

@@ -1,24 +1,27 @@
--- What a session answers to calls, and where it stands then.
-use Rattle.std.specs.Prelude.{◌≡◌, ◌⊎◌, ◌<◌, ◌≤◌, ◌++◌, ℕ, Bool, true, false, IsTrue, if◌then◌else◌, List, length, take, drop, Option, Some, None, slice_get}
-use Rattle.vm_memory.specs.Calls.{buffer_after}
+-- What a session answers to calls, and what it leaves.
+use Rattle.std.specs.Prelude.{◌≡◌, ◌⊎◌, ◌<◌, ◌≤◌, ◌++◌, ℕ, Bool, true, false, IsTrue, List, length, take, drop, Option, Some, None, slice_get}
+use Rattle.vm_memory.specs.Calls.{WritesOf, buffer_after}
+use Rattle.vm_memory.specs.Effect.{apply, leaves}
 use Rattle.vm_memory.specs.Machine.{Step, outcome}
-use Rattle.vm_memory.specs.Script.{Stage, setting, commanding, state_at}
+use Rattle.vm_memory.specs.Marks.{marks_range, marks_reached}
 use Rattle.vm_memory.specs.Setup.{SetsUp}
 use Rattle.vm_memory.specs.State.{State}
+use Rattle.vm_memory.specs.declared.machine.command.BlockRange.{BlockRange}
 use Rattle.vm_memory.specs.declared.machine.command.Command as commands
 use Rattle.vm_memory.specs.declared.machine.command.Command.TheVariants as command
 use Rattle.vm_memory.specs.declared.machine.command.Reply as replies
 use Rattle.vm_memory.specs.declared.machine.command.Reply.TheVariants as reply
 use Rattle.vm_memory.specs.declared.machine.command.Width.{Width}
-use Rattle.vm_memory.specs.declared.script.setup.Setup as setups
-use Rattle.vm_memory.specs.declared.script.reply.SetupReply.{SetupReply}
+use Rattle.vm_memory.specs.declared.machine.setup.Setup as setups
+use Rattle.vm_memory.specs.declared.machine.setup.SetupReply.{SetupReply}
 use Rattle.vm_session.specs.Answers.{answer_of, answer_of_setup, bytes_of}
-use Rattle.vm_session.specs.Codes.{bad_call, is_refused, late, no_memory, short_of}
-use Rattle.vm_session.specs.Kinds.{kinds, sets_up, takes_list}
+use Rattle.vm_session.specs.Codes.{bad_call, no_memory, short_of}
+use Rattle.vm_session.specs.Kinds.{kinds, marks, sets_up, takes_list}
 use Rattle.vm_session.specs.Requests.{IsSetup, address, command_at, is_without_size}
 use Rattle.vm_session.specs.declared.call.Answer.{Answer}
 use Rattle.vm_session.specs.declared.call.Call.{Call}
 use Rattle.vm_session.specs.declared.call.Kind.{Kind}
+use Rattle.vm_session.specs.declared.call.Kind.TheVariants as kind
 
 -- how many bytes of output a command wants: as many as are asked for, or those of the list that it replies
 abbrev pub room_for : State → commands.Command → ℕ
@@ -91,32 +94,38 @@ abbrev pub Loads : State → Call → Width → Answer → Type 0
 Loads now call width a =
     (r : replies.Reply) × Step now (command.Load call.first width (address call.address)) r now × (a ≡ answer_of r)
 
--- what is answered to a setup call before the first command
+-- what is answered to a setup call
 abbrev pub IsSetUp : State → Kind → Call → Answer → State → Type 0
 IsSetUp old kind call a new =
     ((s : setups.Setup) × (r : SetupReply) × IsSetup kind call s × SetsUp old s r new × (a ≡ answer_of_setup r))
     ⊎ ((a ≡ bad_call) × IsTrue (is_without_size kind call) × (new ≡ old))
 
--- and behind one
-abbrev pub SetsUpBy : Stage → Kind → Call → Answer → Stage → Type 0
-SetsUpBy (setting s) kind call a new = (after : State) × IsSetUp s kind call a after × (new ≡ setting after)
-SetsUpBy (commanding s) kind call a new = (a ≡ late) × (new ≡ commanding s)
+-- a call of a kind marks pages, with this reply
+abbrev pub Marks : Kind → State → Call → replies.Reply → State → Type 0
+Marks kind.MarkBlock old call r new =
+    let range : BlockRange = record { block = call.first; offset = call.address; len = call.length } in
+    (r, new) ≡ apply old (leaves (marks_range old.host range))
+Marks kind.MarkReached old call r new =
+    WritesOf old call.first call.address call.length (λ m host. marks_reached m host call.address call.length) r new
+Marks k old call r new = ⊥
 
--- where a session stands after a call that is none of setup: one that is refused leaves it there, and any other ends
--- the setup
-abbrev pub after_command : Stage → Answer → State → Stage
-after_command old a after = if is_refused a.code then old else commanding after
+abbrev pub AnswersMarks : Kind → State → Call → Answer → State → Type 0
+AnswersMarks kind old call a new = (r : replies.Reply) × Marks kind old call r new × (a ≡ answer_of r)
+
+-- what is answered to a call that sets nothing up
+abbrev pub AnswersMade : Bool → Kind → State → Call → List ℕ → List ℕ → Answer → List ℕ → State → Type 0
+AnswersMade true kind old call input out a out' new = AnswersMarks kind old call a new × (out' ≡ out)
+AnswersMade false kind old call input out a out' new = Served old kind call input out a out' new
 
 -- what is answered to a call of a kind
-abbrev pub AnswersKind : Bool → Kind → Stage → Call → List ℕ → List ℕ → Answer → List ℕ → Stage → Type 0
-AnswersKind true kind old call input out a out' new = SetsUpBy old kind call a new × (out' ≡ out)
-AnswersKind false kind old call input out a out' new =
-    (after : State) × Served (state_at old) kind call input out a out' after × (new ≡ after_command old a after)
+abbrev pub AnswersKind : Bool → Kind → State → Call → List ℕ → List ℕ → Answer → List ℕ → State → Type 0
+AnswersKind true kind old call input out a out' new = IsSetUp old kind call a new × (out' ≡ out)
+AnswersKind false kind old call input out a out' new = AnswersMade (marks kind) kind old call input out a out' new
 
-abbrev pub AnswersIf : Option Kind → Stage → Call → List ℕ → List ℕ → Answer → List ℕ → Stage → Type 0
+abbrev pub AnswersIf : Option Kind → State → Call → List ℕ → List ℕ → Answer → List ℕ → State → Type 0
 AnswersIf None old call input out a out' new = (a ≡ bad_call) × (out' ≡ out) × (new ≡ old)
 AnswersIf (Some kind) old call input out a out' new = AnswersKind (sets_up kind) kind old call input out a out' new
 
 -- what a session answers to a call with an input and an output, and leaves of the output
-abbrev pub Answers : Stage → Call → List ℕ → List ℕ → Answer → List ℕ → Stage → Type 0
+abbrev pub Answers : State → Call → List ℕ → List ℕ → Answer → List ℕ → State → Type 0
 Answers old call input out a out' new = AnswersIf (slice_get kinds call.kind) old call input out a out' new

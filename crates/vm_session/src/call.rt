@@ -1,6 +1,6 @@
 //! Calls and answers as plain numbers, as they cross to C.
 ghost use Rattle.std.specs.Prelude.{◌≡◌, IfSome, IsTrue, Some, slice_get};
-ghost use Rattle.vm_session.specs.Kinds.{access_at, is_access, kinds, sets_up, switch_at, width_at};
+ghost use Rattle.vm_session.specs.Kinds.{access_at, is_access, kinds, marks, sets_up, switch_at, width_at};
 
 use vm_memory::Width;
 use vm_memory_base::Permissions;
@@ -45,7 +45,7 @@ pub struct Answer {
     pub address: u64,
 }
 
-/// What is called, in the order of the lines of a script.
+/// What is called, in the order of the lines of a script, and then what no script has a line for.
 #[derive(Clone, Copy, Debug, PartialEq, Eq)]
 pub enum Kind {
     /// Makes a block of `length` bytes, with pages of `other_length`.
@@ -117,6 +117,10 @@ pub enum Kind {
     HarvestBlock,
     /// Takes the dirty pages of the space `first`.
     HarvestSpace,
+    /// Marks the pages of `length` bytes at offset `address` of the block `first`.
+    MarkBlock,
+    /// Marks the pages of the blocks that a write of `length` bytes to the memory `first` at `address` would reach.
+    MarkReached,
 }
 
 impl Kind {
@@ -135,9 +139,17 @@ impl Kind {
             _ => false,
         }
     }
+
+    // Whether a call of this kind marks pages.
+    #[inline(always)]
+    pub(crate) fn marks(self) -> bool
+        ensures { result ≡ marks self }
+    {
+        matches!(self, Kind::MarkBlock | Kind::MarkReached)
+    }
 }
 
-const KINDS: [Kind; 33] = [
+const KINDS: [Kind; 35] = [
     Kind::Block,
     Kind::Space,
     Kind::Table,
@@ -171,6 +183,8 @@ const KINDS: [Kind; 33] = [
     Kind::DirtySpace,
     Kind::HarvestBlock,
     Kind::HarvestSpace,
+    Kind::MarkBlock,
+    Kind::MarkReached,
 ];
 
 // The kind of a number, if it is one.

@@ -25,9 +25,6 @@ pub const INVALID_REGION: u32 = 6;
 /// is no list of the call.
 pub const BAD_CALL: u32 = 16;
 
-/// A setup call behind a command.
-pub const LATE: u32 = 17;
-
 /// The output is too short. It has to have `count` bytes.
 pub const SHORT: u32 = 18;
 

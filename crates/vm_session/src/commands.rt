@@ -1,11 +1,11 @@
 //! The calls of a machine, by their kinds.
 ghost use Rattle.std.specs.Prelude.{◌≡◌, List, [], ℕ, false, IsTrue, is_some, option_map, slice_get};
 ghost use Rattle.vm_memory.specs.Calls.{IsInteger};
-ghost use Rattle.vm_memory.specs.Pools.{state_made};
+ghost use Rattle.vm_memory.specs.ScriptMachine.{state_made};
 ghost use Rattle.vm_memory.specs.Typed.{fits_width, integer_of};
 ghost use Rattle.vm_memory.specs.declared.machine.command.Command.TheVariants as command;
 ghost use Rattle.vm_memory.specs.declared.machine.command.Width as widths;
-ghost use Rattle.vm_session.specs.Kinds.{is_access, is_listing, is_making, is_moving};
+ghost use Rattle.vm_session.specs.Kinds.{is_listing, is_making, is_moving};
 ghost use Rattle.vm_session.specs.Requests.{command_at};
 ghost use Rattle.vm_session.specs.Session.{Does, DoesListed, Loads, Served, Stores};
 ghost use Rattle.vm_session.specs.Words.{numbers_in};
@@ -17,104 +17,24 @@ use crate::lists::{dirty, harvest, lookup};
 use crate::transfers::{receive, receive_whole, send, send_whole};
 use crate::words::numbers_of;
 use std::alloc::Global;
-use vm_memory::script::ScriptMachine;
-use vm_memory::{BlockRange, Width};
+use vm_memory::{BlockRange, ScriptMachine, Width};
 use vm_memory_base::{AtomicAccess, BitmapId, GuestAddress, Permissions};
-
-// Serves a call of a kind that is none of setup.
-pub(crate) fn serve(
-    alloc: Global,
-    machine: &mut ScriptMachine,
-    kind: Kind,
-    call: &Call,
-    input: &[u8],
-    output: &mut [u8],
-    answer: &mut Answer,
-)
-    ensures { Served (state_made machine.old) kind call.now input.now output.old answer.new output.new
-        (state_made machine.new) }
-{
-    match kind {
-        Kind::Read | Kind::Write | Kind::ReadSlice | Kind::WriteSlice | Kind::Store | Kind::Load =>
-            serve_access(machine, kind, call, input, output, answer),
-        Kind::Layout
-        | Kind::Insert
-        | Kind::Remove
-        | Kind::Plain
-        | Kind::Memory
-        | Kind::Replace
-        | Kind::Enable => serve_making(alloc, machine, kind, call, input, answer),
-        Kind::ReadFrom
-        | Kind::ReadExactFrom
-        | Kind::CheckRange
-        | Kind::Copy
-        | Kind::Set
-        | Kind::Invalidate
-        | Kind::InvalidateAll => serve_moving(alloc, machine, kind, call, input, answer),
-        Kind::WriteTo
-        | Kind::WriteAllTo
-        | Kind::Lookup
-        | Kind::DirtyBlock
-        | Kind::DirtySpace
-        | Kind::HarvestBlock
-        | Kind::HarvestSpace => serve_listing(alloc, machine, kind, call, input, output, answer),
-        Kind::Block
-        | Kind::Space
-        | Kind::Table
-        | Kind::LimitedTable
-        | Kind::Region
-        | Kind::Translator => *answer = Answer::of_code(code::BAD_CALL),
-    }
-}
-
-// The calls that are made most often: those that access bytes of a memory. Each has a function of its own, since a
-// function pays at its entry for all values that it may come to have.
-#[inline(always)]
-pub(crate) fn serve_access(
-    machine: &mut ScriptMachine,
-    kind: Kind,
-    call: &Call,
-    input: &[u8],
-    output: &mut [u8],
-    answer: &mut Answer,
-)
-    requires { IsTrue (is_access kind) }
-    ensures { Served (state_made machine.old) kind call.now input.now output.old answer.new output.new
-        (state_made machine.new) }
-{
-    match kind {
-        Kind::Read => read(machine, call, output, answer),
-        Kind::Write => write(machine, call, input, answer),
-        Kind::ReadSlice => read_slice(machine, call, output, answer),
-        Kind::WriteSlice => write_slice(machine, call, input, answer),
-        Kind::Store => match width_of(call.width) {
-            Some(width) => store(machine, call, width, answer),
-            None => *answer = Answer::of_code(code::BAD_CALL),
-        },
-        Kind::Load => match width_of(call.width) {
-            Some(width) => load(machine, call, width, answer),
-            None => *answer = Answer::of_code(code::BAD_CALL),
-        },
-        _ => unreachable!(),
-    }
-}
 
 // The calls whose replies go to the output.
 #[inline(never)]
-fn serve_listing(
+pub(crate) fn serve_listing(
     alloc: Global,
     machine: &mut ScriptMachine,
     kind: Kind,
     call: &Call,
     input: &[u8],
     output: &mut [u8],
-    answer: &mut Answer,
-)
+) -> Answer
     requires { IsTrue (is_listing kind) }
-    ensures { Served (state_made machine.old) kind call.now input.now output.old answer.new output.new
+    ensures { Served (state_made machine.old) kind call.now input.now output.old result output.new
         (state_made machine.new) }
 {
-    *answer = match kind {
+    match kind {
         Kind::WriteTo => send(alloc, machine, call, input, output),
         Kind::WriteAllTo => send_whole(alloc, machine, call, input, output),
         Kind::Lookup => match access_of(call.access) {
@@ -126,12 +46,12 @@ fn serve_listing(
         Kind::HarvestBlock => harvest(alloc, machine, BitmapId::Block(call.first), output),
         Kind::HarvestSpace => harvest(alloc, machine, BitmapId::Space(call.first), output),
         _ => unreachable!(),
-    };
+    }
 }
 
 // The calls that make layouts and memories.
 #[inline(never)]
-fn serve_making(
+pub(crate) fn serve_making(
     alloc: Global,
     machine: &mut ScriptMachine,
     kind: Kind,
@@ -169,7 +89,7 @@ fn serve_making(
 
 // The calls that receive, ask and copy, and those on tables.
 #[inline(never)]
-fn serve_moving(
+pub(crate) fn serve_moving(
     alloc: Global,
     machine: &mut ScriptMachine,
     kind: Kind,
@@ -246,7 +166,7 @@ fn copy(machine: &mut ScriptMachine, call: &Call, answer: &mut Answer)
 
 // Reads at most so many bytes of a memory into the front of the output.
 #[inline(never)]
-fn read(machine: &ScriptMachine, call: &Call, output: &mut [u8], answer: &mut Answer)
+pub(crate) fn read(machine: &ScriptMachine, call: &Call, output: &mut [u8], answer: &mut Answer)
     ensures { let now = state_made machine.now in
         Does now (command_at Kind.Read call.now []) output.old answer.new output.new now }
 {
@@ -263,7 +183,12 @@ fn read(machine: &ScriptMachine, call: &Call, output: &mut [u8], answer: &mut An
 
 // Reads just so many bytes of a memory into the front of the output.
 #[inline(never)]
-fn read_slice(machine: &ScriptMachine, call: &Call, output: &mut [u8], answer: &mut Answer)
+pub(crate) fn read_slice(
+    machine: &ScriptMachine,
+    call: &Call,
+    output: &mut [u8],
+    answer: &mut Answer,
+)
     ensures { let now = state_made machine.now in
         Does now (command_at Kind.ReadSlice call.now []) output.old answer.new output.new now }
 {
@@ -280,7 +205,7 @@ fn read_slice(machine: &ScriptMachine, call: &Call, output: &mut [u8], answer: &
 
 // Writes the bytes of the input that fit.
 #[inline(never)]
-fn write(machine: &mut ScriptMachine, call: &Call, input: &[u8], answer: &mut Answer)
+pub(crate) fn write(machine: &mut ScriptMachine, call: &Call, input: &[u8], answer: &mut Answer)
     ensures { (out : List ℕ) → Does (state_made machine.old) (command_at Kind.Write call.now input.now) out answer.new
         out (state_made machine.new) }
 {
@@ -292,7 +217,12 @@ fn write(machine: &mut ScriptMachine, call: &Call, input: &[u8], answer: &mut An
 
 // Writes all bytes of the input.
 #[inline(never)]
-fn write_slice(machine: &mut ScriptMachine, call: &Call, input: &[u8], answer: &mut Answer)
+pub(crate) fn write_slice(
+    machine: &mut ScriptMachine,
+    call: &Call,
+    input: &[u8],
+    answer: &mut Answer,
+)
     ensures { (out : List ℕ) → Does (state_made machine.old) (command_at Kind.WriteSlice call.now input.now) out
         answer.new out (state_made machine.new) }
 {
@@ -304,7 +234,7 @@ fn write_slice(machine: &mut ScriptMachine, call: &Call, input: &[u8], answer: &
 
 // Loads an integer of this width.
 #[inline(never)]
-fn load(machine: &ScriptMachine, call: &Call, width: Width, answer: &mut Answer)
+pub(crate) fn load(machine: &ScriptMachine, call: &Call, width: Width, answer: &mut Answer)
     ensures { Loads (state_made machine.now) call.now width answer.new }
 {
     let addr = GuestAddress(call.address);
@@ -313,7 +243,7 @@ fn load(machine: &ScriptMachine, call: &Call, width: Width, answer: &mut Answer)
 
 // Stores a number as an integer of this width, if it is one.
 #[inline(always)]
-fn store(machine: &mut ScriptMachine, call: &Call, width: Width, answer: &mut Answer)
+pub(crate) fn store(machine: &mut ScriptMachine, call: &Call, width: Width, answer: &mut Answer)
     ensures { Stores (state_made machine.old) call.now width answer.new (state_made machine.new) }
 {
     if !width.fits(call.value) {

@@ -1,4 +1,4 @@
-//! A session: a machine that is set up and then runs, by calls of plain numbers, for callers that are not Rattle.
+//! A session: a machine that is made and runs by calls of plain numbers, for callers that are not Rattle.
 #![tactic(auto)]
 
 mod answer;
@@ -7,6 +7,7 @@ mod code;
 mod commands;
 pub mod laws;
 mod lists;
+mod marks;
 mod session;
 mod setup;
 mod steps;

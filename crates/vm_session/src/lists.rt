@@ -1,6 +1,6 @@
 //! The calls whose replies are lists: dirty pages, and where addresses of a table lead.
 ghost use Rattle.std.specs.Prelude.{◌≡◌, ◌*◌, Some, length};
-ghost use Rattle.vm_memory.specs.Pools.{state_made};
+ghost use Rattle.vm_memory.specs.ScriptMachine.{state_made};
 ghost use Rattle.vm_memory.specs.declared.machine.command.Command.TheVariants as command;
 ghost use Rattle.vm_memory.specs.declared.machine.command.Reply.TheVariants as reply;
 ghost use Rattle.vm_session.specs.Lists.{ListsIf};
@@ -12,7 +12,7 @@ use crate::call::{Answer, Call};
 use crate::code;
 use crate::words::{put_rows, put_words};
 use std::alloc::Global;
-use vm_memory::script::ScriptMachine;
+use vm_memory::ScriptMachine;
 use vm_memory_base::{BitmapId, GuestAddress, IotlbFails, MappedRange, Permissions};
 
 // The dirty pages of a bitmap.

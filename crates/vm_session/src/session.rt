@@ -1,58 +1,54 @@
-//! A session, from the first setup call on.
-ghost use Rattle.std.specs.Prelude.{◌≡◌, IsTrue, false};
-ghost use Rattle.vm_memory.specs.Pools.{state_made};
-ghost use Rattle.vm_memory.specs.Script.{beginning, setting};
-ghost use Rattle.vm_memory.specs.State.{State};
-ghost use Rattle.vm_session.specs.Codes.{is_refused};
-ghost use Rattle.vm_session.specs.Inside.{IsSettingUp, stage_of};
-ghost use Rattle.vm_session.specs.Kinds.{sets_up};
-ghost use Rattle.vm_session.specs.Session.{Answers, AnswersKind, Served, SetsUpBy, after_command};
+//! A session: a machine, what is made for it, and its commands, by calls.
+ghost use Rattle.std.specs.Prelude.{◌≡◌, IsTrue};
+ghost use Rattle.vm_memory.specs.ScriptMachine.{no_parts, state_made};
+ghost use Rattle.vm_session.specs.Kinds.{is_access};
+ghost use Rattle.vm_session.specs.Session.{Answers, Served};
 
-use crate::call::{Answer, Call, Kind, access_kind, kind_of};
+use crate::call::{Answer, Call, Kind, access_kind, kind_of, width_of};
 use crate::code;
-use crate::commands::{serve, serve_access};
+use crate::commands::{
+    load, read, read_slice, serve_listing, serve_making, serve_moving, store, write, write_slice,
+};
+use crate::marks::mark;
 use crate::setup::set_up;
 use std::alloc::Global;
 use std::marker::Model;
-use std::mem;
-use vm_memory::script::{Pools, ScriptMachine};
+use vm_memory::ScriptMachine;
 
-/// A machine that is being set up, and runs from its first command on.
+/// A machine, with what is made for it at any time.
 ///
 /// Its calls are a run of the model: docs/BINDINGS.md, "What is proved".
 #[derive(Drop)]
 pub struct Session {
     alloc: Global,
-    pools: Pools,
-    machine: Option<ScriptMachine>,
+    machine: ScriptMachine,
 }
 
 impl Model for Session {
-    ghost use Rattle.vm_memory.specs.Script.{Stage};
-    ghost use Rattle.vm_session.specs.Inside.{stage_of};
+    ghost use Rattle.vm_memory.specs.ScriptMachine.{state_made};
+    ghost use Rattle.vm_memory.specs.State.{State};
 
-    ghost Value = { Stage };
+    ghost Value = { State };
 
-    ghost view = { λ s. stage_of s.machine s.pools };
+    ghost view = { λ s. state_made s.machine };
 }
 
 impl Session {
     /// A session that made nothing. It allocates nothing.
     pub fn new(alloc: Global) -> Session
-        ensures { result ≡ beginning }
+        ensures { result ≡ state_made no_parts }
     {
         Session {
             alloc,
-            pools: Pools::new(alloc),
-            machine: None,
+            machine: ScriptMachine::empty(alloc),
         }
     }
 
     /// Answers a call. `Kind` says what each call takes and does, and docs/BINDINGS.md lists the codes of answers.
     ///
     /// Bytes that are written and lists come by the input; bytes that are read and lists go to the front of the output,
-    /// whose other bytes stay. Where the output is too short, the answer says how many bytes it has to have, and
-    /// nothing changed. The first call that is none of setup, and is not refused so, ends the setup.
+    /// whose other bytes stay. If the output is too short, the answer says how many bytes it has to have, and nothing
+    /// changed.
     pub fn call(&mut self, call: &Call, input: &[u8], output: &mut [u8]) -> Answer
         ensures { Answers self.old call.now input.now output.old result output.new self.new }
     {
@@ -67,10 +63,8 @@ impl Session {
         ensures { Answers self.old call.now input.now output.old answer.new output.new self.new }
     {
         if let Some(kind) = access_kind(call.kind) {
-            if let Some(machine) = &mut self.machine {
-                serve_access(machine, kind, call, input, output, answer);
-                return;
-            }
+            self.access(kind, call, input, output, answer);
+            return;
         }
         self.call_any(call, input, output, answer);
     }
@@ -83,37 +77,18 @@ impl Session {
             None => *answer = Answer::of_code(code::BAD_CALL),
             Some(kind) => {
                 if kind.sets_up() {
-                    self.set_up(kind, call, answer);
+                    *answer = set_up(&mut self.machine, kind, call);
+                } else if kind.marks() {
+                    mark(&mut self.machine, kind, call, answer);
                 } else {
-                    self.run(kind, call, input, output, answer);
+                    self.serve(kind, call, input, output, answer);
                 }
             }
         }
     }
 
-    fn set_up(&mut self, kind: Kind, call: &Call, answer: &mut Answer)
-        requires { IsTrue (sets_up kind) }
-        ensures { SetsUpBy self.old kind call.now answer.new self.new }
-    {
-        if self.machine.is_some() {
-            *answer = Answer::of_code(code::LATE);
-            return;
-        }
-        *answer = set_up(&mut self.pools, kind, call);
-    }
-
-    fn run(&mut self, kind: Kind, call: &Call, input: &[u8], output: &mut [u8], answer: &mut Answer)
-        ensures { AnswersKind false kind self.old call.now input.now output.old answer.new output.new self.new }
-    {
-        if let Some(machine) = &mut self.machine {
-            serve(self.alloc, machine, kind, call, input, output, answer);
-            return;
-        }
-        self.run_first(kind, call, input, output, answer);
-    }
-
-    // Runs the first call that is none of setup.
-    fn run_first(
+    // Serves a call of a kind that is none of setup.
+    fn serve(
         &mut self,
         kind: Kind,
         call: &Call,
@@ -121,43 +96,78 @@ impl Session {
         output: &mut [u8],
         answer: &mut Answer,
     )
-        requires { IsSettingUp self.old }
-        ensures { AnswersKind false kind self.old call.now input.now output.old answer.new output.new self.new }
+        ensures { Served self.old kind call.now input.now output.old answer.new output.new self.new }
     {
-        let pools = mem::replace(&mut self.pools, Pools::new(self.alloc));
-        let (told, machine, pools) = serve_first(self.alloc, pools, kind, call, input, output);
-        self.machine = machine;
-        self.pools = pools;
-        *answer = told;
+        let (alloc, machine) = (self.alloc, &mut self.machine);
+        match kind {
+            Kind::Read
+            | Kind::Write
+            | Kind::ReadSlice
+            | Kind::WriteSlice
+            | Kind::Store
+            | Kind::Load => self.access(kind, call, input, output, answer),
+            Kind::Layout
+            | Kind::Insert
+            | Kind::Remove
+            | Kind::Plain
+            | Kind::Memory
+            | Kind::Replace
+            | Kind::Enable => serve_making(alloc, machine, kind, call, input, answer),
+            Kind::ReadFrom
+            | Kind::ReadExactFrom
+            | Kind::CheckRange
+            | Kind::Copy
+            | Kind::Set
+            | Kind::Invalidate
+            | Kind::InvalidateAll => serve_moving(alloc, machine, kind, call, input, answer),
+            Kind::WriteTo
+            | Kind::WriteAllTo
+            | Kind::Lookup
+            | Kind::DirtyBlock
+            | Kind::DirtySpace
+            | Kind::HarvestBlock
+            | Kind::HarvestSpace => *answer = serve_listing(
+                alloc, machine, kind, call, input, output,
+            ),
+            Kind::Block
+            | Kind::Space
+            | Kind::Table
+            | Kind::LimitedTable
+            | Kind::Region
+            | Kind::Translator
+            | Kind::MarkBlock
+            | Kind::MarkReached => *answer = Answer::of_code(code::BAD_CALL),
+        }
     }
-}
 
-// Serves the first call that is none of setup, by a machine of what was set up. Where the call is refused, the machine
-// is taken apart again, and the setup goes on.
-fn serve_first(
-    alloc: Global,
-    pools: Pools,
-    kind: Kind,
-    call: &Call,
-    input: &[u8],
-    output: &mut [u8],
-) -> (Answer, Option<ScriptMachine>, Pools)
-    ensures { (after : State) × Served (state_made pools) kind call.now input.now output.old result.0 output.new after
-        × (stage_of result.1 result.2 ≡ after_command (setting (state_made pools)) result.0 after) }
-{
-    let mut machine = pools.into_machine();
-    let mut answer = Answer::of_code(code::DONE);
-    serve(alloc, &mut machine, kind, call, input, output, &mut answer);
-    if is_refused(answer.code) {
-        (answer, None, Pools::of_machine(alloc, machine))
-    } else {
-        (answer, Some(machine), Pools::new(alloc))
+    // The calls that are made most often: those that access bytes of a memory. Each has a function of its own, since a
+    // function pays at its entry for all values that it may come to have.
+    #[inline(always)]
+    fn access(
+        &mut self,
+        kind: Kind,
+        call: &Call,
+        input: &[u8],
+        output: &mut [u8],
+        answer: &mut Answer,
+    )
+        requires { IsTrue (is_access kind) }
+        ensures { Served self.old kind call.now input.now output.old answer.new output.new self.new }
+    {
+        match kind {
+            Kind::Read => read(&self.machine, call, output, answer),
+            Kind::Write => write(&mut self.machine, call, input, answer),
+            Kind::ReadSlice => read_slice(&self.machine, call, output, answer),
+            Kind::WriteSlice => write_slice(&mut self.machine, call, input, answer),
+            Kind::Store => match width_of(call.width) {
+                Some(width) => store(&mut self.machine, call, width, answer),
+                None => *answer = Answer::of_code(code::BAD_CALL),
+            },
+            Kind::Load => match width_of(call.width) {
+                Some(width) => load(&self.machine, call, width, answer),
+                None => *answer = Answer::of_code(code::BAD_CALL),
+            },
+            _ => unreachable!(),
+        }
     }
-}
-
-// Whether a call of this code means nothing, or has too short an output.
-fn is_refused(code: u32) -> bool
-    ensures { result ≡ is_refused code }
-{
-    code == code::BAD_CALL || code == code::SHORT
 }

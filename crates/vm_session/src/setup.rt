@@ -1,6 +1,6 @@
 //! The setup calls: what they ask for, and what they are answered.
 ghost use Rattle.std.specs.Prelude.{◌≡◌, IsTrue, MatchOption};
-ghost use Rattle.vm_memory.specs.Pools.{state_made};
+ghost use Rattle.vm_memory.specs.ScriptMachine.{state_made};
 ghost use Rattle.vm_session.specs.Answers.{answer_of_setup};
 ghost use Rattle.vm_session.specs.Kinds.{sets_up};
 ghost use Rattle.vm_session.specs.Requests.{IsSetup, is_without_size};
@@ -9,17 +9,17 @@ ghost use Rattle.vm_session.specs.Session.{IsSetUp};
 use crate::call::{Answer, Call, Kind};
 use crate::code;
 use std::num::NonZeroUsize;
-use vm_memory::script::{Pools, Setup, SetupReply};
+use vm_memory::{ScriptMachine, Setup, SetupReply};
 use vm_memory_base::GuestAddress;
 use vm_memory_guest::{BlockId, TlbId};
 
 // Makes what a setup call asks for, or changes nothing and says why.
-pub(crate) fn set_up(pools: &mut Pools, kind: Kind, call: &Call) -> Answer
+pub(crate) fn set_up(machine: &mut ScriptMachine, kind: Kind, call: &Call) -> Answer
     requires { IsTrue (sets_up kind) }
-    ensures { IsSetUp (state_made pools.old) kind call.now result (state_made pools.new) }
+    ensures { IsSetUp (state_made machine.old) kind call.now result (state_made machine.new) }
 {
     match setup_of(kind, call) {
-        Some(setup) => told(pools.make(setup)),
+        Some(setup) => told(machine.make(setup)),
         None => Answer::of_code(code::BAD_CALL),
     }
 }

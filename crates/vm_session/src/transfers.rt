@@ -1,6 +1,6 @@
 //! The calls that transfer between memories and sources or sinks, which follow the steps that an input lists.
 ghost use Rattle.std.specs.Prelude.{◌≡◌, List, ℕ, IfOk};
-ghost use Rattle.vm_memory.specs.Pools.{state_made};
+ghost use Rattle.vm_memory.specs.ScriptMachine.{state_made};
 ghost use Rattle.vm_memory.specs.Reply.{as_done, replied};
 ghost use Rattle.vm_memory.specs.Transfers.{beside_taken};
 ghost use Rattle.vm_session.specs.Answers.{answer_of, bytes_of};
@@ -13,8 +13,7 @@ use crate::code;
 use crate::steps::{sinks_of, sources_of};
 use crate::words::numbers_of;
 use std::alloc::{AllocError, Global};
-use vm_memory::script::ScriptMachine;
-use vm_memory::{Refusal, SinkList, SourceList};
+use vm_memory::{Refusal, ScriptMachine, SinkList, SourceList};
 use vm_memory_base::{GuestAddress, ScriptSink, ScriptSource};
 
 // Receives at most so many bytes of a memory.

@@ -12,10 +12,9 @@ use virtio_queue::{
     Descriptor, DriverQueue, Queue, QueueField, VRING_DESC_F_INDIRECT, VRING_DESC_F_NEXT,
     VRING_DESC_F_WRITE, VRING_USED_F_NO_NOTIFY,
 };
-use vm_memory::{
-    Bytes, GuestAddress, GuestMemoryMmap, GuestRegionMmap, HostMemory, IommuMemory, MachineMemory,
-    Permissions, TableIommu, TlbId,
-};
+use vm_memory_base::{GuestAddress, Permissions};
+use vm_memory_device::{IommuMemory, MachineMemory, TableIommu};
+use vm_memory_guest::{Bytes, GuestMemoryMmap, GuestRegionMmap, HostMemory, TlbId};
 
 // Where the queue lies, the table of a chain that the queue's own table is too small for, a header, a status, and
 // data, for which there is room up to the end of memory.

@@ -11,6 +11,7 @@ use guest::Guest;
 use options::{Arguments, Options, read_arguments};
 use request::{LineError, request_of};
 use std::fs::File;
+use std::io::BufRead;
 use std::process::ExitCode;
 use virtio_blk::{BlockDevice, Disk, FileDisk, MemoryDisk};
 
@@ -39,7 +40,7 @@ fn answer<D: Disk>(
     guest: &mut Guest,
     device: &mut BlockDevice<D>,
     number: u64,
-    line: &str,
+    line: &[u8],
 ) -> anyhow::Result<bool> {
     match request_of(rt.alloc(), line) {
         Ok(request) => {
@@ -68,9 +69,11 @@ fn serve<D: Disk>(rt: &HostRuntime, options: &Options, disk: D) -> anyhow::Resul
     guest.accept(&mut device)?;
     let mut number = 0u64;
     let mut right = true;
-    for line in rt.lines(alloc) {
+    for line in rt.reader().split(alloc, b'\n') {
         number = number.saturating_add(1);
-        if !answer(rt, &mut guest, &mut device, number, line?.as_str())? {
+        let line = line?;
+        let line = line.strip_suffix(b"\r").unwrap_or(line.as_slice());
+        if !answer(rt, &mut guest, &mut device, number, line)? {
             right = false;
         }
     }
@@ -82,6 +85,9 @@ fn run(rt: &HostRuntime, options: &Options) -> anyhow::Result<bool> {
     if let Some(path) = &options.disk {
         let path = path.as_str();
         let file = open(rt, path, options)?;
+        if !file.metadata().context(path)?.is_file() {
+            bail!("{path}: not a regular file");
+        }
         return serve(rt, options, FileDisk::new(file).context(path)?);
     }
     let len = options.sectors.unwrap_or(64) as usize * 512;

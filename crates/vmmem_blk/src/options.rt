@@ -1,5 +1,6 @@
 //! What the arguments ask for.
 
+use clap::builder::ValueParser;
 use clap::{Arg, ArgAction, Command, value_parser};
 use std::alloc::Global;
 use std::env;
@@ -16,6 +17,12 @@ Lines:
   id                        ask for the name of the device
 Each is answered by ok, data and the bytes, error, or unsupported. What is wrong with a line that is no request is
 said on standard error, and the status is 1 in the end";
+
+// The sizes of a queue.
+const QUEUE_SIZES: &[&str] = &[
+    "1", "2", "4", "8", "16", "32", "64", "128", "256", "512", "1024", "2048", "4096", "8192",
+    "16384", "32768",
+];
 
 /// What is asked for.
 #[derive(Drop)]
@@ -68,7 +75,7 @@ fn command<'a>(alloc: Global) -> anyhow::Result<Command<'a>> {
         alloc,
         "queue-size",
         "N",
-        "how many descriptors the queue has, a power of two up to 32768",
+        "how many descriptors the queue has",
     );
     let command = Command::new(alloc, "vmmem_blk")
         .about(ABOUT)
@@ -88,7 +95,7 @@ fn command<'a>(alloc: Global) -> anyhow::Result<Command<'a>> {
         .arg(
             queue_size
                 .default_value("16")
-                .value_parser(value_parser!(u16)),
+                .value_parser(ValueParser::Names(QUEUE_SIZES)),
         )?;
     Ok(command)
 }

@@ -20,6 +20,8 @@ pub enum Request {
 /// Why a line is no request.
 #[derive(Debug, Drop, Error)]
 pub enum LineError {
+    #[error("the bytes are not UTF-8")]
+    Utf8,
     #[error("there is no request: write, read, flush or id")]
     Empty,
     #[error("no request has this name: write, read, flush and id are known")]
@@ -84,8 +86,11 @@ fn bytes_of(alloc: Global, word: Option<&str>) -> Result<Vec<u8>, LineError> {
 }
 
 /// The request of a line, or why it is none. `Memory` says that an allocation failed.
-pub fn request_of(alloc: Global, line: &str) -> Result<Request, LineError> {
-    let mut words = line.split(' ');
+pub fn request_of(alloc: Global, line: &[u8]) -> Result<Request, LineError> {
+    let Ok(text) = str::from_utf8(line) else {
+        return Err(LineError::Utf8);
+    };
+    let mut words = text.split(' ');
     let kind = words.next().unwrap_or("");
     let first = words.next();
     let second = words.next();

@@ -9,20 +9,20 @@ use anyhow::{Context, Result, bail};
 use asked::{Asked, read_words};
 use linux_loader::{
     BzImage, Cmdline, Elf, KernelImage, KernelLoaderResult, KernelPlan, LoaderError,
-    PvhBootCapability, Segment, initrd_address, load_cmdline, load_initrd,
+    PvhBootCapability, Segment, SetupHeader, initrd_address, load_cmdline, load_initrd,
 };
-use memory::{Host, digest_of, dirty_pages, fits, last_low_address, memory_of};
+use memory::{
+    BEHIND_HOLE, Host, digest_of, dirty_pages, fits, last_address, last_low_address, memory_of,
+};
 use std::alloc::Global;
 use std::env;
 use std::fs::File;
 use std::process::ExitCode;
-use vm_memory::{GuestAddress, GuestMemoryMmap, HostMemory};
+use vm_memory_base::GuestAddress;
+use vm_memory_guest::{GuestMemoryMmap, HostMemory};
 
 // Where the command line lies.
 const CMDLINE: u64 = 0x2_0000;
-
-// How many bytes a command line has at most, with its terminating zero.
-const CMDLINE_CAPACITY: usize = 0x1000;
 
 // Opens a file, whose name an error says.
 fn open(rt: &HostRuntime, path: &str) -> Result<File> {
@@ -44,27 +44,52 @@ fn plan_of(
     BzImage::plan(alloc, offset, image, None)
 }
 
-// Refuses a part of a file that has an address without memory.
-fn check_part(path: &str, part: &str, start: u64, end: u64, memory: u64) -> Result<()> {
-    if !fits(memory, start, end) {
+// Refuses a part of a kernel that has an address without memory.
+fn check_part(part: &str, start: u64, end: u64, memory: u64) -> Result<()> {
+    if fits(memory, start, end) {
+        return Ok(());
+    }
+    let last = last_address(memory);
+    if start < BEHIND_HOLE && BEHIND_HOLE < last {
         let last = last_low_address(memory);
-        bail!(
-            "{path} does not fit: {part} takes {start:#x} to {end:#x}, and {memory} MiB of memory end after {last:#x}"
-        );
+        bail!("{part} takes {start:#x} to {end:#x}, and memory below 4 GiB ends after {last:#x}");
+    }
+    bail!("{part} takes {start:#x} to {end:#x}, and {memory} MiB of memory end after {last:#x}");
+}
+
+// Refuses a kernel with a part that has an address without memory.
+fn check_plan(plan: &KernelPlan, memory: u64) -> Result<()> {
+    for segment in plan.segments.iter() {
+        let start = segment.addr.0;
+        let end = start.saturating_add(segment.size);
+        check_part("a segment", start, end, memory)?;
+    }
+    if let Some(area) = plan.result.runtime_area {
+        let start = area.start.0;
+        check_part("the kernel at run time", start, area.end, memory)?;
     }
     Ok(())
 }
 
-// Refuses a kernel with a part that has an address without memory.
-fn check_plan(path: &str, plan: &KernelPlan, memory: u64) -> Result<()> {
-    for segment in plan.segments.iter() {
-        let start = segment.addr.0;
-        let end = start.saturating_add(segment.size);
-        check_part(path, "a segment", start, end, memory)?;
+// How many characters the command line of a bzImage has at most. The header begins at 0x1f1 of the image; from version
+// 2.06 on, the number stands at 0x238.
+fn most_characters(header: &SetupHeader) -> u32 {
+    match header.as_slice().first_chunk::<0x4b>() {
+        Some(h) if u16::from_le_bytes([h[0x15], h[0x16]]) >= 0x206 => {
+            u32::from_le_bytes([h[0x47], h[0x48], h[0x49], h[0x4a]])
+        }
+        _ => 255,
     }
-    if let Some(area) = plan.result.runtime_area {
-        let start = area.start.0;
-        check_part(path, "the kernel at run time", start, area.end, memory)?;
+}
+
+// Refuses a command line that is longer than the image allows.
+fn check_line(path: &str, kernel: &KernelLoaderResult, line: Option<&Cmdline>) -> Result<()> {
+    if let (Some(header), Some(line)) = (&kernel.setup_header, line) {
+        let most = most_characters(header);
+        let count = line.text().len();
+        if count > most as usize {
+            bail!("{path} allows {most} characters of --cmdline, which has {count}");
+        }
     }
     Ok(())
 }
@@ -85,6 +110,9 @@ fn open_initrd(
         return Ok(None);
     };
     let mut file = open(rt, path)?;
+    if file.metadata().context(format_args!("{path}"))?.is_dir() {
+        bail!("{path}: is a directory");
+    }
     let size = file.size().context(format_args!("{path}"))?;
     let limit = last_low_address(asked.memory);
     if let Err(error) = initrd_address(kernel, size, GuestAddress(limit)) {
@@ -134,17 +162,15 @@ fn put_line(
     host: &mut Host,
     memory: &GuestMemoryMmap,
     kernel: &KernelLoaderResult,
-    text: Option<&str>,
+    line: Option<&Cmdline>,
 ) -> Result<()> {
-    let Some(text) = text else {
+    let Some(line) = line else {
         return Ok(());
     };
-    let mut line = Cmdline::new(rt.alloc(), CMDLINE_CAPACITY)?;
-    line.insert_str(rt.alloc(), text)?;
     if !host.holds(memory) {
         bail!("the host does not hold the memory");
     }
-    load_cmdline(memory, host, kernel, GuestAddress(CMDLINE), &line)?;
+    load_cmdline(memory, host, kernel, GuestAddress(CMDLINE), line)?;
     let count = line.as_slice_with_nul().len();
     println!(rt; "command line {CMDLINE:#x} {count}")?;
     Ok(())
@@ -193,7 +219,8 @@ fn run(rt: &HostRuntime, asked: &Asked) -> Result<()> {
     let path = asked.image;
     let mut image = open(rt, path)?;
     let plan = plan_of(rt.alloc(), &mut image, asked.offset).context(format_args!("{path}"))?;
-    check_plan(path, &plan, asked.memory)?;
+    check_line(path, &plan.result, asked.cmdline.as_ref())?;
+    check_plan(&plan, asked.memory).context(format_args!("{path} does not fit"))?;
     let initrd = open_initrd(rt, &plan.result, asked)?;
     let mut host = HostMemory::new(rt.alloc());
     let memory = memory_of(rt.alloc(), &mut host, asked.memory)?;
@@ -206,7 +233,8 @@ fn run(rt: &HostRuntime, asked: &Asked) -> Result<()> {
         tell_segment(rt, &host, &memory, name, segment)?;
     }
     tell_kernel(rt, &kernel)?;
-    put_line(rt, &mut host, &memory, &kernel, asked.cmdline).context("command line")?;
+    let line = asked.cmdline.as_ref();
+    put_line(rt, &mut host, &memory, &kernel, line).context("command line")?;
     let limit = last_low_address(asked.memory);
     put_initrd(rt, &mut host, &memory, &kernel, initrd, limit).context("initrd")?;
     let count = dirty_pages(rt.alloc(), &host, &memory)?;

@@ -3,10 +3,8 @@
 use anyhow::{Result, bail};
 use sha2::{Digest, Sha256};
 use std::alloc::Global;
-use vm_memory::{
-    Bytes, ExactBitmap, ExclusiveBitmap, GuestAddress, GuestMemoryBackend, GuestMemoryMmap,
-    GuestMemoryRegion, HostMemory,
-};
+use vm_memory_base::{ExactBitmap, ExclusiveBitmap, GuestAddress};
+use vm_memory_guest::{Bytes, GuestMemoryBackend, GuestMemoryMmap, GuestMemoryRegion, HostMemory};
 
 pub type Host = HostMemory<ExclusiveBitmap>;
 
@@ -18,28 +16,41 @@ const CHUNK: u64 = 0x1_0000;
 // Where devices have their addresses: memory past 3 GiB lies from 4 GiB on.
 const HOLE: u64 = 0xc000_0000;
 
-const BEHIND_HOLE: u64 = 0x1_0000_0000;
+/// Where memory past 3 GiB begins.
+pub const BEHIND_HOLE: u64 = 0x1_0000_0000;
+
+// How many bytes of memory lie after the hole.
+fn size_behind_hole(mib: u64) -> u64 {
+    mib.saturating_mul(MIB).saturating_sub(HOLE)
+}
 
 /// The last address of the memory below the hole, of a machine with so many MiB.
 pub fn last_low_address(mib: u64) -> u64 {
     mib.saturating_mul(MIB).min(HOLE).saturating_sub(1)
 }
 
+/// The last address of all memory, of a machine with so many MiB.
+pub fn last_address(mib: u64) -> u64 {
+    match size_behind_hole(mib) {
+        0 => last_low_address(mib),
+        size => BEHIND_HOLE.saturating_add(size).saturating_sub(1),
+    }
+}
+
 /// Whether a machine with so many MiB has memory at each address from one up to another.
 pub fn fits(mib: u64, start: u64, end: u64) -> bool {
     let low = last_low_address(mib).saturating_add(1);
-    let rest = mib.saturating_mul(MIB).saturating_sub(low);
+    let rest = size_behind_hole(mib);
     end <= low || (start >= BEHIND_HOLE && end <= BEHIND_HOLE.saturating_add(rest))
 }
 
 /// Memory of so many MiB: the first of them, the others up to the hole, and the rest behind it.
 pub fn memory_of(alloc: Global, host: &mut Host, mib: u64) -> Result<GuestMemoryMmap> {
     let low = last_low_address(mib).saturating_add(1);
-    let rest = mib.saturating_mul(MIB).saturating_sub(low);
     let all = [
         (GuestAddress(0), low.min(MIB)),
         (GuestAddress(MIB), low.saturating_sub(MIB)),
-        (GuestAddress(BEHIND_HOLE), rest),
+        (GuestAddress(BEHIND_HOLE), size_behind_hole(mib)),
     ];
     let mut ranges = Vec::new(alloc);
     for (start, size) in all {

@@ -8,7 +8,8 @@ use rand_xoshiro::Xoshiro256PlusPlus;
 use sha2::{Digest, Sha256};
 use std::alloc::{AllocError, Global};
 use std::num::NonZeroUsize;
-use vm_memory::{BitmapId, BlockId, ExactBitmap, ExclusiveBitmap, GuestAddress, HostMemory};
+use vm_memory_base::{BitmapId, ExactBitmap, ExclusiveBitmap, GuestAddress};
+use vm_memory_guest::{BlockId, HostMemory};
 
 pub type Host = HostMemory<ExclusiveBitmap>;
 

@@ -205,24 +205,20 @@ fn makers_of() -> [Command; 6] {
     ]
 }
 
-// Commands on the table, the bitmaps and the switch. Some of them want memory for their replies alone.
-fn others_of() -> [Command; 15] {
-    let iova = GuestAddress(0x5000);
-    let first = BlockRange {
-        block: 0,
-        offset: 0,
-        len: 4,
-    };
-    let last = BlockRange {
-        block: 0,
-        offset: 0x3c,
-        len: 4,
-    };
+// Commands on the bitmaps, which want memory for their replies alone.
+fn bitmaps_of() -> [Command; 4] {
     [
         Command::Dirty(BitmapId::Block(0)),
         Command::Dirty(BitmapId::Space(0)),
         Command::Harvest(BitmapId::Block(0)),
         Command::Harvest(BitmapId::Space(0)),
+    ]
+}
+
+// Commands on mappings of the table.
+fn mappings_of() -> [Command; 4] {
+    let iova = GuestAddress(0x5000);
+    [
         Command::Lookup {
             table: 0,
             iova,
@@ -241,35 +237,50 @@ fn others_of() -> [Command; 15] {
             length: 0x40,
             access: Permissions::Read,
         },
-        Command::Copy {
-            from: last,
-            to: first,
-        },
-        Command::Enable {
-            memory: 0,
-            on: false,
-        },
+    ]
+}
+
+// Copies the last bytes of the block to its first.
+fn copy_of() -> Command {
+    let first = BlockRange {
+        block: 0,
+        offset: 0,
+        len: 4,
+    };
+    let last = BlockRange {
+        block: 0,
+        offset: 0x3c,
+        len: 4,
+    };
+    Command::Copy {
+        from: last,
+        to: first,
+    }
+}
+
+// Commands that switch the IOMMU off, access memory 0 without it, switch it on again, and drop its mappings.
+fn switches_of() -> [Command; 6] {
+    let (memory, addr) = (0, GuestAddress(0));
+    [
+        Command::Enable { memory, on: false },
         Command::Store {
-            memory: 0,
+            memory,
             width: Width::One,
-            addr: GuestAddress(0),
+            addr,
             value: 7,
         },
         Command::CheckRange {
-            memory: 0,
-            addr: GuestAddress(0),
+            memory,
+            addr,
             count: 8,
             access: Permissions::Read,
         },
         Command::Read {
-            memory: 0,
-            addr: GuestAddress(0),
+            memory,
+            addr,
             count: 8,
         },
-        Command::Enable {
-            memory: 0,
-            on: true,
-        },
+        Command::Enable { memory, on: true },
         Command::InvalidateAll(0),
     ]
 }
@@ -290,7 +301,10 @@ fn commands_of(alloc: Global) -> Result<Vec<Command>, AllocError> {
         push_writes(alloc, &mut commands, memory, PLACES[memory])?;
         push_all(alloc, &mut commands, accesses_of(memory, PLACES[memory]))?;
     }
-    push_all(alloc, &mut commands, others_of())?;
+    push_all(alloc, &mut commands, bitmaps_of())?;
+    push_all(alloc, &mut commands, mappings_of())?;
+    commands.push(copy_of())?;
+    push_all(alloc, &mut commands, switches_of())?;
     commands.push(Command::FromRegions(numbers_of(alloc, &[0, 1, 2])?))?;
     Ok(commands)
 }

@@ -11,10 +11,9 @@ use vhost_iotlb::{
 };
 use virtio_blk::{BlockDevice, MemoryDisk, VIRTIO_BLK_S_IOERR};
 use virtio_queue::{Queue, QueueError};
-use vm_memory::{
-    Bitmap, Bytes, Chain, GuestAddress, GuestMemoryError, HostMemory, IommuError, Permissions,
-    Segment, TlbId,
-};
+use vm_memory_base::{Bitmap, GuestAddress, IommuError, Permissions};
+use vm_memory_device::{Chain, Segment};
+use vm_memory_guest::{Bytes, GuestMemoryError, HostMemory, TlbId};
 
 // The most bytes of a chain.
 const MOST: usize = 0x1_0000;

@@ -21,7 +21,8 @@ use virtio_queue::{
     Descriptor, DriverQueue, QueueField, VRING_DESC_F_NEXT, VRING_DESC_F_WRITE,
     VRING_USED_F_NO_NOTIFY,
 };
-use vm_memory::{Bytes, GuestAddress, Permissions, TlbId};
+use vm_memory_base::{GuestAddress, Permissions};
+use vm_memory_guest::{Bytes, TlbId};
 
 /// What a front end did and saw.
 #[derive(Clone, Copy, Debug)]

@@ -24,8 +24,14 @@ use std::time::Duration;
 use std::{env, thread};
 use vhost_iotlb::{DeviceIotlb, DeviceTable, Incoming, Limits};
 use virtio_blk::MemoryDisk;
-use vm_memory::TlbId;
-use world::{FRAMES, Host, PAGES, SECTORS, SLOTS, announced, behind, driver_queue, make_host};
+use virtio_queue::DriverQueue;
+use vm_memory_guest::{SpaceId, TlbId};
+use world::{
+    FRAMES, Host, Layout, PAGES, SECTORS, SLOTS, announced, behind, driver_queue, make_host,
+};
+
+// How many bytes the disk has.
+const DISK_LEN: usize = SECTORS as usize * 512;
 
 // What the arguments ask for.
 #[derive(Clone, Copy)]
@@ -135,29 +141,50 @@ fn make_pages(alloc: Global, host: &mut Host) -> anyhow::Result<(TlbId, Pages)> 
     Ok((table, pages))
 }
 
+// Makes the back end, whose table is bounded, with its two sockets.
+fn make_back_end(
+    alloc: Global,
+    host: &mut Host,
+    layout: &Layout,
+    space: SpaceId,
+    driver: &DriverQueue,
+    sockets: [UnixStream; 2],
+    options: Options,
+) -> anyhow::Result<BackEnd<UnixStream, UnixStream>> {
+    let [coming, back] = sockets;
+    let limit = options.limit.max(1);
+    let bounded = DeviceTable::new(alloc, host, limit, announced(alloc)?)?;
+    let memory = behind(alloc, layout, bounded.table, space)?;
+    let mut queue = driver.queue()?;
+    queue.set_event_idx(options.events);
+    let limits = Limits {
+        tries: 100_000,
+        looks: 1_000_000,
+    };
+    BackEnd::new(
+        alloc,
+        DeviceIotlb::new(bounded, coming, back, limits),
+        memory,
+        queue,
+        MemoryDisk::new(vec![in alloc; 0u8; DISK_LEN]?),
+    )
+}
+
 // Makes both ends, over a host with guest memory.
 fn make_ends<R: Net>(rt: &R, alloc: Global, options: Options) -> anyhow::Result<(Host, Ends)> {
     let [front, coming, own, back] = channels(rt)?;
     let (mut host, layout) = make_host(alloc)?;
     let (table, pages) = make_pages(alloc, &mut host)?;
     let space = host.new_space(())?;
-    let limit = options.limit.max(1);
-    let bounded = DeviceTable::new(alloc, &mut host, limit, announced(alloc)?)?;
-    let behind_bounded = behind(alloc, &layout, bounded.table, space)?;
     let driver = driver_queue()?;
-    let mut queue = driver.queue()?;
-    queue.set_event_idx(options.events);
-    let len = SECTORS as usize * 512;
-    let limits = Limits {
-        tries: 100_000,
-        looks: 1_000_000,
-    };
-    let back_end = BackEnd::new(
+    let back_end = make_back_end(
         alloc,
-        DeviceIotlb::new(bounded, coming, back, limits),
-        behind_bounded,
-        queue,
-        MemoryDisk::new(vec![in alloc; 0u8; len]?),
+        &mut host,
+        &layout,
+        space,
+        &driver,
+        [coming, back],
+        options,
     )?;
     let front_end = FrontEnd {
         alloc,
@@ -177,7 +204,7 @@ fn make_ends<R: Net>(rt: &R, alloc: Global, options: Options) -> anyhow::Result<
             stream: own,
             coming: Incoming::new(),
         },
-        disk: vec![in alloc; 0u8; len]?,
+        disk: vec![in alloc; 0u8; DISK_LEN]?,
         left: options.requests,
         sent: [None; SLOTS],
         seen: NOTHING,

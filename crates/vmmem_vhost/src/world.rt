@@ -4,9 +4,10 @@ use std::alloc::Global;
 use std::sync::Arc;
 use vhost_iotlb::{UserMemory, UserRegion};
 use virtio_queue::DriverQueue;
-use vm_memory::{
-    GuestAddress, GuestMemoryMmap, GuestRegionCollection, GuestRegionMmap, HostMemory, IommuMemory,
-    SpaceId, TableIommu, TlbId,
+use vm_memory_base::GuestAddress;
+use vm_memory_device::{IommuMemory, TableIommu};
+use vm_memory_guest::{
+    GuestMemoryMmap, GuestRegionCollection, GuestRegionMmap, HostMemory, SpaceId, TlbId,
 };
 
 pub type Host = HostMemory<()>;

@@ -4,6 +4,8 @@
 use std::ffi::c_int;
 use std::os::fd::{AsFd, AsRawFd};
 use std::ptr::{copy, null_mut};
+use std::sync::atomic::AtomicU64;
+use std::sync::atomic::Ordering::Relaxed;
 
 // Of the C library, as Linux on x86-64 has it.
 unsafe extern "C" {
@@ -46,6 +48,21 @@ impl Guest {
         assert!(from + bytes.len() <= self.len);
         // SAFETY: both have these bytes, and no call of the machine runs.
         unsafe { copy(bytes.as_ptr(), self.at.add(from), bytes.len()) };
+    }
+}
+
+/// A guest that writes while calls run, from a thread of its own.
+pub struct BusyGuest(pub Guest);
+
+// SAFETY: its bytes are changed by atomic stores alone.
+unsafe impl Sync for BusyGuest {}
+
+impl BusyGuest {
+    /// Stores a value at a multiple of eight bytes, also while a call of the machine runs.
+    pub fn store(&self, from: usize, value: u64) {
+        assert!(from % 8 == 0 && from + 8 <= self.0.len);
+        // SAFETY: the mapping has these bytes, and it is aligned to pages.
+        unsafe { AtomicU64::from_ptr(self.0.at.add(from).cast()) }.store(value, Relaxed);
     }
 }
 

@@ -5,9 +5,9 @@ ghost use Rattle.linux_loader.specs.Plan.{HasBytes, Lists};
 
 use crate::error::LoaderError;
 use crate::numbers::{u16_at, u32_at, u64_at};
-use crate::plan::Segment;
+use crate::segment::Segment;
 use std::alloc::{AllocError, Global};
-use vm_memory::GuestAddress;
+use vm_memory_base::GuestAddress;
 
 // How many bytes the header of an ELF file has, and a program header.
 pub(crate) const HEADER_SIZE: usize = 64;

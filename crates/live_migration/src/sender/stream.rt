@@ -1,5 +1,5 @@
 //! A sender with its stream: what was copied is sent, rounds end, and the guest is given up.
-ghost use Rattle.std.specs.Prelude.{◌≡◌, ◌≢◌, true, ℕ, ◌+◌, ◌-◌, ◌^◌, ◌<◌, ◌≤◌, List, [], ◌++◌, length, map, IfOk, IsOk, OnOk, OnErr, IsErr, IsTrue, ◌↔◌, ◌⊎◌};
+ghost use Rattle.std.specs.Prelude.{◌≡◌, ◌≢◌, true, ℕ, ◌+◌, ◌-◌, ◌^◌, ◌<◌, ◌≤◌, List, [], ◌++◌, length, map, IfOk, IsOk, IsOkUnless, OnOk, OnErr, IsErr, IsTrue, ◌↔◌, ◌⊎◌};
 ghost use Rattle.std.specs.Io.KnownBytes.{Appends, Keeps};
 ghost use Rattle.sha2.specs.Hashers.{Holds256};
 ghost use Rattle.sha2.specs.Sha256.{sha256};
@@ -12,9 +12,8 @@ ghost use Rattle.live_migration.specs.Leave.{Sends, IsFirst, BeginsToSend};
 use super::pages::{SendError, Target, target_of};
 use super::rounds::Rounds;
 use crate::frame::{Frame, GO, MOST_PAGE_BYTES, head_bytes};
-use crate::header::{BlockEntry, MOST_BLOCKS, decode_header, encode_header};
+use crate::header::{BlockEntry, check_header, encode_header};
 use crate::receiver::digest_of;
-use crate::refusal::Refusal;
 use sha2::{Digest, Sha256};
 use std::alloc::{AllocError, Global};
 use std::io::Write;
@@ -140,51 +139,22 @@ pub(super) fn is_new(targets: &[Target], target: &Target) -> bool
     true
 }
 
-// The header of blocks, which a receiver accepts.
+// The header of blocks, if a receiver accepts it: else `Header`, with the fault that the receiver would find.
 fn header_of(alloc: Global, targets: &[Target]) -> Result<Vec<u8>, SendError>
-    ensures { IfOk result (λ v. IsHeader (2 ^ 64 - 1) (map (λ t. t.entry) targets.now)
+    ensures accepted { IfOk result (λ v. IsHeader (2 ^ 64 - 1) (map (λ t. t.entry) targets.now)
         × (v.items ≡ header_bytes (map (λ t. t.entry) targets.now))) }
+    ensures only { IsHeader (2 ^ 64 - 1) (map (λ t. t.entry) targets.now) → IsOkUnless result SendError.Memory }
 {
     let Ok(entries) = entries_of(alloc, targets) else {
         return Err(SendError::Memory);
     };
-    if entries.len() > MOST_BLOCKS as usize {
-        return Err(SendError::Header(Refusal::BlockCount));
+    if let Err(refusal) = check_header(u64::MAX, entries.as_slice()) {
+        return Err(SendError::Header(refusal));
     }
     let Ok(header) = encode_header(alloc, entries.as_slice()) else {
         return Err(SendError::Memory);
     };
-    match decode_header(alloc, u64::MAX, header.as_slice()) {
-        Ok(read) => {
-            // What is read is what was written: the comparison makes it known.
-            if are_equal(read.as_slice(), entries.as_slice()) {
-                Ok(header)
-            } else {
-                Err(SendError::Header(Refusal::FrameLength))
-            }
-        }
-        Err(refusal) => Err(SendError::Header(refusal)),
-    }
-}
-
-fn are_equal(read: &[BlockEntry], entries: &[BlockEntry]) -> bool
-    ensures { result ≡ true → read.now ≡ entries.now }
-{
-    if read.len() != entries.len() {
-        return false;
-    }
-    for (i, entry) in read.iter().enumerate() {
-        if !is_entry(entry, &entries[i]) {
-            return false;
-        }
-    }
-    true
-}
-
-fn is_entry(a: &BlockEntry, b: &BlockEntry) -> bool
-    ensures { result ≡ true → a.now ≡ b.now }
-{
-    a.len == b.len && a.page_size == b.page_size && a.address == b.address
+    Ok(header)
 }
 
 fn entries_of(alloc: Global, targets: &[Target]) -> Result<Vec<BlockEntry>, AllocError>

@@ -10,7 +10,9 @@ use super::PIECE;
 use crate::disk::Disk;
 use crate::request::{VIRTIO_BLK_S_IOERR, VIRTIO_BLK_S_OK};
 use crate::text::{read_all, write_front};
-use vm_memory::{Bitmap, ChainReader, ChainWriter, GuestMemory, HostMemory};
+use vm_memory_base::Bitmap;
+use vm_memory_device::{ChainReader, ChainWriter};
+use vm_memory_guest::{GuestMemory, HostMemory};
 
 // Moves the next bytes of a text to the disk, from a sector on, through a buffer that has room for just these.
 fn store_piece<D: Disk, M: GuestMemory, B: Bitmap>(
@@ -38,8 +40,8 @@ fn store_piece<D: Disk, M: GuestMemory, B: Bitmap>(
     read_all(reader, mem, host, piece) && disk.write(sector, piece).is_ok()
 }
 
-// Moves a text to the disk, from a sector on, and answers the status.
-fn store<D: Disk, M: GuestMemory, B: Bitmap>(
+// Moves a text to the disk, from a sector on, and says the status.
+pub(super) fn store<D: Disk, M: GuestMemory, B: Bitmap>(
     disk: &mut D,
     reader: &mut ChainReader<'_>,
     mem: &M,
@@ -79,7 +81,7 @@ pub(super) fn flush<D: Disk>(disk: &mut D) -> u8
 }
 
 // Moves a text to the disk, from a sector on, brings it to where it stays, and says the status.
-fn store_to_stay<D: Disk, M: GuestMemory, B: Bitmap>(
+pub(super) fn store_to_stay<D: Disk, M: GuestMemory, B: Bitmap>(
     disk: &mut D,
     reader: &mut ChainReader<'_>,
     mem: &M,
@@ -100,32 +102,6 @@ fn store_to_stay<D: Disk, M: GuestMemory, B: Bitmap>(
         return stored;
     }
     flush(disk)
-}
-
-// Moves a text to the disk, from a sector on, to stay where it has to, and says the status.
-pub(super) fn write<D: Disk, M: GuestMemory, B: Bitmap>(
-    disk: &mut D,
-    reader: &mut ChainReader<'_>,
-    mem: &M,
-    host: &HostMemory<B>,
-    sector: u64,
-    buffer: &mut [u8],
-    stays: bool,
-) -> u8
-    requires held { Holds (shape_of host.now) (M.names mem.now) }
-    requires whole { length reader.old % 512 ≡ 0 }
-    requires inside { 512 * sector + length reader.old ≤ 512 * D.sectors disk.old }
-    requires small { D.sectors disk.old < 2 ^ 55 }
-    requires room { length buffer.old ≡ 65536 }
-    ensures { let m = M.memory mem.now in MatchBool stays
-        (StoresToStay D.bytes D.sectors D.calls m host.now reader.old sector disk.old result disk.new)
-        (Stores D.bytes D.sectors D.calls m host.now reader.old sector (length reader.old) disk.old result disk.new) }
-{
-    if stays {
-        store_to_stay(disk, reader, mem, host, sector, buffer)
-    } else {
-        store(disk, reader, mem, host, sector, buffer)
-    }
 }
 
 // Moves bytes of the disk, from a sector on, to the next bytes of a text, through a buffer that has room for just

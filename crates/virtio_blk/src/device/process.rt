@@ -8,7 +8,8 @@ ghost use Rattle.virtio_blk.specs.Process.{IsDone, NextTurn, Processes, Runs, St
 use super::BlockDevice;
 use crate::disk::Disk;
 use virtio_queue::{Queue, QueueError};
-use vm_memory::{Bitmap, GuestMemory, HostMemory};
+use vm_memory_base::Bitmap;
+use vm_memory_guest::{GuestMemory, HostMemory};
 
 /// What a call of `BlockDevice::process` did.
 #[derive(Debug, Drop)]

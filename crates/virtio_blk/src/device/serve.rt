@@ -5,12 +5,14 @@ ghost use Rattle.virtio_blk.specs.Inside.{Asks, CanDo, Did, Performed};
 ghost use Rattle.virtio_blk.specs.Served.{Names, Serves};
 ghost use Rattle.virtio_blk.specs.Texts.{StopsAt, WritesAt};
 
-use super::pieces::{flush, load, write};
+use super::pieces::{flush, load, store, store_to_stay};
 use super::{BlockDevice, ID_LEN, must_stay};
 use crate::disk::Disk;
 use crate::request::{Task, VIRTIO_BLK_S_IOERR, VIRTIO_BLK_S_OK, VIRTIO_BLK_S_UNSUPP, task_of};
 use crate::text::{read_all, write_front};
-use vm_memory::{Bitmap, Chain, ChainReader, ChainWriter, GuestMemory, HostMemory};
+use vm_memory_base::Bitmap;
+use vm_memory_device::{Chain, ChainReader, ChainWriter};
+use vm_memory_guest::{GuestMemory, HostMemory};
 
 // Writes a status to the last byte of a text, behind so many bytes that were written in front of it. It answers how
 // many were written without a gap.
@@ -115,13 +117,14 @@ impl<D: Disk> BlockDevice<D> {
                 let buffer = self.buffer.as_mut_slice();
                 load(&mut self.disk, writer, mem, host, sector, buffer)
             }
-            Task::Write(sector) => {
-                let stays = must_stay(self.acked, reader.left());
+            Task::Write(sector) if must_stay(self.acked, reader.left()) => {
                 let buffer = self.buffer.as_mut_slice();
-                (
-                    write(&mut self.disk, reader, mem, host, sector, buffer, stays),
-                    0,
-                )
+                let disk = &mut self.disk;
+                (store_to_stay(disk, reader, mem, host, sector, buffer), 0)
+            }
+            Task::Write(sector) => {
+                let buffer = self.buffer.as_mut_slice();
+                (store(&mut self.disk, reader, mem, host, sector, buffer), 0)
             }
             Task::Flush => (flush(&mut self.disk), 0),
             Task::GetId => tell_id(&self.id, writer, mem, host),

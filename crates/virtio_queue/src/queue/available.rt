@@ -12,7 +12,9 @@ use crate::error::QueueError;
 use crate::fields::load_word;
 use crate::state::QueueState;
 use std::alloc::Global;
-use vm_memory::{Bitmap, Chain, GuestMemory, HostMemory};
+use vm_memory_base::Bitmap;
+use vm_memory_device::Chain;
+use vm_memory_guest::{GuestMemory, HostMemory};
 
 // The driver's index.
 #[inline]

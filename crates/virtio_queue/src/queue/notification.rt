@@ -10,7 +10,8 @@ use super::available::avail_idx;
 use crate::error::QueueError;
 use crate::fields::{load_word, store_word};
 use crate::state::QueueState;
-use vm_memory::{Bitmap, GuestMemory, HostMemory};
+use vm_memory_base::Bitmap;
+use vm_memory_guest::{GuestMemory, HostMemory};
 
 /// The flag of the available ring by which a driver asks for no notification.
 pub const VRING_AVAIL_F_NO_INTERRUPT: u16 = 1;

@@ -9,7 +9,8 @@ use super::Queue;
 use crate::error::QueueError;
 use crate::fields::{lies_whole, load_word, place, store_word, write_pair};
 use crate::state::QueueState;
-use vm_memory::{Bitmap, GuestMemory, HostMemory, Permissions};
+use vm_memory_base::{Bitmap, Permissions};
+use vm_memory_guest::{GuestMemory, HostMemory};
 
 // The address of the entry that is written next, for this head.
 #[inline]

@@ -12,8 +12,9 @@ use Rattle.vm_memory_base.specs.declared.iotlb.lookup.IotlbFails.{IotlbFails}
 use Rattle.vm_memory_guest.specs.Host.{Host}
 use Rattle.vm_memory_guest.specs.Memory.{Memory}
 use Rattle.vm_memory_guest.specs.Region.{Region}
-use Rattle.vm_memory.specs.Iommu.{behind}
-use Rattle.vm_memory.specs.State.{State, plain}
+use Rattle.vm_memory_device.specs.Iommu.{behind}
+use Rattle.vm_memory_device.specs.Memories.{plain}
+use Rattle.vm_memory.specs.State.{State}
 use Rattle.vm_memory.specs.declared.machine.command.BlockRange.{BlockRange}
 use Rattle.vm_memory.specs.declared.machine.command.Fault.{Fault}
 use Rattle.vm_memory.specs.declared.machine.command.Fault.TheVariants.{InvalidGuestAddress, IommuError}

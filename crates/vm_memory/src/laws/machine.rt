@@ -1,29 +1,34 @@
 //! What holds of every step and every run of a machine: each function here is a theorem, and does nothing.
 //! It calls the theorems that it follows from.
 ghost use Rattle.std.specs.Prelude.{◌≡◌, ◌≢◌, Bool, false, ℕ, ◌^◌, ◌<◌, List, length, slice_get, slice_index, All, Some};
-ghost use Rattle.std.specs.Prelude.{◌+◌, ◌-◌, ◌++◌, ◌∷◌, [], slice_index_or, true, None};
+ghost use Rattle.std.specs.Prelude.{◌+◌, ◌-◌, ◌++◌, ◌∷◌, [], slice_index_or, true, None, Contains, ◌/◌};
 ghost use Rattle.vm_memory_base.specs.Address.{step};
-ghost use Rattle.vm_memory_base.specs.Pages.{PageSet};
+ghost use Rattle.vm_memory_base.specs.Pages.{Pages, PageSet, is_dirty_at};
 ghost use Rattle.vm_memory_base.specs.Permissions.{allow};
 ghost use Rattle.vm_memory_base.specs.Table as table;
 ghost use Rattle.vm_memory_base.specs.Table.{Table, TableEvent, says, says_after, says_after_all, covers};
 ghost use Rattle.vm_memory_base.specs.declared.address.GuestAddress.{GuestAddress};
+ghost use Rattle.vm_memory_base.specs.declared.bitmap.BitmapId.{BitmapId};
 ghost use Rattle.vm_memory_base.specs.declared.bitmap.BitmapId.TheVariants.{Block};
 ghost use Rattle.vm_memory_base.specs.declared.iotlb.Permissions.{Permissions};
 ghost use Rattle.vm_memory_base.specs.declared.iotlb.Permissions.TheVariants as permissions;
 ghost use Rattle.vm_memory_base.specs.declared.iotlb.lookup.IotlbFails.{IotlbFails};
 ghost use Rattle.vm_memory_base.specs.declared.iotlb.lookup.MappedRange.{MappedRange};
 ghost use Rattle.vm_memory_guest.specs.Access.{Reached};
-ghost use Rattle.vm_memory_guest.specs.Host.{Host};
+ghost use Rattle.vm_memory_guest.specs.Copy.{dirtied_cells};
+ghost use Rattle.vm_memory_guest.specs.Dirt.{pages_at};
+ghost use Rattle.vm_memory_guest.specs.Host.{Cell, Host};
 ghost use Rattle.vm_memory_guest.specs.Memory as guest;
 ghost use Rattle.vm_memory_guest.specs.Memory.{Translation, behind_of};
 ghost use Rattle.vm_memory_guest.specs.Region.{Backed, Region, cell, has_address};
-ghost use Rattle.vm_memory.specs.History.{AnsweredIn, table_events, IsLast, GoesThrough};
+ghost use Rattle.vm_memory_device.specs.Reach.{IsLast, GoesThrough};
+ghost use Rattle.vm_memory.specs.History.{AnsweredIn, table_events};
 ghost use Rattle.vm_memory.specs.Lawful.{IsLawful};
 ghost use Rattle.vm_memory.specs.Commands.{MayWant};
 ghost use Rattle.vm_memory.specs.Machine.{Step, Run};
 ghost use Rattle.vm_memory.specs.Parts.{state_of};
-ghost use Rattle.vm_memory.specs.Reply.{reached_by, is_partial};
+ghost use Rattle.vm_memory_device.specs.Reach.{reached_by};
+ghost use Rattle.vm_memory.specs.Reply.{is_partial};
 ghost use Rattle.vm_memory.specs.Rounds.{MirrorsBlock, IsTracked, RunsDirectly, KeepsImage};
 ghost use Rattle.vm_memory.specs.Rounds.{image_now, bytes_of_block, IsSynced};
 ghost use Rattle.vm_memory.specs.State.{State};
@@ -37,12 +42,12 @@ ghost use Rattle.vm_memory.specs.declared.machine.command.Reply.TheVariants.{Bad
 ghost use Rattle.vm_memory.specs.declared.machine.command.Reply.TheVariants as reply;
 ghost use Rattle.vm_memory.specs.declared.machine.command.Fault.{Fault};
 
-use crate::iommu::Iommu;
 use vm_memory_base::ExactBitmap;
 use vm_memory_base::laws::pages::{cleaned_is_clean, dirty_pages_are_listed};
-use vm_memory_base::laws::table::{
-    allowed_where_each_address_grants, last_call_decides, tables_keep_to_their_limits,
-    targets_follow_addresses,
+use vm_memory_base::laws::table::tables_keep_to_their_limits;
+use vm_memory_device::Iommu;
+use vm_memory_device::laws::tables::{
+    accesses_go_through_what_calls_left, tables_say_what_calls_left,
 };
 use vm_memory_guest::GuestMemoryRegion;
 use vm_memory_guest::laws::effects::{
@@ -157,7 +162,7 @@ pub fn tables_say_what_was_set_last()
         → length new.host.tables ≡ length old.host.tables }
 {
     tables_keep_to_their_limits();
-    last_call_decides();
+    tables_say_what_calls_left();
     path_writes_keep_shapes();
     transfers_in_mark_what_they_change();
 }
@@ -190,10 +195,7 @@ pub fn accesses_go_through_what_was_set_last()
         → All (λ call. covers call (a + i) ≡ false) (table_events b.table t cs rs)
         → GoesThrough m.regions (a + i) (says t (a + i)) access x }
 {
-    tables_keep_to_their_limits();
-    last_call_decides();
-    targets_follow_addresses();
-    allowed_where_each_address_grants();
+    accesses_go_through_what_calls_left();
     path_writes_keep_shapes();
     transfers_in_mark_what_they_change();
 }
@@ -231,4 +233,20 @@ pub fn runs_keep_layouts()
 {
     layouts_pass_the_tests();
     one_region_holds_an_address();
+}
+
+/// Marks of bytes that a machine did not write change the bitmaps of blocks alone: no byte, no space and no table. They
+/// make no page clean, and the page of each byte dirty, if there is one.
+pub fn marks_change_bitmaps_alone()
+    ensures rest { (cells : List Cell) (host : Host PageSet)
+        → dirtied_cells cells host ≡ record host { bitmaps = (dirtied_cells cells host).bitmaps } }
+    ensures stays { (cells : List Cell) (id : BitmapId) (offset : ℕ) (host : Host PageSet)
+        → is_dirty_at (pages_at id host) offset ≡ true
+        → is_dirty_at (pages_at id (dirtied_cells cells host)) offset ≡ true }
+    ensures dirty { (cells : List Cell) (c : Cell) (host : Host PageSet) (p : Pages) → Contains cells c
+        → c.offset < 2 ^ 64 → pages_at (Block c.block) host ≡ Some p → c.offset / p.page_size < length p.flags
+        → is_dirty_at (pages_at (Block c.block) (dirtied_cells cells host)) c.offset ≡ true }
+{
+    dirt_stays();
+    named_pages_are_dirty();
 }

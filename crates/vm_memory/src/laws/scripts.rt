@@ -3,7 +3,7 @@ ghost use Rattle.std.specs.Prelude.{◌≡◌, ◌++◌, List, ℕ, flat_map};
 ghost use Rattle.std.specs.List.{AllByRecursion};
 ghost use Rattle.vm_memory.specs.Lines.{CanSpell, Means, command_fields, setup_fields};
 ghost use Rattle.vm_memory.specs.Machine.{Run};
-ghost use Rattle.vm_memory.specs.Pools.{no_parts, state_made};
+ghost use Rattle.vm_memory.specs.ScriptMachine.{no_parts, state_made};
 ghost use Rattle.vm_memory.specs.Script.{Answers, Stage, beginning, state_at};
 ghost use Rattle.vm_memory.specs.ScriptRun.{SetUpRun, commands_of, reply_line, setup_line, setups_of};
 ghost use Rattle.vm_memory.specs.State.{State};
@@ -13,8 +13,8 @@ ghost use Rattle.vm_memory.specs.declared.machine.command.Command.{Command};
 ghost use Rattle.vm_memory.specs.declared.machine.command.Reply.{Reply};
 ghost use Rattle.vm_memory.specs.declared.script.line.Line.{Line};
 ghost use Rattle.vm_memory.specs.declared.script.line.Line.TheVariants as lines;
-ghost use Rattle.vm_memory.specs.declared.script.setup.Setup.{Setup};
-ghost use Rattle.vm_memory.specs.declared.script.reply.SetupReply.{SetupReply};
+ghost use Rattle.vm_memory.specs.declared.machine.setup.Setup.{Setup};
+ghost use Rattle.vm_memory.specs.declared.machine.setup.SetupReply.{SetupReply};
 
 /// A line means at most one thing.
 pub fn lines_mean_one_thing()

@@ -7,7 +7,7 @@ ghost use Rattle.vm_memory_guest.specs.Memory.{memory_names};
 ghost use Rattle.vm_memory_guest.specs.Walk.{NeedsPieces};
 ghost use Rattle.vm_memory.specs.Calls.{ReadsInto, filled_from};
 ghost use Rattle.vm_memory.specs.Machine.{Step};
-ghost use Rattle.vm_memory.specs.Memories.{memory_meant};
+ghost use Rattle.vm_memory_device.specs.Memories.{memory_meant};
 ghost use Rattle.vm_memory.specs.Parts.{state_of};
 ghost use Rattle.vm_memory.specs.Reply.{as_done, checks, reads, reads_whole, replied, writes};
 ghost use Rattle.vm_memory.specs.declared.machine.command.Command.TheVariants as command;
@@ -15,10 +15,9 @@ ghost use Rattle.vm_memory.specs.declared.machine.command.Reply.TheVariants as r
 ghost use Rattle.vm_memory.specs.declared.machine.refusal.Refusal.TheVariants as refusal;
 
 use super::Machine;
-use super::machine_memory::MachineMemory;
 use super::refusal::Refusal;
-use crate::iommu::Iommu;
 use vm_memory_base::{ExactBitmap, GuestAddress, Permissions};
+use vm_memory_device::{Iommu, MachineMemory};
 use vm_memory_guest::laws::accesses::accesses_are_by_bytes;
 use vm_memory_guest::{Bytes, GuestMemory, GuestMemoryRegion, HostMemory};
 

@@ -12,8 +12,8 @@ ghost use Rattle.vm_memory.specs.declared.machine.command.Command.TheVariants as
 use super::Machine;
 use super::command::BlockRange;
 use super::refusal::Refusal;
-use crate::iommu::Iommu;
 use vm_memory_base::ExactBitmap;
+use vm_memory_device::Iommu;
 use vm_memory_guest::laws::host::parts_of_a_block_are_held;
 use vm_memory_guest::laws::typed::copies_are_by_bytes;
 use vm_memory_guest::{BlockId, GuestMemoryRegion, HostMemory, VolatileSlice};
@@ -52,14 +52,14 @@ fn copy_in<B: ExactBitmap>(
 }
 
 // Whether there is a block of this number.
-fn has_block<B>(host: &HostMemory<B>, block: usize) -> bool
+pub(super) fn has_block<B>(host: &HostMemory<B>, block: usize) -> bool
     ensures { result ≡ nat_lt block (length host.now.blocks) }
 {
     host.shape().block_len(BlockId(block)).is_some()
 }
 
 // A window of a block, if it ends in its block.
-fn window<B>(host: &HostMemory<B>, range: BlockRange) -> Option<VolatileSlice>
+pub(super) fn window<B>(host: &HostMemory<B>, range: BlockRange) -> Option<VolatileSlice>
     requires { range.block < length host.now.blocks }
     ensures value { result ≡ (if ends_inside host.now range then Some (range_window range) else None) }
     ensures held { IfSome result (λ w. Holds (shape_of host.now) (window_names w)) }

@@ -6,11 +6,11 @@ ghost use Rattle.vm_memory.specs.Parts.{state_of};
 
 use super::Machine;
 use super::command::{Command, Reply};
-use crate::iommu::Iommu;
 use std::alloc::{AllocError, Global};
 use std::marker::Model;
 use thiserror::Error;
 use vm_memory_base::{ExactBitmap, IotlbFails, IovaRangeList, Items};
+use vm_memory_device::Iommu;
 use vm_memory_guest::GuestMemoryRegion;
 
 /// Why `SharedMachine::call` returned no reply.

@@ -11,10 +11,10 @@ ghost use Rattle.vm_memory.specs.declared.machine.refusal.Refusal.TheVariants as
 
 use super::Machine;
 use super::refusal::Refusal;
-use crate::iommu::Iommu;
 use std::alloc::{AllocError, Global};
 use std::sync::Arc;
 use vm_memory_base::{ExactBitmap, GuestAddress, GuestUsize};
+use vm_memory_device::Iommu;
 use vm_memory_guest::{GuestMemoryBackend, GuestMemoryRegion, GuestRegionCollection};
 
 impl<R: GuestMemoryRegion, I: Iommu, B: ExactBitmap> Machine<R, I, B> {

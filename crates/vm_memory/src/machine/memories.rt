@@ -9,10 +9,9 @@ ghost use Rattle.vm_memory.specs.declared.machine.command.Reply.TheVariants as r
 ghost use Rattle.vm_memory.specs.declared.machine.refusal.Refusal.TheVariants as refusal;
 
 use super::Machine;
-use super::machine_memory::MachineMemory;
 use super::refusal::Refusal;
-use crate::iommu::{Iommu, IommuMemory};
 use vm_memory_base::ExactBitmap;
+use vm_memory_device::{Iommu, IommuMemory, MachineMemory};
 use vm_memory_guest::{GuestMemoryRegion, SpaceId};
 
 impl<R: GuestMemoryRegion, I: Iommu, B: ExactBitmap> Machine<R, I, B> {

@@ -11,8 +11,8 @@ ghost use Rattle.vm_memory.specs.declared.machine.command.Reply.TheVariants as r
 
 use super::Machine;
 use super::refusal::Refusal;
-use crate::iommu::Iommu;
 use vm_memory_base::{BitmapId, ExactBitmap};
+use vm_memory_device::Iommu;
 use vm_memory_guest::{GuestMemoryRegion, HostMemory};
 
 impl<R: GuestMemoryRegion, I: Iommu, B: ExactBitmap> Machine<R, I, B> {

@@ -5,9 +5,8 @@ ghost use Rattle.vm_memory_guest.specs.Region.{region_names};
 ghost use Rattle.vm_memory.specs.Parts.{HoldsMemory, HoldsRegions};
 
 use super::Machine;
-use super::machine_memory::MachineMemory;
-use crate::iommu::Iommu;
 use std::sync::Arc;
+use vm_memory_device::{Iommu, MachineMemory};
 use vm_memory_guest::{GuestMemoryRegion, GuestRegionCollection, SpaceId};
 
 impl<R: GuestMemoryRegion, I: Iommu, B> Machine<R, I, B> {

@@ -100,7 +100,7 @@ pub(super) fn done(answer: Result<(), Refusal>) -> Reply
 }
 
 // The reply to a call that made a layout.
-pub(super) fn layout_made(answer: Result<usize, Refusal>) -> Reply
+pub(super) fn laid_out(answer: Result<usize, Refusal>) -> Reply
     ensures { result ≡ replied Reply.Layout answer }
 {
     match answer {

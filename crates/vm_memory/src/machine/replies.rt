@@ -10,11 +10,11 @@ use super::Machine;
 use super::command::{Ending, Reply, Width};
 use super::list::{ByteList, NumberList};
 use super::refusal::{Refusal, counted, done, refused};
-use crate::iommu::Iommu;
 use std::alloc::{AllocError, Global};
 use vm_memory_base::{
     BitmapId, ExactBitmap, GuestAddress, ScriptSink, ScriptSource, SinkStep, SourceStep,
 };
+use vm_memory_device::Iommu;
 use vm_memory_guest::GuestMemoryRegion;
 
 impl<R: GuestMemoryRegion, I: Iommu, B: ExactBitmap> Machine<R, I, B> {

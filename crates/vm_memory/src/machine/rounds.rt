@@ -7,12 +7,13 @@ ghost use Rattle.vm_memory_guest.specs.Host as names;
 ghost use Rattle.vm_memory_guest.specs.Host.{Holds, block_at, shape_of};
 ghost use Rattle.vm_memory_guest.specs.Window.{with_bitmap};
 ghost use Rattle.vm_memory.specs.Parts.{state_of};
-ghost use Rattle.vm_memory.specs.Rounds.{patched, image_now, pages_of_block, IsSynced};
+ghost use Rattle.vm_memory_guest.specs.Patch.{patched};
+ghost use Rattle.vm_memory.specs.Rounds.{image_now, pages_of_block, IsSynced};
 
 use super::Machine;
-use crate::iommu::Iommu;
 use std::alloc::{AllocError, Global};
 use vm_memory_base::{BitmapId, ExactBitmap};
+use vm_memory_device::Iommu;
 use vm_memory_guest::laws::host::parts_of_a_block_are_held;
 use vm_memory_guest::{BlockId, GuestMemoryRegion, HostMemory};
 

@@ -4,10 +4,10 @@ ghost use Rattle.vm_memory.specs.Journal.{IsEntry};
 
 use super::command::{Command, Reply};
 use super::journal::{CallError, Journal};
-use crate::iommu::Iommu;
 use std::alloc::AllocError;
 use std::sync::{Mutex, Wait};
 use vm_memory_base::ExactBitmap;
+use vm_memory_device::Iommu;
 use vm_memory_guest::GuestMemoryRegion;
 
 /// A machine that threads share, one command at a time, with its journal.

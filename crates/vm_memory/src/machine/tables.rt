@@ -15,11 +15,11 @@ ghost use Rattle.vm_memory.specs.declared.machine.refusal.Refusal.TheVariants as
 use super::Machine;
 use super::list::PieceList;
 use super::refusal::Refusal;
-use crate::iommu::Iommu;
 use std::alloc::{AllocError, Global};
 use vm_memory_base::{
     ExactBitmap, GuestAddress, IotlbFails, IotlbIterator, LookupError, Permissions,
 };
+use vm_memory_device::Iommu;
 use vm_memory_guest::{GuestMemoryRegion, HostMemory, TlbId};
 
 impl<R: GuestMemoryRegion, I: Iommu, B: ExactBitmap> Machine<R, I, B> {

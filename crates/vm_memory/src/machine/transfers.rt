@@ -20,8 +20,8 @@ ghost use Rattle.vm_memory.specs.declared.machine.refusal.Refusal.TheVariants as
 
 use super::Machine;
 use super::refusal::Refusal;
-use crate::iommu::Iommu;
 use vm_memory_base::{ExactBitmap, GuestAddress, ReadVolatile, WriteVolatile};
+use vm_memory_device::Iommu;
 use vm_memory_guest::laws::transfers::{
     sinks_take_what_is_computed, transfers_in_are_computed, transfers_out_are_computed,
 };

@@ -8,7 +8,7 @@ ghost use Rattle.vm_memory_guest.specs.Walk.{NeedsPieces};
 ghost use Rattle.vm_memory.specs.Calls.{AreIntegers, IsInteger, WritesOf, loaded};
 ghost use Rattle.vm_memory.specs.Commands.{MayTranslate};
 ghost use Rattle.vm_memory.specs.Machine.{Step};
-ghost use Rattle.vm_memory.specs.Memories.{memory_meant};
+ghost use Rattle.vm_memory_device.specs.Memories.{memory_meant};
 ghost use Rattle.vm_memory.specs.Parts.{state_of};
 ghost use Rattle.vm_memory.specs.Reply.{as_done, replied};
 ghost use Rattle.vm_memory.specs.Typed.{stores_bytes};
@@ -18,11 +18,10 @@ ghost use Rattle.vm_memory.specs.declared.machine.command.Width as widths;
 ghost use Rattle.vm_memory.specs.declared.machine.refusal.Refusal.TheVariants as refusal;
 
 use super::Machine;
-use super::machine_memory::MachineMemory;
 use super::refusal::Refusal;
-use crate::iommu::Iommu;
 use std::sync::atomic::Ordering;
 use vm_memory_base::{AtomicAccess, ExactBitmap, GuestAddress};
+use vm_memory_device::{Iommu, MachineMemory};
 use vm_memory_guest::laws::typed::loads_and_stores_are_by_bytes;
 use vm_memory_guest::{Bytes, GuestMemory, GuestMemoryRegion, HostMemory};
 

@@ -4,10 +4,10 @@ ghost use Rattle.vm_memory.specs.Words.{parts_of};
 ghost use Rattle.vm_memory.specs.Lines.{Parses, is_blank};
 ghost use Rattle.vm_memory.specs.LineReading.{IsShown, line_at};
 
-use super::commands;
-use super::setup::{self, Setup};
 use super::words::{LineError, Words};
+use super::{commands, setup};
 use crate::machine::command::Command;
+use crate::machine::setup::Setup;
 use std::alloc::Global;
 
 /// A line that has one of the forms.

@@ -4,32 +4,10 @@ ghost use Rattle.std.specs.Fmt.{WritesOnOk, decimal};
 ghost use Rattle.vm_memory.specs.Texts.{text_of, text_of_setup, text_of_ending, text_of_fault, text_of_refusal, text_of_range, text_of_piece, text_of_ranges, text_of_reason, text_of_kind, text_of_bytes, spaced};
 
 use crate::machine::command::{Ending, Fault, Reply};
+use crate::machine::setup::SetupReply;
 use std::fmt;
 use std::io::ErrorKind;
 use vm_memory_base::{IommuError, IovaRange, IovaRangeList, MappedRange, Reason};
-
-/// What a setup line answers. All but the numbers changed nothing.
-#[derive(Drop)]
-pub enum SetupReply {
-    /// The number of the block that was made.
-    BlockMade(usize),
-    /// The number of the space that was made.
-    SpaceMade(usize),
-    /// The number of the table that was made.
-    TableMade(usize),
-    /// The number of the region that was made.
-    RegionMade(usize),
-    /// The number of the translator that was made.
-    TranslatorMade(usize),
-    /// A block has 1 to 2^63 - 1 bytes.
-    InvalidSize,
-    /// The region's address plus its size passes 2^64 - 1.
-    InvalidRegion,
-    /// A number names nothing.
-    NoSuch,
-    /// An allocation failed.
-    Memory,
-}
 
 impl fmt::Display for SetupReply {
     ghost output = { λ r. Some (text_of_setup r) };

@@ -2,8 +2,8 @@
 ghost use Rattle.std.specs.Prelude.{◌≡◌, ◌∷◌, ◌++◌, [], IfOk, IfErr, IfSome, MatchResult};
 ghost use Rattle.vm_memory.specs.Lines.{Means};
 ghost use Rattle.vm_memory.specs.Machine.{Step};
-ghost use Rattle.vm_memory.specs.Pools.{state_made};
-ghost use Rattle.vm_memory.specs.Script.{beginning, state_at};
+ghost use Rattle.vm_memory.specs.ScriptMachine.{state_made};
+ghost use Rattle.vm_memory.specs.Script.{beginning};
 ghost use Rattle.vm_memory.specs.Told.{Refuses, Tells, TellsMeaning, TellsText, stage_of};
 ghost use Rattle.vm_memory.specs.declared.script.DriveFault.TheVariants as fault;
 ghost use Rattle.vm_memory.specs.declared.script.line.Line.TheVariants as lines;
@@ -11,23 +11,22 @@ ghost use Rattle.vm_memory.specs.declared.script.line.Line.TheVariants as lines;
 use super::DriveFault;
 use super::line::{self, Line};
 use super::output::put;
-use super::pools::{Pools, ScriptMachine};
-use super::setup::Setup;
 use super::words::LineError;
 use crate::machine::command::{Command, Reply};
 use crate::machine::run;
+use crate::machine::setup::{ScriptMachine, Setup};
 use std::alloc::Global;
+use std::fmt;
 use std::io::Write;
-use std::{fmt, mem};
 
 // Room for the text of a reply, which a longer one takes as it needs it.
 const ROOM: usize = 0x1000;
 
-/// What setup lines filled, the machine that the first command makes of it, and room for one reply and its text.
+/// A machine, whether a command ran on it, and room for one reply and its text.
 #[derive(Drop)]
 pub(super) struct Session {
-    pools: Pools,
-    machine: Option<ScriptMachine>,
+    machine: ScriptMachine,
+    commanded: bool,
     replies: Vec<Reply>,
     text: String,
 }
@@ -35,14 +34,14 @@ pub(super) struct Session {
 impl Session {
     /// A session that made nothing. Its only error is `Memory`.
     pub(super) fn new(alloc: Global) -> Result<Session, DriveFault>
-        ensures begins { IfOk result (λ s. stage_of s.machine s.pools ≡ beginning) }
+        ensures begins { IfOk result (λ s. stage_of s.commanded s.machine ≡ beginning) }
         ensures refused { IfErr result (λ e. e ≡ fault.Memory) }
     {
         let replies = Vec::with_capacity(alloc, 1).map_err(|_| DriveFault::Memory)?;
         let text = String::with_capacity(alloc, ROOM).map_err(|_| DriveFault::Memory)?;
         Ok(Session {
-            pools: Pools::new(alloc),
-            machine: None,
+            machine: ScriptMachine::empty(alloc),
+            commanded: false,
             replies,
             text,
         })
@@ -57,14 +56,14 @@ impl Session {
         output: &mut W,
         waiting: &mut Vec<u8>,
     ) -> Result<(), DriveFault>
-        ensures { Tells (stage_of self.old.machine self.old.pools) line.now number result
-            (stage_of self.new.machine self.new.pools)
+        ensures { Tells (stage_of self.old.commanded self.old.machine) line.now number result
+            (stage_of self.new.commanded self.new.machine)
             (W.contents output.old) waiting.old.items (W.contents output.new) waiting.new.items }
     {
         match parsed(alloc, line, number)? {
             Line::Nothing => Ok(()),
             Line::Setup(setup) => self.set_up(setup, number, output, waiting),
-            Line::Command(command) => self.serve(alloc, command, number, output, waiting),
+            Line::Command(command) => self.serve(command, number, output, waiting),
         }
     }
 
@@ -75,44 +74,31 @@ impl Session {
         output: &mut W,
         waiting: &mut Vec<u8>,
     ) -> Result<(), DriveFault>
-        ensures { TellsMeaning (stage_of self.old.machine self.old.pools) (lines.Setup setup) number result
-            (stage_of self.new.machine self.new.pools)
+        ensures { TellsMeaning (stage_of self.old.commanded self.old.machine) (lines.Setup setup) number result
+            (stage_of self.new.commanded self.new.machine)
             (W.contents output.old) waiting.old.items (W.contents output.new) waiting.new.items }
     {
-        if self.machine.is_some() {
+        if self.commanded {
             return Err(DriveFault::BadLine(number));
         }
-        let reply = self.pools.make(setup);
+        let reply = self.machine.make(setup);
         tell(output, waiting, &mut self.text, &reply)
     }
 
     fn serve<W: Write>(
         &mut self,
-        alloc: Global,
         command: Command,
         number: usize,
         output: &mut W,
         waiting: &mut Vec<u8>,
     ) -> Result<(), DriveFault>
-        ensures { TellsMeaning (stage_of self.old.machine self.old.pools) (lines.Command command) number result
-            (stage_of self.new.machine self.new.pools)
+        ensures { TellsMeaning (stage_of self.old.commanded self.old.machine) (lines.Command command) number result
+            (stage_of self.new.commanded self.new.machine)
             (W.contents output.old) waiting.old.items (W.contents output.new) waiting.new.items }
     {
-        let pools = mem::replace(&mut self.pools, Pools::new(alloc));
-        let mut machine = machine_of(self.machine.take(), pools);
-        let answered = run_one(&mut machine, command, &mut self.replies);
-        self.machine = Some(machine);
+        self.commanded = true;
+        let answered = run_one(&mut self.machine, command, &mut self.replies);
         tell(output, waiting, &mut self.text, &answered?)
-    }
-}
-
-// The machine, or the one that the pools make.
-fn machine_of(machine: Option<ScriptMachine>, pools: Pools) -> ScriptMachine
-    ensures { state_made result ≡ state_at (stage_of machine pools) }
-{
-    match machine {
-        Some(machine) => machine,
-        None => pools.into_machine(),
     }
 }
 

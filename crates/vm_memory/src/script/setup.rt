@@ -5,33 +5,8 @@ ghost use Rattle.vm_memory.specs.Lines.{setup_fields};
 ghost use Rattle.vm_memory.specs.LineReading.{setup_at};
 
 use super::words::{LineError, Words};
-use std::num::NonZeroUsize;
-use vm_memory_base::GuestAddress;
+use crate::machine::setup::Setup;
 use vm_memory_guest::{BlockId, TlbId};
-
-/// What is made before the machine.
-#[derive(Drop)]
-pub enum Setup {
-    /// A block of `size` bytes, tracked in pages of `page_size`.
-    Block {
-        size: usize,
-        page_size: NonZeroUsize,
-    },
-    /// A space of `size` addresses, tracked in pages of `page_size`.
-    Space {
-        size: usize,
-        page_size: NonZeroUsize,
-    },
-    /// A table that says nothing, with a limit of its ranges, or with none.
-    Table(Option<NonZeroUsize>),
-    /// A region of a whole block at an address.
-    Region {
-        block: BlockId,
-        addr: GuestAddress,
-    },
-    /// A translator over a table.
-    Translator(TlbId),
-}
 
 /// The setup line that begins with a word, if there is one.
 #[tactic(auto, unfolding(crate::specs::LineReading::setup_at))]

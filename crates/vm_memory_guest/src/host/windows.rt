@@ -9,7 +9,6 @@ ghost use Rattle.vm_memory_guest.specs.Window.{block_window, window_names, bitma
 
 use super::block::{copy_in, part_of, put_in, put_value_in, put_values_in, value_in};
 use super::{BlockId, HostMemory};
-use crate::laws::host::blocks_are_short;
 use crate::volatile_memory::slice::VolatileSlice;
 use vm_memory_base::{Bitmap, BitmapId, BitmapRef, ByteValued};
 
@@ -23,7 +22,7 @@ impl<B> HostMemory<B> {
         ensures held { Holds (shape_of self.now) (window_names result) }
         ensures short { offset + len < 2 ^ 63 }
     {
-        blocks_are_short(self);
+        self.known();
         VolatileSlice::of_block(block, offset, len)
     }
 
@@ -68,9 +67,9 @@ impl<B> HostMemory<B> {
         }
     }
 
-    // Marks the bytes of a window, unless there are none.
+    /// Marks the bytes of a window as a write of them would, unless there are none. It reads and writes no byte.
     #[inline]
-    pub(super) fn mark_window(&mut self, window: &VolatileSlice)
+    pub fn mark_window(&mut self, window: &VolatileSlice)
     where
         B: Bitmap,
         requires { Holds (shape_of self.old) (bitmap_name window.now.bitmap.id ∷ []) }

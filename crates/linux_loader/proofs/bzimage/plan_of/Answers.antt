@@ -1,7 +1,7 @@
 use Rattle.std.proofs.Common.{List, ◌∙◌, ap}
 use Rattle.std.proofs.lemmas.Result.{err_from_is_err_and}
 use Rattle.linux_loader.specs.BzImage.{planned_with}
-use Rattle.linux_loader.specs.declared.plan.Segment.{Segment}
+use Rattle.linux_loader.specs.declared.segment.Segment.{Segment}
 use Rattle.linux_loader.proofs.PlanLemmas.{bz_all, bz_no_area, bz_no_kernel}
 use Rattle.linux_loader.proofs.bzimage.plan_of.Goals as goal
 

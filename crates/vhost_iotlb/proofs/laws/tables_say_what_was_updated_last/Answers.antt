@@ -1,26 +1,20 @@
-use Rattle.std.proofs.Common.{◌≡◌, List, sym, subst}
-use Rattle.vm_memory_base.specs.Table.{TableEvent, says, says_after_all}
-use Rattle.vm_memory.specs.History.{IsLast}
-use Rattle.vhost_iotlb.specs.Commands.{all_done, bare, commands_of}
+use Rattle.std.proofs.Common.{ap, sym, ◌∙◌}
+use Rattle.std.proofs.lemmas.Option.{same_Some}
+use Rattle.vm_memory_base.specs.Table.{Table, changed_by, says}
+use Rattle.vhost_iotlb.proofs.CallLemmas.{tables_are_left}
 use Rattle.vhost_iotlb.proofs.laws.tables_say_what_was_updated_last.Goals as goal
 
 pub returns : goal.returns
 returns c =
-    let commands = c.messages_are_commands.ensures in
-    let said = c.tables_say_what_was_set_last.ensures in
+    let said = c.tables_say_what_calls_left.ensures in
     record {
-      all = λ number x regions ms calls old new t h there fits.
-          let run = commands.run number regions ms calls old new (bare old) h in
-          let done = all_done calls in
-          let u = said.all (bare old) (bare new) (commands_of number calls) done number x t run there fits in (
-            u.0,
-            u.1,
-            subst (λ (es : List TableEvent). says u.0 x ≡ says_after_all es x (says t x))
-                (commands.events number regions ms calls old new t h) u.2,
-          );
+      all = λ number x regions ms calls old new t h there fits. (
+        changed_by calls t,
+        (tables_are_left number regions ms calls old new h).left t there,
+        c.tables_keep_to_their_limits.ensures.events calls t x fits,
+      );
       last = λ number x regions ms calls old new t u call h there after fits is.
-          let run = commands.run number regions ms calls old new (bare old) h in
-          let events = commands.events number regions ms calls old new t h in
-          said.last (bare old) (bare new) (commands_of number calls) (all_done calls) number x t u call run there after
-          fits (subst (λ (es : List TableEvent). IsLast x es call) (sym events) is);
+          let left = (tables_are_left number regions ms calls old new h).left t there in
+          ap (λ (v : Table). says v x) (same_Some u (changed_by calls t) (sym after ∙ left))
+          ∙ said.last calls t x call fits is;
     }

@@ -27,7 +27,7 @@ loop-line-preserved g c =
     let lines = c.new-lines.result in
     let l = c.loop-line in
     let now = contents l.output in
-    let stage = stage_of l.session.machine l.session.pools in
+    let stage = stage_of l.session.commanded l.session.machine in
     let answer = c.answer.new in
     let progress = subst (λ left. Progress before lines left stage l.number now l.waiting.items) c.in-Some.ensures
     l.invariant in
@@ -36,7 +36,7 @@ loop-line-preserved g c =
     c.saturating_add-number.result l.waiting.items progress c.new-lines.ensures short
     c.saturating_add-number.ensures in
     progress-more before now (contents answer.output) lines c.next.new.self c.in-Some.line.now stage
-    (stage_of answer.self.machine answer.self.pools) l.number c.saturating_add-number.result l.waiting.items
+    (stage_of answer.self.commanded answer.self.machine) l.number c.saturating_add-number.result l.waiting.items
     answer.waiting.items c.in_ok-answer.field-0 progress number c.in_ok-answer.ensures
 
 -- Where a line ends the script, the lines before it are answered.
@@ -47,7 +47,7 @@ returns-in_err-answer g c =
     let lines = c.new-lines.result in
     let l = c.loop-line in
     let now = contents l.output in
-    let stage = stage_of l.session.machine l.session.pools in
+    let stage = stage_of l.session.commanded l.session.machine in
     let answer = c.answer.new in
     let progress = subst (λ left. Progress before lines left stage l.number now l.waiting.items) c.in-Some.ensures
     l.invariant in
@@ -57,7 +57,7 @@ returns-in_err-answer g c =
     c.saturating_add-number.ensures in
     let e = c.in_err-answer.field-0.0 in
     let told = progress-err before now (contents answer.output) lines c.next.new.self c.in-Some.line.now stage
-    (stage_of answer.self.machine answer.self.pools) l.number c.saturating_add-number.result l.waiting.items
+    (stage_of answer.self.commanded answer.self.machine) l.number c.saturating_add-number.result l.waiting.items
     answer.waiting.items e progress number c.in_err-answer.ensures in
     let p = err_from_is_err_and c.from_residual-in_err-answer.result c.from_residual-in_err-answer.ensures.1 in
     rw (p.1, p.2)

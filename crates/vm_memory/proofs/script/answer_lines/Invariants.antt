@@ -7,7 +7,7 @@ use Rattle.vm_memory.proofs.script.answer_lines.Given as goal
 abbrev pub invariant-loop-line : goal.invariant-loop-line
 invariant-loop-line g l =
     Progress (g.W.Write.contents l.initial.output) l.initial.lines l.lines
-    (stage_of l.session.machine l.session.pools) l.number (g.W.Write.contents l.output) l.waiting.items
+    (stage_of l.session.commanded l.session.machine) l.number (g.W.Write.contents l.output) l.waiting.items
 
 abbrev pub decreases-loop-line : goal.decreases-loop-line
 decreases-loop-line g l = length l.lines

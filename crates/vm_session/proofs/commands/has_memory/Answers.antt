@@ -1,5 +1,5 @@
 use Rattle.std.proofs.Common.{◌∙◌}
-use Rattle.vm_memory.specs.Pools.{state_made}
+use Rattle.vm_memory.specs.ScriptMachine.{state_made}
 use Rattle.vm_memory_base.specs.declared.iotlb.Permissions.TheVariants as permissions
 use Rattle.vm_session.specs.Requests.{address}
 use Rattle.vm_session.proofs.ReadLemmas.{check_asks}

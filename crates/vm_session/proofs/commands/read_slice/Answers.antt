@@ -1,4 +1,4 @@
-use Rattle.vm_memory.specs.Pools.{state_made}
+use Rattle.vm_memory.specs.ScriptMachine.{state_made}
 use Rattle.vm_session.specs.Requests.{address}
 use Rattle.vm_session.proofs.ReadLemmas.{fill_does}
 use Rattle.vm_session.proofs.commands.read_slice.Goals as goal

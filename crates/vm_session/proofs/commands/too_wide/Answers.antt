@@ -1,5 +1,5 @@
 use Rattle.std.proofs.Common.{◌∙◌, false, true, sym}
-use Rattle.vm_memory.specs.Pools.{state_made}
+use Rattle.vm_memory.specs.ScriptMachine.{state_made}
 use Rattle.vm_memory.specs.declared.machine.command.Reply.TheVariants as reply
 use Rattle.vm_session.specs.Requests.{address}
 use Rattle.vm_session.proofs.ReadLemmas.{wide_stores}

@@ -1,5 +1,5 @@
 use Rattle.std.proofs.Common.{◌∙◌, ◌≤◌, ◌*◌, length, ap, inr, subst}
-use Rattle.vm_memory.specs.Pools.{state_made}
+use Rattle.vm_memory.specs.ScriptMachine.{state_made}
 use Rattle.vm_session.proofs.HarvestLemmas.{harvest_short, harvested}
 use Rattle.vm_session.proofs.lists.harvest.Goals as goal
 

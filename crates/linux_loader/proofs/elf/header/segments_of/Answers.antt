@@ -1,7 +1,7 @@
 use Rattle.std.proofs.Common.{inl, sym, ◌∙◌, ap, arith, Ok, Option}
 use Rattle.std.proofs.lemmas.Grind.{common_steps}
 use Rattle.std.proofs.lemmas.Result.{err_from_is_err_and}
-use Rattle.linux_loader.specs.declared.plan.Segment.{Segment}
+use Rattle.linux_loader.specs.declared.segment.Segment.{Segment}
 use Rattle.linux_loader.proofs.ElfLemmas.{comes_on_at, comes_over_at, comes_wrong_at, comes_last_at}
 use Rattle.linux_loader.proofs.elf.header.segments_of.Goals as goal
 use Rattle.linux_loader.proofs.elf.header.segments_of.Goals.{in-None, in-Some+else-is_err}

@@ -1,4 +1,5 @@
-use Rattle.std.proofs.Common.{[], refl}
+use Rattle.std.proofs.Common.{◌≡◌, true, false, [], length, refl, sym}
+use Rattle.virtio_blk.specs.Config.{must_stay}
 use Rattle.virtio_blk.proofs.TextFacts.{writes_none}
 use Rattle.virtio_blk.proofs.device.BlockDevice.act.Goals as goal
 
@@ -16,11 +17,26 @@ returns-in-Read-clause-did g c =
 
 pub returns-in-Write-clause-did : goal.returns-in-Write-clause-did
 returns-in-Write-clause-did g c =
+    let stays : must_stay c.self.inside.acked (length c.args.reader.now) ≡ true =
+    sym (rw c.left.ensures at c.if-must_stay.ensures) in
     rw (c.in-Write.is, ← c.self.view_is) (record {
       sent = [];
-      disk = c.write.new.disk;
+      disk = c.store_to_stay.new.disk;
       count = refl;
-      does = (refl, rw (c.must_stay-stays.ensures, c.left.ensures) at c.write.ensures);
+      does = (refl, rw stays c.store_to_stay.ensures);
+      written = writes_none g.B.Bitmap.marks (g.M.GuestMemory.memory c.args.mem.now) c.args.writer.now c.args.host.now;
+      is = refl;
+    })
+
+pub returns-in-Write-2-clause-did : goal.returns-in-Write-2-clause-did
+returns-in-Write-2-clause-did g c =
+    let stays : must_stay c.self.inside.acked (length c.args.reader.now) ≡ false =
+    sym (rw c.left.ensures at c.if-must_stay.ensures) in
+    rw (c.in-Write-2.is, ← c.self.view_is) (record {
+      sent = [];
+      disk = c.store.new.disk;
+      count = refl;
+      does = (refl, rw stays c.store.ensures);
       written = writes_none g.B.Bitmap.marks (g.M.GuestMemory.memory c.args.mem.now) c.args.writer.now c.args.host.now;
       is = refl;
     })

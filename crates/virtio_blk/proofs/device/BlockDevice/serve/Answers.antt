@@ -1,5 +1,5 @@
 use Rattle.std.proofs.Common.{List, arith, subst}
-use Rattle.vm_memory.specs.Chain.{Entry, text, writable}
+use Rattle.vm_memory_device.specs.Chain.{Entry, text, writable}
 use Rattle.virtio_blk.specs.Served.{ServesTexts}
 use Rattle.virtio_blk.proofs.ServeFacts.{served_of}
 use Rattle.virtio_blk.proofs.device.BlockDevice.serve.Goals as goal

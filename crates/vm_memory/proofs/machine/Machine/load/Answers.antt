@@ -2,7 +2,7 @@ use Rattle.std.proofs.Common.{◌≡◌, ◌⊎◌, Some, Err, slice_get, sym}
 use Rattle.vm_memory_base.specs.declared.iotlb.Permissions.TheVariants as permissions
 use Rattle.vm_memory.specs.Calls.{loaded}
 use Rattle.vm_memory.specs.Commands.{MayTranslate}
-use Rattle.vm_memory.specs.Memories.{memory_meant}
+use Rattle.vm_memory_device.specs.Memories.{memory_meant}
 use Rattle.vm_memory.specs.Parts.{state_of}
 use Rattle.vm_memory.specs.declared.machine.refusal.Refusal.TheVariants as refusal
 use Rattle.vm_memory.proofs.CallsLemmas.{loaded_is_step, there_meant}

@@ -1,11 +1,11 @@
 use Rattle.std.proofs.Common.{◌≡◌, List, refl, inr, subst, sym}
 use Rattle.vm_memory_guest.specs.Host.{shape_of}
 use Rattle.vm_memory_guest.proofs.HoldsLemmas.{Holds-append}
-use Rattle.vm_memory.specs.Iommu.{Behind}
+use Rattle.vm_memory_device.specs.Iommu.{Behind}
 use Rattle.vm_memory.specs.Commands.{MayWant}
 use Rattle.vm_memory.specs.Parts.{HoldsMemory, state_of}
 use Rattle.vm_memory.specs.declared.machine.command.Command.TheVariants as command
-use Rattle.vm_memory.specs.declared.machine.machine_memory.MachineMemory.TheVariants.{Translated}
+use Rattle.vm_memory_device.specs.declared.machine_memory.MachineMemory.TheVariants.{Translated}
 use Rattle.vm_memory.proofs.MemoryLemmas.{Added, made-step, made-wants}
 use Rattle.vm_memory.proofs.machine.Machine.new_memory.Given.{Over}
 use Rattle.vm_memory.proofs.machine.Machine.new_memory.Goals as goal

@@ -1,5 +1,5 @@
 use Rattle.std.proofs.Common.{List, subst, sym}
-use Rattle.vm_memory.specs.declared.machine.machine_memory.MachineMemory.TheVariants.{Plain}
+use Rattle.vm_memory_device.specs.declared.machine_memory.MachineMemory.TheVariants.{Plain}
 use Rattle.vm_memory.proofs.MemoryLemmas.{Added, plain-step}
 use Rattle.vm_memory.proofs.machine.Machine.plain.Goals as goal
 

@@ -3,7 +3,7 @@ use Rattle.std.proofs.lemmas.Bool.{ltb-true}
 use Rattle.std.proofs.lemmas.Option.{slice_get_read}
 use Rattle.vm_memory_guest.specs.Dirt.{with_pages}
 use Rattle.vm_memory.specs.Inside.{parts_of}
-use Rattle.vm_memory.specs.Memories.{memory_meant}
+use Rattle.vm_memory_device.specs.Memories.{memory_meant}
 use Rattle.vm_memory.specs.Parts.{state_of}
 use Rattle.vm_memory.specs.declared.machine.command.Reply.TheVariants as reply
 use Rattle.vm_memory.specs.Transfers.{receives}

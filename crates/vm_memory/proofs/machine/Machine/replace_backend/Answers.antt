@@ -2,10 +2,10 @@ use Rattle.std.proofs.Common.{◌≡◌, ◌∷◌, [], List, map, flat_map, Som
 use Rattle.vm_memory_guest.specs.Host.{Space, Tlb, shape_of}
 use Rattle.vm_memory_guest.specs.Region.{region_names}
 use Rattle.vm_memory_guest.proofs.HoldsLemmas.{Holds-append, Holds-right}
-use Rattle.vm_memory.specs.Iommu.{Behind}
+use Rattle.vm_memory_device.specs.Iommu.{Behind}
 use Rattle.vm_memory.specs.Parts.{HoldsMemory}
-use Rattle.vm_memory.specs.declared.machine.machine_memory.MachineMemory.{MachineMemory}
-use Rattle.vm_memory.specs.declared.machine.machine_memory.MachineMemory.TheVariants.{Translated}
+use Rattle.vm_memory_device.specs.declared.machine_memory.MachineMemory.{MachineMemory}
+use Rattle.vm_memory_device.specs.declared.machine_memory.MachineMemory.TheVariants.{Translated}
 use Rattle.vm_memory.proofs.MemoryLemmas.{Added, replaced-step, replaced-wants}
 use Rattle.vm_memory.proofs.machine.Machine.replace_backend.Goals as goal
 

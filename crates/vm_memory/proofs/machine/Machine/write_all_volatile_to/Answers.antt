@@ -1,7 +1,7 @@
 use Rattle.std.proofs.Common.{◌≡◌, true, Some, slice_get, refl, sym}
 use Rattle.vm_memory_base.specs.declared.iotlb.Permissions.TheVariants as permissions
 use Rattle.vm_memory_guest.specs.Walk.{NeedsPieces}
-use Rattle.vm_memory.specs.Memories.{memory_meant}
+use Rattle.vm_memory_device.specs.Memories.{memory_meant}
 use Rattle.vm_memory.specs.Parts.{state_of}
 use Rattle.vm_memory.specs.Reply.{as_done, replied}
 use Rattle.vm_memory.specs.Transfers.{sends}

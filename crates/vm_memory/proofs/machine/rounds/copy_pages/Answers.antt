@@ -1,6 +1,6 @@
 use Rattle.std.proofs.Common.{ℕ, ◌<◌, List, [], ◌∷◌, take, length, get_or, sym, ap, ◌∙◌, arith}
 use Rattle.std.proofs.lemmas.List.{take_more}
-use Rattle.vm_memory.specs.Rounds.{patched}
+use Rattle.vm_memory_guest.specs.Patch.{patched}
 use Rattle.vm_memory.proofs.PatchLemmas.{patched-none, patched-more}
 use Rattle.vm_memory.proofs.machine.rounds.copy_pages.Goals as goal
 

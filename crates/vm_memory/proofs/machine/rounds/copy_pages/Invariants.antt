@@ -1,5 +1,5 @@
 use Rattle.std.proofs.Common.{◌≡◌, take}
-use Rattle.vm_memory.specs.Rounds.{patched}
+use Rattle.vm_memory_guest.specs.Patch.{patched}
 use Rattle.vm_memory.proofs.machine.rounds.copy_pages.Given as goal
 
 abbrev pub invariant-loop-page : goal.invariant-loop-page

@@ -5,7 +5,7 @@ use Rattle.vm_memory_base.specs.declared.iotlb.Permissions.TheVariants as permis
 use Rattle.vm_memory_guest.specs.Access.{windows}
 use Rattle.vm_memory_guest.specs.Dirt.{with_pages}
 use Rattle.vm_memory_guest.specs.Error.{error_of}
-use Rattle.vm_memory.specs.Reply.{reached_by}
+use Rattle.vm_memory_device.specs.Reach.{reached_by}
 use Rattle.vm_memory.specs.declared.machine.command.Reply.TheVariants.{Count}
 use Rattle.vm_memory.specs.declared.machine.refusal.Refusal.{Refusal}
 use Rattle.vm_memory.proofs.TransferLemmas.{sent_is, counted_so}

@@ -5,7 +5,8 @@ use Rattle.vm_memory_base.specs.declared.iotlb.Permissions.TheVariants as permis
 use Rattle.vm_memory_guest.specs.Access.{windows}
 use Rattle.vm_memory_guest.specs.Dirt.{with_pages}
 use Rattle.vm_memory_guest.specs.Error.{error_of}
-use Rattle.vm_memory.specs.Reply.{all_moved, as_done, reached_by}
+use Rattle.vm_memory_device.specs.Reach.{reached_by}
+use Rattle.vm_memory.specs.Reply.{all_moved, as_done}
 use Rattle.vm_memory.specs.declared.machine.refusal.Refusal.{Refusal}
 use Rattle.vm_memory.proofs.TransferLemmas.{sent_is, whole_so}
 use Rattle.vm_memory.proofs.machine.transfers.send_whole.Goals as goal

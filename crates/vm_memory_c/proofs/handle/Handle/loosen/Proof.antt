@@ -24,7 +24,7 @@ use Rattle.std.proofs.alloc.Global.TheLaws.{the_row_laws}
 use Rattle.std.specs.Box.Ownership.{box_owns}
 use Rattle.std.specs.contracts.impls.GlobalAllocator.TheImpl
 use Rattle.libc.specs.Heap.{chunk}
-use Rattle.vm_memory.specs.Script.{Stage}
+use Rattle.vm_memory.specs.State.{State}
 use Rattle.vm_session.specs.contracts.session.Session
 use Rattle.vm_memory_c.specs.Handle.{handle_owns}
 use Rattle.vm_memory_c.proofs.HandleValues.{Handle, Z, word, handle_out}
@@ -34,11 +34,11 @@ use Rattle.vm_memory_c.specs.contracts.handle.Handle.loosen.Key.{name as #self}
 use Rattle.vm_memory_c.proofs.handle.Handle.loosen.Statement.{statement}
 use Rattle.vm_memory_c.proofs.handle.Handle.loosen.Code as code
 
-some_of : (o : Option Stage) → IsSome o → (s : Stage) × (o ≡ Some s)
+some_of : (o : Option State) → IsSome o → (s : State) × (o ≡ Some s)
 some_of (Some s) h = (s, refl)
 some_of None h = absurd (no h)
   where
-    no : IsSome {T = Stage} None → ⊥
+    no : IsSome {T = State} None → ⊥
     no e = cc
 
 pub loosen_spec : {M : Type 1} → statement M
@@ -51,11 +51,11 @@ loosen_spec 𝓤 𝓛 𝓜 𝓡 wired =
     let d = z.0.3.0 in let Post : Val → SProp 𝓤 = (walk_of 𝓛 En hs c).post z in let Run : List Val →
     SProp 𝓤 = λ ws. WpFn 𝓤 H 𝓣.C 𝓣.Λ fn ws Post in
     qed 𝓛 ((raw (alive 𝓛 En.signature z.0.0 z.0.1) ⊛ ‵ (owns (types_at En.signature.params z.0.0) z.0.3 z.0.4)) ∷
-    raw (fact 𝓤 (IsSome d.stage)) ∷ []) ∵
-    move ! (1 ∷ []) $ heard ! (IsSome d.stage) (λ is_open.
-    let s = some_of d.stage is_open in
+    raw (fact 𝓤 (IsSome d.state)) ∷ []) ∵
+    move ! (1 ∷ []) $ heard ! (IsSome d.state) (λ is_open.
+    let s = some_of d.state is_open in
     split ! $ move ! (1 ∷ []) $ fsplit ! $ handle_out ! d z.0.4.0 (λ h ws fits.
-    rewrite ! 0 (λ (o : Option Stage). ‵ (handle_owns d.at o)) s.1 refl $
+    rewrite ! 0 (λ (o : Option State). ‵ (handle_owns d.at o)) s.1 refl $
     in_a_block ! d.at (λ p. box_owns chunk R p s.0) (fst∗ 𝓤 (never 𝓤) (sem 𝓛 (chunk (bare (lone R.mir)) null_ptr)))
     (λ b o e.
     let w : Val = both (vptr b o) h in let typed = loose_good R Z the_row_laws g b o h fits in
@@ -67,7 +67,7 @@ loosen_spec 𝓤 𝓛 𝓜 𝓡 wired =
     sets ! (of_opd ! (get ! refl)) refl (tt, tt) $
     sets ! (agg ! (and_then ! (get ! refl) (and_then ! (get ! refl) (no_more !)))) refl typed $
     returns ! (look_at ! 0 refl) $ free_all ! refl $ loose_in R Z the_row_laws g ! b o h d.alloc s.0 $
-    use0 𝓛 (raw (fact 𝓤 (Some s.0 ≡ d.stage))) (fact_i 𝓤 (Some s.0 ≡ d.stage) (emp 𝓤) (sym s.1)) $ nothing ! $
+    use0 𝓛 (raw (fact 𝓤 (Some s.0 ≡ d.state))) (fact_i 𝓤 (Some s.0 ≡ d.state) (emp 𝓤) (sym s.1)) $ nothing ! $
     nothing ! $ fjoin ! $
     keep ! (4 ∷ 0 ∷ 2 ∷ 1 ∷ []) $
     by ! (leaves 𝓛 En hs c z w (record { at = block_ptr b o; alloc = d.alloc; value = s.0 }) (tt, tt) (

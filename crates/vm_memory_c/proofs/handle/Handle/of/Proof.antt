@@ -53,5 +53,5 @@ of_spec 𝓤 𝓛 𝓜 𝓡 wired =
     use0 𝓛 (raw (fact 𝓤 (Some d.value ≡ Some d.value))) (fact_i 𝓤 (Some d.value ≡ Some d.value) (emp 𝓤) refl) $
     nothing ! $ nothing ! $ fjoin ! $
     keep ! (4 ∷ 0 ∷ 2 ∷ 1 ∷ []) $
-    by ! (leaves 𝓛 En hs c z w (record { at = block_ptr b o; alloc = d.alloc; stage = Some d.value }) (tt, tt)
+    by ! (leaves 𝓛 En hs c z w (record { at = block_ptr b o; alloc = d.alloc; state = Some d.value }) (tt, tt)
     (tt, tt)))))

@@ -1,0 +1,8 @@
+use Rattle.vhost_commands.proofs.CommandLemmas.{events_are, run_of}
+use Rattle.vhost_commands.proofs.laws.messages_are_commands.Goals as goal
+
+pub returns : goal.returns
+returns c = record {
+  run = λ number regions ms calls old new s h. run_of number regions s ms calls old new h;
+  events = λ number regions ms calls old new t h. events_are number regions ms calls old new t h;
+}

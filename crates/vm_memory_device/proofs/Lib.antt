@@ -1,0 +1,11 @@
+pub mod AddressesOfText
+pub mod CallsOfText
+pub mod CutsOfText
+pub mod IommuLemmas
+pub mod ReachLemmas
+pub mod ReachOfText
+pub mod ReadsOfText
+pub mod TableLemmas
+pub mod TextLemmas
+pub mod ThroughLemmas
+pub mod WritesOfText

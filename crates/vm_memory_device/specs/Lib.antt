@@ -1,0 +1,5 @@
+pub mod Chain
+pub mod ChainText
+pub mod Iommu
+pub mod Memories
+pub mod Reach
