@@ -89,7 +89,7 @@ const TABLES: [&str; 18] = [
     "24 second=1 address=0x30 target=0x1f length=0x10 other_length=2: 2 0 0 0",
 ];
 
-const MARKS: [&str; 17] = [
+const MARKS: [&str; 18] = [
     "33 address=0x11 length=0x10 output=1: 0 0 0 0 ee",
     "31 output=16: 0 2 0 0 01 00 00 00 00 00 00 00 02 00 00 00 00 00 00 00",
     "33 first=9 length=1: 1 0 0 0",
@@ -102,6 +102,7 @@ const MARKS: [&str; 17] = [
     "34 first=7 address=0x1000 length=1: 1 0 0 0",
     // The IOMMU is on again, and leads the I/O address 0x42 to 0x1002. The block is marked, and not the space.
     "12 first=1 value=1: 0 0 0 0",
+    "32 output=8: 0 1 0 0 04 00 00 00 00 00 00 00",
     "34 first=1 address=0x42 length=2: 0 2 0 0",
     "31 output=8: 0 1 0 0 00 00 00 00 00 00 00 00",
     "30 output=1: 0 0 0 0 ee",
