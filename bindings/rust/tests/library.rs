@@ -56,6 +56,7 @@ fn all_crates_below_are_watched() {
     assert_eq!(
         names,
         [
+            "virtio_queue",
             "vm_memory",
             "vm_memory_base",
             "vm_memory_c",

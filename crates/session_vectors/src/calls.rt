@@ -22,7 +22,7 @@ const SETUPS: [&str; 12] = [
     "4 address=0xffffffffffffffc0: 6 0 0 0",
     "5: 0 0 0 0",
     // No kind of call.
-    "35 output=1: 16 0 0 0 ee",
+    "99 output=1: 16 0 0 0 ee",
 ];
 
 const MAKINGS: [&str; 13] = [
@@ -112,6 +112,78 @@ const MARKS: [&str; 18] = [
     "13 address=0x1002 length=2 output=2: 0 2 0 0 03 04",
 ];
 
+// A queue of four entries at 0x8000, 0x8100 and 0x8200. Its chain has 4 readable bytes at 0x8300 and 8 writable ones at
+// 0x8310.
+const QUEUES: [&str; 64] = [
+    "0 length=0x400 other_length=0x100: 0 0 4 0",
+    "4 first=4 address=0x8000: 0 0 2 0",
+    "6 list=2: 0 0 3 0",
+    "9 first=3: 0 0 2 0",
+    "36 value=4: 1 0 0 0",
+    "35 length=3: 70 0 0 0",
+    "35 length=0x10000: 70 0 0 0",
+    "35 length=4 other_length=3 output=1: 0 0 0 0 ee",
+    "35 length=4 other_length=1: 0 0 1 0",
+    "36 value=8: 71 0 0 0",
+    "36 value=0x10000: 16 0 0 0",
+    "36 second=1 value=0x8008: 72 0 0 0",
+    "36 second=1 value=0x8000: 0 0 0 0",
+    "36 second=2 value=0x8101: 73 0 0 0",
+    "36 second=2 value=0x8100: 0 0 0 0",
+    "36 second=3 value=0x8202: 74 0 0 0",
+    "36 second=3 value=0x8200: 0 0 0 0",
+    "36 second=4 value=2: 16 0 0 0",
+    "36 second=6 value=0x10000: 16 0 0 0",
+    "36 second=8 value=1: 16 0 0 0",
+    "43 second=2: 75 0 0 0",
+    "40 second=2: 75 0 0 0",
+    "36 second=4 value=1: 0 0 0 0",
+    "40 second=2: 0 0 1 0",
+    "43 second=2: 19 0 0 0",
+    "43 second=9: 1 0 0 0",
+    "43 first=9 second=2: 1 0 0 0",
+    // The descriptors, the bytes to read, and the head 0, which is published twice.
+    "16 first=2 address=0x8000 bytes=0,131,0,0,0,0,0,0,4,0,0,0,1,0,1,0,16,131,0,0,0,0,0,0,8,0,0,0,2,0,0,0: 0 0 0 0",
+    "16 first=2 address=0x8300 bytes=5,6,7,8: 0 0 0 0",
+    "16 first=2 address=0x8100 bytes=0,0,2,0,0,0,0,0: 0 0 0 0",
+    "43 second=2 output=1: 0 4 0 8 ee",
+    // Its chain is in flight, so it stays the next one.
+    "43 second=2: 20 0 0 0",
+    "41 second=2: 0 0 2 0",
+    "38 output=3: 18 72 0 0 ee ee ee",
+    "38 output=73: 0 9 0 0 04 00 00 00 00 00 00 00 04 00 00 00 00 00 00 00 01 00 00 00 00 00 00 00 00 80 00 00 00 00 00 00 00 81 00 00 00 00 00 00 00 82 00 00 00 00 00 00 01 00 00 00 00 00 00 00 00 00 00 00 00 00 00 00 00 00 00 00 00 00 00 00 ee",
+    "44 second=2 address=1 length=5 output=6: 0 3 0 0 06 07 08 ee ee ee",
+    "44 second=2 address=1 length=5 output=4: 18 5 0 0 ee ee ee ee",
+    "44 second=2 address=9 length=1 output=1: 0 0 0 0 ee",
+    "44 second=2 third=1 length=1 output=1: 22 0 0 0 ee",
+    "45 second=2 address=2 bytes=1,2,3: 0 3 0 0",
+    "45 second=2 address=7 bytes=4,5,6: 0 1 0 0",
+    "45 second=2 third=0x10000 bytes=1: 22 0 0 0",
+    "13 first=2 address=0x8310 length=9 output=9: 0 9 0 0 00 00 01 02 03 00 00 04 00",
+    "46 second=2 value=0x100000000: 16 0 0 0",
+    "46 second=2 third=1 value=5: 22 0 0 0",
+    "46 second=2 value=5: 0 0 0 0",
+    "46 second=2 value=5: 22 0 0 0",
+    "42 second=2: 0 0 1 0",
+    "13 first=2 address=0x8200 length=12 output=12: 0 12 0 0 00 00 01 00 00 00 00 00 05 00 00 00",
+    "47 second=2: 0 0 1 0",
+    "43 second=2: 0 4 0 8",
+    "48 second=2: 0 0 0 0",
+    "49 second=2: 0 0 0 0",
+    "13 first=2 address=0x8200 length=2 output=2: 0 2 0 0 01 00",
+    "39 third=1: 22 0 0 0",
+    "39: 0 0 0 0",
+    "39: 22 0 0 0",
+    "37: 0 0 0 0",
+    "43 second=2: 75 0 0 0",
+    // The other queue may have one descriptor in flight.
+    "36 first=1 second=1 value=0x8000: 0 0 0 0",
+    "36 first=1 second=2 value=0x8100: 0 0 0 0",
+    "36 first=1 second=4 value=1: 0 0 0 0",
+    "43 first=1 second=2: 21 0 0 0",
+    "36 first=1 second=7 value=3: 0 0 0 0",
+];
+
 // A call, its input and its output.
 #[derive(Drop)]
 struct Asked {
@@ -150,6 +222,7 @@ fn read_field(alloc: Global, asked: &mut Asked, name: &str, word: &str) -> Resul
         "access" => asked.call.access = word.parse()?,
         "first" => asked.call.first = word.parse()?,
         "second" => asked.call.second = word.parse()?,
+        "third" => asked.call.third = number(word)? as usize,
         "address" => asked.call.address = number(word)?,
         "target" => asked.call.target = number(word)?,
         "length" => asked.call.length = number(word)? as usize,
@@ -198,7 +271,7 @@ fn told(alloc: Global, session: &mut Session, words: &str) -> Result<String, Fai
 #[test]
 fn calls_are_answered_by_numbers(rt: HostRuntime) -> Result<(), Fail> {
     let mut session = Session::new(rt.alloc());
-    let tables: [&[&str]; 5] = [&SETUPS, &MAKINGS, &ACCESSES, &TABLES, &MARKS];
+    let tables: [&[&str]; 6] = [&SETUPS, &MAKINGS, &ACCESSES, &TABLES, &MARKS, &QUEUES];
     for (table, cases) in tables.iter().enumerate() {
         for (number, case) in cases.iter().enumerate() {
             let (words, wanted) = case.split_once(": ").unwrap_or((case, ""));

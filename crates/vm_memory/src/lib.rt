@@ -9,6 +9,7 @@ pub mod script;
 
 pub use machine::command::{BlockRange, Command, Ending, Fault, Reply, Width};
 pub use machine::journal::{CallError, Journal};
+pub use machine::lend::Work;
 pub use machine::list::{NumberList, PieceList, SinkList, SourceList};
 pub use machine::refusal::Refusal;
 pub use machine::setup::{ScriptMachine, Setup, SetupReply};

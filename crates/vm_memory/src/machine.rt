@@ -13,6 +13,7 @@ pub mod command;
 mod copies;
 pub mod journal;
 mod layouts;
+pub mod lend;
 pub mod list;
 mod marks;
 mod memories;

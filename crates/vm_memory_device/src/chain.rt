@@ -81,6 +81,14 @@ impl Chain {
         Ok(Chain { segments, division })
     }
 
+    /// Its segments, in order.
+    #[inline(always)]
+    pub fn segments(&self) -> &[Segment]
+        ensures { result.now ≡ self.now }
+    {
+        self.segments.as_slice()
+    }
+
     /// A reader of the readable segments, from their first byte on.
     #[inline(always)]
     pub fn reader(&self) -> ChainReader<'_>

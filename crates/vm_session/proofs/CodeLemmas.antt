@@ -3,8 +3,9 @@ use Rattle.std.proofs.Common.{◌≡◌, Bool, true, false, IsTrue, List, ℕ, O
 use Rattle.std.proofs.lemmas.Bool.{false≢true}
 use Rattle.vm_memory.specs.State.{State}
 use Rattle.vm_memory.specs.declared.machine.command.Command as commands
-use Rattle.vm_session.specs.Kinds.{is_access, kinds, marks, sets_up}
-use Rattle.vm_session.specs.Session.{Answers, AnswersIf, AnswersKind, AnswersMade, DoesIf, DoesListed, Served}
+use Rattle.vm_session.specs.Kinds.{is_access, is_queue, is_work, kinds, marks, sets_up}
+use Rattle.vm_session.specs.Session.{Answers, AnswersIf, AnswersKind, AnswersMade, AnswersOf, AnswersOther, DoesIf, DoesListed, Served}
+use Rattle.vm_session.specs.SessionState.{SessionState}
 use Rattle.vm_session.specs.declared.call.Answer.{Answer}
 use Rattle.vm_session.specs.declared.call.Call.{Call}
 use Rattle.vm_session.specs.declared.call.Kind.{Kind}
@@ -31,11 +32,40 @@ no-marks kind.MarkBlock h = absurd (false≢true h)
 no-marks kind.MarkReached h = absurd (false≢true h)
 no-marks k h = refl
 
+-- nor is it one on a queue
+no-work : (kind : Kind) → IsTrue (is_access kind) → is_work kind ≡ false
+no-work kind.QueueIsValid h = absurd (false≢true h)
+no-work kind.AvailIdx h = absurd (false≢true h)
+no-work kind.UsedIdx h = absurd (false≢true h)
+no-work kind.Pop h = absurd (false≢true h)
+no-work kind.ReadChain h = absurd (false≢true h)
+no-work kind.WriteChain h = absurd (false≢true h)
+no-work kind.AddUsed h = absurd (false≢true h)
+no-work kind.NeedsNotification h = absurd (false≢true h)
+no-work kind.EnableNotification h = absurd (false≢true h)
+no-work kind.DisableNotification h = absurd (false≢true h)
+no-work k h = refl
+
+no-queue : (kind : Kind) → IsTrue (is_access kind) → is_queue kind ≡ false
+no-queue kind.Queue h = absurd (false≢true h)
+no-queue kind.SetQueue h = absurd (false≢true h)
+no-queue kind.ResetQueue h = absurd (false≢true h)
+no-queue kind.QueueState h = absurd (false≢true h)
+no-queue kind.Forget h = absurd (false≢true h)
+no-queue k h = refl
+
 -- what such a call is answered is what its session answers
-pub access_answers : (old : State) (kind : Kind) (call : Call) (input out : List ℕ) (a : Answer) (out' : List ℕ)
-    (new : State) → slice_get kinds call.kind ≡ Some kind → IsTrue (is_access kind)
-    → Served old kind call input out a out' new → Answers old call input out a out' new
-access_answers old kind call input out a out' new is access served =
+pub access_answers : (old : SessionState) (kind : Kind) (call : Call) (input out : List ℕ) (a : Answer) (out' : List ℕ)
+    (new : SessionState) → slice_get kinds call.kind ≡ Some kind → IsTrue (is_access kind)
+    → Served old.machine kind call input out a out' new.machine → new.queues ≡ old.queues
+    → Answers old call input out a out' new
+access_answers old kind call input out a out' new is access served same =
     subst (λ (o : Option Kind). AnswersIf o old call input out a out' new) (sym is)
-    (subst (λ (b : Bool). AnswersKind b kind old call input out a out' new) (sym (no-setup kind access))
-    (subst (λ (b : Bool). AnswersMade b kind old call input out a out' new) (sym (no-marks kind access)) served))
+    (subst (λ (b : Bool). AnswersOf b kind old call input out a out' new) (sym (no-work kind access))
+    (subst (λ (b : Bool). AnswersOther b kind old call input out a out' new) (sym (no-queue kind access)) (
+      subst (λ (b : Bool). AnswersKind b kind old.machine call input out a out' new.machine)
+          (sym (no-setup kind access))
+          (subst (λ (b : Bool). AnswersMade b kind old.machine call input out a out' new.machine)
+          (sym (no-marks kind access)) served),
+      same,
+    )))

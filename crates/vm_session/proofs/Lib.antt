@@ -5,3 +5,7 @@ mod HarvestLemmas
 mod ReadLemmas
 mod CodeLemmas
 mod RunLaws
+mod PageLemmas
+mod FlightLaws
+mod QueueLemmas
+mod WorkLemmas

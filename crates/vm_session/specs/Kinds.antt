@@ -6,6 +6,8 @@ use Rattle.vm_memory.specs.declared.machine.command.Width.{Width}
 use Rattle.vm_memory.specs.declared.machine.command.Width.TheVariants as widths
 use Rattle.vm_session.specs.declared.call.Kind.{Kind}
 use Rattle.vm_session.specs.declared.call.Kind.TheVariants as kind
+use Rattle.vm_session.specs.declared.call.QueuePart.{QueuePart}
+use Rattle.vm_session.specs.declared.call.QueuePart.TheVariants as part
 
 -- the kinds of calls, by number
 abbrev pub kinds : List Kind
@@ -15,7 +17,10 @@ kinds = kind.Block ∷ kind.Space ∷ kind.Table ∷ kind.LimitedTable ∷ kind.
     ∷ kind.ReadFrom ∷ kind.ReadExactFrom ∷ kind.WriteTo ∷ kind.WriteAllTo ∷ kind.CheckRange ∷ kind.Copy
     ∷ kind.Set ∷ kind.Invalidate ∷ kind.InvalidateAll ∷ kind.Lookup
     ∷ kind.DirtyBlock ∷ kind.DirtySpace ∷ kind.HarvestBlock ∷ kind.HarvestSpace
-    ∷ kind.MarkBlock ∷ kind.MarkReached ∷ []
+    ∷ kind.MarkBlock ∷ kind.MarkReached
+    ∷ kind.Queue ∷ kind.SetQueue ∷ kind.ResetQueue ∷ kind.QueueState ∷ kind.Forget
+    ∷ kind.QueueIsValid ∷ kind.AvailIdx ∷ kind.UsedIdx ∷ kind.Pop ∷ kind.ReadChain ∷ kind.WriteChain ∷ kind.AddUsed
+    ∷ kind.NeedsNotification ∷ kind.EnableNotification ∷ kind.DisableNotification ∷ []
 
 -- an access by its number
 abbrev pub access_at : ℕ → Option Permissions
@@ -38,6 +43,49 @@ width_at n =
     else if n == 4 then Some widths.Four
     else if n == 8 then Some widths.Eight
     else None
+
+-- the parts of a queue that a transport sets, by number
+abbrev pub part_at : ℕ → Option QueuePart
+part_at n =
+    if n == 0 then Some part.Size
+    else if n == 1 then Some part.DescTable
+    else if n == 2 then Some part.AvailRing
+    else if n == 3 then Some part.UsedRing
+    else if n == 4 then Some part.Ready
+    else if n == 5 then Some part.EventIdx
+    else if n == 6 then Some part.NextAvail
+    else if n == 7 then Some part.NextUsed
+    else None
+
+-- whether a call of a kind is one on queues alone, or on a queue and a memory
+abbrev pub is_queue : Kind → Bool
+is_queue kind.Queue = true
+is_queue kind.SetQueue = true
+is_queue kind.ResetQueue = true
+is_queue kind.QueueState = true
+is_queue kind.Forget = true
+is_queue k = false
+
+-- whether it is one on a queue that there is
+abbrev pub is_on_queue : Kind → Bool
+is_on_queue kind.SetQueue = true
+is_on_queue kind.ResetQueue = true
+is_on_queue kind.QueueState = true
+is_on_queue kind.Forget = true
+is_on_queue k = false
+
+abbrev pub is_work : Kind → Bool
+is_work kind.QueueIsValid = true
+is_work kind.AvailIdx = true
+is_work kind.UsedIdx = true
+is_work kind.Pop = true
+is_work kind.ReadChain = true
+is_work kind.WriteChain = true
+is_work kind.AddUsed = true
+is_work kind.NeedsNotification = true
+is_work kind.EnableNotification = true
+is_work kind.DisableNotification = true
+is_work k = false
 
 -- whether a call of a kind sets up
 abbrev pub sets_up : Kind → Bool

@@ -2,7 +2,10 @@ pub mod Answers
 pub mod Codes
 pub mod Kinds
 pub mod Lists
+pub mod QueueCodes
+pub mod Queues
 pub mod Requests
 pub mod Run
 pub mod Session
+pub mod SessionState
 pub mod Words

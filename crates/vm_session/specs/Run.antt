@@ -1,6 +1,8 @@
 -- What happens to a session, one after another: calls, and steps of a guest that has blocks in common with it.
-use Rattle.std.specs.Prelude.{◌≡◌, ◌⊎◌, ◌<◌, ℕ, List, [], ◌∷◌, All, Contains, Some, length, map, slice_get}
+use Rattle.std.specs.Prelude.{◌≡◌, ◌==◌, ◌⊎◌, ◌<◌, ℕ, Bool, true, false, List, [], ◌∷◌, All, Contains, IsTrue, Option, Some, None, length, map, slice_get}
+use Rattle.std.specs.Option.{option_and_then}
 use Rattle.vm_memory.specs.Machine.{Step}
+use Rattle.vm_memory_device.specs.declared.chain.Segment.{Segment}
 use Rattle.vm_memory.specs.Setup.{SetsUp}
 use Rattle.vm_memory.specs.State.{State}
 use Rattle.vm_memory.specs.declared.machine.command.Command as commands
@@ -9,12 +11,15 @@ use Rattle.vm_memory.specs.declared.machine.setup.Setup as setups
 use Rattle.vm_memory.specs.declared.machine.setup.SetupReply.{SetupReply}
 use Rattle.vm_session.specs.Answers.{answer_of, answer_of_setup}
 use Rattle.vm_session.specs.Codes.{bad_call, no_memory, short_of}
-use Rattle.vm_session.specs.Kinds.{kinds}
+use Rattle.vm_session.specs.Kinds.{is_queue, is_work, kinds}
+use Rattle.vm_session.specs.Queues.{AnswersQueue, OnBoth}
 use Rattle.vm_session.specs.Requests.{IsSetup, command_at}
 use Rattle.vm_session.specs.Session.{Answers, Fills, Marks}
+use Rattle.vm_session.specs.SessionState.{SessionState, chain_of, with_machine}
 use Rattle.vm_session.specs.declared.call.Answer.{Answer}
 use Rattle.vm_session.specs.declared.call.Call.{Call}
 use Rattle.vm_session.specs.declared.call.Kind.{Kind}
+use Rattle.vm_session.specs.declared.call.Kind.TheVariants as kind
 
 -- a call with its input and what its output was, and what was answered and left of the output
 pub record Exchange : Type 0 where
@@ -40,51 +45,65 @@ pub record GuestWrites (shared : List ℕ) (old new : List (List ℕ)) : Type 0 
   pub bytes : All (All (λ byte. byte < 256)) new
   pub others : (block : ℕ) → (Contains shared block → ⊥) → slice_get new block ≡ slice_get old block
 
+-- the guest writes: it changes bytes of shared blocks, and nothing else of a session
+abbrev pub WritesTo : List ℕ → SessionState → List (List ℕ) → SessionState → Type 0
+WritesTo shared old blocks new = GuestWrites shared old.machine.host.blocks blocks
+    × (new ≡ with_machine old (with_blocks old.machine blocks))
+
 -- an event leads from a state to a state
-abbrev pub Happens : List ℕ → State → Event → State → Type 0
+abbrev pub Happens : List ℕ → SessionState → Event → SessionState → Type 0
 Happens shared old (calls e) new = Answers old e.call e.input e.before e.answer e.after new
-Happens shared old (writes blocks) new =
-    GuestWrites shared old.host.blocks blocks × (new ≡ with_blocks old blocks)
+Happens shared old (writes blocks) new = WritesTo shared old blocks new
 
 -- events one after another
-abbrev pub HappenAll : List ℕ → State → List Event → State → Type 0
+abbrev pub HappenAll : List ℕ → SessionState → List Event → SessionState → Type 0
 HappenAll shared old [] new = new ≡ old
-HappenAll shared old (e ∷ es) new = (mid : State) × Happens shared old e mid × HappenAll shared mid es new
+HappenAll shared old (e ∷ es) new = (mid : SessionState) × Happens shared old e mid × HappenAll shared mid es new
 
--- a step of the model: nothing, something is made, a command runs, pages are marked, or the guest writes
+-- a step of the model: nothing, something is made, a command runs, pages are marked, a queue is made or changed, a
+-- device works with a queue and a memory, or the guest writes
 pub data Deed : Type 0 where
   nothing : Deed
   made : setups.Setup → SetupReply → Deed
   ran : commands.Command → Reply → Deed
   marked : Reply → Deed
+  queued : Kind → Deed
+  worked : Kind → Deed
   wrote : List (List ℕ) → Deed
 
 -- the answers of calls that did nothing
 abbrev pub Refuses : Answer → Type 0
 Refuses a = (a ≡ bad_call) ⊎ ((a ≡ no_memory) ⊎ ((n : ℕ) × (a ≡ short_of n)))
 
--- a call asks for it, and its answer and its output are those of the reply
-abbrev pub Does : State → Exchange → Deed → State → Type 0
+-- a call asks for it, and its answer and its output are those of the reply. A call on a queue does what the queue's own
+-- call does
+abbrev pub Does : SessionState → Exchange → Deed → SessionState → Type 0
 Does old e nothing new = Refuses e.answer × (e.after ≡ e.before) × (new ≡ old)
 Does old e (made s r) new = (kind : Kind) × (slice_get kinds e.call.kind ≡ Some kind) × IsSetup kind e.call s
-    × SetsUp old s r new × (e.answer ≡ answer_of_setup r) × (e.after ≡ e.before)
+    × SetsUp old.machine s r new.machine × (new.queues ≡ old.queues) × (e.answer ≡ answer_of_setup r)
+    × (e.after ≡ e.before)
 Does old e (ran c r) new = (kind : Kind) × (slice_get kinds e.call.kind ≡ Some kind)
-    × (command_at kind e.call e.input ≡ Some c) × Step old c r new × (e.answer ≡ answer_of r)
-    × Fills old c r e.before e.after
-Does old e (marked r) new = (kind : Kind) × (slice_get kinds e.call.kind ≡ Some kind) × Marks kind old e.call r new
-    × (e.answer ≡ answer_of r) × (e.after ≡ e.before)
+    × (command_at kind e.call e.input ≡ Some c) × Step old.machine c r new.machine × (new.queues ≡ old.queues)
+    × (e.answer ≡ answer_of r) × Fills old.machine c r e.before e.after
+Does old e (marked r) new = (kind : Kind) × (slice_get kinds e.call.kind ≡ Some kind)
+    × Marks kind old.machine e.call r new.machine × (new.queues ≡ old.queues) × (e.answer ≡ answer_of r)
+    × (e.after ≡ e.before)
+Does old e (queued kind) new = (slice_get kinds e.call.kind ≡ Some kind) × IsTrue (is_queue kind)
+    × AnswersQueue kind old e.call e.input e.before e.answer new e.after
+Does old e (worked kind) new = (slice_get kinds e.call.kind ≡ Some kind) × IsTrue (is_work kind)
+    × OnBoth kind old e.call e.input e.before e.answer new e.after
 Does old e (wrote blocks) new = ⊥
 
 -- an event is this step of the model
-abbrev pub IsDeed : List ℕ → State → Event → Deed → State → Type 0
+abbrev pub IsDeed : List ℕ → SessionState → Event → Deed → SessionState → Type 0
 IsDeed shared old (calls e) d new = Does old e d new
-IsDeed shared old (writes blocks) d new =
-    (d ≡ wrote blocks) × GuestWrites shared old.host.blocks blocks × (new ≡ with_blocks old blocks)
+IsDeed shared old (writes blocks) d new = (d ≡ wrote blocks) × WritesTo shared old blocks new
 
 -- events are these steps, one after another
-abbrev pub AreDeeds : List ℕ → State → List Event → List Deed → State → Type 0
+abbrev pub AreDeeds : List ℕ → SessionState → List Event → List Deed → SessionState → Type 0
 AreDeeds shared old [] [] new = new ≡ old
-AreDeeds shared old (e ∷ es) (d ∷ ds) new = (mid : State) × IsDeed shared old e d mid × AreDeeds shared mid es ds new
+AreDeeds shared old (e ∷ es) (d ∷ ds) new =
+    (mid : SessionState) × IsDeed shared old e d mid × AreDeeds shared mid es ds new
 AreDeeds shared old [] (d ∷ ds) new = ⊥
 AreDeeds shared old (e ∷ es) [] new = ⊥
 
@@ -92,3 +111,26 @@ AreDeeds shared old (e ∷ es) [] new = ⊥
 abbrev pub all_ran : List commands.Command → List Reply → List Deed
 all_ran (c ∷ cs) (r ∷ rs) = ran c r ∷ all_ran cs rs
 all_ran cs rs = []
+
+-- ---- chains in flight
+
+-- the chain of a head of the queue of this number that is in flight
+abbrev pub chain_at : SessionState → ℕ → ℕ → Option (List Segment)
+chain_at s number head = option_and_then (λ q. chain_of q head) (slice_get s.queues number)
+
+-- a call of a kind ends the flight of a chain of this head
+abbrev pub ends_flight : Kind → ℕ → ℕ → Bool
+ends_flight kind.AddUsed third head = third == head
+ends_flight kind.Forget third head = third == head
+ends_flight kind.ResetQueue third head = true
+ends_flight k third head = false
+
+abbrev pub EndsIf : Option Kind → ℕ → ℕ → Type 0
+EndsIf None third head = ⊥
+EndsIf (Some k) third head = IsTrue (ends_flight k third head)
+
+-- an event ends the flight of a chain: a call that is done, and returns it, forgets it, or makes its queue what it was
+abbrev pub EndsFlight : ℕ → ℕ → Event → Type 0
+EndsFlight number head (calls e) = (e.answer.code ≡ 0) × (e.call.first ≡ number)
+    × EndsIf (slice_get kinds e.call.kind) e.call.third head
+EndsFlight number head (writes blocks) = ⊥

@@ -16,8 +16,10 @@ use Rattle.vm_memory.specs.declared.machine.setup.Setup as setups
 use Rattle.vm_memory.specs.declared.machine.setup.SetupReply.{SetupReply}
 use Rattle.vm_session.specs.Answers.{answer_of, answer_of_setup, bytes_of}
 use Rattle.vm_session.specs.Codes.{bad_call, no_memory, short_of}
-use Rattle.vm_session.specs.Kinds.{kinds, marks, sets_up, takes_list}
+use Rattle.vm_session.specs.Kinds.{is_queue, is_work, kinds, marks, sets_up, takes_list}
+use Rattle.vm_session.specs.Queues.{AnswersQueue, OnBoth}
 use Rattle.vm_session.specs.Requests.{IsSetup, address, command_at, is_without_size}
+use Rattle.vm_session.specs.SessionState.{SessionState}
 use Rattle.vm_session.specs.declared.call.Answer.{Answer}
 use Rattle.vm_session.specs.declared.call.Call.{Call}
 use Rattle.vm_session.specs.declared.call.Kind.{Kind}
@@ -122,10 +124,20 @@ abbrev pub AnswersKind : Bool → Kind → State → Call → List ℕ → List 
 AnswersKind true kind old call input out a out' new = IsSetUp old kind call a new × (out' ≡ out)
 AnswersKind false kind old call input out a out' new = AnswersMade (marks kind) kind old call input out a out' new
 
-abbrev pub AnswersIf : Option Kind → State → Call → List ℕ → List ℕ → Answer → List ℕ → State → Type 0
+-- what is answered to a call of a kind that is one on queues, or on the machine alone
+abbrev pub AnswersOther : Bool → Kind → SessionState → Call → List ℕ → List ℕ → Answer → List ℕ → SessionState → Type 0
+AnswersOther true kind old call input out a out' new = AnswersQueue kind old call input out a new out'
+AnswersOther false kind old call input out a out' new =
+    AnswersKind (sets_up kind) kind old.machine call input out a out' new.machine × (new.queues ≡ old.queues)
+
+abbrev pub AnswersOf : Bool → Kind → SessionState → Call → List ℕ → List ℕ → Answer → List ℕ → SessionState → Type 0
+AnswersOf true kind old call input out a out' new = OnBoth kind old call input out a new out'
+AnswersOf false kind old call input out a out' new = AnswersOther (is_queue kind) kind old call input out a out' new
+
+abbrev pub AnswersIf : Option Kind → SessionState → Call → List ℕ → List ℕ → Answer → List ℕ → SessionState → Type 0
 AnswersIf None old call input out a out' new = (a ≡ bad_call) × (out' ≡ out) × (new ≡ old)
-AnswersIf (Some kind) old call input out a out' new = AnswersKind (sets_up kind) kind old call input out a out' new
+AnswersIf (Some kind) old call input out a out' new = AnswersOf (is_work kind) kind old call input out a out' new
 
 -- what a session answers to a call with an input and an output, and leaves of the output
-abbrev pub Answers : State → Call → List ℕ → List ℕ → Answer → List ℕ → State → Type 0
+abbrev pub Answers : SessionState → Call → List ℕ → List ℕ → Answer → List ℕ → SessionState → Type 0
 Answers old call input out a out' new = AnswersIf (slice_get kinds call.kind) old call input out a out' new

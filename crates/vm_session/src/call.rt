@@ -1,6 +1,6 @@
 //! Calls and answers as plain numbers, as they cross to C.
 ghost use Rattle.std.specs.Prelude.{◌≡◌, IfSome, IsTrue, Some, slice_get};
-ghost use Rattle.vm_session.specs.Kinds.{access_at, is_access, kinds, marks, sets_up, switch_at, width_at};
+ghost use Rattle.vm_session.specs.Kinds.{access_at, is_access, is_queue, is_work, kinds, marks, part_at, sets_up, switch_at, width_at};
 
 use vm_memory::Width;
 use vm_memory_base::Permissions;
@@ -121,6 +121,61 @@ pub enum Kind {
     MarkBlock,
     /// Marks the pages of the blocks that a write of `length` bytes to the memory `first` at `address` would reach.
     MarkReached,
+    /// Makes a queue of at most `length` entries. The chains of it that are in flight have at most `other_length`
+    /// descriptors in all.
+    Queue,
+    /// Sets the part `second` of the queue `first` to `value`: the number of a `QueuePart`, from 0.
+    SetQueue,
+    /// Makes the queue `first` what it was when it was made. Its chains are in flight no more.
+    ResetQueue,
+    /// The state of the queue `first`, as a list of nine numbers in the order of the fields of `QueueState`.
+    QueueState,
+    /// Drops the chain in flight of the head `third` of the queue `first`, without returning it.
+    Forget,
+    /// Whether the table and the rings of the queue `first` lie whole in the memory `second`.
+    QueueIsValid,
+    /// The driver's index in the available ring of the queue `first`.
+    AvailIdx,
+    /// The device's index as it lies in the used ring of the queue `first`.
+    UsedIdx,
+    /// Pops the next chain of the queue `first` on the memory `second`. Its chain is in flight then. `value` is its
+    /// head, `count` how many readable bytes it has, and `address` how many writable ones.
+    Pop,
+    /// Reads at most `length` of the readable bytes of the chain in flight of the head `third` into the output, from the
+    /// offset `address` on.
+    ReadChain,
+    /// Writes the bytes of the input to the writable ones of the chain in flight of the head `third`, from the offset
+    /// `address` on, as far as there are any.
+    WriteChain,
+    /// Returns the chain in flight of the head `third` to the driver, with `value` bytes written.
+    AddUsed,
+    /// Whether the driver has to be notified of what was returned since this was last asked.
+    NeedsNotification,
+    /// Asks the driver to notify the device of what it publishes next. The answer is whether there is more already.
+    EnableNotification,
+    /// Asks the driver not to notify the device.
+    DisableNotification,
+}
+
+/// A part of a queue that a transport sets as the driver asks.
+#[derive(Clone, Copy, Debug, PartialEq, Eq)]
+pub enum QueuePart {
+    /// The number of entries.
+    Size,
+    /// The address of the table of descriptors.
+    DescTable,
+    /// The address of the available ring.
+    AvailRing,
+    /// The address of the used ring.
+    UsedRing,
+    /// Whether the driver has enabled the queue: 1 or 0.
+    Ready,
+    /// Whether notifications go by event indices: 1 or 0.
+    EventIdx,
+    /// Which entry of the available ring is popped next.
+    NextAvail,
+    /// Which entry of the used ring is written next.
+    NextUsed,
 }
 
 impl Kind {
@@ -140,6 +195,37 @@ impl Kind {
         }
     }
 
+    // Whether a call of this kind is one on queues alone.
+    #[inline(always)]
+    pub(crate) fn is_queue(self) -> bool
+        ensures { result ≡ is_queue self }
+    {
+        matches!(
+            self,
+            Kind::Queue | Kind::SetQueue | Kind::ResetQueue | Kind::QueueState | Kind::Forget
+        )
+    }
+
+    // Whether a call of this kind is one on a queue and a memory.
+    #[inline(always)]
+    pub(crate) fn is_work(self) -> bool
+        ensures { result ≡ is_work self }
+    {
+        matches!(
+            self,
+            Kind::QueueIsValid
+                | Kind::AvailIdx
+                | Kind::UsedIdx
+                | Kind::Pop
+                | Kind::ReadChain
+                | Kind::WriteChain
+                | Kind::AddUsed
+                | Kind::NeedsNotification
+                | Kind::EnableNotification
+                | Kind::DisableNotification
+        )
+    }
+
     // Whether a call of this kind marks pages.
     #[inline(always)]
     pub(crate) fn marks(self) -> bool
@@ -149,7 +235,7 @@ impl Kind {
     }
 }
 
-const KINDS: [Kind; 35] = [
+const KINDS: [Kind; 50] = [
     Kind::Block,
     Kind::Space,
     Kind::Table,
@@ -185,6 +271,21 @@ const KINDS: [Kind; 35] = [
     Kind::HarvestSpace,
     Kind::MarkBlock,
     Kind::MarkReached,
+    Kind::Queue,
+    Kind::SetQueue,
+    Kind::ResetQueue,
+    Kind::QueueState,
+    Kind::Forget,
+    Kind::QueueIsValid,
+    Kind::AvailIdx,
+    Kind::UsedIdx,
+    Kind::Pop,
+    Kind::ReadChain,
+    Kind::WriteChain,
+    Kind::AddUsed,
+    Kind::NeedsNotification,
+    Kind::EnableNotification,
+    Kind::DisableNotification,
 ];
 
 // The kind of a number, if it is one.
@@ -218,6 +319,23 @@ pub(crate) fn access_kind(number: u32) -> Option<Kind>
         16 => Some(Kind::WriteSlice),
         17 => Some(Kind::Store),
         18 => Some(Kind::Load),
+        _ => None,
+    }
+}
+
+// A part of a queue by its number, if it is one.
+pub(crate) fn part_of(number: usize) -> Option<QueuePart>
+    ensures { result ≡ part_at number }
+{
+    match number {
+        0 => Some(QueuePart::Size),
+        1 => Some(QueuePart::DescTable),
+        2 => Some(QueuePart::AvailRing),
+        3 => Some(QueuePart::UsedRing),
+        4 => Some(QueuePart::Ready),
+        5 => Some(QueuePart::EventIdx),
+        6 => Some(QueuePart::NextAvail),
+        7 => Some(QueuePart::NextUsed),
         _ => None,
     }
 }

@@ -28,6 +28,18 @@ pub const BAD_CALL: u32 = 16;
 /// The output is too short. It has to have `count` bytes.
 pub const SHORT: u32 = 18;
 
+/// The driver has published no more chains. This is no refusal.
+pub const NO_CHAIN: u32 = 19;
+
+/// A head came again whose chain is in flight. The chain stays the next one.
+pub const IN_FLIGHT: u32 = 20;
+
+/// The chains in flight would have more descriptors than the queue's bound. The chain stays the next one.
+pub const TOO_MANY: u32 = 21;
+
+/// No chain of this head is in flight.
+pub const NOT_IN_FLIGHT: u32 = 22;
+
 /// No region holds `address`.
 pub const INVALID_GUEST_ADDRESS: u32 = 32;
 
@@ -79,3 +91,38 @@ pub const NO_MEMORY_REGION: u32 = 50;
 pub const MEMORY_REGION_OVERLAP: u32 = 51;
 
 pub const UNSORTED_MEMORY_REGIONS: u32 = 52;
+
+/// Why a call of a queue was refused.
+pub const INVALID_MAX_SIZE: u32 = 70;
+
+pub const INVALID_QUEUE_SIZE: u32 = 71;
+
+pub const INVALID_DESC_TABLE_ALIGN: u32 = 72;
+
+pub const INVALID_AVAIL_RING_ALIGN: u32 = 73;
+
+pub const INVALID_USED_RING_ALIGN: u32 = 74;
+
+pub const QUEUE_NOT_READY: u32 = 75;
+
+pub const ADDRESS_OVERFLOW: u32 = 76;
+
+pub const INVALID_AVAIL_RING_INDEX: u32 = 77;
+
+pub const INVALID_DESCRIPTOR_INDEX: u32 = 78;
+
+pub const DESCRIPTOR_LOOP: u32 = 79;
+
+pub const INDIRECT_WITH_NEXT: u32 = 80;
+
+pub const NESTED_INDIRECT: u32 = 81;
+
+pub const INVALID_INDIRECT_TABLE: u32 = 82;
+
+pub const CHAIN_ORDER: u32 = 83;
+
+pub const CHAIN_TOO_LONG: u32 = 84;
+
+pub const CHAIN_RANGE: u32 = 85;
+
+pub const INVALID_USED_ENTRY: u32 = 86;

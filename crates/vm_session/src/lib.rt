@@ -8,11 +8,14 @@ mod commands;
 pub mod laws;
 mod lists;
 mod marks;
+mod queue;
+mod queue_answer;
 mod session;
 mod setup;
 mod steps;
 mod transfers;
 mod words;
+mod work;
 
-pub use call::{Answer, Call, Kind};
+pub use call::{Answer, Call, Kind, QueuePart};
 pub use session::Session;

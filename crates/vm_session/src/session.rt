@@ -1,46 +1,51 @@
-//! A session: a machine, what is made for it, and its commands, by calls.
-ghost use Rattle.std.specs.Prelude.{◌≡◌, IsTrue};
-ghost use Rattle.vm_memory.specs.ScriptMachine.{no_parts, state_made};
-ghost use Rattle.vm_session.specs.Kinds.{is_access};
-ghost use Rattle.vm_session.specs.Session.{Answers, Served};
+//! A session: a machine, what is made for it, its commands, and queues on its memories, by calls.
+ghost use Rattle.std.specs.Prelude.{◌≡◌, List, ℕ, IsTrue};
+ghost use Rattle.vm_session.specs.Kinds.{is_access, is_on_queue, is_queue, is_work, sets_up};
+ghost use Rattle.vm_session.specs.Queues.{AnswersQueue, OnBoth, OneQueue};
+ghost use Rattle.vm_session.specs.Session.{Answers, AnswersKind, Served};
+ghost use Rattle.vm_session.specs.SessionState.{no_session};
 
-use crate::call::{Answer, Call, Kind, access_kind, kind_of, width_of};
+use crate::call::{Answer, Call, Kind, access_kind, kind_of, part_of, width_of};
 use crate::code;
 use crate::commands::{
     load, read, read_slice, serve_listing, serve_making, serve_moving, store, write, write_slice,
 };
 use crate::marks::mark;
+use crate::queue::{SessionQueue, make_queue};
 use crate::setup::set_up;
+use crate::work::{Asked, work_on};
 use std::alloc::Global;
 use std::marker::Model;
 use vm_memory::ScriptMachine;
 
-/// A machine, with what is made for it at any time.
+/// A machine, with what is made for it at any time, and queues.
 ///
 /// Its calls are a run of the model: docs/BINDINGS.md, "What is proved".
 #[derive(Drop)]
 pub struct Session {
     alloc: Global,
     machine: ScriptMachine,
+    queues: Vec<SessionQueue>,
 }
 
 impl Model for Session {
     ghost use Rattle.vm_memory.specs.ScriptMachine.{state_made};
-    ghost use Rattle.vm_memory.specs.State.{State};
+    ghost use Rattle.vm_session.specs.SessionState.{SessionState};
 
-    ghost Value = { State };
+    ghost Value = { SessionState };
 
-    ghost view = { λ s. state_made s.machine };
+    ghost view = { λ s. record { machine = state_made s.machine; queues = s.queues.items } };
 }
 
 impl Session {
     /// A session that made nothing. It allocates nothing.
     pub fn new(alloc: Global) -> Session
-        ensures { result ≡ state_made no_parts }
+        ensures { result ≡ no_session }
     {
         Session {
             alloc,
             machine: ScriptMachine::empty(alloc),
+            queues: Vec::new(alloc),
         }
     }
 
@@ -76,14 +81,71 @@ impl Session {
         match kind_of(call.kind) {
             None => *answer = Answer::of_code(code::BAD_CALL),
             Some(kind) => {
-                if kind.sets_up() {
-                    *answer = set_up(&mut self.machine, kind, call);
-                } else if kind.marks() {
-                    mark(&mut self.machine, kind, call, answer);
+                if kind.is_work() {
+                    self.work(kind, call, input, output, answer);
+                } else if kind.is_queue() {
+                    self.call_queue(kind, call, output, answer);
                 } else {
-                    self.serve(kind, call, input, output, answer);
+                    self.call_machine(kind, call, input, output, answer);
                 }
             }
+        }
+    }
+
+    // Serves a call on queues alone.
+    fn call_queue(&mut self, kind: Kind, call: &Call, output: &mut [u8], answer: &mut Answer)
+        requires { IsTrue (is_queue kind) }
+        ensures { (input : List ℕ) → AnswersQueue kind self.old call.now input output.old answer.new self.new output.new }
+    {
+        if let Kind::Queue = kind {
+            *answer = make_queue(self.alloc, &mut self.queues, call);
+            return;
+        }
+        match self.queues.get_mut(call.first) {
+            Some(queue) => *answer = on_queue(queue, kind, call, output),
+            None => *answer = Answer::of_code(code::NO_SUCH),
+        }
+    }
+
+    // Serves a call on a queue and a memory.
+    fn work(
+        &mut self,
+        kind: Kind,
+        call: &Call,
+        input: &[u8],
+        output: &mut [u8],
+        answer: &mut Answer,
+    )
+        requires { IsTrue (is_work kind) }
+        ensures { OnBoth kind self.old call.now input.now output.old answer.new self.new output.new }
+    {
+        let Some(queue) = self.queues.get_mut(call.first) else {
+            *answer = Answer::of_code(code::NO_SUCH);
+            return;
+        };
+        let asked = Asked { kind, call, input };
+        *answer = work_on(self.alloc, &mut self.machine, queue, asked, output);
+    }
+
+    // Serves a call of the machine.
+    fn call_machine(
+        &mut self,
+        kind: Kind,
+        call: &Call,
+        input: &[u8],
+        output: &mut [u8],
+        answer: &mut Answer,
+    )
+        ensures answers { AnswersKind (sets_up kind) kind self.old.machine call.now input.now output.old answer.new
+            output.new self.new.machine }
+        ensures queues { self.new.queues ≡ self.old.queues }
+    {
+        if kind.sets_up() {
+            *answer = set_up(&mut self.machine, kind, call);
+        } else if kind.marks() {
+            mark(&mut self.machine, kind, call, answer);
+        } else {
+            self.serve(kind, call, input, output, answer);
         }
     }
 
@@ -96,7 +158,8 @@ impl Session {
         output: &mut [u8],
         answer: &mut Answer,
     )
-        ensures { Served self.old kind call.now input.now output.old answer.new output.new self.new }
+        ensures served { Served self.old.machine kind call.now input.now output.old answer.new output.new self.new.machine }
+        ensures queues { self.new.queues ≡ self.old.queues }
     {
         let (alloc, machine) = (self.alloc, &mut self.machine);
         match kind {
@@ -136,7 +199,22 @@ impl Session {
             | Kind::Region
             | Kind::Translator
             | Kind::MarkBlock
-            | Kind::MarkReached => *answer = Answer::of_code(code::BAD_CALL),
+            | Kind::MarkReached
+            | Kind::Queue
+            | Kind::SetQueue
+            | Kind::ResetQueue
+            | Kind::QueueState
+            | Kind::Forget
+            | Kind::QueueIsValid
+            | Kind::AvailIdx
+            | Kind::UsedIdx
+            | Kind::Pop
+            | Kind::ReadChain
+            | Kind::WriteChain
+            | Kind::AddUsed
+            | Kind::NeedsNotification
+            | Kind::EnableNotification
+            | Kind::DisableNotification => *answer = Answer::of_code(code::BAD_CALL),
         }
     }
 
@@ -152,7 +230,8 @@ impl Session {
         answer: &mut Answer,
     )
         requires { IsTrue (is_access kind) }
-        ensures { Served self.old kind call.now input.now output.old answer.new output.new self.new }
+        ensures served { Served self.old.machine kind call.now input.now output.old answer.new output.new self.new.machine }
+        ensures queues { self.new.queues ≡ self.old.queues }
     {
         match kind {
             Kind::Read => read(&self.machine, call, output, answer),
@@ -169,5 +248,22 @@ impl Session {
             },
             _ => unreachable!(),
         }
+    }
+}
+
+// Serves a call on one queue alone.
+fn on_queue(queue: &mut SessionQueue, kind: Kind, call: &Call, output: &mut [u8]) -> Answer
+    requires { IsTrue (is_on_queue kind) }
+    ensures { OneQueue kind call.now queue.old output.old result queue.new output.new }
+{
+    match kind {
+        Kind::SetQueue => queue.set(part_of(call.second), call.value),
+        Kind::ResetQueue => {
+            queue.reset();
+            Answer::of_code(code::DONE)
+        }
+        Kind::QueueState => queue.list_state(output),
+        Kind::Forget => queue.forget(call.third),
+        _ => unreachable!(),
     }
 }

@@ -1,7 +1,7 @@
 //! The commands that make memories and turn their IOMMUs on and off.
-ghost use Rattle.std.specs.Prelude.{◌≡◌, ◌⊎◌, ◌++◌, ◌∷◌, [], length, Ok, Err};
+ghost use Rattle.std.specs.Prelude.{◌≡◌, ◌⊎◌, ◌++◌, ◌∷◌, [], length, slice_get, Ok, Err};
 ghost use Rattle.vm_memory.specs.Machine.{Step};
-ghost use Rattle.vm_memory.specs.Memories.{turned_memory};
+ghost use Rattle.vm_memory.specs.Memories.{table_told, turned_memory};
 ghost use Rattle.vm_memory.specs.Parts.{HoldsMemory, state_of};
 ghost use Rattle.vm_memory.specs.Reply.{as_done, replied};
 ghost use Rattle.vm_memory.specs.declared.machine.command.Command.TheVariants as command;
@@ -94,6 +94,21 @@ impl<R: GuestMemoryRegion, I: Iommu, B: ExactBitmap> Machine<R, I, B> {
             return Err(Refusal::NoSuch);
         };
         turn(memory, on)
+    }
+
+    /// The number of the table that translates the addresses of a memory, if its IOMMU is on. `NoSuch` if there is no such
+    /// memory.
+    pub fn table_of(&self, memory: usize) -> Result<Option<usize>, Refusal>
+        ensures { let now = state_of R.region I.number B.pages self.now in
+            result ≡ table_told (slice_get now.memories memory) }
+    {
+        match self.memories.get(memory) {
+            Some(MachineMemory::Translated(memory)) if memory.get_iommu_enabled() => {
+                Ok(Some(memory.iommu().table().0))
+            }
+            Some(_) => Ok(None),
+            None => Err(Refusal::NoSuch),
+        }
     }
 
     // Makes a memory the next, where the host holds it.

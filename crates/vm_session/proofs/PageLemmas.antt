@@ -1,0 +1,176 @@
+-- Steps on a host with exact bitmaps are steps on a host that has their pages.
+use Rattle.std.proofs.Common.{◌≡◌, ◌∙◌, ◌^◌, ℕ, Bool, true, false, nat_lt, List, [], ◌∷◌, drop, map, Option, Some, None, option_map, MatchBool, MatchOption, Result, Ok, Err, ap, inl, inr}
+use Rattle.std.proofs.lemmas.Option.{slice_get-map}
+use Rattle.std.proofs.lemmas.List.{map-set}
+use Rattle.vm_memory_base.specs.Pages.{PageSet, marked}
+use Rattle.vm_memory_base.specs.declared.bitmap.BitmapId.{BitmapId}
+use Rattle.vm_memory_base.specs.declared.bitmap.BitmapId.TheVariants.{Block, Space}
+use Rattle.vm_memory_guest.specs.Dirt.{with_pages}
+use Rattle.vm_memory_guest.specs.Host.{Host, written}
+use Rattle.vm_memory_guest.specs.Memory.{Memory}
+use Rattle.vm_memory_guest.specs.Window.{Marks, MarksAll, MarksOne, MarksWindow, Window, Writes, cells}
+use Rattle.vm_memory_guest.specs.declared.region.error.GuestMemoryError.{GuestMemoryError}
+use Rattle.vm_memory_device.specs.Chain.{Entry, WritesText, text, writable}
+use Rattle.vm_memory_device.specs.declared.chain.Segment.{Segment}
+use Rattle.virtio_queue.specs.Fields.{StoresWord}
+use Rattle.virtio_queue.specs.Notification.{Disables, Enables, EnablesIfReady}
+use Rattle.virtio_queue.specs.Used.{AddsUsed}
+use Rattle.virtio_queue.specs.declared.error.QueueError.{QueueError}
+use Rattle.virtio_queue.specs.declared.error.QueueError.TheVariants as errors
+use Rattle.virtio_queue.specs.declared.state.QueueState.{QueueState}
+use Rattle.vm_session.specs.Codes.{bad_call}
+use Rattle.vm_session.specs.QueueCodes.{answer_of_bytes, answer_of_done, not_in_flight}
+use Rattle.vm_session.specs.Queues.{Returns, ReturnsIf, Works, WritesChain, after_returned, marks_pages}
+use Rattle.vm_session.specs.SessionState.{DeviceQueue, chain_of}
+use Rattle.vm_session.specs.declared.call.Answer.{Answer}
+use Rattle.vm_session.specs.declared.call.Call.{Call}
+use Rattle.vm_session.specs.declared.call.Kind.{Kind}
+use Rattle.vm_session.specs.declared.call.Kind.TheVariants as kind
+
+module _ {B : Type 0} (marks : B → ℕ → ℕ → B → Type 0) (pages : B → PageSet)
+    (exact : (old new : B) (offset len : ℕ) → marks old offset len new
+    → pages new ≡ marked offset len (pages old)) where
+  abbrev seen : Host B → Host PageSet
+  seen host = with_pages pages host
+
+  one_page : (number offset len : ℕ) (old new : List B) → MarksOne marks number offset len old new
+      → MarksOne marks_pages number offset len (map pages old) (map pages new)
+  one_page number offset len old new h = record {
+    before = pages h.before;
+    after = pages h.after;
+    was = slice_get-map pages old number ∙ ap (option_map pages) h.was;
+    marked = exact h.before h.after offset len h.marked;
+    is = ap (map pages) h.is ∙ map-set pages old number h.after;
+  }
+
+  marks_seen : (id : BitmapId) (offset len : ℕ) (old new : Host B) → Marks marks id offset len old new
+      → Marks marks_pages id offset len (seen old) (seen new)
+  marks_seen (Block block) offset len old new h =
+      (map pages h.0, one_page block offset len old.bitmaps h.0 h.1, ap seen h.2)
+  marks_seen (Space space) offset len old new h =
+      (map pages h.0, one_page space offset len old.spaces h.0 h.1, ap seen h.2)
+
+  window_if : (b : Bool) (w : Window) (old new : Host B)
+      → MatchBool b (Marks marks w.bitmap.id w.bitmap.base w.size old new) (new ≡ old)
+      → MatchBool b (Marks marks_pages w.bitmap.id w.bitmap.base w.size (seen old) (seen new)) (seen new ≡ seen old)
+  window_if true w old new h = marks_seen w.bitmap.id w.bitmap.base w.size old new h
+  window_if false w old new h = ap seen h
+
+  window_seen : (w : Window) (old new : Host B) → MarksWindow marks w old new
+      → MarksWindow marks_pages w (seen old) (seen new)
+  window_seen w old new h = window_if (nat_lt 0 w.size) w old new h
+
+  all_seen : (ws : List Window) (old new : Host B) → MarksAll marks ws old new
+      → MarksAll marks_pages ws (seen old) (seen new)
+  all_seen [] old new h = ap seen h
+  all_seen (w ∷ ws) old new h = (seen h.0, window_seen w old h.0 h.1, all_seen ws h.0 new h.2)
+
+  pub writes_seen : (ws : List Window) (bytes : List ℕ) (old new : Host B) → Writes marks ws bytes old new
+      → Writes marks_pages ws bytes (seen old) (seen new)
+  writes_seen ws bytes old new h =
+      all_seen ws (record old { blocks = written (cells ws) bytes old.blocks }) new h
+
+  module _ (m : Memory) where
+    stores_seen : (base offset value : ℕ) (old : Host B) (answer : Result (Unit {0}) QueueError) (new : Host B)
+        → StoresWord marks m base offset value old answer new
+        → StoresWord marks_pages m base offset value (seen old) answer (seen new)
+    stores_seen base offset value old (Ok u) new h = (h.0, h.1, writes_seen (h.0 ∷ []) _ old new h.2)
+    stores_seen base offset value old (Err e) new h = (h.0, ap seen h.1)
+
+    adds_seen : (q : QueueState) (head len : ℕ) (old : Host B) (answer : Result (Unit {0}) QueueError) (new : Host B)
+        → AddsUsed marks m q head len old answer new → AddsUsed marks_pages m q head len (seen old) answer (seen new)
+    adds_seen q head len old answer new (inl h) = inl (h.0, h.1, h.2, ap seen h.3)
+    adds_seen q head len old answer new (inr h) =
+        inr (seen h.0, (h.1.0, h.1.1, writes_seen _ _ old h.0 h.1.2), stores_seen _ _ _ h.0 answer new h.2)
+
+    enables_seen : (q : QueueState) (old : Host B) (answer : Result Bool QueueError) (new : Host B)
+        → EnablesIfReady marks m q old answer new → EnablesIfReady marks_pages m q (seen old) answer (seen new)
+    enables_seen q old answer new h = at q.ready h
+      where
+        at : (b : Bool)
+            → MatchBool b (Enables marks m q old answer new) ((answer ≡ Err errors.QueueNotReady) × (new ≡ old))
+            → MatchBool b (Enables marks_pages m q (seen old) answer (seen new))
+            ((answer ≡ Err errors.QueueNotReady) × (seen new ≡ seen old))
+        at true h = (h.0, stores_seen _ _ _ old h.0 new h.1, h.2)
+        at false h = (h.0, ap seen h.1)
+
+    disables_seen : (q : QueueState) (old : Host B) (answer : Result (Unit {0}) QueueError) (new : Host B)
+        → Disables marks m q old answer new → Disables marks_pages m q (seen old) answer (seen new)
+    disables_seen q old answer new h = at q.ready q.event_idx_enabled h
+      where
+        at : (b on : Bool)
+            → MatchBool b (MatchBool on ((answer ≡ Ok tt) × (new ≡ old))
+            (StoresWord marks m q.used_ring 0 1 old answer new))
+            ((answer ≡ Err errors.QueueNotReady) × (new ≡ old))
+            → MatchBool b (MatchBool on ((answer ≡ Ok tt) × (seen new ≡ seen old))
+            (StoresWord marks_pages m q.used_ring 0 1 (seen old) answer (seen new)))
+            ((answer ≡ Err errors.QueueNotReady) × (seen new ≡ seen old))
+        at true true h = (h.0, ap seen h.1)
+        at true false h = stores_seen q.used_ring 0 1 old answer new h
+        at false on h = (h.0, ap seen h.1)
+
+    text_seen : (es : List Entry) (bytes : List ℕ) (old : Host B) (answer : Result ℕ GuestMemoryError)
+        (left : List Entry) (new : Host B) → WritesText marks m es bytes old answer left new
+        → WritesText marks_pages m es bytes (seen old) answer left (seen new)
+    text_seen es bytes old answer left new h = (h.0, h.1, h.2, writes_seen _ bytes old new h.3)
+
+    chain_seen : (q : DeviceQueue) (head offset : ℕ) (bytes : List ℕ) (old : Host B) (a : Answer) (new : Host B)
+        → WritesChain marks m q head offset bytes old a new
+        → WritesChain marks_pages m q head offset bytes (seen old) a (seen new)
+    chain_seen q head offset bytes old a new h = at (chain_of q head) h
+      where
+        at : (o : Option (List Segment))
+            → MatchOption o ((a ≡ not_in_flight) × (new ≡ old)) (λ chain. (r : Result ℕ GuestMemoryError)
+            × (left : List Entry)
+            × WritesText marks m (drop offset (text (writable chain))) bytes old r left new × (a ≡ answer_of_bytes r))
+            → MatchOption o ((a ≡ not_in_flight) × (seen new ≡ seen old)) (λ chain. (r : Result ℕ GuestMemoryError)
+            × (left : List Entry)
+            × WritesText marks_pages m (drop offset (text (writable chain))) bytes (seen old) r left (seen new)
+            × (a ≡ answer_of_bytes r))
+        at None h = (h.0, ap seen h.1)
+        at (Some chain) h = (h.0, h.1, text_seen _ bytes old h.0 h.1 new h.2, h.3)
+
+    returns_seen : (q : DeviceQueue) (head len : ℕ) (old : Host B) (a : Answer) (q' : DeviceQueue) (new : Host B)
+        → Returns marks m q head len old a q' new → Returns marks_pages m q head len (seen old) a q' (seen new)
+    returns_seen q head len old a q' new h = at (chain_of q head) h
+      where
+        at : (o : Option (List Segment))
+            → MatchOption o ((a ≡ not_in_flight) × (q' ≡ q) × (new ≡ old)) (λ chain.
+            (r : Result (Unit {0}) QueueError) × AddsUsed marks m q.queue.state head len old r new
+            × (a ≡ answer_of_done r) × (q' ≡ after_returned q head r))
+            → MatchOption o ((a ≡ not_in_flight) × (q' ≡ q) × (seen new ≡ seen old)) (λ chain.
+            (r : Result (Unit {0}) QueueError) × AddsUsed marks_pages m q.queue.state head len (seen old) r (seen new)
+            × (a ≡ answer_of_done r) × (q' ≡ after_returned q head r))
+        at None h = (h.0, h.1, ap seen h.2)
+        at (Some chain) h = (h.0, adds_seen q.queue.state head len old h.0 new h.1, h.2, h.3)
+
+    returns_if : (call : Call) (q : DeviceQueue) (old : Host B) (a : Answer) (q' : DeviceQueue) (new : Host B)
+        → ReturnsIf marks m call q old a q' new → ReturnsIf marks_pages m call q (seen old) a q' (seen new)
+    returns_if call q old a q' new h = at (nat_lt call.value (2 ^ 32)) h
+      where
+        at : (b : Bool) → MatchBool b (Returns marks m q call.third call.value old a q' new)
+            ((a ≡ bad_call) × (q' ≡ q) × (new ≡ old))
+            → MatchBool b (Returns marks_pages m q call.third call.value (seen old) a q' (seen new))
+            ((a ≡ bad_call) × (q' ≡ q) × (seen new ≡ seen old))
+        at true h = returns_seen q call.third call.value old a q' new h
+        at false h = (h.0, h.1, ap seen h.2)
+
+    -- so is each call on a queue and a memory
+    pub work_seen : (k : Kind) (call : Call) (input : List ℕ) (q : DeviceQueue) (old : Host B) (out : List ℕ)
+        (a : Answer) (q' : DeviceQueue) (new : Host B) (out' : List ℕ)
+        → Works marks m k call input q old out a q' new out'
+        → Works marks_pages m k call input q (seen old) out a q' (seen new) out'
+    work_seen kind.QueueIsValid call input q old out a q' new out' h = (h.0, h.1, ap seen h.2, h.3)
+    work_seen kind.AvailIdx call input q old out a q' new out' h = (h.0, h.1, ap seen h.2, h.3)
+    work_seen kind.UsedIdx call input q old out a q' new out' h = (h.0, h.1, ap seen h.2, h.3)
+    work_seen kind.Pop call input q old out a q' new out' h = (h.0, ap seen h.1, h.2)
+    work_seen kind.ReadChain call input q old out a q' new out' h = (h.0, h.1, ap seen h.2)
+    work_seen kind.WriteChain call input q old out a q' new out' h =
+        (chain_seen q call.third call.address input old a new h.0, h.1, h.2)
+    work_seen kind.AddUsed call input q old out a q' new out' h = (returns_if call q old a q' new h.0, h.1)
+    work_seen kind.NeedsNotification call input q old out a q' new out' h = (h.0, ap seen h.1, h.2)
+    work_seen kind.EnableNotification call input q old out a q' new out' h =
+        ((h.0.0, enables_seen q.queue.state old h.0.0 new h.0.1, h.0.2), h.1, h.2)
+    work_seen kind.DisableNotification call input q old out a q' new out' h =
+        ((h.0.0, disables_seen q.queue.state old h.0.0 new h.0.1, h.0.2), h.1, h.2)
+    work_seen k call input q old out a q' new out' h = absurd h

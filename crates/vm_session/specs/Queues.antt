@@ -1,0 +1,271 @@
+-- What calls on queues are answered, and what they leave.
+use Rattle.std.specs.Prelude.{◌≡◌, ◌⊎◌, ◌<◌, ◌+◌, ◌%◌, ◌^◌, ◌==◌, ◌&&◌, nat_lt, nat_le, if◌then◌else◌, ℕ, Bool, List, [], ◌∷◌, ◌++◌, length, take, drop, flat_map, replicate, slice_get, slice_set, Option, Some, None, option_map, is_some, MatchBool, MatchOption, true, false, Result, Ok, Err, ◌≤◌}
+use Rattle.std.specs.Int.{w64, to_le_bytes}
+use Rattle.vm_memory_base.specs.Pages.{PageSet, marked}
+use Rattle.vm_memory_guest.specs.Host.{Host}
+use Rattle.vm_memory_guest.specs.Memory.{Memory, IsOn}
+use Rattle.vm_memory_guest.specs.declared.region.error.GuestMemoryError.{GuestMemoryError}
+use Rattle.vm_memory_device.specs.Chain.{Entry, ReadsText, WritesText, readable, text, writable}
+use Rattle.vm_memory_device.specs.declared.chain.Segment.{Segment}
+use Rattle.virtio_queue.specs.Available.{MayWantChain, after_pop, avail_idx, popped}
+use Rattle.virtio_queue.specs.Fields.{Answers as AnswersAs}
+use Rattle.virtio_queue.specs.Notification.{Disables, EnablesIfReady, after_asked, needs_notification}
+use Rattle.virtio_queue.specs.State.{Virtqueue, is_size, new_queue, set_if, with_state}
+use Rattle.virtio_queue.specs.Used.{AddsUsed, after_used, used_idx, valid}
+use Rattle.virtio_queue.specs.declared.error.QueueError.{QueueError}
+use Rattle.virtio_queue.specs.declared.error.QueueError.TheVariants as errors
+use Rattle.virtio_queue.specs.declared.state.QueueState.{QueueState}
+use Rattle.vm_memory.specs.State.{State}
+use Rattle.vm_session.specs.Answers.{number_of_truth, valued}
+use Rattle.vm_session.specs.Codes.{bad_call, coded, no_memory, short_of}
+use Rattle.vm_session.specs.Kinds.{part_at, switch_at}
+use Rattle.vm_session.specs.QueueCodes.{answer_of_bytes, answer_of_done, answer_of_number, answer_of_queue, answer_of_truth, in_flight, no_chain, no_such, not_in_flight, popped_as, too_many}
+use Rattle.vm_session.specs.SessionState.{DeviceQueue, SessionState, chain_of, descriptors_in}
+use Rattle.vm_session.specs.declared.call.Answer.{Answer}
+use Rattle.vm_session.specs.declared.call.Call.{Call}
+use Rattle.vm_session.specs.declared.call.Kind.{Kind}
+use Rattle.vm_session.specs.declared.call.Kind.TheVariants as kind
+use Rattle.vm_session.specs.declared.call.QueuePart.{QueuePart}
+use Rattle.vm_session.specs.declared.call.QueuePart.TheVariants as part
+
+-- ---- setup
+
+-- a queue of so many entries that nobody has set up, with nothing in flight
+abbrev pub unused : ℕ → ℕ → DeviceQueue
+unused size most = record { queue = new_queue size; most = most; flight = replicate size None }
+
+-- a queue is made, or refused
+abbrev pub MakesQueue : List DeviceQueue → Call → Answer → List DeviceQueue → Type 0
+MakesQueue old call a new =
+    ((nat_lt call.length (2 ^ 16) && is_size call.length ≡ true)
+    × (((a ≡ valued (length old)) × (new ≡ old ++ unused call.length call.other_length ∷ []))
+    ⊎ ((a ≡ no_memory) × (new ≡ old))))
+    ⊎ ((nat_lt call.length (2 ^ 16) && is_size call.length ≡ false) × (a ≡ answer_of_queue errors.InvalidMaxSize)
+    × (new ≡ old))
+
+-- a number of 16 bits
+abbrev pub word : ℕ → Option ℕ
+word n = if nat_lt n (2 ^ 16) then Some n else None
+
+-- a part of a queue is set to a number, where it can be one
+abbrev pub set_part : QueuePart → ℕ → Virtqueue → Option (Result (Unit {0}) QueueError × Virtqueue)
+set_part part.Size n q = option_map (λ size. set_if (is_size size && nat_le size q.state.max_size)
+    errors.InvalidSize q (record q.state { size = size })) (word n)
+set_part part.DescTable n q =
+    Some (set_if (n % 16 == 0) errors.InvalidDescTableAlign q (record q.state { desc_table = n }))
+set_part part.AvailRing n q =
+    Some (set_if (n % 2 == 0) errors.InvalidAvailRingAlign q (record q.state { avail_ring = n }))
+set_part part.UsedRing n q =
+    Some (set_if (n % 4 == 0) errors.InvalidUsedRingAlign q (record q.state { used_ring = n }))
+set_part part.Ready n q =
+    option_map (λ ready. (Ok tt, with_state q (record q.state { ready = ready }))) (switch_at n)
+set_part part.EventIdx n q =
+    option_map (λ on. (Ok tt, with_state q (record q.state { event_idx_enabled = on }))) (switch_at n)
+set_part part.NextAvail n q =
+    option_map (λ next. (Ok tt, with_state q (record q.state { next_avail = next }))) (word n)
+set_part part.NextUsed n q = option_map (λ next.
+    (Ok tt, record { state = record q.state { next_used = next }; added = None })) (word n)
+
+abbrev pub SetsIf : Option (Result (Unit {0}) QueueError × Virtqueue) → Virtqueue → Answer → Virtqueue → Type 0
+SetsIf None old a new = (a ≡ bad_call) × (new ≡ old)
+SetsIf (Some r) old a new = (a ≡ answer_of_done r.0) × (new ≡ r.1)
+
+-- the part of this number is set
+abbrev pub SetsPart : Option QueuePart → ℕ → Virtqueue → Answer → Virtqueue → Type 0
+SetsPart None n old a new = (a ≡ bad_call) × (new ≡ old)
+SetsPart (Some p) n old a new = SetsIf (set_part p n old) old a new
+
+-- the numbers of a state
+abbrev pub state_numbers : QueueState → List ℕ
+state_numbers s = s.max_size ∷ s.size ∷ number_of_truth s.ready ∷ s.desc_table ∷ s.avail_ring ∷ s.used_ring
+    ∷ s.next_avail ∷ s.next_used ∷ number_of_truth s.event_idx_enabled ∷ []
+
+abbrev pub ListsState : QueueState → List ℕ → Answer → List ℕ → Type 0
+ListsState s out a out' = ((length out < 72) × (a ≡ short_of 72) × (out' ≡ out))
+    ⊎ ((a ≡ record { code = 0; count = 9; value = 0; address = 0 })
+    × (out' ≡ flat_map (to_le_bytes w64) (state_numbers s) ++ drop 72 out))
+
+-- ---- chains
+
+-- a queue whose next chain was taken
+abbrev pub moved_on : Virtqueue → Virtqueue
+moved_on q = with_state q (after_pop {X = ℕ} q.state (Ok (Some 0)))
+
+-- why a chain cannot be in flight: its head is, or there would be too many descriptors
+abbrev pub refusal_of_chain : DeviceQueue → ℕ → List Segment → Option Answer
+refusal_of_chain q head chain = if is_some (chain_of q head) then Some in_flight
+    else if nat_lt q.most (descriptors_in q.flight + length chain) then Some too_many
+    else None
+
+-- a queue with a chain more in flight
+abbrev pub with_chain : DeviceQueue → ℕ → List Segment → DeviceQueue
+with_chain q head chain = record q { flight = slice_set q.flight head (Some chain) }
+
+-- a chain that was popped is in flight. One that cannot be stays the next one
+abbrev pub after_popped_if : Option Answer → DeviceQueue → ℕ → List Segment → Answer × DeviceQueue
+after_popped_if None q head chain =
+    (popped_as head chain, with_chain (record q { queue = moved_on q.queue }) head chain)
+after_popped_if (Some a) q head chain = (a, q)
+
+abbrev pub after_popped : DeviceQueue → Result (Option (ℕ × List Segment)) QueueError → Answer × DeviceQueue
+after_popped q (Ok (Some p)) = after_popped_if (refusal_of_chain q p.0 p.1) q p.0 p.1
+after_popped q (Ok None) = (no_chain, q)
+after_popped q (Err e) = (answer_of_queue e, q)
+
+-- a queue that is made what it was: nobody has set it up, and nothing is in flight
+abbrev pub cleared : DeviceQueue → DeviceQueue
+cleared q = record {
+  queue = new_queue q.queue.state.max_size;
+  most = q.most;
+  flight = replicate (length q.flight) None;
+}
+
+-- a queue without the chain of a head
+abbrev pub forgotten : DeviceQueue → ℕ → DeviceQueue
+forgotten q head = record q { flight = slice_set q.flight head None }
+
+abbrev pub Forgets : DeviceQueue → ℕ → Answer → DeviceQueue → Type 0
+Forgets old head a new = MatchOption (chain_of old head) ((a ≡ not_in_flight) × (new ≡ old))
+    (λ chain. (a ≡ coded 0) × (new ≡ forgotten old head))
+
+-- what a chain's return leaves: it is no more in flight
+abbrev pub after_returned : DeviceQueue → ℕ → Result (Unit {0}) QueueError → DeviceQueue
+after_returned q head (Ok u) = record {
+  queue = after_used q.queue (Ok u);
+  most = q.most;
+  flight = slice_set q.flight head None;
+}
+after_returned q head (Err e) = q
+
+module _ {B : Type 0} (m : Memory) (host : Host B) where
+  abbrev pub Pops : DeviceQueue → Answer → DeviceQueue → Type 0
+  Pops old a new = (r : Result (Option (ℕ × List Segment)) QueueError)
+      × AnswersAs (MayWantChain m host old.queue.state) (popped m host old.queue.state) r
+      × ((a, new) ≡ after_popped old r)
+
+  -- the readable bytes of a chain in flight, from an offset on, come to a buffer
+  abbrev pub ReadsChain : DeviceQueue → ℕ → ℕ → List ℕ → Answer → List ℕ → Type 0
+  ReadsChain q head offset buf a buf' = MatchOption (chain_of q head) ((a ≡ not_in_flight) × (buf' ≡ buf))
+      (λ chain. (r : Result ℕ GuestMemoryError) × (left : List Entry)
+      × ReadsText m host (drop offset (text (readable chain))) buf r left buf' × (a ≡ answer_of_bytes r))
+
+  abbrev pub NeedsNotification : DeviceQueue → Answer → DeviceQueue → Type 0
+  NeedsNotification old a new = (r : Result Bool QueueError)
+      × AnswersAs (IsOn m) (needs_notification m host old.queue) r
+      × (a ≡ answer_of_truth r) × (new ≡ record old { queue = after_asked old.queue r })
+
+  abbrev pub TellsValid : DeviceQueue → Answer → Type 0
+  TellsValid q a = (r : Result Bool QueueError) × AnswersAs (IsOn m) (valid m host q.queue.state) r
+      × (a ≡ answer_of_truth r)
+
+  abbrev pub TellsAvail : DeviceQueue → Answer → Type 0
+  TellsAvail q a = (r : Result ℕ QueueError) × AnswersAs (IsOn m) (avail_idx m host q.queue.state) r
+      × (a ≡ answer_of_number r)
+
+  abbrev pub TellsUsed : DeviceQueue → Answer → Type 0
+  TellsUsed q a = (r : Result ℕ QueueError) × AnswersAs (IsOn m) (used_idx m host q.queue.state) r
+      × (a ≡ answer_of_number r)
+
+module _ {B : Type 0} (marks : B → ℕ → ℕ → B → Type 0) (m : Memory) where
+  -- bytes go to the writable ones of a chain in flight, from an offset on
+  abbrev pub WritesChain : DeviceQueue → ℕ → ℕ → List ℕ → Host B → Answer → Host B → Type 0
+  WritesChain q head offset bytes old a new = MatchOption (chain_of q head) ((a ≡ not_in_flight) × (new ≡ old))
+      (λ chain. (r : Result ℕ GuestMemoryError) × (left : List Entry)
+      × WritesText marks m (drop offset (text (writable chain))) bytes old r left new × (a ≡ answer_of_bytes r))
+
+  -- a chain in flight is returned, with how many bytes were written to it
+  abbrev pub Returns : DeviceQueue → ℕ → ℕ → Host B → Answer → DeviceQueue → Host B → Type 0
+  Returns q head len old a q' new = MatchOption (chain_of q head) ((a ≡ not_in_flight) × (q' ≡ q) × (new ≡ old))
+      (λ chain. (r : Result (Unit {0}) QueueError) × AddsUsed marks m q.queue.state head len old r new
+      × (a ≡ answer_of_done r) × (q' ≡ after_returned q head r))
+
+  abbrev pub AsksToNotify : DeviceQueue → Host B → Answer → Host B → Type 0
+  AsksToNotify q old a new = (r : Result Bool QueueError) × EnablesIfReady marks m q.queue.state old r new
+      × (a ≡ answer_of_truth r)
+
+  abbrev pub AsksNotToNotify : DeviceQueue → Host B → Answer → Host B → Type 0
+  AsksNotToNotify q old a new = (r : Result (Unit {0}) QueueError) × Disables marks m q.queue.state old r new
+      × (a ≡ answer_of_done r)
+
+-- ---- calls on a queue and a memory
+
+-- a read of the chain of a call, into the front of an output that has room
+abbrev pub ReadsInto : {B : Type 0} → Memory → Call → DeviceQueue → Host B → List ℕ → Answer → List ℕ → Type 0
+ReadsInto m call q host out a out' = ((length out < call.length) × (a ≡ short_of call.length) × (out' ≡ out))
+    ⊎ ((call.length ≤ length out) × ((buf : List ℕ)
+    × ReadsChain m host q call.third call.address (take call.length out) a buf × (out' ≡ buf ++ drop call.length out)))
+
+module _ {B : Type 0} (marks : B → ℕ → ℕ → B → Type 0) (m : Memory) where
+  -- how many bytes were written is a number of 32 bits
+  abbrev pub ReturnsIf : Call → DeviceQueue → Host B → Answer → DeviceQueue → Host B → Type 0
+  ReturnsIf call q old a q' new = MatchBool (nat_lt call.value (2 ^ 32))
+      (Returns marks m q call.third call.value old a q' new) ((a ≡ bad_call) × (q' ≡ q) × (new ≡ old))
+
+  -- what a call of a kind does with a queue, a host and an output
+  abbrev pub Works : Kind → Call → List ℕ → DeviceQueue → Host B → List ℕ → Answer → DeviceQueue → Host B → List ℕ
+      → Type 0
+  Works kind.QueueIsValid call input q host out a q' host' out' =
+      TellsValid m host q a × (q' ≡ q) × (host' ≡ host) × (out' ≡ out)
+  Works kind.AvailIdx call input q host out a q' host' out' =
+      TellsAvail m host q a × (q' ≡ q) × (host' ≡ host) × (out' ≡ out)
+  Works kind.UsedIdx call input q host out a q' host' out' =
+      TellsUsed m host q a × (q' ≡ q) × (host' ≡ host) × (out' ≡ out)
+  Works kind.Pop call input q host out a q' host' out' = Pops m host q a q' × (host' ≡ host) × (out' ≡ out)
+  Works kind.ReadChain call input q host out a q' host' out' =
+      ReadsInto m call q host out a out' × (q' ≡ q) × (host' ≡ host)
+  Works kind.WriteChain call input q host out a q' host' out' =
+      WritesChain marks m q call.third call.address input host a host' × (q' ≡ q) × (out' ≡ out)
+  Works kind.AddUsed call input q host out a q' host' out' = ReturnsIf call q host a q' host' × (out' ≡ out)
+  Works kind.NeedsNotification call input q host out a q' host' out' =
+      NeedsNotification m host q a q' × (host' ≡ host) × (out' ≡ out)
+  Works kind.EnableNotification call input q host out a q' host' out' =
+      AsksToNotify marks m q host a host' × (q' ≡ q) × (out' ≡ out)
+  Works kind.DisableNotification call input q host out a q' host' out' =
+      AsksNotToNotify marks m q host a host' × (q' ≡ q) × (out' ≡ out)
+  Works k call input q host out a q' host' out' = ⊥
+
+-- marks of a bitmap whose pages are all that is known of it
+abbrev pub marks_pages : PageSet → ℕ → ℕ → PageSet → Type 0
+marks_pages old offset len new = new ≡ marked offset len old
+
+-- a call on a queue and the memory that it names, if the machine has that
+abbrev pub WorksOn : Kind → Call → List ℕ → State → DeviceQueue → List ℕ → Answer → State → DeviceQueue → List ℕ
+    → Type 0
+WorksOn k call input old q out a new q' out' = MatchOption (slice_get old.memories call.second)
+    ((a ≡ no_such) × (new ≡ old) × (q' ≡ q) × (out' ≡ out))
+    (λ m. (host : Host PageSet) × Works marks_pages m k call input q old.host out a q' host out'
+    × (new ≡ record old { host = host }))
+
+-- ---- calls of a session
+
+-- nothing was done
+abbrev pub Refuses : Answer → SessionState → List ℕ → Answer → SessionState → List ℕ → Type 0
+Refuses told old out a new out' = (a ≡ told) × (new ≡ old) × (out' ≡ out)
+
+-- what a call of a kind does with a queue alone
+abbrev pub OneQueue : Kind → Call → DeviceQueue → List ℕ → Answer → DeviceQueue → List ℕ → Type 0
+OneQueue kind.SetQueue call q out a q' out' = SetsPart (part_at call.second) call.value q.queue a q'.queue
+    × (q' ≡ record q { queue = q'.queue }) × (out' ≡ out)
+OneQueue kind.ResetQueue call q out a q' out' = (a ≡ coded 0) × (q' ≡ cleared q) × (out' ≡ out)
+OneQueue kind.QueueState call q out a q' out' = ListsState q.queue.state out a out' × (q' ≡ q)
+OneQueue kind.Forget call q out a q' out' = Forgets q call.third a q' × (out' ≡ out)
+OneQueue k call q out a q' out' = ⊥
+
+-- a call on a queue, if there is one of this number
+abbrev pub OnQueue : Kind → SessionState → Call → List ℕ → Answer → SessionState → List ℕ → Type 0
+OnQueue k old call out a new out' = MatchOption (slice_get old.queues call.first) (Refuses no_such old out a new out')
+    (λ q. (q' : DeviceQueue) × OneQueue k call q out a q' out'
+    × (new ≡ record { machine = old.machine; queues = slice_set old.queues call.first q' }))
+
+-- a call on a queue and a memory, if there are both
+abbrev pub OnBoth : Kind → SessionState → Call → List ℕ → List ℕ → Answer → SessionState → List ℕ → Type 0
+OnBoth k old call input out a new out' = MatchOption (slice_get old.queues call.first)
+    (Refuses no_such old out a new out')
+    (λ q. (q' : DeviceQueue) × WorksOn k call input old.machine q out a new.machine q' out'
+    × (new.queues ≡ slice_set old.queues call.first q'))
+
+-- what is answered to a call on queues alone
+abbrev pub AnswersQueue : Kind → SessionState → Call → List ℕ → List ℕ → Answer → SessionState → List ℕ → Type 0
+AnswersQueue kind.Queue old call input out a new out' = MakesQueue old.queues call a new.queues
+    × (new ≡ record { machine = old.machine; queues = new.queues }) × (out' ≡ out)
+AnswersQueue k old call input out a new out' = OnQueue k old call out a new out'

@@ -1,0 +1,359 @@
+//! Queues of a session, and their chains in flight.
+ghost use Rattle.std.specs.Prelude.{◌≡◌, ◌+◌, ◌≤◌, IfOk, replicate, length, None, is_some, option_copied};
+ghost use Rattle.vm_memory_guest.specs.Host.{shape_of, Holds};
+ghost use Rattle.vm_session.specs.Queues.{AsksNotToNotify, AsksToNotify, Forgets, ListsState, MakesQueue, NeedsNotification, Pops, ReadsChain, Returns, SetsPart, TellsAvail, TellsUsed, TellsValid, WritesChain, cleared, forgotten, refusal_of_chain, with_chain};
+ghost use Rattle.vm_session.specs.SessionState.{chain_of, descriptors_in};
+
+use crate::call::{Answer, Call, QueuePart};
+use crate::code;
+use crate::queue_answer::{
+    asked, bytes_moved, number_told, part_set, popped, put_state, queue_done, queue_refused,
+};
+use std::alloc::{AllocError, Global};
+use std::marker::Model;
+use virtio_queue::{Queue, QueueError};
+use vm_memory_base::Bitmap;
+use vm_memory_device::Chain;
+use vm_memory_guest::{GuestMemory, HostMemory};
+
+/// A queue with its chains in flight, each under its head.
+#[derive(Drop)]
+pub(crate) struct SessionQueue {
+    queue: Queue,
+    most: usize,
+    flight: Vec<Option<Chain>>,
+    // How many descriptors are in flight.
+    count: usize,
+}
+
+impl Model for SessionQueue {
+    ghost use Rattle.std.specs.Prelude.{◌≡◌, ◌<◌, ◌≤◌, ◌^◌, length};
+    ghost use Rattle.vm_session.specs.SessionState.{DeviceQueue, descriptors_in};
+
+    ghost Value = { DeviceQueue };
+
+    ghost view = { λ q. record { queue = q.queue; most = q.most; flight = q.flight.items } };
+
+    ghost invariant = { λ q. (length q.flight.items < 2 ^ 16) × (q.count ≡ descriptors_in q.flight.items)
+        × (q.count ≤ q.most) };
+}
+
+// Nothing in flight, for so many heads.
+fn none_in_flight(alloc: Global, size: u16) -> Result<Vec<Option<Chain>>, AllocError>
+    ensures { IfOk result (λ flight. flight.items ≡ replicate size None) }
+{
+    let mut flight = Vec::with_capacity(alloc, usize::from(size))?;
+    for _made in 0..size {
+        flight.push(None)?;
+    }
+    Ok(flight)
+}
+
+// Drops all chains.
+fn clear(flight: &mut [Option<Chain>])
+    ensures { flight.new ≡ replicate (length flight.old) None }
+{
+    for slot in flight.iter_mut() {
+        *slot = None;
+    }
+}
+
+// Makes a queue, if it can have this greatest size.
+pub(crate) fn make_queue(alloc: Global, queues: &mut Vec<SessionQueue>, call: &Call) -> Answer
+    ensures { MakesQueue queues.old.items call.now result queues.new.items }
+{
+    let Ok(max_size) = u16::try_from(call.length) else {
+        return queue_refused(QueueError::InvalidMaxSize);
+    };
+    let queue = match Queue::new(max_size) {
+        Ok(queue) => queue,
+        Err(error) => return queue_refused(error),
+    };
+    let number = queues.len();
+    let Ok(queue) = SessionQueue::new(alloc, queue, call.other_length) else {
+        return Answer::of_code(code::MEMORY);
+    };
+    match queues.push(queue) {
+        Ok(()) => Answer::of_value(number as u64),
+        Err(_) => Answer::of_code(code::MEMORY),
+    }
+}
+
+impl SessionQueue {
+    // A queue that nobody has set up, of this greatest size, with this bound on descriptors in flight.
+    pub(crate) fn new(alloc: Global, queue: Queue, most: usize) -> Result<SessionQueue, AllocError>
+        ensures { IfOk result (λ q. q ≡ record {
+          queue = queue;
+          most = most;
+          flight = replicate queue.state.max_size None;
+        }) }
+    {
+        let flight = none_in_flight(alloc, queue.max_size())?;
+        Ok(SessionQueue {
+            queue,
+            most,
+            flight,
+            count: 0,
+        })
+    }
+
+    // Makes it what it was when it was made.
+    pub(crate) fn reset(&mut self)
+        ensures { self.new ≡ cleared self.old }
+    {
+        self.queue.reset();
+        clear(self.flight.as_mut_slice());
+        self.count = 0;
+    }
+
+    // Sets a part.
+    pub(crate) fn set(&mut self, part: Option<QueuePart>, value: u64) -> Answer
+        ensures queue { SetsPart part value self.old.queue result self.new.queue }
+        ensures others { self.new ≡ record self.old { queue = self.new.queue } }
+    {
+        part_set(&mut self.queue, part, value)
+    }
+
+    // Its state, as a list of numbers.
+    pub(crate) fn list_state(&self, output: &mut [u8]) -> Answer
+        ensures { ListsState self.now.queue.state output.old result output.new }
+    {
+        put_state(&self.queue.state(), output)
+    }
+
+    // The chain of a head that is in flight.
+    #[inline]
+    fn chain(&self, head: usize) -> Option<&Chain>
+        ensures { option_copied result ≡ chain_of self.now head }
+    {
+        match self.flight.get(head) {
+            Some(slot) => slot.as_ref(),
+            None => None,
+        }
+    }
+
+    // Whether the chain of a head is in flight.
+    #[inline]
+    fn has(&self, head: usize) -> bool
+        ensures { result ≡ is_some (chain_of self.now head) }
+    {
+        self.chain(head).is_some()
+    }
+
+    // Puts a chain in flight for which there is room.
+    #[inline]
+    fn put(&mut self, head: usize, chain: Chain)
+        requires none { chain_of self.old head ≡ None }
+        requires room { descriptors_in self.old.flight + length chain ≤ self.old.most }
+        ensures { self.new ≡ with_chain self.old head chain }
+    {
+        let count = chain.segments().len();
+        if let Some(slot) = self.flight.get_mut(head) {
+            *slot = Some(chain);
+            self.count += count;
+        }
+    }
+
+    // Takes the chain of a head out of flight, if it is there, and drops it.
+    #[inline]
+    fn take(&mut self, head: usize)
+        ensures { self.new ≡ forgotten self.old head }
+    {
+        if let Some(slot) = self.flight.get_mut(head) {
+            if let Some(chain) = slot.take() {
+                self.count -= chain.segments().len();
+            }
+        }
+    }
+
+    // Why a chain that was popped cannot be in flight, if that is so.
+    #[inline]
+    fn refusal_of(&self, head: usize, chain: &Chain) -> Option<Answer>
+        ensures { result ≡ refusal_of_chain self.now head chain.now }
+    {
+        if self.has(head) {
+            return Some(Answer::of_code(code::IN_FLIGHT));
+        }
+        if chain.segments().len() > self.most - self.count {
+            return Some(Answer::of_code(code::TOO_MANY));
+        }
+        None
+    }
+
+    // Pops the next chain.
+    pub(crate) fn pop<M: GuestMemory, B: Bitmap>(
+        &mut self,
+        alloc: Global,
+        mem: &M,
+        host: &HostMemory<B>,
+    ) -> Answer
+        requires { Holds (shape_of host.now) (M.names mem.now) }
+        ensures { Pops (M.memory mem.now) host.now self.old result self.new }
+    {
+        let next = self.queue.next_avail();
+        match self.queue.pop_descriptor_chain(alloc, mem, host) {
+            Ok(Some((head, chain))) => {
+                let head = usize::from(head);
+                if let Some(answer) = self.refusal_of(head, &chain) {
+                    self.queue.set_next_avail(next);
+                    return answer;
+                }
+                let answer = popped(head, &chain);
+                self.put(head, chain);
+                answer
+            }
+            Ok(None) => Answer::of_code(code::NO_CHAIN),
+            Err(error) => queue_refused(error),
+        }
+    }
+
+    // Drops the chain of a head that is in flight.
+    pub(crate) fn forget(&mut self, head: usize) -> Answer
+        ensures { Forgets self.old head result self.new }
+    {
+        if !self.has(head) {
+            return Answer::of_code(code::NOT_IN_FLIGHT);
+        }
+        self.take(head);
+        Answer::of_code(code::DONE)
+    }
+
+    // Reads the readable bytes of a chain in flight from an offset on.
+    pub(crate) fn read<M: GuestMemory, B: Bitmap>(
+        &self,
+        mem: &M,
+        host: &HostMemory<B>,
+        head: usize,
+        offset: usize,
+        buf: &mut [u8],
+    ) -> Answer
+        requires { Holds (shape_of host.now) (M.names mem.now) }
+        ensures { ReadsChain (M.memory mem.now) host.now self.now head offset buf.old result buf.new }
+    {
+        let Some(chain) = self.chain(head) else {
+            return Answer::of_code(code::NOT_IN_FLIGHT);
+        };
+        let mut reader = chain.reader();
+        reader.skip(offset);
+        bytes_moved(reader.read(mem, host, buf))
+    }
+
+    // Writes to the writable bytes of a chain in flight from an offset on.
+    pub(crate) fn write<M: GuestMemory, B: Bitmap>(
+        &self,
+        mem: &M,
+        host: &mut HostMemory<B>,
+        head: usize,
+        offset: usize,
+        bytes: &[u8],
+    ) -> Answer
+        requires { Holds (shape_of host.old) (M.names mem.now) }
+        ensures written { WritesChain B.marks (M.memory mem.now) self.now head offset bytes.now host.old result host.new }
+        ensures shape { shape_of host.new ≡ shape_of host.old }
+    {
+        let Some(chain) = self.chain(head) else {
+            return Answer::of_code(code::NOT_IN_FLIGHT);
+        };
+        let mut writer = chain.writer();
+        writer.skip(offset);
+        bytes_moved(writer.write(mem, host, bytes))
+    }
+
+    // Returns a chain in flight.
+    pub(crate) fn add_used<M: GuestMemory, B: Bitmap>(
+        &mut self,
+        mem: &M,
+        host: &mut HostMemory<B>,
+        head: usize,
+        len: u32,
+    ) -> Answer
+        requires { Holds (shape_of host.old) (M.names mem.now) }
+        ensures returned { Returns B.marks (M.memory mem.now) self.old head len host.old result self.new host.new }
+        ensures shape { shape_of host.new ≡ shape_of host.old }
+    {
+        if !self.has(head) || head >= self.flight.len() {
+            return Answer::of_code(code::NOT_IN_FLIGHT);
+        }
+        match self.queue.add_used(mem, host, head as u16, len) {
+            Ok(()) => {
+                self.take(head);
+                Answer::of_code(code::DONE)
+            }
+            Err(error) => queue_refused(error),
+        }
+    }
+
+    // Whether the driver has to be notified.
+    pub(crate) fn needs_notification<M: GuestMemory, B: Bitmap>(
+        &mut self,
+        mem: &M,
+        host: &HostMemory<B>,
+    ) -> Answer
+        requires { Holds (shape_of host.now) (M.names mem.now) }
+        ensures { NeedsNotification (M.memory mem.now) host.now self.old result self.new }
+    {
+        asked(self.queue.needs_notification(mem, host))
+    }
+
+    // Asks the driver to notify the device.
+    pub(crate) fn enable_notification<M: GuestMemory, B: Bitmap>(
+        &self,
+        mem: &M,
+        host: &mut HostMemory<B>,
+    ) -> Answer
+        requires { Holds (shape_of host.old) (M.names mem.now) }
+        ensures asks { AsksToNotify B.marks (M.memory mem.now) self.now host.old result host.new }
+        ensures shape { shape_of host.new ≡ shape_of host.old }
+    {
+        asked(self.queue.enable_notification(mem, host))
+    }
+
+    // Asks the driver not to notify the device.
+    pub(crate) fn disable_notification<M: GuestMemory, B: Bitmap>(
+        &self,
+        mem: &M,
+        host: &mut HostMemory<B>,
+    ) -> Answer
+        requires { Holds (shape_of host.old) (M.names mem.now) }
+        ensures asks { AsksNotToNotify B.marks (M.memory mem.now) self.now host.old result host.new }
+        ensures shape { shape_of host.new ≡ shape_of host.old }
+    {
+        queue_done(self.queue.disable_notification(mem, host))
+    }
+
+    // Whether its areas lie whole in memory.
+    pub(crate) fn is_valid<M: GuestMemory, B: Bitmap>(
+        &self,
+        mem: &M,
+        host: &HostMemory<B>,
+    ) -> Answer
+        requires { Holds (shape_of host.now) (M.names mem.now) }
+        ensures { TellsValid (M.memory mem.now) host.now self.now result }
+    {
+        asked(self.queue.is_valid(mem, host))
+    }
+
+    // The driver's index.
+    pub(crate) fn avail_idx<M: GuestMemory, B: Bitmap>(
+        &self,
+        mem: &M,
+        host: &HostMemory<B>,
+    ) -> Answer
+        requires { Holds (shape_of host.now) (M.names mem.now) }
+        ensures { TellsAvail (M.memory mem.now) host.now self.now result }
+    {
+        number_told(self.queue.avail_idx(mem, host))
+    }
+
+    // The device's index, as it lies in the ring.
+    pub(crate) fn used_idx<M: GuestMemory, B: Bitmap>(
+        &self,
+        mem: &M,
+        host: &HostMemory<B>,
+    ) -> Answer
+        requires { Holds (shape_of host.now) (M.names mem.now) }
+        ensures { TellsUsed (M.memory mem.now) host.now self.now result }
+    {
+        number_told(self.queue.used_idx(mem, host))
+    }
+}
