@@ -4,9 +4,11 @@ ghost use Rattle.virtio_queue.specs.Rings.{before};
 ghost use Rattle.virtio_queue.specs.State.{is_size, new_queue, new_state, set_if, state_error, with_state};
 
 mod available;
+mod barrier;
 mod notification;
 mod used;
 
+use self::barrier::BarrierWord;
 pub use self::notification::{VRING_AVAIL_F_NO_INTERRUPT, VRING_USED_F_NO_NOTIFY};
 use crate::error::QueueError;
 use crate::state::QueueState;
@@ -34,6 +36,8 @@ pub struct Queue {
     state: QueueState,
     // How many entries were added since `needs_notification` was last asked, where it is known, and 65536 if more.
     added: Option<u32>,
+    // What keeps its accesses of guest memory in order: docs/VIRTQUEUE.md, "Order".
+    barrier: BarrierWord,
 }
 
 impl Model for Queue {
@@ -103,6 +107,7 @@ impl Queue {
         Ok(Queue {
             state: new_state(max_size),
             added: Some(0),
+            barrier: BarrierWord::new(),
         })
     }
 
@@ -117,7 +122,11 @@ impl Queue {
         if let Some(error) = state_error(&state) {
             return Err(error);
         }
-        Ok(Queue { state, added: None })
+        Ok(Queue {
+            state,
+            added: None,
+            barrier: BarrierWord::new(),
+        })
     }
 
     /// Its state. A queue can be made of it again.

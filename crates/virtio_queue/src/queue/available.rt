@@ -7,6 +7,7 @@ ghost use Rattle.virtio_queue.specs.Fields.{Answers};
 ghost use Rattle.virtio_queue.specs.State.{with_state};
 
 use super::Queue;
+use super::barrier::BarrierWord;
 use crate::chain::chain_at;
 use crate::error::QueueError;
 use crate::fields::load_word;
@@ -38,6 +39,7 @@ fn next_head<M: GuestMemory, B: Bitmap>(
     mem: &M,
     host: &HostMemory<B>,
     state: &QueueState,
+    barrier: &BarrierWord,
 ) -> Result<Option<u16>, QueueError>
     requires held { Holds (shape_of host.now) (M.names mem.now) }
     requires some { 0 < state.now.size }
@@ -52,6 +54,7 @@ fn next_head<M: GuestMemory, B: Bitmap>(
         return Err(QueueError::InvalidAvailRingIndex);
     }
     let slot = state.next_avail % state.size;
+    barrier.full_barrier();
     let head = load_word(mem, host, state.avail_ring, 4 + 2 * u64::from(slot))?;
     Ok(Some(head))
 }
@@ -87,7 +90,7 @@ impl Queue {
             result ≡ Ok None → avail_idx (M.memory mem.now) host.now q ≡ Ok q.next_avail }
         ensures moved { self.new ≡ with_state self.old (after_pop self.old.state result) }
     {
-        let Some(head) = next_head(mem, host, &self.state)? else {
+        let Some(head) = next_head(mem, host, &self.state, &self.barrier)? else {
             return Ok(None);
         };
         let chain = chain_at(alloc, mem, host, &self.state, head)?;

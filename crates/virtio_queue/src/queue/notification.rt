@@ -66,6 +66,7 @@ impl Queue {
         if !self.state.ready {
             return Err(QueueError::QueueNotReady);
         }
+        self.barrier.full_barrier();
         let needs = wants_notification(mem, host, &self.state, self.added)?;
         self.added = Some(0);
         Ok(needs)
@@ -96,6 +97,7 @@ impl Queue {
         } else {
             store_word(mem, host, state.used_ring, 0, 0)?;
         }
+        self.barrier.full_barrier();
         Ok(avail_idx(mem, host, state)? != state.next_avail)
     }
 

@@ -125,6 +125,7 @@ impl Queue {
     {
         let next = self.state.next_used.wrapping_add(1);
         write_entry(mem, host, &self.state, head, len)?;
+        self.barrier.full_barrier();
         store_word(mem, host, self.state.used_ring, 2, next)?;
         self.state.next_used = next;
         self.added = self.added.map(one_more);
