@@ -31,7 +31,7 @@ pub const STATUS: u64 = 0x12000;
 pub const SIZE: u16 = 16;
 
 // The pages behind an IOMMU: each leads to another one.
-const PAGE: u64 = 0x1000;
+pub const PAGE: u64 = 0x1000;
 
 const PAGES: u64 = (END - BEGIN) / PAGE;
 
@@ -41,8 +41,8 @@ pub const NAME: [u8; 20] = *b"the disk under tests";
 /// A segment: its address, its length, and whether the device writes it.
 pub type Part = (u64, u32, bool);
 
-// Maps a page to another one.
-fn map_page<B: Bitmap>(host: &mut HostMemory<B>, table: TlbId, page: u64) -> Result<(), Fail> {
+/// Maps a page to another one.
+pub fn map_page<B: Bitmap>(host: &mut HostMemory<B>, table: TlbId, page: u64) -> Result<(), Fail> {
     if page >= PAGES || !host.shape().has_table(table) {
         return Err(Fail::new("the host has no such table"));
     }

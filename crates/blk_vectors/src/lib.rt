@@ -10,8 +10,12 @@ mod flushes;
 #[cfg(test)]
 mod kicks;
 #[cfg(test)]
+mod own_disk;
+#[cfg(test)]
 mod queues;
 #[cfg(test)]
 mod random;
 #[cfg(test)]
 mod requests;
+#[cfg(test)]
+mod steps;

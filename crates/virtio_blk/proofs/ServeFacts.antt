@@ -1,20 +1,17 @@
 -- Data on its way between guest memory and a disk, piece by piece.
-use Rattle.std.proofs.Common.{MatchBool, ◌≡◌, ◌≢◌, ◌==◌, ◌∙◌, zero, suc, ◌∷◌, Bool, true, false, if◌then◌else◌, ◌⊎◌, inl, inr, ℕ, ◌+◌, ◌-◌, ◌*◌, ◌/◌, ◌%◌, ◌<◌, ◌≤◌, min, List, [], ◌++◌, length, take, drop, Option, Some, None, refl, sym, ap, subst, arith, append-nil, length-append, length-drop, take_all, take-add}
+use Rattle.std.proofs.Common.{◌≡◌, ◌∙◌, ◌∷◌, Bool, true, false, ◌⊎◌, inl, inr, ℕ, ◌+◌, ◌-◌, ◌*◌, ◌/◌, ◌%◌, ◌<◌, ◌≤◌, min, List, [], ◌++◌, length, take, drop, Option, Some, None, refl, sym, ap, subst, arith, append-nil, length-append, length-drop, take_all, take-add}
 use Rattle.std.proofs.lemmas.List.{drop-drop, drop_at, length-take-le, take_at}
-use Rattle.std.proofs.lemmas.Bool.{cases_lt, eqb-false, eqb-true, lt-ltb}
+use Rattle.std.proofs.lemmas.Bool.{cases_lt}
 use Rattle.vm_memory_base.specs.Table.{Table}
 use Rattle.vm_memory_base.specs.declared.iotlb.Permissions.TheVariants.{Read}
 use Rattle.vm_memory_guest.specs.Host.{Host, shape_of}
 use Rattle.vm_memory_guest.specs.Memory.{Memory}
 use Rattle.vm_memory_device.specs.Chain.{Entry}
 use Rattle.virtio_blk.specs.Disk.{Call, LieAt, Moves, after_write, joined, reads, writes}
-use Rattle.virtio_blk.specs.Config.{Device}
-use Rattle.virtio_blk.specs.Inside.{Asks, Did, Performed}
-use Rattle.virtio_blk.specs.Served.{Does, Loads, Performs, SameDisk, ServesTexts, Stores, Tells, TellsStatus, piece}
-use Rattle.virtio_blk.specs.declared.request.Task.{Task}
+use Rattle.virtio_blk.specs.Served.{Loads, SameDisk, Stores, piece}
 use Rattle.virtio_blk.specs.Texts.{Accessed, StopsAt, StopsWithin, WritesAt, reached, text_bytes}
 use Rattle.virtio_blk.proofs.DiskFacts.{Has, after_write-append, after_write-none, lie-append, lie-none}
-use Rattle.virtio_blk.proofs.TextFacts.{accessed-append, accessed_none, length-reached, length-text_bytes, reached-drop, stays_none, text_bytes-add, writes-append, writes_none}
+use Rattle.virtio_blk.proofs.TextFacts.{accessed-append, accessed_none, length-reached, length-text_bytes, reached-drop, text_bytes-add, writes-append, writes_none}
 
 -- ---- stops
 
@@ -445,136 +442,3 @@ module _ {B D : Type 0} (marks : B → ℕ → ℕ → B → Type 0) (bytes : D 
 pub gave_all : {Failed Done Stops : Type 0} {done : ℕ} → ((done ≡ 0) × Failed) ⊎ (Done × Stops) → 0 < done → Done
 gave_all (inl (none, failed)) some = absurd (omega (arith, none, some))
 gave_all (inr (gave, stops)) some = gave
-
--- ---- the status
-
--- whether nothing stands in front of the last byte
-pub gap_is-none : (size a b : ℕ) → size ≡ 1 → a ≡ (if size == 1 then a else b)
-gap_is-none size a b one = ap (λ n. if n == 1 then a else b) (sym one)
-
-pub gap_is-some : (size a b : ℕ) → size ≢ 1 → b ≡ (if size == 1 then a else b)
-gap_is-some size a b more = go (size == 1) refl
-  where
-    go : (c : Bool) → (size == 1) ≡ c → b ≡ (if c then a else b)
-    go true is = absurd (more (eqb-true size 1 is))
-    go false is = refl
-
--- one byte is left exactly where one more is all
-pub same_choice : (left moved size : ℕ) → moved + left ≡ size
-    → (if left == 1 then moved + 1 else moved) ≡ (if moved + 1 == size then moved + 1 else moved)
-same_choice left moved size all = go (left == 1) refl (moved + 1 == size) refl
-  where
-    go : (b : Bool) → (left == 1) ≡ b → (c : Bool) → (moved + 1 == size) ≡ c
-        → (if b then moved + 1 else moved) ≡ (if c then moved + 1 else moved)
-    go true p true q = refl
-    go true p false q = absurd (eqb-false (moved + 1) size q (omega (arith, eqb-true left 1 p, all)))
-    go false p true q =
-        absurd (eqb-false left 1 p (let e = eqb-true (moved + 1) size q in omega (arith, e, all)))
-    go false p false q = refl
-
--- a status was written to the last byte of a text, or not
-pub status_told : {B : Type 0} (marks : B → ℕ → ℕ → B → Type 0) (m : Memory) (es left : List Entry) (old new : Host B)
-    (status moved told len : ℕ) → 0 < length es → left ≡ drop (length es - 1) es
-    → told ≤ 1 → WritesAt marks m left (take told (status ∷ [])) old new
-    → (told < 1 → StopsAt m old.tables left told)
-    → len ≡ (if length es == 1 then moved + told else moved)
-    → (WritesAt marks m (drop (length es - 1) es) (status ∷ []) old new
-    × (len ≡ (if length es == 1 then moved + 1 else moved)))
-    ⊎ (StopsAt m old.tables (drop (length es - 1) es) 0 × (new ≡ old) × (len ≡ moved))
-status_told marks m es left old new status moved told len some place most written stopped is = go told most is
-    (subst (λ (ls : List Entry). WritesAt marks m ls (take told (status ∷ [])) old new) place written)
-    (λ short. subst (λ (ls : List Entry). StopsAt m old.tables ls told) place (stopped short))
-  where
-    none : (b : Bool) → (if b then moved + 0 else moved) ≡ moved
-    none true = omega arith
-    none false = refl
-
-    go : (n : ℕ) → n ≤ 1 → len ≡ (if length es == 1 then moved + n else moved)
-        → WritesAt marks m (drop (length es - 1) es) (take n (status ∷ [])) old new
-        → (n < 1 → StopsAt m old.tables (drop (length es - 1) es) n)
-        → (WritesAt marks m (drop (length es - 1) es) (status ∷ []) old new
-        × (len ≡ (if length es == 1 then moved + 1 else moved)))
-        ⊎ (StopsAt m old.tables (drop (length es - 1) es) 0 × (new ≡ old) × (len ≡ moved))
-    go zero most is written stopped =
-        inr (
-          stopped (omega arith),
-          stays_none marks m (drop (length es - 1) es) old new written,
-          is ∙ none (length es == 1),
-        )
-    go (suc zero) most is written stopped = inl (written, is)
-    go (suc (suc n)) most is written stopped = absurd (omega arith)
-
--- ---- chains
-
-module _ {B D : Type 0} (marks : B → ℕ → ℕ → B → Type 0) (bytes : D → Option (List ℕ)) (sectors : D → ℕ)
-    (calls : D → Call → Bool → D → Type 0) (m : Memory) where
-  -- what the header asks for was done
-  pub performed_of : (es left room : List Entry) (old : Device D) (host : Host B) (task : Task) (status moved : ℕ)
-      (new : Device D) (after : Host B)
-      → Asks m host old.read_only (sectors old.disk) es (length room - 1) task left
-      → Did marks bytes sectors calls m task left room old host status moved new after
-      → Performed marks bytes sectors calls m es room old host status moved new after
-  performed_of es left room old host task status moved new after asks did = record {
-    sent = did.sent;
-    disk = did.disk;
-    count = did.count;
-    performs = performs asks;
-    written = did.written;
-    is = did.is;
-  }
-    where
-      performs : Asks m host old.read_only (sectors old.disk) es (length room - 1) task left
-          → Performs bytes sectors calls m host es room old status did.sent did.disk
-      performs (inl (none, refused)) = inl (
-        none,
-        subst
-            (λ (t : Task). Does bytes sectors calls m host t left room old status did.sent did.disk) refused
-            did.does,
-      )
-      performs (inr (whole, access, rest, asked)) = inr (
-        whole,
-        access,
-        subst
-            (λ (t : Task). Does bytes sectors calls m host t (drop 16 es) room old status did.sent did.disk) asked
-            (subst (λ (ls : List Entry). Does bytes sectors calls m host task ls room old status did.sent did.disk)
-            rest did.does),
-      )
-
-  -- and the status was told
-  pub served_of : (given room left : List Entry) (old : Device D) (host : Host B) (status moved : ℕ) (new : Device D)
-      (mid : Host B) (len : ℕ) (after : Host B) → 0 < length room → moved < length room → left ≡ drop moved room
-      → Performed marks bytes sectors calls m given room old host status moved new mid
-      → (let last = drop (length left - 1) left in
-      (WritesAt marks m last (status ∷ []) mid after × (len ≡ (if length left == 1 then moved + 1 else moved)))
-      ⊎ (StopsAt m mid.tables last 0 × (after ≡ mid) × (len ≡ moved)))
-      → ServesTexts marks bytes sectors calls m given room old host len new after
-  served_of given room left old host status moved new mid len after some within place did told =
-      subst (λ b. MatchBool b
-      ((status : ℕ) × (sent : List ℕ) × (disk : D)
-      × Performs bytes sectors calls m host given room old status sent disk
-      × Tells marks m room status sent host len after × (new ≡ record old { disk = disk }))
-      ((len ≡ 0) × (new ≡ old) × (after ≡ host))) (sym (lt-ltb 0 (length room) some))
-      (status, did.sent, did.disk, did.performs, (mid, did.written, tells told), did.is)
-    where
-      size : length left ≡ length room - moved
-      size = ap length place ∙ length-drop moved room
-
-      last : drop (length left - 1) left ≡ drop (length room - 1) room
-      last = ap (drop (length left - 1)) place ∙ drop-drop (length left - 1) moved room
-          ∙ ap (λ k. drop k room)
-          (let e : moved + (length left - 1) ≡ length room - 1 = omega (arith, size, within) in e)
-
-      tells : (WritesAt marks m (drop (length left - 1) left) (status ∷ []) mid after
-          × (len ≡ (if length left == 1 then moved + 1 else moved)))
-          ⊎ (StopsAt m mid.tables (drop (length left - 1) left) 0 × (after ≡ mid) × (len ≡ moved))
-          → TellsStatus marks m room status (length did.sent) mid len after
-      tells (inl (written, is)) = inl (
-        subst (λ (ls : List Entry). WritesAt marks m ls (status ∷ []) mid after) last written,
-        is ∙ same_choice (length left) moved (length room) (omega (arith, size, within))
-            ∙ ap (λ n. if n + 1 == length room then n + 1 else n) (sym did.count),
-      )
-      tells (inr (stops, same, is)) = inr (
-        subst (λ (ls : List Entry). StopsAt m mid.tables ls 0) last stops,
-        same,
-        is ∙ sym did.count,
-      )

@@ -91,7 +91,7 @@ module _ (m : Memory) (tables : List Table) where
       go false f (Stops g) h = refl
 
   -- what is reached of a text, where it ended behind k of n addresses, and r of them lead to bytes
-  abbrev EndsAt : Option AccessFault → ℕ → ℕ → ℕ → Type 0
+  abbrev pub EndsAt : Option AccessFault → ℕ → ℕ → ℕ → Type 0
   EndsAt fault k n r = MatchOption fault (k ≡ n) (λ f. (k < n) × (IsOn m ⊎ (r ≡ k)))
 
   one_more : (fault : Option AccessFault) (k n r : ℕ) → EndsAt fault k n r → EndsAt fault (suc k) (suc n) (suc r)
@@ -104,7 +104,7 @@ module _ (m : Memory) (tables : List Table) where
   not_allowed true false h = refl
   not_allowed false c h = absurd (cc)
 
-  path_ends : (access : Permissions) (b : Bool) (es : List Entry)
+  pub path_ends : (access : Permissions) (b : Bool) (es : List Entry)
       → EndsAt (text_fault m.regions (route m tables) access b es)
       (length (text_path m.regions (route m tables) access b es)) (length es) (length (reached m tables es))
   unfolding text_path text_fault reached
@@ -137,11 +137,11 @@ module _ (m : Memory) (tables : List Table) where
     pub ends : MatchOption x.error (length x.path ≡ n)
         (λ e. (length x.path < n) × StopsAt m tables es (length x.path))
 
-  front_within : (xs ys : List Reached) → xs ≡ take (length xs) ys → length xs ≤ length ys
+  pub front_within : (xs ys : List Reached) → xs ≡ take (length xs) ys → length xs ≤ length ys
   front_within xs ys h = omega (arith, ap length h, length-take (length xs) ys)
 
   -- a text of which fewer than n addresses lead to bytes stops where its first n do
-  stops_before : (es : List Entry) (n k : ℕ) → k < n → n ≤ length es
+  pub stops_before : (es : List Entry) (n k : ℕ) → k < n → n ≤ length es
       → IsOn m ⊎ (length (reached m tables (take n es)) ≡ k) → StopsAt m tables es k
   stops_before es n k short fits (inl on) = record { more = omega arith; stops = inl on }
   stops_before es n k short fits (inr is) = record {
@@ -160,7 +160,7 @@ module _ (m : Memory) (tables : List Table) where
       (below, stops_before es n k below fits why)
 
   -- what is reached of the first n entries
-  front_of : (access : Permissions) (es : List Entry) (n : ℕ) → n ≤ length es
+  pub front_of : (access : Permissions) (es : List Entry) (n : ℕ) → n ≤ length es
       → let p = text_path m.regions (route m tables) access true (take n es) in
       p ≡ take (length p) (reached m tables es)
   front_of access es n fits =

@@ -1,5 +1,6 @@
 -- The device as its owner sees it, and the features that it offers.
 use Rattle.std.specs.Prelude.{ℕ, ◌+◌, ◌^◌, Bool, true, false, ◌==◌, ◌&&◌, not, nat_lt, List, bit_and}
+use Rattle.virtio_blk.specs.declared.request.Terms.{Terms}
 
 -- a device: its disk, whether it only reads that, its name of 20 bytes, and the features that were accepted
 pub record Device (D : Type 0) : Type 0 where
@@ -7,6 +8,10 @@ pub record Device (D : Type 0) : Type 0 where
   pub read_only : Bool
   pub id : List ℕ
   pub acked : ℕ
+
+-- what its requests are held against
+abbrev pub terms_of : {D : Type 0} → (D → ℕ) → Device D → Terms
+terms_of sectors d = record { sectors = sectors d.disk; read_only = d.read_only; acked = d.acked }
 
 -- VERSION_1, INDIRECT_DESC, EVENT_IDX and FLUSH, and RO where the device only reads
 abbrev pub offered : Bool → ℕ

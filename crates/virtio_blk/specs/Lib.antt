@@ -5,4 +5,5 @@ pub mod lemmas
 pub mod Process
 pub mod Request
 pub mod Served
+pub mod Steps
 pub mod Texts

@@ -1,8 +1,10 @@
 -- Requests: their headers, and what they ask for.
-use Rattle.std.specs.Prelude.{ℕ, ◌+◌, ◌*◌, ◌%◌, nat_le, Bool, not, ◌&&◌, ◌==◌, if◌then◌else◌, List, take, drop}
+use Rattle.std.specs.Prelude.{ℕ, ◌+◌, ◌*◌, ◌%◌, min, nat_le, Bool, not, ◌&&◌, ◌==◌, if◌then◌else◌, List, take, drop}
 use Rattle.std.specs.Int.{w32, w64, from_le_bytes}
-use Rattle.virtio_blk.specs.declared.request.Task.{Task}
-use Rattle.virtio_blk.specs.declared.request.Task.TheVariants.{Read, Write, Flush, GetId, Refuse, Unsupported}
+use Rattle.virtio_blk.specs.Config.{must_stay}
+use Rattle.virtio_blk.specs.declared.request.Request.{Request}
+use Rattle.virtio_blk.specs.declared.request.Request.TheVariants.{Read, Write, Flush, GetId, Refused}
+use Rattle.virtio_blk.specs.declared.request.Terms.{Terms}
 
 -- a header is 16 bytes: kind, 4 bytes that are not used, and sector, each with its lowest byte first
 abbrev pub kind_of : List ℕ → ℕ
@@ -17,11 +19,12 @@ fits sectors sector len = len % 512 == 0 && nat_le (512 * sector + len) (512 * s
 
 -- what a request asks for, by its header, where so many readable bytes follow that, and as many writable ones stand
 -- in front of the status
-abbrev pub task_of : Bool → ℕ → List ℕ → ℕ → ℕ → Task
-task_of read_only sectors header given room = let sector = sector_of header in
-    if kind_of header == 0 then (if fits sectors sector room then Read sector else Refuse)
+abbrev pub request_of : Terms → List ℕ → ℕ → ℕ → Request
+request_of terms header given room = let sector = sector_of header in
+    if kind_of header == 0 then (if fits terms.sectors sector room then Read sector room else Refused 1)
     else if kind_of header == 1 then
-    (if not read_only && fits sectors sector given then Write sector else Refuse)
+    (if not terms.read_only && fits terms.sectors sector given
+    then Write sector given (must_stay terms.acked given) else Refused 1)
     else if kind_of header == 4 then Flush
-    else if kind_of header == 8 then GetId
-    else Unsupported
+    else if kind_of header == 8 then GetId (min room 20)
+    else Refused 2

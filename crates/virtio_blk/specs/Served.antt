@@ -5,12 +5,12 @@ use Rattle.vm_memory_guest.specs.Host.{Host}
 use Rattle.vm_memory_guest.specs.Memory.{Memory}
 use Rattle.vm_memory_device.specs.Chain.{Entry, readable, text, writable}
 use Rattle.vm_memory_device.specs.declared.chain.Segment.{Segment}
-use Rattle.virtio_blk.specs.Config.{Device, must_stay}
+use Rattle.virtio_blk.specs.Config.{Device, terms_of}
 use Rattle.virtio_blk.specs.Disk.{Call, reads, writes, flushes, LieAt, Moves, after_write, joined}
-use Rattle.virtio_blk.specs.Request.{task_of}
+use Rattle.virtio_blk.specs.Request.{request_of}
 use Rattle.virtio_blk.specs.Texts.{Accessed, StopsAt, StopsWithin, WritesAt, reached, text_bytes}
-use Rattle.virtio_blk.specs.declared.request.Task.{Task}
-use Rattle.virtio_blk.specs.declared.request.Task.TheVariants.{Read, Write, Flush, GetId, Refuse, Unsupported}
+use Rattle.virtio_blk.specs.declared.request.Request.{Request}
+use Rattle.virtio_blk.specs.declared.request.Request.TheVariants.{Read, Write, Flush, GetId, Refused, Unserved}
 
 -- a piece: how many bytes are moved between the guest and the disk at once
 abbrev pub piece : ℕ
@@ -66,45 +66,40 @@ abbrev pub Flushes : {D : Type 0} → (D → Option (List ℕ)) → (D → ℕ) 
 Flushes bytes sectors calls old status new = SameDisk bytes sectors old new
     × (((status ≡ 0) × calls old flushes true new) ⊎ ((status ≡ 1) × calls old flushes false new))
 
--- a name was told: all of it that there is room for in front of the status, or what is in front of an address that
--- could not be written
-abbrev pub Names : {B : Type 0} → Memory → Host B → List Entry → List ℕ → ℕ → List ℕ → Type 0
-Names m host es name status sent = (sent ≡ take (length sent) name)
-    × (((status ≡ 0) × (length sent ≡ min (length name) (length es - 1)))
-    ⊎ ((status ≡ 1) × (length sent < min (length name) (length es - 1)) × StopsAt m host.tables es (length sent)))
+-- the first so many bytes of a name were written, or those before an address that could not be written
+abbrev pub Names : {B : Type 0} → Memory → Host B → List Entry → List ℕ → ℕ → ℕ → List ℕ → Type 0
+Names m host es name len status sent = (sent ≡ take (length sent) name)
+    × (((status ≡ 0) × (length sent ≡ len))
+    ⊎ ((status ≡ 1) × (length sent < len) × StopsAt m host.tables es (length sent)))
 
 module _ {B D : Type 0} (bytes : D → Option (List ℕ)) (sectors : D → ℕ) (calls : D → Call → Bool → D → Type 0)
     (m : Memory) (host : Host B) where
   -- data of a text went to the disk to stay: after all of it was stored, a flush followed, which makes the status
-  abbrev pub StoresToStay : List Entry → ℕ → D → ℕ → D → Type 0
-  StoresToStay given sector old status new = (stored : ℕ) × (mid : D)
-      × Stores bytes sectors calls m host given sector (length given) old stored mid
+  abbrev pub StoresToStay : List Entry → ℕ → ℕ → D → ℕ → D → Type 0
+  StoresToStay given sector len old status new = (stored : ℕ) × (mid : D)
+      × Stores bytes sectors calls m host given sector len old stored mid
       × MatchBool (stored == 0) (Flushes bytes sectors calls mid status new) ((status ≡ stored) × (new ≡ mid))
-
-  -- data of a text went to the disk, to stay where it has to
-  abbrev pub Writes : List Entry → ℕ → Device D → ℕ → D → Type 0
-  Writes given sector old status new = MatchBool (must_stay old.acked (length given))
-      (StoresToStay given sector old.disk status new)
-      (Stores bytes sectors calls m host given sector (length given) old.disk status new)
 
   -- what is done for a request whose data lies at one text, or goes to another: the status, the data that goes to
   -- that, and the disk afterwards
-  abbrev pub Does : Task → List Entry → List Entry → Device D → ℕ → List ℕ → D → Type 0
-  Does (Read sector) given room old status sent new =
-      Loads bytes sectors calls m host room sector (length room - 1) old.disk status sent new
-  Does (Write sector) given room old status sent new = (sent ≡ []) × Writes given sector old status new
+  abbrev pub Does : Request → List Entry → List Entry → Device D → ℕ → List ℕ → D → Type 0
+  Does (Read sector len) given room old status sent new =
+      Loads bytes sectors calls m host room sector len old.disk status sent new
+  Does (Write sector len flush) given room old status sent new = (sent ≡ []) × MatchBool flush
+      (StoresToStay given sector len old.disk status new)
+      (Stores bytes sectors calls m host given sector len old.disk status new)
   Does Flush given room old status sent new =
       (sent ≡ []) × Flushes bytes sectors calls old.disk status new
-  Does GetId given room old status sent new = Names m host room old.id status sent × (new ≡ old.disk)
-  Does Refuse given room old status sent new = (sent ≡ []) × (status ≡ 1) × (new ≡ old.disk)
-  Does Unsupported given room old status sent new = (sent ≡ []) × (status ≡ 2) × (new ≡ old.disk)
+  Does (GetId len) given room old status sent new = Names m host room old.id len status sent × (new ≡ old.disk)
+  Does (Refused code) given room old status sent new = (sent ≡ []) × (status ≡ code) × (new ≡ old.disk)
+  Does Unserved given room old status sent new = (sent ≡ []) × (new ≡ old.disk)
 
   -- what is done for a chain with these texts: nothing where its header cannot be read, and else what that asks for
   abbrev pub Performs : List Entry → List Entry → Device D → ℕ → List ℕ → D → Type 0
   Performs es room old status sent new =
-      (NoHeader m host es × Does Refuse (drop 16 es) room old status sent new)
+      (NoHeader m host es × Does (Refused 1) (drop 16 es) room old status sent new)
       ⊎ ((16 ≤ length (reached m host.tables es)) × Accessed m host.tables permissions.Read es 16
-      × Does (task_of old.read_only (sectors old.disk) (text_bytes m host es 16) (length es - 16) (length room - 1))
+      × Does (request_of (terms_of sectors old) (text_bytes m host es 16) (length es - 16) (length room - 1))
       (drop 16 es) room old status sent new)
 
 module _ {B : Type 0} (marks : B → ℕ → ℕ → B → Type 0) (m : Memory) where

@@ -2,7 +2,7 @@
 ghost use Rattle.std.specs.Prelude.{◌≡◌, ◌*◌, ◌<◌, ◌^◌, length, if◌then◌else◌, IfOk, bit_and, ◌==◌, not};
 ghost use Rattle.std.specs.Int.{w64, to_le_bytes};
 ghost use Rattle.vm_memory_guest.specs.Host.{shape_of, Holds};
-ghost use Rattle.virtio_blk.specs.Config.{Device, acceptable, must_stay, offered};
+ghost use Rattle.virtio_blk.specs.Config.{Device, acceptable, offered, terms_of};
 ghost use Rattle.virtio_blk.specs.Served.{Serves};
 
 mod pieces;
@@ -10,27 +10,13 @@ pub(crate) mod process;
 mod serve;
 
 use crate::disk::Disk;
+use crate::features::{
+    VIRTIO_BLK_F_FLUSH, VIRTIO_BLK_F_RO, VIRTIO_F_VERSION_1, VIRTIO_RING_F_EVENT_IDX,
+    VIRTIO_RING_F_INDIRECT_DESC,
+};
+use crate::request::{ID_LEN, Terms};
 use std::alloc::{AllocError, Global};
 use std::marker::Model;
-
-/// The bit of the feature that the device follows version 1 of the specification, which every driver has to accept.
-pub const VIRTIO_F_VERSION_1: u64 = 32;
-
-/// The bit of the feature that the disk is only read.
-pub const VIRTIO_BLK_F_RO: u64 = 5;
-
-/// The bit of the feature that a request can bring what was written to where it stays. Where the driver did not accept
-/// it, each write is brought there before its status is written.
-pub const VIRTIO_BLK_F_FLUSH: u64 = 9;
-
-/// The bit of the feature that descriptors may lead to indirect tables.
-pub const VIRTIO_RING_F_INDIRECT_DESC: u64 = 28;
-
-/// The bit of the feature that notifications go by event indices.
-pub const VIRTIO_RING_F_EVENT_IDX: u64 = 29;
-
-/// How many bytes the name of a device has.
-pub const ID_LEN: usize = 20;
 
 // How many bytes are moved between the guest and the disk at once.
 pub(crate) const PIECE: usize = 65536;
@@ -61,14 +47,6 @@ impl<D> Model for BlockDevice<D> {
     ghost view = { λ d. record { disk = d.disk; read_only = d.read_only; id = d.id; acked = d.acked } };
 
     ghost invariant = { λ d. length d.buffer.items ≡ 65536 };
-}
-
-// Whether a write of so many bytes has to be stable when its status is written, where these features were accepted.
-#[inline]
-fn must_stay(acked: u64, len: usize) -> bool
-    ensures { result ≡ must_stay acked len }
-{
-    acked & (1 << VIRTIO_BLK_F_FLUSH) == 0 && len > 0
 }
 
 impl<D: Disk> BlockDevice<D> {
@@ -156,5 +134,17 @@ impl<D: Disk> BlockDevice<D> {
         ensures { result ≡ to_le_bytes w64 (D.sectors self.now.disk) }
     {
         self.disk.sectors().to_le_bytes()
+    }
+
+    // What its requests are held against.
+    fn terms(&self) -> Terms
+        ensures terms { result ≡ terms_of D.sectors self.now }
+        ensures small { D.sectors self.now.disk < 2 ^ 55 }
+    {
+        Terms {
+            sectors: self.disk.sectors(),
+            read_only: self.read_only,
+            acked: self.acked,
+        }
     }
 }

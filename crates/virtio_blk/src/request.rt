@@ -1,8 +1,13 @@
 //! Requests: what their headers ask for.
-ghost use Rattle.std.specs.Prelude.{◌≡◌, ◌*◌, ◌^◌, ◌<◌, length};
-ghost use Rattle.virtio_blk.specs.Request.{fits, task_of};
+ghost use Rattle.std.specs.Prelude.{◌≡◌, length};
+ghost use Rattle.virtio_blk.specs.Config.{must_stay};
+ghost use Rattle.virtio_blk.specs.Request.{fits, request_of};
 
+use crate::features::VIRTIO_BLK_F_FLUSH;
 use vm_memory_base::ByteValued;
+
+/// How many bytes the name of a device has.
+pub const ID_LEN: usize = 20;
 
 /// The kind of a request that reads from the disk.
 pub const VIRTIO_BLK_T_IN: u32 = 0;
@@ -25,52 +30,97 @@ pub const VIRTIO_BLK_S_IOERR: u8 = 1;
 /// The status of a request of a kind that the device does not know.
 pub const VIRTIO_BLK_S_UNSUPP: u8 = 2;
 
-// What a request asks for.
-#[derive(Clone, Copy)]
-pub(crate) enum Task {
-    // Sectors from this one on are read.
-    Read(u64),
-    // Sectors from this one on are written.
-    Write(u64),
+/// What a request is held against: the disk, and what the driver accepted.
+#[derive(Clone, Copy, Debug, PartialEq, Eq)]
+pub struct Terms {
+    /// The number of sectors of the disk, each of 512 bytes.
+    pub sectors: u64,
+    /// Whether the disk is only read.
+    pub read_only: bool,
+    /// The features that the driver accepted, each as its bit, and 0 if it accepted none. `VIRTIO_BLK_F_FLUSH` is the
+    /// one that counts.
+    pub acked: u64,
+}
+
+/// What a device has to do for a request. Lengths are in bytes, and sectors have 512 of them. The sectors of a `Read`
+/// or a `Write` are whole, and lie on the disk.
+#[derive(Clone, Copy, Debug, PartialEq, Eq)]
+pub enum Request {
+    /// `len` bytes of the disk, from a sector on, go to the front of the chain's writable bytes.
+    Read {
+        sector: u64,
+        len: usize,
+    },
+    /// The chain's readable bytes after the first 16, which are `len`, go to the disk, from a sector on. If `flush` is
+    /// true, the driver did not accept FLUSH, and the device makes them stable before it answers.
+    Write {
+        sector: u64,
+        len: usize,
+        flush: bool,
+    },
+    /// What was written before is made stable.
     Flush,
-    GetId,
-    // The request is one that fails before anything is moved.
-    Refuse,
-    Unsupported,
+    /// The first `len` bytes of the device's name of 20 bytes go to the front of the chain's writable bytes.
+    GetId {
+        len: usize,
+    },
+    /// Nothing is done, and this is the status: `VIRTIO_BLK_S_IOERR` for a request that is wrong,
+    /// `VIRTIO_BLK_S_UNSUPP` for a kind that the device does not know.
+    Refused {
+        status: u8,
+    },
+    /// Nothing is done: the chain has no byte for the status.
+    Unserved,
 }
 
 // Whether so many bytes from a sector on are whole sectors of a disk of so many.
 #[inline]
 fn fits(sectors: u64, sector: u64, len: usize) -> bool
-    requires { sectors < 2 ^ 55 }
     ensures { result ≡ fits sectors sector len }
 {
     let count = (len / 512) as u64;
     len % 512 == 0 && sector <= sectors && count <= sectors - sector
 }
 
-// What a request asks for, of which the header, how many readable bytes follow that, and how many writable ones stand
-// in front of the status are known.
-pub(crate) fn task_of(
-    read_only: bool,
-    sectors: u64,
-    header: &[u8; 16],
-    given: usize,
-    room: usize,
-) -> Task
-    requires { sectors < 2 ^ 55 }
-    ensures { result ≡ task_of read_only sectors header.now given room }
+// Whether a write of so many bytes has to be stable when its status is written, if these features were accepted.
+#[inline]
+fn must_stay(acked: u64, len: usize) -> bool
+    ensures { result ≡ must_stay acked len }
+{
+    acked & (1 << VIRTIO_BLK_F_FLUSH) == 0 && len > 0
+}
+
+const IOERR: Request = Request::Refused {
+    status: VIRTIO_BLK_S_IOERR,
+};
+
+const UNSUPP: Request = Request::Refused {
+    status: VIRTIO_BLK_S_UNSUPP,
+};
+
+// What a request asks for, by its header, the number of readable bytes that follow it, and that of the writable ones
+// before the status.
+pub(crate) fn request_of(terms: Terms, header: &[u8; 16], given: usize, room: usize) -> Request
+    ensures { result ≡ request_of terms header.now given room }
 {
     let (Some(kind), Some(sector)) = (u32::from_slice(&header[..4]), u64::from_slice(&header[8..]))
     else {
-        return Task::Refuse;
+        return IOERR;
     };
     match kind {
-        VIRTIO_BLK_T_IN if fits(sectors, sector, room) => Task::Read(sector),
-        VIRTIO_BLK_T_OUT if !read_only && fits(sectors, sector, given) => Task::Write(sector),
-        VIRTIO_BLK_T_IN | VIRTIO_BLK_T_OUT => Task::Refuse,
-        VIRTIO_BLK_T_FLUSH => Task::Flush,
-        VIRTIO_BLK_T_GET_ID => Task::GetId,
-        _ => Task::Unsupported,
+        VIRTIO_BLK_T_IN if fits(terms.sectors, sector, room) => Request::Read { sector, len: room },
+        VIRTIO_BLK_T_OUT if !terms.read_only && fits(terms.sectors, sector, given) => {
+            Request::Write {
+                sector,
+                len: given,
+                flush: must_stay(terms.acked, given),
+            }
+        }
+        VIRTIO_BLK_T_IN | VIRTIO_BLK_T_OUT => IOERR,
+        VIRTIO_BLK_T_FLUSH => Request::Flush,
+        VIRTIO_BLK_T_GET_ID => Request::GetId {
+            len: room.min(ID_LEN),
+        },
+        _ => UNSUPP,
     }
 }

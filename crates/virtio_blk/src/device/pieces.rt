@@ -94,8 +94,8 @@ pub(super) fn store_to_stay<D: Disk, M: GuestMemory, B: Bitmap>(
     requires inside { 512 * sector + length reader.old ≤ 512 * D.sectors disk.old }
     requires small { D.sectors disk.old < 2 ^ 55 }
     requires room { length buffer.old ≡ 65536 }
-    ensures { StoresToStay D.bytes D.sectors D.calls (M.memory mem.now) host.now reader.old sector disk.old result
-        disk.new }
+    ensures { StoresToStay D.bytes D.sectors D.calls (M.memory mem.now) host.now reader.old sector (length reader.old)
+        disk.old result disk.new }
 {
     let stored = store(disk, reader, mem, host, sector, buffer);
     if stored != VIRTIO_BLK_S_OK {

@@ -1,158 +1,82 @@
 //! How a chain is served.
-ghost use Rattle.std.specs.Prelude.{◌≡◌, ◌⊎◌, ◌+◌, ◌-◌, ◌<◌, ◌^◌, ◌==◌, if◌then◌else◌, [], ◌∷◌, List, ℕ, length, drop};
+ghost use Rattle.std.specs.Prelude.{◌≡◌, ◌-◌, ◌<◌, ◌≤◌, List, ℕ, length};
 ghost use Rattle.vm_memory_guest.specs.Host.{shape_of, Holds};
-ghost use Rattle.virtio_blk.specs.Inside.{Asks, CanDo, Did, Performed};
+ghost use Rattle.virtio_blk.specs.Inside.{CanDo, Did};
 ghost use Rattle.virtio_blk.specs.Served.{Names, Serves};
-ghost use Rattle.virtio_blk.specs.Texts.{StopsAt, WritesAt};
+ghost use Rattle.virtio_blk.specs.Texts.{WritesAt};
 
+use super::BlockDevice;
 use super::pieces::{flush, load, store, store_to_stay};
-use super::{BlockDevice, ID_LEN, must_stay};
 use crate::disk::Disk;
-use crate::request::{Task, VIRTIO_BLK_S_IOERR, VIRTIO_BLK_S_OK, VIRTIO_BLK_S_UNSUPP, task_of};
-use crate::text::{read_all, write_front};
+use crate::request::{ID_LEN, Request, VIRTIO_BLK_S_IOERR, VIRTIO_BLK_S_OK};
+use crate::steps::{begin, finish};
+use crate::text::write_front;
 use vm_memory_base::Bitmap;
 use vm_memory_device::{Chain, ChainReader, ChainWriter};
 use vm_memory_guest::{GuestMemory, HostMemory};
 
-// Writes a status to the last byte of a text, behind so many bytes that were written in front of it. It answers how
-// many were written without a gap.
-fn tell<M: GuestMemory, B: Bitmap>(
-    writer: &mut ChainWriter<'_>,
-    mem: &M,
-    host: &mut HostMemory<B>,
-    moved: usize,
-    status: u8,
-) -> u32
-    requires held { Holds (shape_of host.old) (M.names mem.now) }
-    requires some { 0 < length writer.old }
-    requires short { moved + length writer.old < 2 ^ 32 }
-    ensures told { let m = M.memory mem.now in let last = drop (length writer.old - 1) writer.old in
-        (WritesAt B.marks m last (status ∷ []) host.old host.new
-        × (result ≡ if length writer.old == 1 then moved + 1 else moved))
-        ⊎ (StopsAt m host.old.tables last 0 × (host.new ≡ host.old) × (result ≡ moved)) }
-    ensures shape { shape_of host.new ≡ shape_of host.old }
-{
-    let gap = writer.left() - 1;
-    writer.skip(gap);
-    let told = write_front(writer, mem, host, &[status]);
-    let len = if gap == 0 { moved + told } else { moved };
-    len as u32
-}
-
-// Writes as much of a name to the front of a text as there is room for in front of its last byte. It answers the
-// status and how many bytes were written.
+// Writes the first bytes of a name, so many, to the front of a text. It returns the status and how many bytes were
+// written.
 fn tell_id<M: GuestMemory, B: Bitmap>(
     id: &[u8; ID_LEN],
+    len: usize,
     writer: &mut ChainWriter<'_>,
     mem: &M,
     host: &mut HostMemory<B>,
 ) -> (u8, usize)
     requires held { Holds (shape_of host.old) (M.names mem.now) }
-    requires some { 0 < length writer.old }
+    requires some { len ≤ 20 }
+    requires room { len < length writer.old }
     ensures told { (sent : List ℕ) × (length sent ≡ result.1)
-        × Names (M.memory mem.now) host.old writer.old id.now result.0 sent
+        × Names (M.memory mem.now) host.old writer.old id.now len result.0 sent
         × WritesAt B.marks (M.memory mem.now) writer.old sent host.old host.new }
     ensures rest { result.1 < length writer.old }
-    ensures place { writer.new ≡ drop result.1 writer.old }
-    ensures tables { host.new.tables ≡ host.old.tables }
     ensures shape { shape_of host.new ≡ shape_of host.old }
 {
-    let count = (writer.left() - 1).min(ID_LEN);
-    let told = write_front(writer, mem, host, &id[..count]);
-    if told < count {
+    let told = write_front(writer, mem, host, &id[..len]);
+    if told < len {
         return (VIRTIO_BLK_S_IOERR, told);
     }
     (VIRTIO_BLK_S_OK, told)
 }
 
 impl<D: Disk> BlockDevice<D> {
-    // What the header of a chain asks for, where so many writable bytes stand in front of the status.
-    fn task<M: GuestMemory, B: Bitmap>(
-        &self,
-        mem: &M,
-        host: &HostMemory<B>,
-        reader: &mut ChainReader<'_>,
-        room: usize,
-    ) -> Task
-        requires { Holds (shape_of host.now) (M.names mem.now) }
-        ensures asks { Asks (M.memory mem.now) host.now self.now.read_only (D.sectors self.now.disk) reader.old room
-            result reader.new }
-        ensures can { CanDo (D.sectors self.now.disk) result (length reader.new) room }
-    {
-        let mut header = [0; 16];
-        if reader.left() < 16 || !read_all(reader, mem, host, &mut header) {
-            return Task::Refuse;
-        }
-        task_of(
-            self.read_only,
-            self.disk.sectors(),
-            &header,
-            reader.left(),
-            room,
-        )
-    }
-
-    // Does what a request asks for whose data lies at one text, or goes to the front of another. It answers the status
+    // Does what a request asks for whose data lies at one text, or goes to the front of another. It returns the status
     // and how many bytes went there.
     fn act<M: GuestMemory, B: Bitmap>(
         &mut self,
-        task: Task,
+        request: Request,
         mem: &M,
         host: &mut HostMemory<B>,
         reader: &mut ChainReader<'_>,
         writer: &mut ChainWriter<'_>,
     ) -> (u8, usize)
         requires held { Holds (shape_of host.old) (M.names mem.now) }
-        requires some { 0 < length writer.old }
-        requires can { CanDo (D.sectors self.old.disk) task (length reader.old) (length writer.old - 1) }
-        ensures did { Did B.marks D.bytes D.sectors D.calls (M.memory mem.now) task reader.old writer.old
+        requires can { CanDo (D.sectors self.old.disk) request (length reader.old) (length writer.old) }
+        ensures did { Did B.marks D.bytes D.sectors D.calls (M.memory mem.now) request reader.old writer.old
             self.old host.old result.0 result.1 self.new host.new }
-        ensures rest { result.1 < length writer.old }
-        ensures place { writer.new ≡ drop result.1 writer.old }
-        ensures tables { host.new.tables ≡ host.old.tables }
+        ensures rest { result.1 ≤ length writer.old - 1 }
         ensures shape { shape_of host.new ≡ shape_of host.old }
     {
-        match task {
-            Task::Read(sector) => {
+        match request {
+            Request::Read { sector, .. } => {
                 let buffer = self.buffer.as_mut_slice();
                 load(&mut self.disk, writer, mem, host, sector, buffer)
             }
-            Task::Write(sector) if must_stay(self.acked, reader.left()) => {
+            Request::Write { sector, flush, .. } if flush => {
                 let buffer = self.buffer.as_mut_slice();
                 let disk = &mut self.disk;
                 (store_to_stay(disk, reader, mem, host, sector, buffer), 0)
             }
-            Task::Write(sector) => {
+            Request::Write { sector, .. } => {
                 let buffer = self.buffer.as_mut_slice();
                 (store(&mut self.disk, reader, mem, host, sector, buffer), 0)
             }
-            Task::Flush => (flush(&mut self.disk), 0),
-            Task::GetId => tell_id(&self.id, writer, mem, host),
-            Task::Refuse => (VIRTIO_BLK_S_IOERR, 0),
-            Task::Unsupported => (VIRTIO_BLK_S_UNSUPP, 0),
+            Request::Flush => (flush(&mut self.disk), 0),
+            Request::GetId { len } => tell_id(&self.id, len, writer, mem, host),
+            Request::Refused { status } => (status, 0),
+            Request::Unserved => (VIRTIO_BLK_S_IOERR, 0),
         }
-    }
-
-    // Does what a chain asks for whose texts these are. It answers the status and how many bytes went to the front of
-    // the writable one.
-    fn perform<M: GuestMemory, B: Bitmap>(
-        &mut self,
-        mem: &M,
-        host: &mut HostMemory<B>,
-        reader: &mut ChainReader<'_>,
-        writer: &mut ChainWriter<'_>,
-    ) -> (u8, usize)
-        requires held { Holds (shape_of host.old) (M.names mem.now) }
-        requires some { 0 < length writer.old }
-        ensures performed { Performed B.marks D.bytes D.sectors D.calls (M.memory mem.now) reader.old writer.old
-            self.old host.old result.0 result.1 self.new host.new }
-        ensures rest { result.1 < length writer.old }
-        ensures place { writer.new ≡ drop result.1 writer.old }
-        ensures tables { host.new.tables ≡ host.old.tables }
-        ensures shape { shape_of host.new ≡ shape_of host.old }
-    {
-        let task = self.task(mem, host, reader, writer.left() - 1);
-        self.act(task, mem, host, reader, writer)
     }
 
     /// Serves a request: it does what the chain's header asks for, and writes the status to the chain's last writable
@@ -171,12 +95,14 @@ impl<D: Disk> BlockDevice<D> {
             result self.new host.new }
         ensures shape { shape_of host.new ≡ shape_of host.old }
     {
-        let mut writer = chain.writer();
-        if writer.left() == 0 {
-            return 0;
-        }
+        let refused = Request::Refused {
+            status: VIRTIO_BLK_S_IOERR,
+        };
+        let request = begin(self.terms(), mem, host, chain).unwrap_or(refused);
         let mut reader = chain.reader();
-        let (status, moved) = self.perform(mem, host, &mut reader, &mut writer);
-        tell(&mut writer, mem, host, moved, status)
+        reader.skip(16);
+        let mut writer = chain.writer();
+        let (status, moved) = self.act(request, mem, host, &mut reader, &mut writer);
+        finish(mem, host, chain, status, moved).unwrap_or(moved as u32)
     }
 }

@@ -1,12 +1,13 @@
-use Rattle.std.proofs.Common.{◌≡◌, true, false, [], length, refl, sym}
-use Rattle.virtio_blk.specs.Config.{must_stay}
+use Rattle.std.proofs.Common.{◌≡◌, ◌-◌, false, [], arith, length, refl}
 use Rattle.virtio_blk.proofs.TextFacts.{writes_none}
 use Rattle.virtio_blk.proofs.device.BlockDevice.act.Goals as goal
 
 pub returns-in-Read-clause-did : goal.returns-in-Read-clause-did
 returns-in-Read-clause-did g c =
     let loaded = c.load.ensures.loaded in
-    rw (c.in-Read.is, ← c.self.view_is) (record {
+    let len : length c.args.writer.now - 1 ≡ c.in-Read.len =
+    let can = rw c.in-Read.is at c.requires.can in omega (arith, can.2) in
+    rw (c.in-Read.is, ← c.self.view_is, ← len) (record {
       sent = loaded.0;
       disk = c.load.new.disk;
       count = loaded.1;
@@ -17,26 +18,27 @@ returns-in-Read-clause-did g c =
 
 pub returns-in-Write-clause-did : goal.returns-in-Write-clause-did
 returns-in-Write-clause-did g c =
-    let stays : must_stay c.self.inside.acked (length c.args.reader.now) ≡ true =
-    sym (rw c.left.ensures at c.if-must_stay.ensures) in
+    let len : c.in-Write.len ≡ length c.args.reader.now =
+    let can = rw c.in-Write.is at c.requires.can in can.2 in
     rw (c.in-Write.is, ← c.self.view_is) (record {
       sent = [];
       disk = c.store_to_stay.new.disk;
       count = refl;
-      does = (refl, rw stays c.store_to_stay.ensures);
+      does = (refl, rw (c.if-flush.true, len) c.store_to_stay.ensures);
       written = writes_none g.B.Bitmap.marks (g.M.GuestMemory.memory c.args.mem.now) c.args.writer.now c.args.host.now;
       is = refl;
     })
 
 pub returns-in-Write-2-clause-did : goal.returns-in-Write-2-clause-did
 returns-in-Write-2-clause-did g c =
-    let stays : must_stay c.self.inside.acked (length c.args.reader.now) ≡ false =
-    sym (rw c.left.ensures at c.if-must_stay.ensures) in
+    let len : c.in-Write-2.len ≡ length c.args.reader.now =
+    let can = rw c.in-Write-2.is at c.requires.can in can.2 in
+    let done : c.in-Write-2.flush ≡ false = cc (c.in-Write.is, c.in-Write-2.is, c.if-flush.false) in
     rw (c.in-Write-2.is, ← c.self.view_is) (record {
       sent = [];
       disk = c.store.new.disk;
       count = refl;
-      does = (refl, rw stays c.store.ensures);
+      does = (refl, rw (done, len) c.store.ensures);
       written = writes_none g.B.Bitmap.marks (g.M.GuestMemory.memory c.args.mem.now) c.args.writer.now c.args.host.now;
       is = refl;
     })
@@ -64,9 +66,9 @@ returns-in-GetId-clause-did g c =
       is = refl;
     })
 
-pub returns-in-Refuse-clause-did : goal.returns-in-Refuse-clause-did
-returns-in-Refuse-clause-did g c =
-    rw c.in-Refuse.is (record {
+pub returns-in-Refused-clause-did : goal.returns-in-Refused-clause-did
+returns-in-Refused-clause-did g c =
+    rw c.in-Refused.is (record {
       sent = [];
       disk = c.args.self.now.disk;
       count = refl;
@@ -75,13 +77,13 @@ returns-in-Refuse-clause-did g c =
       is = refl;
     })
 
-pub returns-in-Unsupported-clause-did : goal.returns-in-Unsupported-clause-did
-returns-in-Unsupported-clause-did g c =
-    rw c.in-Unsupported.is (record {
+pub returns-in-Unserved-clause-did : goal.returns-in-Unserved-clause-did
+returns-in-Unserved-clause-did g c =
+    rw c.in-Unserved.is (record {
       sent = [];
       disk = c.args.self.now.disk;
       count = refl;
-      does = (refl, refl, refl);
+      does = (refl, refl);
       written = writes_none g.B.Bitmap.marks (g.M.GuestMemory.memory c.args.mem.now) c.args.writer.now c.args.host.now;
       is = refl;
     })

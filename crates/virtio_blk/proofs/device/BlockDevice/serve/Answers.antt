@@ -1,19 +1,40 @@
-use Rattle.std.proofs.Common.{List, arith, subst}
-use Rattle.vm_memory_device.specs.Chain.{Entry, text, writable}
-use Rattle.virtio_blk.specs.Served.{ServesTexts}
-use Rattle.virtio_blk.proofs.ServeFacts.{served_of}
+use Rattle.std.proofs.Common.{List, ap, drop, length, subst, ◌-◌, ◌≤◌, ◌∙◌}
+use Rattle.vm_memory_device.specs.Chain.{Entry, readable, text, writable}
+use Rattle.virtio_blk.specs.Config.{terms_of}
+use Rattle.virtio_blk.specs.Inside.{Did}
+use Rattle.virtio_blk.proofs.ChainFacts.{after_header, can_serve, served_of}
 use Rattle.virtio_blk.proofs.device.BlockDevice.serve.Goals as goal
+
+pub act-status-requires-clause-can : goal.act-status-requires-clause-can
+act-status-requires-clause-can g c =
+    let chain = c.args.chain.now in
+    let left = after_header c.reader-reader.result c.skip.new.self c.skip.result c.skip.ensures.passed
+    c.skip.ensures.place ∙ ap (drop 16) c.reader-reader.ensures.text in
+    let both = can_serve (g.M.GuestMemory.memory c.args.mem.now) c.args.host.now
+    (terms_of g.D.Disk.sectors c.args.self.now) c.terms.result (text (readable chain)) (text (writable chain))
+    c.skip.new.self c.writer-writer.result c.begin.result c.unwrap_or-request.result c.terms.ensures.terms
+    c.begin.ensures.begun c.unwrap_or-request.ensures left c.writer-writer.ensures.text c.terms.ensures.small in
+    both.1
 
 pub returns-clause-served : goal.returns-clause-served
 returns-clause-served g c =
-    let m = g.M.GuestMemory.memory c.args.mem.now in
     let chain = c.args.chain.now in
-    let p = c.perform-status in
-    let Serves = λ (given room : List Entry). ServesTexts g.B.Bitmap.marks g.D.Disk.bytes g.D.Disk.sectors
-    g.D.Disk.calls m given room c.args.self.now c.args.host.now c.tell.result p.new.self c.tell.new.host in
-    subst (λ (es : List Entry). Serves es (text (writable chain))) c.reader-reader.ensures.text
-    (subst (λ (es : List Entry). Serves c.reader-reader.result es) c.writer-writer.ensures.text
-    (served_of g.B.Bitmap.marks g.D.Disk.bytes g.D.Disk.sectors g.D.Disk.calls m c.reader-reader.result
-    c.writer-writer.result p.new.writer c.args.self.now c.args.host.now p.result.0 p.result.1 p.new.self p.new.host
-    c.tell.result c.tell.new.host (omega (arith, c.left.ensures, c.if-left-eq0.false)) p.ensures.rest p.ensures.place
-    p.ensures.performed c.tell.ensures.told))
+    let m = g.M.GuestMemory.memory c.args.mem.now in
+    let D = g.D.Disk in
+    let p = c.act-status in
+    let left = after_header c.reader-reader.result c.skip.new.self c.skip.result c.skip.ensures.passed
+    c.skip.ensures.place ∙ ap (drop 16) c.reader-reader.ensures.text in
+    let both = can_serve m c.args.host.now (terms_of D.sectors c.args.self.now) c.terms.result
+    (text (readable chain)) (text (writable chain)) c.skip.new.self c.writer-writer.result c.begin.result
+    c.unwrap_or-request.result c.terms.ensures.terms c.begin.ensures.begun c.unwrap_or-request.ensures left
+    c.writer-writer.ensures.text c.terms.ensures.small in
+    let Does = λ (given room : List Entry). Did g.B.Bitmap.marks D.bytes D.sectors D.calls m
+    c.unwrap_or-request.result given room c.args.self.now c.args.host.now p.result.0 p.result.1 p.new.self
+    p.new.host in
+    let did = subst (λ (es : List Entry). Does es (text (writable chain))) left
+    (subst (λ (es : List Entry). Does c.skip.new.self es) c.writer-writer.ensures.text p.ensures.did) in
+    served_of g.B.Bitmap.marks D.bytes D.sectors D.calls m (text (readable chain)) (text (writable chain))
+    c.args.self.now c.args.host.now c.unwrap_or-request.result p.result.0 p.result.1 p.new.self p.new.host
+    c.finish.result c.unwrap_or.result c.finish.new.host both.0 did
+    (subst (λ (es : List Entry). p.result.1 ≤ length es - 1) c.writer-writer.ensures.text p.ensures.rest)
+    c.finish.ensures.finished c.unwrap_or.ensures

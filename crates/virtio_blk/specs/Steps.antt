@@ -1,0 +1,78 @@
+-- The two steps of a request, before and after the disk.
+use Rattle.std.specs.Prelude.{◌≡◌, ◌⊎◌, ℕ, ◌+◌, ◌-◌, ◌*◌, ◌%◌, ◌≤◌, min, nat_lt, true, ◌==◌, ◌&&◌, if◌then◌else◌, List, [], ◌∷◌, length, take, drop, Option, Some, None, is_none, Result, Ok, Err, is_ok, MatchBool}
+use Rattle.vm_memory_base.specs.Table.{Table}
+use Rattle.vm_memory_base.specs.declared.iotlb.Permissions.TheVariants as permissions
+use Rattle.vm_memory_guest.specs.Access.{AccessFault}
+use Rattle.vm_memory_guest.specs.Access as access
+use Rattle.vm_memory_guest.specs.Error.{error_of}
+use Rattle.vm_memory_guest.specs.Host.{Host}
+use Rattle.vm_memory_guest.specs.Memory.{Memory, IsOn, route}
+use Rattle.vm_memory_guest.specs.declared.region.error.GuestMemoryError.{GuestMemoryError}
+use Rattle.vm_memory_guest.specs.declared.region.error.GuestMemoryError.TheVariants as errors
+use Rattle.vm_memory_device.specs.Chain.{Entry, text_fault}
+use Rattle.virtio_blk.specs.Request.{request_of}
+use Rattle.virtio_blk.specs.Texts.{WritesAt, text_bytes}
+use Rattle.virtio_blk.specs.declared.request.Request.{Request}
+use Rattle.virtio_blk.specs.declared.request.Request.TheVariants.{Read, Write, Flush, GetId, Refused, Unserved}
+use Rattle.virtio_blk.specs.declared.request.Terms.{Terms}
+
+-- what a step answers: it was done, or it was done without bytes that have no memory. It is the error of an access that
+-- the IOMMU refuses, which the mapping may still come for
+abbrev pub answer_of : {T : Type 0} → Option AccessFault → T → T → Result T GuestMemoryError
+answer_of None done without = Ok done
+answer_of (Some (access.NoRegion a)) done without = Ok without
+answer_of (Some access.NoHostBytes) done without = Ok without
+answer_of (Some (access.Refused iova len reason)) done without = Err (error_of (access.Refused iova len reason))
+
+-- the same, or there was no memory for the translation of an access
+abbrev pub Told : {T : Type 0} → Memory → Option AccessFault → T → T → Result T GuestMemoryError → Type 0
+Told m fault done without answer =
+    (answer ≡ answer_of fault done without) ⊎ ((answer ≡ Err errors.Memory) × IsOn m)
+
+-- ---- the first step
+
+-- what stops the accesses to a header, which is the first 16 bytes of a text
+abbrev pub header_fault : Memory → List Table → List Entry → Option AccessFault
+header_fault m tables es = text_fault m.regions (route m tables) permissions.Read true (take 16 es)
+
+-- what a chain with these texts asks for. One with no byte for the status is not served, and one whose header is short,
+-- or has no memory, is refused
+abbrev pub Begins : {B : Type 0} → Memory → Host B → Terms → List Entry → List Entry → Result Request GuestMemoryError
+    → Type 0
+Begins m host terms given room answer =
+    MatchBool (length room == 0) (answer ≡ Ok Unserved)
+    (MatchBool (nat_lt (length given) 16) (answer ≡ Ok (Refused 1))
+    (Told m (header_fault m host.tables given)
+    (request_of terms (text_bytes m host given 16) (length given - 16) (length room - 1)) (Refused 1) answer))
+
+-- the data of a request are whole sectors of a disk of so many, or at most the 20 bytes of a name
+abbrev pub FitsOn : ℕ → Request → Type 0
+FitsOn sectors (Read sector len) = (len % 512 ≡ 0) × (512 * sector + len ≤ 512 * sectors)
+FitsOn sectors (Write sector len flush) = (len % 512 ≡ 0) × (512 * sector + len ≤ 512 * sectors)
+FitsOn sectors Flush = Unit {0}
+FitsOn sectors (GetId len) = len ≤ 20
+FitsOn sectors (Refused status) = Unit {0}
+FitsOn sectors Unserved = Unit {0}
+
+-- ---- the second step
+
+-- what stops the access to the status, which is the last byte of a text
+abbrev pub status_fault : Memory → List Table → List Entry → Option AccessFault
+status_fault m tables es = text_fault m.regions (route m tables) permissions.Write true (drop (length es - 1) es)
+
+-- so many bytes of a text are written without a gap after its status, where so many were before that
+abbrev pub gapless : List Entry → ℕ → ℕ
+gapless es front = if front + 1 == length es then front + 1 else front
+
+-- a status went to the last byte of a text. Nothing else changed, and nothing at all if that cannot be written. The
+-- answer is the number of bytes that are written without a gap, where so many were, or all before the status if that
+-- number is larger
+abbrev pub Finishes : {B : Type 0} → (B → ℕ → ℕ → B → Type 0) → Memory → List Entry → ℕ → ℕ → Host B
+    → Result ℕ GuestMemoryError → Host B → Type 0
+Finishes marks m es status moved old answer new =
+    let fault = status_fault m old.tables es in
+    let front = min moved (length es - 1) in
+    MatchBool (length es == 0) ((answer ≡ Ok 0) × (new ≡ old))
+    (Told m fault (gapless es front) front answer
+    × MatchBool (is_ok answer && is_none fault) (WritesAt marks m (drop (length es - 1) es) (status ∷ []) old new)
+    (new ≡ old))

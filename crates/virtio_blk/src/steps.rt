@@ -1,0 +1,118 @@
+//! A request in two steps, for a device whose disk is its own: docs/VIRTIO_BLK.md, "A disk of your own".
+ghost use Rattle.std.specs.Prelude.{◌≡◌, ◌≤◌, Some, None, IfOk, length};
+ghost use Rattle.vm_memory_device.specs.Chain.{readable, text, writable};
+ghost use Rattle.vm_memory_guest.specs.Host.{shape_of, Holds};
+ghost use Rattle.virtio_blk.specs.Inside.{failed};
+ghost use Rattle.virtio_blk.specs.Steps.{Begins, Finishes, FitsOn, Told, header_fault};
+ghost use Rattle.virtio_blk.specs.Texts.{text_bytes};
+
+use crate::request::{Request, Terms, VIRTIO_BLK_S_IOERR, request_of};
+use vm_memory_base::Bitmap;
+use vm_memory_device::Chain;
+use vm_memory_guest::{GuestMemory, GuestMemoryError, GuestMemoryResult, HostMemory};
+
+// What a step returns whose access failed: the error, if the step may succeed later, and else what it returns without
+// the access.
+fn failed<T: Drop>(error: GuestMemoryError, without: T) -> GuestMemoryResult<T>
+    ensures { result ≡ failed error without }
+{
+    match error {
+        GuestMemoryError::IommuError(error) => Err(GuestMemoryError::IommuError(error)),
+        GuestMemoryError::Memory => Err(GuestMemoryError::Memory),
+        _ => Ok(without),
+    }
+}
+
+// The header of a chain that has one, or none if one of its addresses has no memory. A read ends before an access that
+// fails, so the next one begins with that access and returns its error.
+fn read_header<M: GuestMemory, B: Bitmap>(
+    mem: &M,
+    host: &HostMemory<B>,
+    chain: &Chain,
+) -> GuestMemoryResult<Option<[u8; 16]>>
+    requires held { Holds (shape_of host.now) (M.names mem.now) }
+    requires enough { 16 ≤ length (text (readable chain.now)) }
+    ensures { let m = M.memory mem.now in let es = text (readable chain.now) in
+        Told m (header_fault m host.now.tables es) (Some (text_bytes m host.now es 16)) None result }
+{
+    let mut reader = chain.reader();
+    let mut header = [0; 16];
+    let mut filled = 0;
+    while filled < 16 {
+        match reader.read(mem, host, &mut header[filled..]) {
+            Ok(count) => filled += count,
+            Err(error) => return failed(error, None),
+        }
+    }
+    Ok(Some(header))
+}
+
+/// Reads the header of a request and says what the device has to do, before it does any of it. Nothing changes.
+///
+/// A request that is wrong is no error, but `Refused`. An error means that nothing is decided:
+/// [`GuestMemoryError::IommuError`] if the IOMMU refuses an access to the header, and [`GuestMemoryError::Memory`] if
+/// there is no memory for its translation. A device whose mappings come later makes the call again then.
+pub fn begin<M: GuestMemory, B: Bitmap>(
+    terms: Terms,
+    mem: &M,
+    host: &HostMemory<B>,
+    chain: &Chain,
+) -> GuestMemoryResult<Request>
+    requires { Holds (shape_of host.now) (M.names mem.now) }
+    ensures begun { Begins (M.memory mem.now) host.now terms (text (readable chain.now)) (text (writable chain.now))
+        result }
+    ensures fits { IfOk result (λ request. FitsOn terms.sectors request) }
+{
+    let room = chain.writer().left();
+    let len = chain.reader().left();
+    if room == 0 {
+        return Ok(Request::Unserved);
+    }
+    let refused = Request::Refused {
+        status: VIRTIO_BLK_S_IOERR,
+    };
+    if len < 16 {
+        return Ok(refused);
+    }
+    match read_header(mem, host, chain)? {
+        Some(header) => Ok(request_of(terms, &header, len - 16, room - 1)),
+        None => Ok(refused),
+    }
+}
+
+/// Writes the status of a request to the last writable byte of its chain, and returns the length that `add_used` takes:
+/// the number of bytes that were written without a gap, from the first writable one on. The caller has written `moved`
+/// bytes there. A larger number than there is room for before the status counts as that room. The status counts if it
+/// is the next byte.
+///
+/// If the address of the status has no memory, nothing is written, and only the bytes before it count. If the chain has
+/// no writable byte, the length is 0.
+///
+/// An error means that nothing changed: [`GuestMemoryError::IommuError`] if the IOMMU refuses the access, and
+/// [`GuestMemoryError::Memory`] if there is no memory for its translation. A device whose mappings come later makes the
+/// call again then.
+pub fn finish<M: GuestMemory, B: Bitmap>(
+    mem: &M,
+    host: &mut HostMemory<B>,
+    chain: &Chain,
+    status: u8,
+    moved: usize,
+) -> GuestMemoryResult<u32>
+    requires { Holds (shape_of host.old) (M.names mem.now) }
+    ensures finished { Finishes B.marks (M.memory mem.now) (text (writable chain.now)) status moved host.old result
+        host.new }
+    ensures shape { shape_of host.new ≡ shape_of host.old }
+{
+    let mut writer = chain.writer();
+    let len = writer.left();
+    if len == 0 {
+        return Ok(0);
+    }
+    writer.skip(len - 1);
+    let moved = moved.min(len - 1);
+    match writer.write(mem, host, &[status]) {
+        Ok(_) if moved + 1 == len => Ok(len as u32),
+        Ok(_) => Ok(moved as u32),
+        Err(error) => failed(error, moved as u32),
+    }
+}
