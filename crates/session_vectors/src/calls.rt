@@ -184,6 +184,45 @@ const QUEUES: [&str; 64] = [
     "36 first=1 second=7 value=3: 0 0 0 0",
 ];
 
+// Block requests on a disk of eight sectors, by a queue whose chains have a header of 16 bytes at 0x8300, data and a
+// status byte. Descriptor 2 is the header, 3 the data of 512 bytes, which the device writes, and 4 the status.
+const REQUESTS: [&str; 32] = [
+    "0 length=0x600 other_length=0x100: 0 0 5 0",
+    "4 first=5 address=0x10000: 0 0 3 0",
+    "6 list=3: 0 0 4 0",
+    "9 first=4: 0 0 3 0",
+    "35 length=8 other_length=16: 0 0 2 0",
+    "36 first=2 second=1 value=0x10000: 0 0 0 0",
+    "36 first=2 second=2 value=0x10100: 0 0 0 0",
+    "36 first=2 second=3 value=0x10200: 0 0 0 0",
+    "36 first=2 second=4 value=1: 0 0 0 0",
+    "16 first=3 address=0x10020 bytes=0,3,1,0,0,0,0,0,16,0,0,0,1,0,3,0,0,4,1,0,0,0,0,0,0,2,0,0,3,0,4,0: 0 0 0 0",
+    "16 first=3 address=0x10040 bytes=16,3,1,0,0,0,0,0,1,0,0,0,2,0,0,0: 0 0 0 0",
+    "16 first=3 address=0x10100 bytes=0,0,1,0,2,0: 0 0 0 0",
+    // A read of sector 7, the last one.
+    "16 first=3 address=0x10300 bytes=0,0,0,0,0,0,0,0,7,0,0,0,0,0,0,0: 0 0 0 0",
+    "50 first=2 second=3 third=2 target=8 access=3: 22 0 0 0",
+    "43 first=2 second=3: 0 16 2 513",
+    "50 first=2 second=3 third=2 target=8 access=3 output=1: 0 512 0 7 ee",
+    "50 first=2 second=3 third=2 target=8 access=2: 16 0 0 0",
+    "50 first=2 second=3 third=2 target=7 access=3: 0 1 16 0",
+    "50 first=2 second=9 third=2 target=8 access=3: 1 0 0 0",
+    // A write has no data here, a flush, a name, and a kind that is none.
+    "16 first=3 address=0x10300 bytes=1: 0 0 0 0",
+    "50 first=2 second=3 third=2 target=8 access=3: 0 0 1 7",
+    "50 first=2 second=3 third=2 target=8 access=1: 0 1 16 0",
+    "16 first=3 address=0x10300 bytes=4: 0 0 0 0",
+    "50 first=2 second=3 third=2 target=8 access=3: 0 0 4 0",
+    "16 first=3 address=0x10300 bytes=8: 0 0 0 0",
+    "50 first=2 second=3 third=2 target=8 access=3: 0 20 8 0",
+    "16 first=3 address=0x10300 bytes=9: 0 0 0 0",
+    "50 first=2 second=3 third=2 target=8 access=3: 0 2 16 0",
+    "51 first=2 second=3 third=2 value=256: 16 0 0 0",
+    "51 first=2 second=3 third=2 value=2 length=20: 0 0 20 0",
+    "51 first=2 second=3 third=2 value=1 length=512: 0 0 513 0",
+    "13 first=3 address=0x1030f length=3 output=3: 0 3 0 0 00 01 00",
+];
+
 // A call, its input and its output.
 #[derive(Drop)]
 struct Asked {
@@ -271,7 +310,9 @@ fn told(alloc: Global, session: &mut Session, words: &str) -> Result<String, Fai
 #[test]
 fn calls_are_answered_by_numbers(rt: HostRuntime) -> Result<(), Fail> {
     let mut session = Session::new(rt.alloc());
-    let tables: [&[&str]; 6] = [&SETUPS, &MAKINGS, &ACCESSES, &TABLES, &MARKS, &QUEUES];
+    let tables: [&[&str]; 7] = [
+        &SETUPS, &MAKINGS, &ACCESSES, &TABLES, &MARKS, &QUEUES, &REQUESTS,
+    ];
     for (table, cases) in tables.iter().enumerate() {
         for (number, case) in cases.iter().enumerate() {
             let (words, wanted) = case.split_once(": ").unwrap_or((case, ""));

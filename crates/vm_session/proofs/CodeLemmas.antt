@@ -44,6 +44,8 @@ no-work kind.AddUsed h = absurd (false≢true h)
 no-work kind.NeedsNotification h = absurd (false≢true h)
 no-work kind.EnableNotification h = absurd (false≢true h)
 no-work kind.DisableNotification h = absurd (false≢true h)
+no-work kind.BeginRequest h = absurd (false≢true h)
+no-work kind.FinishRequest h = absurd (false≢true h)
 no-work k h = refl
 
 no-queue : (kind : Kind) → IsTrue (is_access kind) → is_queue kind ≡ false

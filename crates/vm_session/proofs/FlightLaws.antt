@@ -162,6 +162,8 @@ module _ (call : Call) (head : ℕ) (chain : List Segment) where
         ap (λ (x : DeviceQueue). chain_of x head) h.0.3 ∙ here
     works_keeps kind.EnableNotification input q old out a q' new out' h ends = same_keeps q q' head chain h.1
     works_keeps kind.DisableNotification input q old out a q' new out' h ends = same_keeps q q' head chain h.1
+    works_keeps kind.BeginRequest input q old out a q' new out' h ends = same_keeps q q' head chain h.1
+    works_keeps kind.FinishRequest input q old out a q' new out' h ends = same_keeps q q' head chain h.1
     works_keeps k input q old out a q' new out' h ends = absurd h
 
 -- ---- sessions

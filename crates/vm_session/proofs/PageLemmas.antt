@@ -1,5 +1,5 @@
 -- Steps on a host with exact bitmaps are steps on a host that has their pages.
-use Rattle.std.proofs.Common.{◌≡◌, ◌∙◌, ◌^◌, ℕ, Bool, true, false, nat_lt, List, [], ◌∷◌, drop, map, Option, Some, None, option_map, MatchBool, MatchOption, Result, Ok, Err, ap, inl, inr}
+use Rattle.std.proofs.Common.{◌≡◌, ◌∙◌, ◌^◌, ◌==◌, ◌&&◌, ◌-◌, ℕ, Bool, true, false, is_none, is_ok, length, min, nat_lt, List, [], ◌∷◌, drop, map, Option, Some, None, option_map, MatchBool, MatchOption, Result, Ok, Err, ap, inl, inr}
 use Rattle.std.proofs.lemmas.Option.{slice_get-map}
 use Rattle.std.proofs.lemmas.List.{map-set}
 use Rattle.vm_memory_base.specs.Pages.{PageSet, marked}
@@ -18,9 +18,12 @@ use Rattle.virtio_queue.specs.Used.{AddsUsed}
 use Rattle.virtio_queue.specs.declared.error.QueueError.{QueueError}
 use Rattle.virtio_queue.specs.declared.error.QueueError.TheVariants as errors
 use Rattle.virtio_queue.specs.declared.state.QueueState.{QueueState}
+use Rattle.virtio_blk.specs.Steps.{Finishes, Told, gapless, status_fault}
+use Rattle.virtio_blk.specs.Texts.{WritesAt}
+use Rattle.virtio_blk.specs.declared.request.Terms.{Terms}
 use Rattle.vm_session.specs.Codes.{bad_call}
-use Rattle.vm_session.specs.QueueCodes.{answer_of_bytes, answer_of_done, not_in_flight}
-use Rattle.vm_session.specs.Queues.{Returns, ReturnsIf, Works, WritesChain, after_returned, marks_pages}
+use Rattle.vm_session.specs.QueueCodes.{answer_of_bytes, answer_of_done, answer_of_length, not_in_flight}
+use Rattle.vm_session.specs.Queues.{BeginsRequest, FinishesIf, FinishesRequest, Returns, ReturnsIf, Works, WritesChain, after_returned, marks_pages, terms_of}
 use Rattle.vm_session.specs.SessionState.{DeviceQueue, chain_of}
 use Rattle.vm_session.specs.declared.call.Answer.{Answer}
 use Rattle.vm_session.specs.declared.call.Call.{Call}
@@ -155,6 +158,76 @@ module _ {B : Type 0} (marks : B → ℕ → ℕ → B → Type 0) (pages : B �
         at true h = returns_seen q call.third call.value old a q' new h
         at false h = (h.0, h.1, ap seen h.2)
 
+    -- the status of a request
+    at_seen : (es : List Entry) (bytes : List ℕ) (old new : Host B) → WritesAt marks m es bytes old new
+        → WritesAt marks_pages m es bytes (seen old) (seen new)
+    at_seen es bytes old new h = record {
+      windows = h.windows;
+      within = h.within;
+      access = h.access;
+      placed = h.placed;
+      written = writes_seen h.windows bytes old new h.written;
+    }
+
+    status_if : (es : List Entry) (status : ℕ) (old new : Host B) (b : Bool)
+        → MatchBool b (WritesAt marks m es (status ∷ []) old new) (new ≡ old)
+        → MatchBool b (WritesAt marks_pages m es (status ∷ []) (seen old) (seen new)) (seen new ≡ seen old)
+    status_if es status old new true h = at_seen es (status ∷ []) old new h
+    status_if es status old new false h = ap seen h
+
+    finishes_seen : (es : List Entry) (status moved : ℕ) (old : Host B) (answer : Result ℕ GuestMemoryError)
+        (new : Host B) → Finishes marks m es status moved old answer new
+        → Finishes marks_pages m es status moved (seen old) answer (seen new)
+    finishes_seen es status moved old answer new h = at (length es == 0) h
+      where
+        at : (b : Bool) → MatchBool b ((answer ≡ Ok 0) × (new ≡ old))
+            (Told m (status_fault m old.tables es) (gapless es (min moved (length es - 1)))
+            (min moved (length es - 1)) answer
+            × MatchBool (is_ok answer && is_none (status_fault m old.tables es))
+            (WritesAt marks m (drop (length es - 1) es) (status ∷ []) old new) (new ≡ old))
+            → MatchBool b ((answer ≡ Ok 0) × (seen new ≡ seen old))
+            (Told m (status_fault m old.tables es) (gapless es (min moved (length es - 1)))
+            (min moved (length es - 1)) answer
+            × MatchBool (is_ok answer && is_none (status_fault m old.tables es))
+            (WritesAt marks_pages m (drop (length es - 1) es) (status ∷ []) (seen old) (seen new))
+            (seen new ≡ seen old))
+        at true h = (h.0, ap seen h.1)
+        at false h = (
+          h.0,
+          status_if (drop (length es - 1) es) status old new
+              (is_ok answer && is_none (status_fault m old.tables es)) h.1,
+        )
+
+    request_seen : (q : DeviceQueue) (head status moved : ℕ) (old : Host B) (a : Answer) (new : Host B)
+        → FinishesRequest marks m q head status moved old a new
+        → FinishesRequest marks_pages m q head status moved (seen old) a (seen new)
+    request_seen q head status moved old a new h = at (chain_of q head) h
+      where
+        at : (o : Option (List Segment)) → MatchOption o ((a ≡ not_in_flight) × (new ≡ old)) (λ chain.
+            (r : Result ℕ GuestMemoryError) × Finishes marks m (text (writable chain)) status moved old r new
+            × (a ≡ answer_of_length r))
+            → MatchOption o ((a ≡ not_in_flight) × (seen new ≡ seen old)) (λ chain. (r : Result ℕ GuestMemoryError)
+            × Finishes marks_pages m (text (writable chain)) status moved (seen old) r (seen new)
+            × (a ≡ answer_of_length r))
+        at None h = (h.0, ap seen h.1)
+        at (Some chain) h = (h.0, finishes_seen (text (writable chain)) status moved old h.0 new h.1, h.2)
+
+    finish_if : (call : Call) (q : DeviceQueue) (old : Host B) (a : Answer) (new : Host B)
+        → FinishesIf marks m call q old a new → FinishesIf marks_pages m call q (seen old) a (seen new)
+    finish_if call q old a new h = at (nat_lt call.value (2 ^ 8)) h
+      where
+        at : (b : Bool) → MatchBool b (FinishesRequest marks m q call.third call.value call.length old a new)
+            ((a ≡ bad_call) × (new ≡ old))
+            → MatchBool b (FinishesRequest marks_pages m q call.third call.value call.length (seen old) a (seen new))
+            ((a ≡ bad_call) × (seen new ≡ seen old))
+        at true h = request_seen q call.third call.value call.length old a new h
+        at false h = (h.0, ap seen h.1)
+
+    begins_seen : (q : DeviceQueue) (head : ℕ) (o : Option Terms) (host : Host B) (a : Answer)
+        → BeginsRequest m host q head o a → BeginsRequest m (seen host) q head o a
+    begins_seen q head None host a h = h
+    begins_seen q head (Some terms) host a h = h
+
     -- so is each call on a queue and a memory
     pub work_seen : (k : Kind) (call : Call) (input : List ℕ) (q : DeviceQueue) (old : Host B) (out : List ℕ)
         (a : Answer) (q' : DeviceQueue) (new : Host B) (out' : List ℕ)
@@ -173,4 +246,7 @@ module _ {B : Type 0} (marks : B → ℕ → ℕ → B → Type 0) (pages : B �
         ((h.0.0, enables_seen q.queue.state old h.0.0 new h.0.1, h.0.2), h.1, h.2)
     work_seen kind.DisableNotification call input q old out a q' new out' h =
         ((h.0.0, disables_seen q.queue.state old h.0.0 new h.0.1, h.0.2), h.1, h.2)
+    work_seen kind.BeginRequest call input q old out a q' new out' h =
+        (begins_seen q call.third (terms_of call) old a h.0, h.1, ap seen h.2, h.3)
+    work_seen kind.FinishRequest call input q old out a q' new out' h = (finish_if call q old a new h.0, h.1, h.2)
     work_seen k call input q old out a q' new out' h = absurd h

@@ -20,7 +20,8 @@ kinds = kind.Block ∷ kind.Space ∷ kind.Table ∷ kind.LimitedTable ∷ kind.
     ∷ kind.MarkBlock ∷ kind.MarkReached
     ∷ kind.Queue ∷ kind.SetQueue ∷ kind.ResetQueue ∷ kind.QueueState ∷ kind.Forget
     ∷ kind.QueueIsValid ∷ kind.AvailIdx ∷ kind.UsedIdx ∷ kind.Pop ∷ kind.ReadChain ∷ kind.WriteChain ∷ kind.AddUsed
-    ∷ kind.NeedsNotification ∷ kind.EnableNotification ∷ kind.DisableNotification ∷ []
+    ∷ kind.NeedsNotification ∷ kind.EnableNotification ∷ kind.DisableNotification
+    ∷ kind.BeginRequest ∷ kind.FinishRequest ∷ []
 
 -- an access by its number
 abbrev pub access_at : ℕ → Option Permissions
@@ -30,6 +31,10 @@ access_at n =
     else if n == 2 then Some permissions.Write
     else if n == 3 then Some permissions.ReadWrite
     else None
+
+-- whether a disk that may be accessed so is only read
+abbrev pub read_only_at : ℕ → Option Bool
+read_only_at n = if n == 1 then Some true else if n == 3 then Some false else None
 
 -- a switch by its number
 abbrev pub switch_at : ℕ → Option Bool
@@ -85,6 +90,8 @@ is_work kind.AddUsed = true
 is_work kind.NeedsNotification = true
 is_work kind.EnableNotification = true
 is_work kind.DisableNotification = true
+is_work kind.BeginRequest = true
+is_work kind.FinishRequest = true
 is_work k = false
 
 -- whether a call of a kind sets up

@@ -1,5 +1,5 @@
 -- The answers of calls on queues.
-use Rattle.std.specs.Prelude.{ℕ, Bool, List, length, Result, Ok, Err}
+use Rattle.std.specs.Prelude.{ℕ, Bool, if◌then◌else◌, List, length, Result, Ok, Err}
 use Rattle.vm_memory.specs.Reply.{refusal_of, reply_of, reply_of_refusal}
 use Rattle.vm_memory.specs.declared.machine.command.Reply.TheVariants as reply
 use Rattle.vm_memory_device.specs.Chain.{readable, text, writable}
@@ -9,6 +9,8 @@ use Rattle.vm_memory_device.specs.declared.chain.Segment.{Segment}
 use Rattle.vm_memory_guest.specs.declared.region.error.GuestMemoryError.{GuestMemoryError}
 use Rattle.virtio_queue.specs.declared.error.QueueError.{QueueError}
 use Rattle.virtio_queue.specs.declared.error.QueueError.TheVariants as errors
+use Rattle.virtio_blk.specs.declared.request.Request.{Request}
+use Rattle.virtio_blk.specs.declared.request.Request.TheVariants as request
 use Rattle.vm_session.specs.Answers.{answer_of, number_of_truth, valued}
 use Rattle.vm_session.specs.Codes.{coded, no_memory}
 use Rattle.vm_session.specs.declared.call.Answer.{Answer}
@@ -82,3 +84,23 @@ popped_as head chain = record {
 -- how many bytes of a chain were read or written, or why none
 abbrev pub answer_of_bytes : Result ℕ GuestMemoryError → Answer
 answer_of_bytes r = answer_of (reply_of reply.Count r)
+
+-- what a block request asks for
+abbrev pub answer_of_request : Request → Answer
+answer_of_request (request.Read sector len) = record { code = 0; count = len; value = 0; address = sector }
+answer_of_request (request.Write sector len flush) =
+    record { code = 0; count = len; value = (if flush then 2 else 1); address = sector }
+answer_of_request request.Flush = valued 4
+answer_of_request (request.GetId len) = record { code = 0; count = len; value = 8; address = 0 }
+answer_of_request (request.Refused status) = record { code = 0; count = status; value = 16; address = 0 }
+answer_of_request request.Unserved = valued 17
+
+-- the same, or why it is not known yet
+abbrev pub answer_of_begun : Result Request GuestMemoryError → Answer
+answer_of_begun (Ok r) = answer_of_request r
+answer_of_begun (Err e) = answer_of (reply_of_refusal (refusal_of e))
+
+-- the length that a chain is returned with, or why its status could not be written
+abbrev pub answer_of_length : Result ℕ GuestMemoryError → Answer
+answer_of_length (Ok n) = valued n
+answer_of_length (Err e) = answer_of (reply_of_refusal (refusal_of e))

@@ -15,11 +15,14 @@ use Rattle.virtio_queue.specs.Used.{AddsUsed, after_used, used_idx, valid}
 use Rattle.virtio_queue.specs.declared.error.QueueError.{QueueError}
 use Rattle.virtio_queue.specs.declared.error.QueueError.TheVariants as errors
 use Rattle.virtio_queue.specs.declared.state.QueueState.{QueueState}
+use Rattle.virtio_blk.specs.Steps.{Begins, Finishes}
+use Rattle.virtio_blk.specs.declared.request.Request.{Request}
+use Rattle.virtio_blk.specs.declared.request.Terms.{Terms}
 use Rattle.vm_memory.specs.State.{State}
 use Rattle.vm_session.specs.Answers.{number_of_truth, valued}
 use Rattle.vm_session.specs.Codes.{bad_call, coded, no_memory, short_of}
-use Rattle.vm_session.specs.Kinds.{part_at, switch_at}
-use Rattle.vm_session.specs.QueueCodes.{answer_of_bytes, answer_of_done, answer_of_number, answer_of_queue, answer_of_truth, in_flight, no_chain, no_such, not_in_flight, popped_as, too_many}
+use Rattle.vm_session.specs.Kinds.{part_at, read_only_at, switch_at}
+use Rattle.vm_session.specs.QueueCodes.{answer_of_begun, answer_of_bytes, answer_of_done, answer_of_length, answer_of_number, answer_of_queue, answer_of_truth, in_flight, no_chain, no_such, not_in_flight, popped_as, too_many}
 use Rattle.vm_session.specs.SessionState.{DeviceQueue, SessionState, chain_of, descriptors_in}
 use Rattle.vm_session.specs.declared.call.Answer.{Answer}
 use Rattle.vm_session.specs.declared.call.Call.{Call}
@@ -166,7 +169,26 @@ module _ {B : Type 0} (m : Memory) (host : Host B) where
   TellsUsed q a = (r : Result ℕ QueueError) × AnswersAs (IsOn m) (used_idx m host q.queue.state) r
       × (a ≡ answer_of_number r)
 
+-- what a request is held against
+abbrev pub terms_of : Call → Option Terms
+terms_of call = option_map (λ read_only. record { sectors = call.target; read_only = read_only; acked = call.value })
+    (read_only_at call.access)
+
+-- what a chain in flight asks a block device for
+abbrev pub BeginsRequest : {B : Type 0} → Memory → Host B → DeviceQueue → ℕ → Option Terms → Answer → Type 0
+BeginsRequest m host q head None a = a ≡ bad_call
+BeginsRequest m host q head (Some terms) a = MatchOption (chain_of q head) (a ≡ not_in_flight)
+    (λ chain. (r : Result Request GuestMemoryError)
+    × Begins m host terms (text (readable chain)) (text (writable chain)) r × (a ≡ answer_of_begun r))
+
 module _ {B : Type 0} (marks : B → ℕ → ℕ → B → Type 0) (m : Memory) where
+  -- the request of a chain in flight is finished, with a status, where so many bytes were written before
+  abbrev pub FinishesRequest : DeviceQueue → ℕ → ℕ → ℕ → Host B → Answer → Host B → Type 0
+  FinishesRequest q head status moved old a new = MatchOption (chain_of q head)
+      ((a ≡ not_in_flight) × (new ≡ old))
+      (λ chain. (r : Result ℕ GuestMemoryError) × Finishes marks m (text (writable chain)) status moved old r new
+      × (a ≡ answer_of_length r))
+
   -- bytes go to the writable ones of a chain in flight, from an offset on
   abbrev pub WritesChain : DeviceQueue → ℕ → ℕ → List ℕ → Host B → Answer → Host B → Type 0
   WritesChain q head offset bytes old a new = MatchOption (chain_of q head) ((a ≡ not_in_flight) × (new ≡ old))
@@ -201,6 +223,11 @@ module _ {B : Type 0} (marks : B → ℕ → ℕ → B → Type 0) (m : Memory) 
   ReturnsIf call q old a q' new = MatchBool (nat_lt call.value (2 ^ 32))
       (Returns marks m q call.third call.value old a q' new) ((a ≡ bad_call) × (q' ≡ q) × (new ≡ old))
 
+  -- a status is a number of 8 bits
+  abbrev pub FinishesIf : Call → DeviceQueue → Host B → Answer → Host B → Type 0
+  FinishesIf call q old a new = MatchBool (nat_lt call.value (2 ^ 8))
+      (FinishesRequest marks m q call.third call.value call.length old a new) ((a ≡ bad_call) × (new ≡ old))
+
   -- what a call of a kind does with a queue, a host and an output
   abbrev pub Works : Kind → Call → List ℕ → DeviceQueue → Host B → List ℕ → Answer → DeviceQueue → Host B → List ℕ
       → Type 0
@@ -222,6 +249,10 @@ module _ {B : Type 0} (marks : B → ℕ → ℕ → B → Type 0) (m : Memory) 
       AsksToNotify marks m q host a host' × (q' ≡ q) × (out' ≡ out)
   Works kind.DisableNotification call input q host out a q' host' out' =
       AsksNotToNotify marks m q host a host' × (q' ≡ q) × (out' ≡ out)
+  Works kind.BeginRequest call input q host out a q' host' out' =
+      BeginsRequest m host q call.third (terms_of call) a × (q' ≡ q) × (host' ≡ host) × (out' ≡ out)
+  Works kind.FinishRequest call input q host out a q' host' out' =
+      FinishesIf call q host a host' × (q' ≡ q) × (out' ≡ out)
   Works k call input q host out a q' host' out' = ⊥
 
 -- marks of a bitmap whose pages are all that is known of it

@@ -1,6 +1,6 @@
 //! Calls and answers as plain numbers, as they cross to C.
 ghost use Rattle.std.specs.Prelude.{◌≡◌, IfSome, IsTrue, Some, slice_get};
-ghost use Rattle.vm_session.specs.Kinds.{access_at, is_access, is_queue, is_work, kinds, marks, part_at, sets_up, switch_at, width_at};
+ghost use Rattle.vm_session.specs.Kinds.{access_at, is_access, is_queue, is_work, kinds, marks, part_at, read_only_at, sets_up, switch_at, width_at};
 
 use vm_memory::Width;
 use vm_memory_base::Permissions;
@@ -155,6 +155,16 @@ pub enum Kind {
     EnableNotification,
     /// Asks the driver not to notify the device.
     DisableNotification,
+    /// What the chain in flight of the head `third` asks a block device for, whose disk has `target` sectors of 512 bytes
+    /// and is only read (`access` 1) or written, too (3), and whose driver accepted the features `value`.
+    ///
+    /// The answer's `value` is 0 for a read, 1 for a write, 2 for a write that has to be stable before it is finished, 4
+    /// for a flush, 8 for the device's name, 16 for a request that is refused, and 17 for one with no byte for its status.
+    /// `address` is the sector, and `count` how many bytes are moved, or of a refused request the status.
+    BeginRequest,
+    /// Finishes the request of the chain in flight of the head `third`, to which `length` bytes were written: its status is
+    /// `value`. The answer's `value` is the length that the chain is returned with.
+    FinishRequest,
 }
 
 /// A part of a queue that a transport sets as the driver asks.
@@ -223,6 +233,8 @@ impl Kind {
                 | Kind::NeedsNotification
                 | Kind::EnableNotification
                 | Kind::DisableNotification
+                | Kind::BeginRequest
+                | Kind::FinishRequest
         )
     }
 
@@ -235,7 +247,7 @@ impl Kind {
     }
 }
 
-const KINDS: [Kind; 50] = [
+const KINDS: [Kind; 52] = [
     Kind::Block,
     Kind::Space,
     Kind::Table,
@@ -286,6 +298,8 @@ const KINDS: [Kind; 50] = [
     Kind::NeedsNotification,
     Kind::EnableNotification,
     Kind::DisableNotification,
+    Kind::BeginRequest,
+    Kind::FinishRequest,
 ];
 
 // The kind of a number, if it is one.
@@ -349,6 +363,17 @@ pub(crate) fn access_of(number: u32) -> Option<Permissions>
         1 => Some(Permissions::Read),
         2 => Some(Permissions::Write),
         3 => Some(Permissions::ReadWrite),
+        _ => None,
+    }
+}
+
+// Whether a disk that may be accessed so is only read. A disk can be read at least.
+pub(crate) fn read_only_of(number: u32) -> Option<bool>
+    ensures { result ≡ read_only_at number }
+{
+    match number {
+        1 => Some(true),
+        3 => Some(false),
         _ => None,
     }
 }

@@ -1,16 +1,18 @@
 //! Queues of a session, and their chains in flight.
-ghost use Rattle.std.specs.Prelude.{◌≡◌, ◌+◌, ◌≤◌, IfOk, replicate, length, None, is_some, option_copied};
+ghost use Rattle.std.specs.Prelude.{◌≡◌, ◌+◌, ◌≤◌, IfOk, replicate, length, Some, None, is_some, option_copied};
 ghost use Rattle.vm_memory_guest.specs.Host.{shape_of, Holds};
-ghost use Rattle.vm_session.specs.Queues.{AsksNotToNotify, AsksToNotify, Forgets, ListsState, MakesQueue, NeedsNotification, Pops, ReadsChain, Returns, SetsPart, TellsAvail, TellsUsed, TellsValid, WritesChain, cleared, forgotten, refusal_of_chain, with_chain};
+ghost use Rattle.vm_session.specs.Queues.{AsksNotToNotify, AsksToNotify, BeginsRequest, FinishesRequest, Forgets, ListsState, MakesQueue, NeedsNotification, Pops, ReadsChain, Returns, SetsPart, TellsAvail, TellsUsed, TellsValid, WritesChain, cleared, forgotten, refusal_of_chain, with_chain};
 ghost use Rattle.vm_session.specs.SessionState.{chain_of, descriptors_in};
 
 use crate::call::{Answer, Call, QueuePart};
 use crate::code;
 use crate::queue_answer::{
-    asked, bytes_moved, number_told, part_set, popped, put_state, queue_done, queue_refused,
+    asked, begun, bytes_moved, length_told, number_told, part_set, popped, put_state, queue_done,
+    queue_refused,
 };
 use std::alloc::{AllocError, Global};
 use std::marker::Model;
+use virtio_blk::{Terms, begin, finish};
 use virtio_queue::{Queue, QueueError};
 use vm_memory_base::Bitmap;
 use vm_memory_device::Chain;
@@ -355,5 +357,42 @@ impl SessionQueue {
         ensures { TellsUsed (M.memory mem.now) host.now self.now result }
     {
         number_told(self.queue.used_idx(mem, host))
+    }
+
+    // What a chain in flight asks a block device for.
+    pub(crate) fn begin<M: GuestMemory, B: Bitmap>(
+        &self,
+        mem: &M,
+        host: &HostMemory<B>,
+        head: usize,
+        terms: Terms,
+    ) -> Answer
+        requires { Holds (shape_of host.now) (M.names mem.now) }
+        ensures { BeginsRequest (M.memory mem.now) host.now self.now head (Some terms) result }
+    {
+        match self.chain(head) {
+            Some(chain) => begun(begin(terms, mem, host, chain)),
+            None => Answer::of_code(code::NOT_IN_FLIGHT),
+        }
+    }
+
+    // Finishes the block request of a chain in flight.
+    pub(crate) fn finish<M: GuestMemory, B: Bitmap>(
+        &self,
+        mem: &M,
+        host: &mut HostMemory<B>,
+        head: usize,
+        status: u8,
+        moved: usize,
+    ) -> Answer
+        requires { Holds (shape_of host.old) (M.names mem.now) }
+        ensures finished { FinishesRequest B.marks (M.memory mem.now) self.now head status moved host.old result
+            host.new }
+        ensures shape { shape_of host.new ≡ shape_of host.old }
+    {
+        match self.chain(head) {
+            Some(chain) => length_told(finish(mem, host, chain, status, moved)),
+            None => Answer::of_code(code::NOT_IN_FLIGHT),
+        }
     }
 }

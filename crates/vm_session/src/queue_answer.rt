@@ -1,6 +1,6 @@
 //! The answers of calls on queues.
 ghost use Rattle.std.specs.Prelude.{◌≡◌, Some};
-ghost use Rattle.vm_session.specs.QueueCodes.{answer_of_bytes, answer_of_done, answer_of_number, answer_of_queue, answer_of_truth, code_of_chain, popped_as};
+ghost use Rattle.vm_session.specs.QueueCodes.{answer_of_begun, answer_of_bytes, answer_of_done, answer_of_length, answer_of_number, answer_of_queue, answer_of_request, answer_of_truth, code_of_chain, popped_as};
 ghost use Rattle.vm_session.specs.Answers.{number_of_truth};
 ghost use Rattle.vm_session.specs.Queues.{ListsState, SetsPart, word};
 
@@ -8,6 +8,7 @@ use crate::answer::refused;
 use crate::call::{Answer, QueuePart, switch_of};
 use crate::code;
 use crate::words::put_words;
+use virtio_blk::Request;
 use virtio_queue::{Queue, QueueError, QueueState};
 use vm_memory::Refusal;
 use vm_memory_base::GuestAddress;
@@ -90,6 +91,46 @@ pub(crate) fn bytes_moved(outcome: GuestMemoryResult<usize>) -> Answer
 {
     match outcome {
         Ok(count) => Answer::of_count(count),
+        Err(error) => refused(Refusal::from(error)),
+    }
+}
+
+// The answer that says what a block request asks for.
+fn asked_for(request: Request) -> Answer
+    ensures { result ≡ answer_of_request request }
+{
+    let (value, count, address) = match request {
+        Request::Read { sector, len } => (0, len, sector),
+        Request::Write { sector, len, flush } => (if flush { 2 } else { 1 }, len, sector),
+        Request::Flush => (4, 0, 0),
+        Request::GetId { len } => (8, len, 0),
+        Request::Refused { status } => (16, usize::from(status), 0),
+        Request::Unserved => (17, 0, 0),
+    };
+    Answer {
+        code: code::DONE,
+        count,
+        value,
+        address,
+    }
+}
+
+// The answer to the beginning of a block request.
+pub(crate) fn begun(outcome: GuestMemoryResult<Request>) -> Answer
+    ensures { result ≡ answer_of_begun outcome }
+{
+    match outcome {
+        Ok(request) => asked_for(request),
+        Err(error) => refused(Refusal::from(error)),
+    }
+}
+
+// The answer to the end of a block request.
+pub(crate) fn length_told(outcome: GuestMemoryResult<u32>) -> Answer
+    ensures { result ≡ answer_of_length outcome }
+{
+    match outcome {
+        Ok(len) => Answer::of_value(u64::from(len)),
         Err(error) => refused(Refusal::from(error)),
     }
 }

@@ -214,7 +214,9 @@ impl Session {
             | Kind::AddUsed
             | Kind::NeedsNotification
             | Kind::EnableNotification
-            | Kind::DisableNotification => *answer = Answer::of_code(code::BAD_CALL),
+            | Kind::DisableNotification
+            | Kind::BeginRequest
+            | Kind::FinishRequest => *answer = Answer::of_code(code::BAD_CALL),
         }
     }
 

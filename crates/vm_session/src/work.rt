@@ -3,13 +3,14 @@ ghost use Rattle.std.specs.Prelude.{◌≡◌, ◌<◌, ◌^◌, IsTrue};
 ghost use Rattle.vm_memory_guest.specs.Host.{shape_of, Holds};
 ghost use Rattle.vm_session.specs.Kinds.{is_work};
 ghost use Rattle.vm_memory.specs.Parts.{state_of};
-ghost use Rattle.vm_session.specs.Queues.{ReadsInto, ReturnsIf, Works, WorksOn};
+ghost use Rattle.vm_session.specs.Queues.{BeginsRequest, FinishesIf, ReadsInto, ReturnsIf, Works, WorksOn, terms_of};
 
 use crate::answer::refused;
-use crate::call::{Answer, Call, Kind};
+use crate::call::{Answer, Call, Kind, read_only_of};
 use crate::code;
 use crate::queue::SessionQueue;
 use std::alloc::Global;
+use virtio_blk::Terms;
 use vm_memory::{Machine, Work};
 use vm_memory_base::{Bitmap, ExactBitmap};
 use vm_memory_device::Iommu;
@@ -69,6 +70,44 @@ fn return_if<M: GuestMemory, B: Bitmap>(
     }
 }
 
+// What a chain in flight asks for, if the call says what it is held against.
+fn begin_if<M: GuestMemory, B: Bitmap>(
+    queue: &SessionQueue,
+    mem: &M,
+    host: &HostMemory<B>,
+    call: &Call,
+) -> Answer
+    requires { Holds (shape_of host.now) (M.names mem.now) }
+    ensures { BeginsRequest (M.memory mem.now) host.now queue.now call.now.third (terms_of call.now) result }
+{
+    let Some(read_only) = read_only_of(call.access) else {
+        return Answer::of_code(code::BAD_CALL);
+    };
+    let terms = Terms {
+        sectors: call.target,
+        read_only,
+        acked: call.value,
+    };
+    queue.begin(mem, host, call.third, terms)
+}
+
+// Finishes the request of a chain in flight, if the status is a number of 8 bits.
+fn finish_if<M: GuestMemory, B: Bitmap>(
+    queue: &SessionQueue,
+    mem: &M,
+    host: &mut HostMemory<B>,
+    call: &Call,
+) -> Answer
+    requires { Holds (shape_of host.old) (M.names mem.now) }
+    ensures finished { FinishesIf B.marks (M.memory mem.now) call.now queue.now host.old result host.new }
+    ensures shape { shape_of host.new ≡ shape_of host.old }
+{
+    match u8::try_from(call.value) {
+        Ok(status) => queue.finish(mem, host, call.third, status, call.length),
+        Err(_) => Answer::of_code(code::BAD_CALL),
+    }
+}
+
 impl<B: Bitmap> Work<B> for QueueWork<'_> {
     // It keeps its references: what they point to is what the caller finds then.
     ghost does = { λ w m host after host'. (after.queue.ghost_name ≡ w.queue.ghost_name)
@@ -94,6 +133,8 @@ impl<B: Bitmap> Work<B> for QueueWork<'_> {
             Kind::NeedsNotification => self.answer = self.queue.needs_notification(mem, host),
             Kind::EnableNotification => self.answer = self.queue.enable_notification(mem, host),
             Kind::DisableNotification => self.answer = self.queue.disable_notification(mem, host),
+            Kind::BeginRequest => self.answer = begin_if(self.queue, mem, host, call),
+            Kind::FinishRequest => self.answer = finish_if(self.queue, mem, host, call),
             _ => unreachable!(),
         }
     }
