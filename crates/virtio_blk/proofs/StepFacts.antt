@@ -383,8 +383,7 @@ module _ {B : Type 0} (m : Memory) (host : Host B) (es : List Entry) where
           (WhyNot m (header_fault m host.tables es))
       go (Ok count) told f r =
           let count_is = answered_count m host.tables permissions.Read left (length (buffer_of filled header)) count x f told in
-          let some = ended_some count (length x.path) (length (buffer_of filled header)) _ x.error (omega (arith, short, all)) f.ends told in
-          (
+          let some = ended_some count (length x.path) (length (buffer_of filled header)) _ x.error (omega (arith, short, all)) f.ends told in (
             omega (arith, some, count_is),
             subst (λ (xs : List ℕ). HeaderSoFar (filled + count) xs after) (sym part)
                 (header_more filled count header (buffer_of filled header) got left after x.path h all count_is r.within r.front is
