@@ -50,7 +50,7 @@ fn monitor() -> Result<(), Box<dyn Error>> {
     let ram = memfd(SIZE)?;
     let machine = Machine::new()?;
     let block = machine.shared_block(SIZE as usize, PAGE as usize, Some((ram.as_fd(), 0)))?;
-    let layout = machine.layout(&[machine.region(block.number(), GuestAddress(BASE))?])?;
+    let layout = machine.layout(&[machine.region(block.id(), GuestAddress(BASE))?])?;
     let memory = machine.memory(machine.plain(layout)?).ok_or("no memory")?;
 
     let mut guest = Command::new(env::current_exe()?);
@@ -71,6 +71,6 @@ fn monitor() -> Result<(), Box<dyn Error>> {
     if !guest.wait()?.success() {
         return Err("the guest failed".into());
     }
-    println!("dirty pages: {:?}", machine.harvest_block(block.number())?);
+    println!("dirty pages: {:?}", machine.harvest_block(block.id())?);
     Ok(())
 }

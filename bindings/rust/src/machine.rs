@@ -3,6 +3,7 @@
 use crate::error::{error_of, MachineError};
 use crate::ffi::Session;
 use crate::memory::{GuestAddress, GuestMemory};
+use crate::number::{BlockId, LayoutId, MemoryId, RegionId, SpaceId, TableId, TranslatorId};
 use crate::raw::{code, kind, Answer, Call};
 use std::fmt;
 use std::ops::BitOr;
@@ -70,7 +71,8 @@ pub struct IotlbFails {
 
 /// A machine, for which blocks, spaces, tables, regions and translators are made at any time.
 ///
-/// These, layouts and memories go by number, from 0 in the order of making, each kind by itself.
+/// These, layouts and memories go by number, from 0 in the order of making, each kind by itself. A number means nothing to
+/// another machine.
 pub struct Machine {
     session: Session,
 }
@@ -123,27 +125,29 @@ impl Machine {
     // ---- setup
 
     /// Makes a block of `size` bytes, all zero, with dirty pages of `page_size` bytes.
-    pub fn block(&self, size: usize, page_size: usize) -> Result<usize, MachineError> {
+    pub fn block(&self, size: usize, page_size: usize) -> Result<BlockId, MachineError> {
         self.made(Call {
             kind: kind::BLOCK,
             length: size,
             other_length: page_size,
             ..Call::default()
         })
+        .map(BlockId::new)
     }
 
     /// Makes a space: a bitmap for `size` I/O addresses, with pages of `page_size`.
-    pub fn space(&self, size: usize, page_size: usize) -> Result<usize, MachineError> {
+    pub fn space(&self, size: usize, page_size: usize) -> Result<SpaceId, MachineError> {
         self.made(Call {
             kind: kind::SPACE,
             length: size,
             other_length: page_size,
             ..Call::default()
         })
+        .map(SpaceId::new)
     }
 
     /// Makes an I/O table that maps nothing, with a limit of its ranges, or with none.
-    pub fn table(&self, limit: Option<usize>) -> Result<usize, MachineError> {
+    pub fn table(&self, limit: Option<usize>) -> Result<TableId, MachineError> {
         self.made(Call {
             kind: if limit.is_some() {
                 kind::LIMITED_TABLE
@@ -153,96 +157,111 @@ impl Machine {
             length: limit.unwrap_or(0),
             ..Call::default()
         })
+        .map(TableId::new)
     }
 
     /// Makes a region of a whole block at an address.
-    pub fn region(&self, block: usize, addr: GuestAddress) -> Result<usize, MachineError> {
+    pub fn region(&self, block: BlockId, addr: GuestAddress) -> Result<RegionId, MachineError> {
         self.made(Call {
             kind: kind::REGION,
-            first: block,
+            first: block.number(),
             address: addr.0,
             ..Call::default()
         })
+        .map(RegionId::new)
     }
 
     /// Makes a translator over a table.
-    pub fn translator(&self, table: usize) -> Result<usize, MachineError> {
+    pub fn translator(&self, table: TableId) -> Result<TranslatorId, MachineError> {
         self.made(Call {
             kind: kind::TRANSLATOR,
-            first: table,
+            first: table.number(),
             ..Call::default()
         })
+        .map(TranslatorId::new)
     }
 
     // ---- layouts and memories
 
     /// Makes the layout of these regions, which have to ascend.
-    pub fn layout(&self, regions: &[usize]) -> Result<usize, MachineError> {
+    pub fn layout(&self, regions: &[RegionId]) -> Result<LayoutId, MachineError> {
         let call = Call {
             kind: kind::LAYOUT,
             ..Call::default()
         };
-        let answer = self.call(&call, &list(regions.iter().map(|number| *number as u64)), &mut []);
-        Ok(answered(answer)?.value as usize)
+        let input = list(regions.iter().map(|region| region.number() as u64));
+        let answer = answered(self.call(&call, &input, &mut []))?;
+        Ok(LayoutId::new(answer.value as usize))
     }
 
     /// Makes a layout of one with a region more.
-    pub fn insert(&self, layout: usize, region: usize) -> Result<usize, MachineError> {
+    pub fn insert(&self, layout: LayoutId, region: RegionId) -> Result<LayoutId, MachineError> {
         self.made(Call {
             kind: kind::INSERT,
-            first: layout,
-            second: region,
+            first: layout.number(),
+            second: region.number(),
             ..Call::default()
         })
+        .map(LayoutId::new)
     }
 
     /// Makes a layout of one without its region of `size` bytes at `base`.
-    pub fn remove(&self, layout: usize, base: GuestAddress, size: usize) -> Result<usize, MachineError> {
+    pub fn remove(&self, layout: LayoutId, base: GuestAddress, size: usize) -> Result<LayoutId, MachineError> {
         self.made(Call {
             kind: kind::REMOVE,
-            first: layout,
+            first: layout.number(),
             address: base.0,
             length: size,
             ..Call::default()
         })
+        .map(LayoutId::new)
     }
 
     /// Makes a memory of a layout, without an IOMMU.
-    pub fn plain(&self, layout: usize) -> Result<usize, MachineError> {
+    pub fn plain(&self, layout: LayoutId) -> Result<MemoryId, MachineError> {
         self.made(Call {
             kind: kind::PLAIN,
-            first: layout,
+            first: layout.number(),
             ..Call::default()
         })
+        .map(MemoryId::new)
     }
 
     /// Makes a memory of a layout behind a translator, whose writes mark a space. The IOMMU is on or off.
-    pub fn new_memory(&self, layout: usize, translator: usize, space: usize, on: bool) -> Result<usize, MachineError> {
+    pub fn new_memory(
+        &self,
+        layout: LayoutId,
+        translator: TranslatorId,
+        space: SpaceId,
+        on: bool,
+    ) -> Result<MemoryId, MachineError> {
         self.made(Call {
             kind: kind::MEMORY,
-            first: layout,
-            second: translator,
-            third: space,
+            first: layout.number(),
+            second: translator.number(),
+            third: space.number(),
             value: on.into(),
             ..Call::default()
         })
+        .map(MemoryId::new)
     }
 
     /// Makes a memory of a layout with the translator, the space and the switch of another.
-    pub fn replace_backend(&self, memory: usize, layout: usize) -> Result<usize, MachineError> {
+    pub fn replace_backend(&self, memory: MemoryId, layout: LayoutId) -> Result<MemoryId, MachineError> {
         self.made(Call {
             kind: kind::REPLACE,
-            first: memory,
-            second: layout,
+            first: memory.number(),
+            second: layout.number(),
             ..Call::default()
         })
+        .map(MemoryId::new)
     }
 
     /// Turns the IOMMU of a memory on or off.
-    pub fn set_iommu_enabled(&self, memory: usize, on: bool) -> Result<(), MachineError> {
+    pub fn set_iommu_enabled(&self, memory: MemoryId, on: bool) -> Result<(), MachineError> {
         let call = Call {
             kind: kind::ENABLE,
-            first: memory,
+            first: memory.number(),
             value: on.into(),
             ..Call::default()
         };
@@ -250,26 +269,26 @@ impl Machine {
     }
 
     /// A memory, if there is one of this number. It lends the machine.
-    pub fn memory(&self, number: usize) -> Option<GuestMemory<'_>> {
+    pub fn memory(&self, id: MemoryId) -> Option<GuestMemory<'_>> {
         let call = Call {
             kind: kind::CHECK_RANGE,
-            first: number,
+            first: id.number(),
             ..Call::default()
         };
-        self.ask(call).ok().map(|_| GuestMemory::new(self, number))
+        self.ask(call).ok().map(|_| GuestMemory::new(self, id))
     }
 
     // ---- blocks
 
     /// Copies the first bytes of a range of a block, as block, offset and length, to the front of another, up to the
     /// length of the shorter.
-    pub fn copy(&self, from: (usize, usize, usize), to: (usize, usize, usize)) -> Result<(), MachineError> {
+    pub fn copy(&self, from: (BlockId, usize, usize), to: (BlockId, usize, usize)) -> Result<(), MachineError> {
         let call = Call {
             kind: kind::COPY,
-            first: from.0,
+            first: from.0.number(),
             address: from.1 as u64,
             length: from.2,
-            second: to.0,
+            second: to.0.number(),
             target: to.1 as u64,
             other_length: to.2,
             ..Call::default()
@@ -282,7 +301,7 @@ impl Machine {
     /// Maps `length` I/O addresses of a table, from `iova` on, to those from `map_to` on.
     pub fn set_mapping(
         &self,
-        table: usize,
+        table: TableId,
         iova: GuestAddress,
         map_to: GuestAddress,
         length: usize,
@@ -290,7 +309,7 @@ impl Machine {
     ) -> Result<(), MachineError> {
         let call = Call {
             kind: kind::SET,
-            first: table,
+            first: table.number(),
             address: iova.0,
             target: map_to.0,
             length,
@@ -301,10 +320,10 @@ impl Machine {
     }
 
     /// Takes back the mappings of `length` I/O addresses of a table, from `iova` on.
-    pub fn invalidate_mapping(&self, table: usize, iova: GuestAddress, length: usize) -> Result<(), MachineError> {
+    pub fn invalidate_mapping(&self, table: TableId, iova: GuestAddress, length: usize) -> Result<(), MachineError> {
         let call = Call {
             kind: kind::INVALIDATE,
-            first: table,
+            first: table.number(),
             address: iova.0,
             length,
             ..Call::default()
@@ -313,10 +332,10 @@ impl Machine {
     }
 
     /// Takes back all mappings of a table.
-    pub fn invalidate_all(&self, table: usize) -> Result<(), MachineError> {
+    pub fn invalidate_all(&self, table: TableId) -> Result<(), MachineError> {
         let call = Call {
             kind: kind::INVALIDATE_ALL,
-            first: table,
+            first: table.number(),
             ..Call::default()
         };
         self.ask(call).map(drop)
@@ -326,14 +345,14 @@ impl Machine {
     /// missed and what fails.
     pub fn lookup(
         &self,
-        table: usize,
+        table: TableId,
         iova: GuestAddress,
         length: usize,
         access: Permissions,
     ) -> Result<Result<Vec<MappedRange>, IotlbFails>, MachineError> {
         let call = Call {
             kind: kind::LOOKUP,
-            first: table,
+            first: table.number(),
             address: iova.0,
             length,
             access: access as u32,
@@ -360,32 +379,32 @@ impl Machine {
     // ---- dirty pages
 
     /// The numbers of the dirty pages of a block, ascending.
-    pub fn dirty_block(&self, block: usize) -> Result<Vec<usize>, MachineError> {
-        self.pages(kind::DIRTY_BLOCK, block)
+    pub fn dirty_block(&self, block: BlockId) -> Result<Vec<usize>, MachineError> {
+        self.pages(kind::DIRTY_BLOCK, block.number())
     }
 
     /// The numbers of the dirty pages of a space, ascending.
-    pub fn dirty_space(&self, space: usize) -> Result<Vec<usize>, MachineError> {
-        self.pages(kind::DIRTY_SPACE, space)
+    pub fn dirty_space(&self, space: SpaceId) -> Result<Vec<usize>, MachineError> {
+        self.pages(kind::DIRTY_SPACE, space.number())
     }
 
     /// Takes the dirty pages of a block: none of them is dirty then.
-    pub fn harvest_block(&self, block: usize) -> Result<Vec<usize>, MachineError> {
-        self.pages(kind::HARVEST_BLOCK, block)
+    pub fn harvest_block(&self, block: BlockId) -> Result<Vec<usize>, MachineError> {
+        self.pages(kind::HARVEST_BLOCK, block.number())
     }
 
     /// Takes the dirty pages of a space: none of them is dirty then.
-    pub fn harvest_space(&self, space: usize) -> Result<Vec<usize>, MachineError> {
-        self.pages(kind::HARVEST_SPACE, space)
+    pub fn harvest_space(&self, space: SpaceId) -> Result<Vec<usize>, MachineError> {
+        self.pages(kind::HARVEST_SPACE, space.number())
     }
 
     /// Marks the pages of `len` bytes of a block from `offset` on as dirty, as a write of these bytes would. It reads and
     /// writes none of them: it is for bytes of a shared block that a guest wrote by itself. `NoSuch` if there is no such
     /// block, `BadRange` if the range passes its end.
-    pub fn mark_block(&self, block: usize, offset: usize, len: usize) -> Result<(), MachineError> {
+    pub fn mark_block(&self, block: BlockId, offset: usize, len: usize) -> Result<(), MachineError> {
         let call = Call {
             kind: kind::MARK_BLOCK,
-            first: block,
+            first: block.number(),
             address: offset as u64,
             length: len,
             ..Call::default()

@@ -2,6 +2,7 @@
 
 use crate::error::{error_of, GuestMemoryError};
 use crate::machine::{Machine, Permissions};
+use crate::number::MemoryId;
 use crate::raw::{code, kind, Answer, Call};
 use crate::value::{AtomicAccess, ByteValued};
 use std::sync::atomic::Ordering;
@@ -15,12 +16,12 @@ pub struct GuestAddress(pub u64);
 #[derive(Clone, Copy, Debug)]
 pub struct GuestMemory<'a> {
     machine: &'a Machine,
-    number: usize,
+    id: MemoryId,
 }
 
 impl<'a> GuestMemory<'a> {
-    pub(crate) fn new(machine: &'a Machine, number: usize) -> GuestMemory<'a> {
-        GuestMemory { machine, number }
+    pub(crate) fn new(machine: &'a Machine, id: MemoryId) -> GuestMemory<'a> {
+        GuestMemory { machine, id }
     }
 
     /// The machine that has it.
@@ -29,15 +30,15 @@ impl<'a> GuestMemory<'a> {
     }
 
     /// Its number.
-    pub fn number(&self) -> usize {
-        self.number
+    pub fn id(&self) -> MemoryId {
+        self.id
     }
 
     #[inline]
     pub(crate) fn at(&self, kind: u32, addr: GuestAddress, length: usize) -> Call {
         Call {
             kind,
-            first: self.number,
+            first: self.id.number(),
             address: addr.0,
             length,
             ..Call::default()

@@ -3,6 +3,7 @@
 use crate::error::{GuestMemoryError, MachineError};
 use crate::machine::{answered, list, zeroed, Machine};
 use crate::memory::GuestAddress;
+use crate::number::MemoryId;
 use crate::raw::{kind, Call};
 
 /// What a source does at its next tries. One with no step left is at its end.
@@ -68,7 +69,7 @@ impl Machine {
     /// Receives at most, or just, `count` bytes of a memory from a source that follows these steps.
     pub fn receive(
         &self,
-        memory: usize,
+        memory: MemoryId,
         addr: GuestAddress,
         count: usize,
         steps: &[SourceStep],
@@ -76,7 +77,7 @@ impl Machine {
     ) -> Result<usize, MachineError> {
         let call = Call {
             kind: if exact { kind::READ_EXACT_FROM } else { kind::READ_FROM },
-            first: memory,
+            first: memory.number(),
             address: addr.0,
             length: count,
             ..Call::default()
@@ -87,7 +88,7 @@ impl Machine {
     /// Sends at most, or just, `count` bytes of a memory to a sink that follows these steps.
     pub fn send(
         &self,
-        memory: usize,
+        memory: MemoryId,
         addr: GuestAddress,
         count: usize,
         steps: &[SinkStep],
@@ -95,7 +96,7 @@ impl Machine {
     ) -> Result<Sent, MachineError> {
         let call = Call {
             kind: if exact { kind::WRITE_ALL_TO } else { kind::WRITE_TO },
-            first: memory,
+            first: memory.number(),
             address: addr.0,
             length: count,
             ..Call::default()

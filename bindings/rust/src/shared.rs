@@ -3,6 +3,7 @@
 use crate::error::MachineError;
 use crate::heap::{self, Mapping};
 use crate::machine::{answered, Machine};
+use crate::number::BlockId;
 use std::error;
 use std::fmt;
 use std::fs::File;
@@ -12,15 +13,15 @@ use std::os::fd::{BorrowedFd, OwnedFd};
 /// A block of a machine, whose bytes are a mapping that a guest may have, too.
 #[derive(Clone, Copy, Debug, PartialEq, Eq)]
 pub struct SharedBlock {
-    number: usize,
+    id: BlockId,
     address: usize,
     len: usize,
 }
 
 impl SharedBlock {
-    /// The number of the block.
-    pub fn number(&self) -> usize {
-        self.number
+    /// Its number, as of every block.
+    pub fn id(&self) -> BlockId {
+        self.id
     }
 
     /// Where its bytes lie, as long as its machine is there. Nothing may write them while a call of the machine runs,
@@ -52,7 +53,7 @@ pub enum SharedBlockError {
     /// There is a block, but it has private memory: its mapping could not be moved.
     NotShared {
         /// Its number.
-        number: usize,
+        id: BlockId,
         /// Why.
         error: io::Error,
     },
@@ -66,10 +67,11 @@ impl fmt::Display for SharedBlockError {
             SharedBlockError::FileShort => write!(f, "the file ends before the block"),
             SharedBlockError::NotMapped(error) => write!(f, "the file could not be mapped: {error}"),
             SharedBlockError::Machine(error) => error.fmt(f),
-            SharedBlockError::NotShared { number, error } => {
+            SharedBlockError::NotShared { id, error } => {
                 write!(
                     f,
-                    "block {number} has private memory, as its mapping could not be moved: {error}"
+                    "block {} has private memory, as its mapping could not be moved: {error}",
+                    id.number()
                 )
             }
         }
@@ -97,14 +99,15 @@ impl Machine {
         check(size, file)?;
         let bytes = Mapping::of(size, file).map_err(SharedBlockError::NotMapped)?;
         let (answer, moved) = heap::block_over(self.session(), page_size, bytes);
-        let number = answered(answer).map_err(SharedBlockError::Machine)?.value as usize;
+        let answer = answered(answer).map_err(SharedBlockError::Machine)?;
+        let id = BlockId::new(answer.value as usize);
         match moved {
             Ok(at) => Ok(SharedBlock {
-                number,
+                id,
                 address: at as usize,
                 len: size,
             }),
-            Err(error) => Err(SharedBlockError::NotShared { number, error }),
+            Err(error) => Err(SharedBlockError::NotShared { id, error }),
         }
     }
 }

@@ -4,8 +4,8 @@
 use std::io::{self, Cursor, ErrorKind, Read, Write};
 use std::sync::atomic::Ordering::{Relaxed, SeqCst};
 use vm_memory_proved::{
-    GuestAddress, GuestMemoryError, GuestRegionCollectionError, IommuError, IotlbFails, IovaRange, Machine,
-    MachineError, MappedRange, Permissions, Reason,
+    BlockId, GuestAddress, GuestMemoryError, GuestRegionCollectionError, IommuError, IotlbFails, IovaRange, Machine,
+    MachineError, MappedRange, MemoryId, Permissions, Reason, RegionId,
 };
 
 fn at(addr: u64) -> GuestAddress {
@@ -13,16 +13,16 @@ fn at(addr: u64) -> GuestAddress {
 }
 
 // A machine with regions of these sizes and addresses, pages of 16 bytes, and a memory of all.
-fn machine_of(regions: &[(usize, u64)]) -> (Machine, usize) {
+fn machine_of(regions: &[(usize, u64)]) -> (Machine, MemoryId) {
     let machine = Machine::new().unwrap();
-    let numbers: Vec<usize> = regions
+    let regions: Vec<RegionId> = regions
         .iter()
         .map(|(size, addr)| {
             let block = machine.block(*size, 16).unwrap();
             machine.region(block, at(*addr)).unwrap()
         })
         .collect();
-    let layout = machine.layout(&numbers).unwrap();
+    let layout = machine.layout(&regions).unwrap();
     let memory = machine.plain(layout).unwrap();
     (machine, memory)
 }
@@ -39,7 +39,7 @@ fn first_accesses() {
     let refused = memory.read(&mut buf, at(0x3000)).unwrap_err();
     assert!(matches!(refused, GuestMemoryError::InvalidGuestAddress(addr) if addr == at(0x3000)));
     assert_eq!(refused.to_string(), "Guest memory error: invalid guest address 12288");
-    assert!(machine.memory(1).is_none());
+    assert!(machine.memory(MemoryId::new(1)).is_none());
 }
 
 #[test]
@@ -327,9 +327,10 @@ fn lists_are_as_long_as_they_have_to_be() {
     let memory = machine.memory(memory).unwrap();
     memory.write_slice(&[1; 0x8000], at(0)).unwrap();
     let all: Vec<usize> = (0..0x800).collect();
-    assert_eq!(machine.dirty_block(0).unwrap(), all);
-    assert_eq!(machine.harvest_block(0).unwrap(), all);
-    assert_eq!(machine.harvest_block(0).unwrap(), [0usize; 0]);
+    let block = BlockId::new(0);
+    assert_eq!(machine.dirty_block(block).unwrap(), all);
+    assert_eq!(machine.harvest_block(block).unwrap(), all);
+    assert_eq!(machine.harvest_block(block).unwrap(), [0usize; 0]);
 }
 
 #[test]
@@ -343,13 +344,16 @@ fn setups_and_layouts_are_refused() {
         machine.region(block, at(u64::MAX - 8)),
         Err(MachineError::InvalidRegion)
     ));
-    assert!(matches!(machine.region(3, at(0)), Err(MachineError::NoSuch)));
+    assert!(matches!(
+        machine.region(BlockId::new(3), at(0)),
+        Err(MachineError::NoSuch)
+    ));
     let (low, high) = (
         machine.region(block, at(0)).unwrap(),
         machine.region(block, at(8)).unwrap(),
     );
     let far = machine.region(block, at(0x100)).unwrap();
-    let layout_error = |regions: &[usize]| match machine.layout(regions) {
+    let layout_error = |regions: &[RegionId]| match machine.layout(regions) {
         Err(MachineError::Layout(error)) => error,
         other => panic!("{other:?}"),
     };

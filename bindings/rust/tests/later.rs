@@ -4,7 +4,10 @@ mod guest;
 
 use guest::Guest;
 use std::os::fd::{AsFd, OwnedFd};
-use vm_memory_proved::{memfd, GuestAddress, Machine, MachineError, Permissions};
+use vm_memory_proved::{
+    memfd, BlockId, GuestAddress, LayoutId, Machine, MachineError, MemoryId, Permissions, RegionId, TableId,
+    TranslatorId,
+};
 
 const PAGE: usize = 0x1000;
 const GAP: u64 = 0x800;
@@ -39,15 +42,17 @@ struct Plugged {
 struct Model {
     blocks: Vec<Plugged>,
     // Of each memory its number of blocks, and its table if it lies behind an IOMMU.
-    memories: Vec<(usize, Option<usize>)>,
-    layout: Option<usize>,
+    memories: Vec<(usize, Option<TableId>)>,
+    layout: Option<LayoutId>,
     layouts: usize,
     tables: usize,
 }
 
 impl Model {
     fn end(&self) -> u64 {
-        self.blocks.last().map_or(0x1_0000, |block| block.start + block.bytes.len() as u64)
+        self.blocks
+            .last()
+            .map_or(0x1_0000, |block| block.start + block.bytes.len() as u64)
     }
 
     // Plugs a block in behind the others, or behind a gap, and makes a memory of all, with or without an IOMMU.
@@ -63,11 +68,12 @@ impl Model {
         match &file {
             Some((file, _)) => {
                 let block = machine.shared_block(size, PAGE, Some((file.as_fd(), 0))).unwrap();
-                assert_eq!(block.number(), number);
+                assert_eq!(block.id().number(), number);
             }
-            None => assert_eq!(machine.block(size, PAGE).unwrap(), number),
+            None => assert_eq!(machine.block(size, PAGE).unwrap().number(), number),
         }
-        assert_eq!(machine.region(number, GuestAddress(start)).unwrap(), number);
+        let region = machine.region(BlockId::new(number), GuestAddress(start)).unwrap();
+        assert_eq!(region.number(), number);
         self.blocks.push(Plugged {
             bytes: vec![0; size],
             dirty: vec![false; size / PAGE],
@@ -75,10 +81,10 @@ impl Model {
             file,
         });
         let layout = match self.layout {
-            None => machine.layout(&[number]),
-            Some(layout) => machine.insert(layout, number),
+            None => machine.layout(&[region]),
+            Some(layout) => machine.insert(layout, region),
         };
-        assert_eq!(layout.as_ref().unwrap(), &self.layouts);
+        assert_eq!(layout.as_ref().unwrap().number(), self.layouts);
         self.layouts += 1;
         self.layout = layout.ok();
         let layout = self.layout.unwrap();
@@ -86,19 +92,19 @@ impl Model {
             self.memories.push((number + 1, None));
             machine.plain(layout).unwrap()
         } else {
-            let table = self.tables;
+            let (space, table) = (machine.space(1 << 20, PAGE).unwrap(), machine.table(None).unwrap());
+            let translator = machine.translator(table).unwrap();
+            let numbers = [space.number(), table.number(), translator.number()];
+            assert_eq!(numbers, [self.tables; 3]);
             self.tables += 1;
-            assert_eq!(machine.space(1 << 20, PAGE).unwrap(), table);
-            assert_eq!(machine.table(None).unwrap(), table);
-            assert_eq!(machine.translator(table).unwrap(), table);
             let all = Permissions::ReadWrite;
             machine
                 .set_mapping(table, GuestAddress(0), GuestAddress(0), 1 << 20, all)
                 .unwrap();
             self.memories.push((number + 1, Some(table)));
-            machine.new_memory(layout, table, table, true).unwrap()
+            machine.new_memory(layout, translator, space, true).unwrap()
         };
-        assert_eq!(memory, self.memories.len() - 1);
+        assert_eq!(memory.number(), self.memories.len() - 1);
     }
 
     // Where a byte of a memory lies: the block and the offset.
@@ -112,7 +118,9 @@ impl Model {
 
     // The bytes that an access reaches: up to the first address without one.
     fn path(&self, memory: usize, address: u64, count: usize) -> Vec<(usize, usize)> {
-        (0..count as u64).map_while(|i| self.cell(memory, address + i)).collect()
+        (0..count as u64)
+            .map_while(|i| self.cell(memory, address + i))
+            .collect()
     }
 
     fn access(&mut self, machine: &Machine, numbers: &mut Numbers) {
@@ -120,7 +128,7 @@ impl Model {
         let address = 0x1_0000 + numbers.below((self.end() - 0x1_0000 + GAP) as usize) as u64;
         let count = 1 + numbers.below(0x1800);
         let path = self.path(memory, address, count);
-        let guest_memory = machine.memory(memory).unwrap();
+        let guest_memory = machine.memory(MemoryId::new(memory)).unwrap();
         let mut bytes: Vec<u8> = (0..count).map(|_| numbers.any() as u8).collect();
         if numbers.below(2) == 0 {
             let wrote = guest_memory.write(&bytes, GuestAddress(address));
@@ -144,7 +152,7 @@ impl Model {
     fn mark(&mut self, machine: &Machine, numbers: &mut Numbers) {
         let number = numbers.below(self.blocks.len() + 1);
         let (offset, len) = (numbers.below(4 * PAGE), numbers.below(2 * PAGE));
-        let marked = machine.mark_block(number, offset, len);
+        let marked = machine.mark_block(BlockId::new(number), offset, len);
         match self.blocks.get_mut(number) {
             None => assert!(matches!(marked, Err(MachineError::NoSuch))),
             Some(block) if offset + len > block.bytes.len() => assert!(matches!(marked, Err(MachineError::BadRange))),
@@ -156,7 +164,8 @@ impl Model {
         let memory = numbers.below(self.memories.len());
         let address = 0x1_0000 + numbers.below((self.end() - 0x1_0000 + GAP) as usize) as u64;
         let path = self.path(memory, address, 1 + len);
-        let reached = machine.memory(memory).unwrap().mark_reached(GuestAddress(address), 1 + len);
+        let guest_memory = machine.memory(MemoryId::new(memory)).unwrap();
+        let reached = guest_memory.mark_reached(GuestAddress(address), 1 + len);
         assert_eq!(reached.unwrap_or(0), path.len());
         for (block, offset) in path {
             self.blocks[block].dirty[offset / PAGE] = true;
@@ -179,7 +188,7 @@ impl Model {
         let number = numbers.below(self.blocks.len());
         let dirty = &mut self.blocks[number].dirty;
         let pages: Vec<usize> = (0..dirty.len()).filter(|&page| dirty[page]).collect();
-        assert_eq!(machine.harvest_block(number).unwrap(), pages);
+        assert_eq!(machine.harvest_block(BlockId::new(number)).unwrap(), pages);
         dirty.fill(false);
     }
 }
@@ -212,24 +221,37 @@ fn refusals_after_a_command_make_nothing() {
     let block = machine.block(2 * PAGE, PAGE).unwrap();
     let region = machine.region(block, GuestAddress(0)).unwrap();
     let memory = machine.plain(machine.layout(&[region]).unwrap()).unwrap();
-    machine.memory(memory).unwrap().write_slice(&[7; 3], GuestAddress(5)).unwrap();
+    machine
+        .memory(memory)
+        .unwrap()
+        .write_slice(&[7; 3], GuestAddress(5))
+        .unwrap();
     assert!(matches!(machine.block(0, PAGE), Err(MachineError::InvalidSize)));
     assert!(matches!(machine.block(PAGE, 0), Err(MachineError::BadCall)));
-    assert!(matches!(machine.region(1, GuestAddress(0)), Err(MachineError::NoSuch)));
+    let next = BlockId::new(1);
+    assert!(matches!(
+        machine.region(next, GuestAddress(0)),
+        Err(MachineError::NoSuch)
+    ));
     assert!(matches!(
         machine.region(block, GuestAddress(u64::MAX - PAGE as u64)),
         Err(MachineError::InvalidRegion)
     ));
-    assert!(matches!(machine.translator(0), Err(MachineError::NoSuch)));
+    assert!(matches!(machine.translator(TableId::new(0)), Err(MachineError::NoSuch)));
     assert!(matches!(machine.table(Some(0)), Err(MachineError::BadCall)));
     assert!(matches!(machine.space(PAGE, 0), Err(MachineError::BadCall)));
-    assert_eq!(machine.block(PAGE, PAGE).unwrap(), 1);
-    assert_eq!(machine.region(1, GuestAddress(2 * PAGE as u64)).unwrap(), 1);
-    assert_eq!(machine.table(Some(3)).unwrap(), 0);
-    assert_eq!(machine.translator(0).unwrap(), 0);
-    assert_eq!(machine.space(PAGE, PAGE).unwrap(), 0);
+    assert_eq!(machine.block(PAGE, PAGE).unwrap(), next);
+    let region = machine.region(next, GuestAddress(2 * PAGE as u64));
+    assert_eq!(region.unwrap(), RegionId::new(1));
+    assert_eq!(machine.table(Some(3)).unwrap(), TableId::new(0));
+    assert_eq!(machine.translator(TableId::new(0)).unwrap(), TranslatorId::new(0));
+    assert_eq!(machine.space(PAGE, PAGE).unwrap().number(), 0);
     let mut bytes = [0; 3];
-    machine.memory(memory).unwrap().read_slice(&mut bytes, GuestAddress(5)).unwrap();
+    machine
+        .memory(memory)
+        .unwrap()
+        .read_slice(&mut bytes, GuestAddress(5))
+        .unwrap();
     assert_eq!(bytes, [7; 3]);
     assert_eq!(machine.harvest_block(block).unwrap(), [0]);
 }

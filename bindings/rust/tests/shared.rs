@@ -12,8 +12,8 @@ use std::sync::atomic::AtomicBool;
 use std::sync::atomic::Ordering::SeqCst;
 use std::thread;
 use vm_memory_proved::{
-    memfd, GuestAddress, GuestMemory, GuestMemoryError, Machine, MachineError, Permissions, SharedBlock,
-    SharedBlockError,
+    memfd, GuestAddress, GuestMemory, GuestMemoryError, Machine, MachineError, MemoryId, Permissions, SharedBlock,
+    SharedBlockError, SpaceId,
 };
 
 const PAGE: usize = 0x1000;
@@ -40,11 +40,11 @@ fn shared(machine: &Machine, pages: usize, file: Option<(&OwnedFd, usize)>) -> S
 }
 
 // A memory of these blocks in a row from BASE on, and one with the same addresses behind an IOMMU.
-fn memories(machine: &Machine, blocks: &[SharedBlock]) -> [usize; 2] {
+fn memories(machine: &Machine, blocks: &[SharedBlock]) -> [MemoryId; 2] {
     let mut addr = BASE;
     let mut regions = Vec::new();
     for block in blocks {
-        regions.push(machine.region(block.number(), at(addr)).unwrap());
+        regions.push(machine.region(block.id(), at(addr)).unwrap());
         addr += block.len() as u64;
     }
     let space = machine.space(2 * addr as usize, PAGE).unwrap();
@@ -166,9 +166,10 @@ fn each_sees_what_the_other_wrote() {
     }
     // A copy from one block to the next reads what the guest wrote, and the guest reads what it wrote.
     other.write(PAGE + 16, b"guest");
-    machine.copy((0, 16, 5), (1, 32, 5)).unwrap();
+    let [first, second, third] = [0, 1, 2].map(|i: usize| blocks[i].id());
+    machine.copy((first, 16, 5), (second, 32, 5)).unwrap();
     assert_eq!(other.read(32, 5), b"guest");
-    machine.copy((1, 32, 5), (2, 0, 5)).unwrap();
+    machine.copy((second, 32, 5), (third, 0, 5)).unwrap();
     assert_eq!(own.read(0, 5), b"guest");
     // The page of the file that no block has is as it was.
     assert_eq!(other.read(3 * PAGE, PAGE), [0; PAGE]);
@@ -206,16 +207,17 @@ fn pages_are_dirty_by_calls_alone() {
     let memory = machine.memory(plain).unwrap();
     other.write(0, &[7; 2 * PAGE]);
     assert_eq!(memory.load::<u64>(at(BASE), SeqCst).unwrap(), 0x0707_0707_0707_0707);
-    assert!(machine.dirty_block(0).unwrap().is_empty());
+    assert!(machine.dirty_block(block.id()).unwrap().is_empty());
     memory.write_slice(&[1; 2], at(BASE + 0x17ff)).unwrap();
     other.write(0, &[8; 16]);
-    assert_eq!(machine.dirty_block(0).unwrap(), [2, 3]);
-    assert_eq!(machine.harvest_block(0).unwrap(), [2, 3]);
+    assert_eq!(machine.dirty_block(block.id()).unwrap(), [2, 3]);
+    assert_eq!(machine.harvest_block(block.id()).unwrap(), [2, 3]);
     // Behind an IOMMU a write marks the space at its I/O address.
     let device = machine.memory(behind).unwrap();
     device.store(1_u8, at(BASE + 0x1000), SeqCst).unwrap();
-    assert!(machine.dirty_block(0).unwrap().is_empty());
-    assert_eq!(machine.harvest_space(0).unwrap(), [(BASE as usize + 0x1000) / PAGE]);
+    assert!(machine.dirty_block(block.id()).unwrap().is_empty());
+    let pages = machine.harvest_space(SpaceId::new(0)).unwrap();
+    assert_eq!(pages, [(BASE as usize + 0x1000) / PAGE]);
 }
 
 // ---- random calls
@@ -352,6 +354,7 @@ impl Beside<'_> {
         let (to_block, to_offset) = self.block_of(to);
         let room = (self.blocks[block].len() - offset).min(self.blocks[to_block].len() - to_offset);
         let len = numbers.below(600).min(room);
+        let [block, to_block] = [block, to_block].map(|i: usize| self.blocks[i].id());
         self.machine
             .copy((block, offset, len), (to_block, to_offset, len))
             .unwrap();
@@ -369,7 +372,7 @@ impl Beside<'_> {
             let first = self.first_of(i) / (PAGE / 2);
             pages.extend(
                 self.machine
-                    .harvest_block(block.number())
+                    .harvest_block(block.id())
                     .unwrap()
                     .iter()
                     .map(|page| first + page),
@@ -455,7 +458,7 @@ fn each_refusal_changes_nothing() {
     let sparse = memfd(1 << 46).unwrap();
     assert!(matches!(make((1 << 46, 1), Some((&sparse, 0))), Refused(Memory)));
     let block = shared(&machine, 1, Some((&file, 2)));
-    assert_eq!(block.number(), 0);
+    assert_eq!(block.id().number(), 0);
     memories(&machine, &[block]);
 }
 
@@ -492,9 +495,14 @@ fn a_guest_may_write_while_calls_run() {
             memory.read_slice(&mut bytes, at(BASE + turn % PAGE as u64)).unwrap();
             assert!(bytes.iter().all(|&byte| byte == 1 || byte == 0xfe));
             let mut sink = Vec::new();
-            memory.write_all_volatile_to(at(BASE + turn % 64), &mut sink, PAGE).unwrap();
+            memory
+                .write_all_volatile_to(at(BASE + turn % 64), &mut sink, PAGE)
+                .unwrap();
             assert!(sink.iter().all(|&byte| byte == 1 || byte == 0xfe));
-            machine.copy((0, turn as usize % PAGE, 64), (0, 3 * PAGE, 64)).unwrap();
+            let place = turn as usize % PAGE;
+            machine
+                .copy((block.id(), place, 64), (block.id(), 3 * PAGE, 64))
+                .unwrap();
             memory.write_obj(turn, at(BASE + 2 * PAGE as u64 + 3)).unwrap();
             assert_eq!(memory.read_obj::<u64>(at(BASE + 2 * PAGE as u64 + 3)).unwrap(), turn);
         }
@@ -520,10 +528,11 @@ fn a_block_whose_mapping_does_not_move_has_private_memory() {
             return;
         }
         let refused = make(pages * PAGE).unwrap_err();
-        assert!(
-            matches!(&refused, SharedBlockError::NotShared { number: 0, error } if error.raw_os_error() == Some(1))
-        );
-        let region = machine.region(0, at(BASE)).unwrap();
+        let SharedBlockError::NotShared { id, error } = refused else {
+            panic!("{refused}");
+        };
+        assert_eq!((id.number(), error.raw_os_error()), (0, Some(1)));
+        let region = machine.region(id, at(BASE)).unwrap();
         let plain = machine.plain(machine.layout(&[region]).unwrap()).unwrap();
         let memory = machine.memory(plain).unwrap();
         // All of it is zero, and each byte is there once.
@@ -553,7 +562,7 @@ fn a_block_whose_zeros_find_no_room_is_not_made() {
         let refused = make(1024).unwrap_err();
         assert!(matches!(refused, SharedBlockError::Machine(MachineError::Memory)));
         // A small one needs none, and is the first.
-        assert_eq!(make(512).unwrap().number(), 0);
+        assert_eq!(make(512).unwrap().id().number(), 0);
     };
     thread::scope(|scope| scope.spawn(run).join().unwrap());
 }
@@ -567,7 +576,7 @@ fn other_blocks_of_any_size_are_as_before() {
         let block = machine.block(size, PAGE).unwrap();
         let file = file_of(1);
         let other = shared(&machine, 1, Some((&file, 0)));
-        let [region, next] = [(block, BASE), (other.number(), BASE + size as u64)]
+        let [region, next] = [(block, BASE), (other.id(), BASE + size as u64)]
             .map(|(block, addr)| machine.region(block, at(addr)).unwrap());
         let plain = machine.plain(machine.layout(&[region, next]).unwrap()).unwrap();
         let memory = machine.memory(plain).unwrap();
@@ -596,8 +605,8 @@ fn threads_have_a_machine_each() {
                 .unwrap();
             assert_eq!(other.read(pages * PAGE - 64, 64), bytes);
             other.write(0, &[mark; 16]);
-            machine.copy((block.number(), 0, 16), (private, 8, 16)).unwrap();
-            machine.copy((private, 8, 16), (block.number(), 16, 16)).unwrap();
+            machine.copy((block.id(), 0, 16), (private, 8, 16)).unwrap();
+            machine.copy((private, 8, 16), (block.id(), 16, 16)).unwrap();
             assert_eq!(other.read(16, 16), [mark; 16]);
         }
     };

@@ -3,7 +3,7 @@
 
 use std::fs;
 use std::os::fd::AsFd;
-use vm_memory_proved::{memfd, GuestAddress, Machine, MachineError, SharedBlockError};
+use vm_memory_proved::{memfd, BlockId, GuestAddress, Machine, MachineError, SharedBlockError};
 
 const PAGE: usize = 0x1000;
 
@@ -26,10 +26,11 @@ fn round() {
             no_pages,
             Err(SharedBlockError::Machine(MachineError::BadCall))
         ));
-        let layout = machine.layout(&[machine.region(shared.number(), GuestAddress(0)).unwrap()]);
-        assert_eq!(layout.unwrap(), 0);
+        let layout = machine.layout(&[machine.region(shared.id(), GuestAddress(0)).unwrap()]);
+        assert_eq!(layout.unwrap().number(), 0);
         let late = machine.shared_block(pages * PAGE, PAGE, Some((file.as_fd(), 0)));
-        assert_eq!((private.number(), other, late.unwrap().number()), (1, 2, 3));
+        let ids = [private.id(), other, late.unwrap().id()];
+        assert_eq!(ids.map(BlockId::number), [1, 2, 3]);
     }
     // No memory for the list of dirty pages, and none for the bytes: a process has 2^47 addresses, and the file half.
     for page in [1, 1 << 20] {

@@ -32,11 +32,11 @@ fn a_block_of_1_gib() {
         println!("made in {made:?}, {more} KiB more");
         // No byte of the file was written.
         assert_eq!(file.metadata().unwrap().blocks(), 0);
-        let region = machine.region(block.number(), GuestAddress(0)).unwrap();
+        let region = machine.region(block.id(), GuestAddress(0)).unwrap();
         let plain = machine.plain(machine.layout(&[region]).unwrap()).unwrap();
         let memory = machine.memory(plain).unwrap();
         memory.write_slice(&[1], GuestAddress(SIZE as u64 - 1)).unwrap();
-        assert_eq!(machine.harvest_block(block.number()).unwrap(), [SIZE / 0x1000 - 1]);
+        assert_eq!(machine.harvest_block(block.id()).unwrap(), [SIZE / 0x1000 - 1]);
         drop(machine);
 
         // Bytes of 1, as no one writes what the system gives as zeros.

@@ -4,7 +4,7 @@
 mod lines;
 
 use std::io::Cursor;
-use vm_memory_proved::{GuestAddress, GuestMemory, GuestMemoryError, Machine};
+use vm_memory_proved::{BlockId, GuestAddress, GuestMemory, GuestMemoryError, Machine, MemoryId, SpaceId};
 
 const PLAIN: usize = 0;
 const BEHIND: usize = 1;
@@ -156,14 +156,14 @@ fn received(memory: &GuestMemory<'_>, addr: u64, count: usize, whole: bool, byte
 
 // All bytes, and what is dirty.
 fn state(machine: &Machine) -> (Vec<u8>, Vec<usize>, Vec<usize>, Vec<usize>) {
-    let memory = machine.memory(PLAIN).unwrap();
+    let memory = machine.memory(MemoryId::new(PLAIN)).unwrap();
     let mut bytes = vec![0; 0x23000];
     memory.read_slice(&mut bytes[..0x3000], GuestAddress(0x1000)).unwrap();
     memory
         .read_slice(&mut bytes[0x3000..], GuestAddress(0x10_0000))
         .unwrap();
-    let dirty = |block| machine.dirty_block(block).unwrap();
-    (bytes, dirty(0), dirty(1), machine.dirty_space(0).unwrap())
+    let dirty = |block| machine.dirty_block(BlockId::new(block)).unwrap();
+    (bytes, dirty(0), dirty(1), machine.dirty_space(SpaceId::new(0)).unwrap())
 }
 
 // The four transfers of each row are answered as it says, by the facade and by the line, and leave the same memory.
@@ -171,7 +171,7 @@ fn state(machine: &Machine) -> (Vec<u8>, Vec<usize>, Vec<usize>, Vec<usize>) {
 fn transfers_ask_for_the_whole_access() {
     let (facade, script) = (machine(), machine());
     for (round, (number, addr, count, (sends, receives))) in rows().into_iter().enumerate() {
-        let memory = facade.memory(number).unwrap();
+        let memory = facade.memory(MemoryId::new(number)).unwrap();
         for whole in [false, true] {
             let place = format!("memory {number}, {addr:#x}+{count:#x}, whole {whole}");
             let bytes: Vec<u8> = (0..count).map(|i| ((i + 31 * round) % 251 + 1) as u8).collect();
@@ -203,12 +203,12 @@ fn transfers_ask_for_the_whole_access() {
 fn lengths_past_any_buffer_end_with_memory() {
     let machine = machine();
     for number in [PLAIN, OFF] {
-        let memory = machine.memory(number).unwrap();
+        let memory = machine.memory(MemoryId::new(number)).unwrap();
         let mut sink = Vec::new();
         let sent = memory.write_volatile_to(GuestAddress(0x3000), &mut sink, usize::MAX);
         assert_eq!((sent.unwrap(), sink.len()), (0x1000, 0x1000));
     }
-    let behind = machine.memory(BEHIND).unwrap();
+    let behind = machine.memory(MemoryId::new(BEHIND)).unwrap();
     let told = sent(&behind, 0x5000, usize::MAX, false);
     assert_eq!(told, "sent error G8 I1 0x5000+0xffffffffffffffff missing taken -");
 }
@@ -242,7 +242,7 @@ fn random_transfers_are_answered_as_by_the_script() {
             assert_eq!(lines::reply(&facade, &line), lines::reply(&script, &line));
         }
         let (addr, count) = (numbers.below(0x100), numbers.below(0x80) as usize);
-        let (whole, memory) = (numbers.below(2) == 0, facade.memory(BEHIND).unwrap());
+        let (whole, memory) = (numbers.below(2) == 0, facade.memory(MemoryId::new(BEHIND)).unwrap());
         let bytes: Vec<u8> = (0..count).map(|_| numbers.below(256) as u8).collect();
         let (word, given) = (if whole { "fromx" } else { "from" }, lines::hex(&bytes));
         let came = received(&memory, addr, count, whole, &bytes).0;

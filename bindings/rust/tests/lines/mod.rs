@@ -4,8 +4,9 @@ use std::fmt::Write as _;
 use std::sync::atomic::Ordering::SeqCst;
 use vm_memory_proved::script::{SinkStep, SourceStep};
 use vm_memory_proved::{
-    GuestAddress, GuestMemory, GuestMemoryError, GuestRegionCollectionError, IommuError, IotlbFails, IovaRange,
-    Machine, MachineError, Permissions, Reason,
+    BlockId, GuestAddress, GuestMemory, GuestMemoryError, GuestRegionCollectionError, IommuError, IotlbFails,
+    IovaRange, LayoutId, Machine, MachineError, MemoryId, Permissions, Reason, RegionId, SpaceId, TableId,
+    TranslatorId,
 };
 
 fn number(word: &str) -> u64 {
@@ -271,58 +272,127 @@ fn lookup_text(found: Result<Vec<vm_memory_proved::MappedRange>, IotlbFails>) ->
     }
 }
 
+// The numbers of a line, and what they name.
+struct Words<'a>(Vec<&'a str>);
+
+impl Words<'_> {
+    fn n(&self, at: usize) -> usize {
+        size(self.0[at])
+    }
+
+    fn addr(&self, at: usize) -> GuestAddress {
+        GuestAddress(number(self.0[at]))
+    }
+
+    fn block(&self, at: usize) -> BlockId {
+        BlockId::new(self.n(at))
+    }
+
+    fn space(&self, at: usize) -> SpaceId {
+        SpaceId::new(self.n(at))
+    }
+
+    fn table(&self, at: usize) -> TableId {
+        TableId::new(self.n(at))
+    }
+
+    fn region(&self, at: usize) -> RegionId {
+        RegionId::new(self.n(at))
+    }
+
+    fn layout(&self, at: usize) -> LayoutId {
+        LayoutId::new(self.n(at))
+    }
+
+    fn memory(&self, at: usize) -> MemoryId {
+        MemoryId::new(self.n(at))
+    }
+}
+
+// The reply to a line that makes something, if it is one.
+fn maker(machine: &Machine, w: &Words) -> Option<String> {
+    let (n, addr) = (|at| w.n(at), |at| w.addr(at));
+    let answer = match w.0[0] {
+        "block" => machine.block(n(1), n(2)).map(BlockId::number),
+        "space" => machine.space(n(1), n(2)).map(SpaceId::number),
+        "table" => machine.table(w.0.get(1).map(|word| size(word))).map(TableId::number),
+        "region" => machine.region(w.block(1), addr(2)).map(RegionId::number),
+        "translator" => machine.translator(w.table(1)).map(TranslatorId::number),
+        "layout" => {
+            let regions: Vec<RegionId> = (1..w.0.len()).map(|at| w.region(at)).collect();
+            machine.layout(&regions).map(LayoutId::number)
+        }
+        "insert" => machine.insert(w.layout(1), w.region(2)).map(LayoutId::number),
+        "remove" => machine.remove(w.layout(1), addr(2), n(3)).map(LayoutId::number),
+        "plain" => machine.plain(w.layout(1)).map(MemoryId::number),
+        "memory" => {
+            let translator = TranslatorId::new(n(2));
+            let made = machine.new_memory(w.layout(1), translator, w.space(3), switch(w.0[4]));
+            made.map(MemoryId::number)
+        }
+        "replace" => machine.replace_backend(w.memory(1), w.layout(2)).map(MemoryId::number),
+        _ => return None,
+    };
+    let word = match w.0[0] {
+        "insert" | "remove" => "layout",
+        "plain" | "replace" => "memory",
+        word => word,
+    };
+    Some(made(word, answer))
+}
+
+// The reply to a line of a transfer, if it is one.
+fn transfer(machine: &Machine, w: &Words) -> Option<String> {
+    let is_exact = w.0[0].ends_with('x');
+    match w.0[0] {
+        "from" | "fromx" => {
+            let came = machine.receive(w.memory(1), w.addr(2), w.n(3), &source(w.0[4]), is_exact);
+            Some(match came {
+                Ok(count) if !is_exact => format!("count {count}"),
+                came => done(came.map(drop)),
+            })
+        }
+        "to" | "tox" => Some(
+            match machine.send(w.memory(1), w.addr(2), w.n(3), &sink(w.0[4]), is_exact) {
+                Ok(sent) => {
+                    let ending = match &sent.ending {
+                        Ok(_) if is_exact => "ok".to_string(),
+                        Ok(count) => format!("count {count}"),
+                        Err(error) => format!("error {}", fault(error)),
+                    };
+                    format!("sent {ending} taken {}", hex(&sent.taken))
+                }
+                Err(error) => format!("error {}", refusal(&error)),
+            },
+        ),
+        _ => None,
+    }
+}
+
 /// The reply to a line.
 pub fn reply(machine: &Machine, line: &str) -> String {
-    let words: Vec<&str> = line.split(' ').collect();
-    let n = |at: usize| size(words[at]);
-    let addr = |at: usize| GuestAddress(number(words[at]));
-    match words[0] {
-        "block" => made("block", machine.block(n(1), n(2))),
-        "space" => made("space", machine.space(n(1), n(2))),
-        "table" => made("table", machine.table(words.get(1).map(|word| size(word)))),
-        "region" => made("region", machine.region(n(1), addr(2))),
-        "translator" => made("translator", machine.translator(n(1))),
-        "layout" => made(
-            "layout",
-            machine.layout(&words[1..].iter().map(|word| size(word)).collect::<Vec<_>>()),
-        ),
-        "insert" => made("layout", machine.insert(n(1), n(2))),
-        "remove" => made("layout", machine.remove(n(1), addr(2), n(3))),
-        "plain" => made("memory", machine.plain(n(1))),
-        "memory" => made("memory", machine.new_memory(n(1), n(2), n(3), switch(words[4]))),
-        "replace" => made("memory", machine.replace_backend(n(1), n(2))),
-        "enable" => done(machine.set_iommu_enabled(n(1), switch(words[2]))),
-        "from" => match machine.receive(n(1), addr(2), n(3), &source(words[4]), false) {
-            Ok(count) => format!("count {count}"),
-            Err(error) => format!("error {}", refusal(&error)),
-        },
-        "fromx" => done(machine.receive(n(1), addr(2), n(3), &source(words[4]), true).map(drop)),
-        "to" | "tox" => match machine.send(n(1), addr(2), n(3), &sink(words[4]), words[0] == "tox") {
-            Ok(sent) => {
-                let ending = match &sent.ending {
-                    Ok(_) if words[0] == "tox" => "ok".to_string(),
-                    Ok(count) => format!("count {count}"),
-                    Err(error) => format!("error {}", fault(error)),
-                };
-                format!("sent {ending} taken {}", hex(&sent.taken))
-            }
-            Err(error) => format!("error {}", refusal(&error)),
-        },
-        "copy" => done(machine.copy((n(1), n(2), n(3)), (n(4), n(5), n(6)))),
-        "set" => done(machine.set_mapping(n(1), addr(2), addr(3), n(4), access(words[5]))),
-        "invalidate" => done(machine.invalidate_mapping(n(1), addr(2), n(3))),
-        "clear" => done(machine.invalidate_all(n(1))),
-        "lookup" => match machine.lookup(n(1), addr(2), n(3), access(words[4])) {
+    let w = Words(line.split(' ').collect());
+    if let Some(reply) = maker(machine, &w).or_else(|| transfer(machine, &w)) {
+        return reply;
+    }
+    let (n, addr) = (|at| w.n(at), |at| w.addr(at));
+    match w.0[0] {
+        "enable" => done(machine.set_iommu_enabled(w.memory(1), switch(w.0[2]))),
+        "copy" => done(machine.copy((w.block(1), n(2), n(3)), (w.block(4), n(5), n(6)))),
+        "set" => done(machine.set_mapping(w.table(1), addr(2), addr(3), n(4), access(w.0[5]))),
+        "invalidate" => done(machine.invalidate_mapping(w.table(1), addr(2), n(3))),
+        "clear" => done(machine.invalidate_all(w.table(1))),
+        "lookup" => match machine.lookup(w.table(1), addr(2), n(3), access(w.0[4])) {
             Ok(found) => lookup_text(found),
             Err(error) => format!("error {}", refusal(&error)),
         },
-        "dirty" if words[1] == "block" => pages(machine.dirty_block(n(2))),
-        "dirty" => pages(machine.dirty_space(n(2))),
-        "harvest" if words[1] == "block" => pages(machine.harvest_block(n(2))),
-        "harvest" => pages(machine.harvest_space(n(2))),
-        _ => match machine.memory(n(1)) {
+        "dirty" if w.0[1] == "block" => pages(machine.dirty_block(w.block(2))),
+        "dirty" => pages(machine.dirty_space(w.space(2))),
+        "harvest" if w.0[1] == "block" => pages(machine.harvest_block(w.block(2))),
+        "harvest" => pages(machine.harvest_space(w.space(2))),
+        _ => match machine.memory(w.memory(1)) {
             None => "error NoSuch".to_string(),
-            Some(memory) => on_memory(&memory, &words),
+            Some(memory) => on_memory(&memory, &w.0),
         },
     }
 }
