@@ -71,8 +71,8 @@ pub struct IotlbFails {
 
 /// A machine, for which blocks, spaces, tables, regions and translators are made at any time.
 ///
-/// These, layouts and memories go by number, from 0 in the order of making, each kind by itself. A number means nothing to
-/// another machine.
+/// These, layouts, memories and queues go by number, from 0 in the order of making, each kind by itself. A number means
+/// nothing to another machine.
 pub struct Machine {
     session: Session,
 }

@@ -37,4 +37,6 @@ numbers! {
     LayoutId
     /// A memory: [`Machine::plain`](crate::Machine::plain) and [`Machine::new_memory`](crate::Machine::new_memory).
     MemoryId
+    /// A queue: [`Machine::queue`](crate::Machine::queue).
+    QueueId
 }

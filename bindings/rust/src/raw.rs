@@ -29,7 +29,7 @@ pub struct Answer {
     pub address: u64,
 }
 
-/// What is called, in the order of the lines of a script.
+/// What is called, in the order of the lines of a script, and then what no script has a line for.
 #[allow(missing_docs)]
 pub mod kind {
     pub const BLOCK: u32 = 0;
@@ -67,6 +67,34 @@ pub mod kind {
     pub const HARVEST_SPACE: u32 = 32;
     pub const MARK_BLOCK: u32 = 33;
     pub const MARK_REACHED: u32 = 34;
+    pub const QUEUE: u32 = 35;
+    pub const SET_QUEUE: u32 = 36;
+    pub const RESET_QUEUE: u32 = 37;
+    pub const QUEUE_STATE: u32 = 38;
+    pub const FORGET: u32 = 39;
+    pub const QUEUE_IS_VALID: u32 = 40;
+    pub const AVAIL_IDX: u32 = 41;
+    pub const USED_IDX: u32 = 42;
+    pub const POP: u32 = 43;
+    pub const READ_CHAIN: u32 = 44;
+    pub const WRITE_CHAIN: u32 = 45;
+    pub const ADD_USED: u32 = 46;
+    pub const NEEDS_NOTIFICATION: u32 = 47;
+    pub const ENABLE_NOTIFICATION: u32 = 48;
+    pub const DISABLE_NOTIFICATION: u32 = 49;
+}
+
+/// The parts of a queue that `SET_QUEUE` sets.
+#[allow(missing_docs)]
+pub mod part {
+    pub const SIZE: usize = 0;
+    pub const DESC_TABLE: usize = 1;
+    pub const AVAIL_RING: usize = 2;
+    pub const USED_RING: usize = 3;
+    pub const READY: usize = 4;
+    pub const EVENT_IDX: usize = 5;
+    pub const NEXT_AVAIL: usize = 6;
+    pub const NEXT_USED: usize = 7;
 }
 
 /// Why a call was refused, or `DONE`.
@@ -81,6 +109,10 @@ pub mod code {
     pub const INVALID_REGION: u32 = 6;
     pub const BAD_CALL: u32 = 16;
     pub const SHORT: u32 = 18;
+    pub const NO_CHAIN: u32 = 19;
+    pub const IN_FLIGHT: u32 = 20;
+    pub const TOO_MANY: u32 = 21;
+    pub const NOT_IN_FLIGHT: u32 = 22;
     pub const INVALID_GUEST_ADDRESS: u32 = 32;
     pub const IO_INTERRUPTED: u32 = 33;
     pub const IO_WRITE_ZERO: u32 = 34;
@@ -102,4 +134,21 @@ pub mod code {
     pub const NO_MEMORY_REGION: u32 = 50;
     pub const MEMORY_REGION_OVERLAP: u32 = 51;
     pub const UNSORTED_MEMORY_REGIONS: u32 = 52;
+    pub const INVALID_MAX_SIZE: u32 = 70;
+    pub const INVALID_QUEUE_SIZE: u32 = 71;
+    pub const INVALID_DESC_TABLE_ALIGN: u32 = 72;
+    pub const INVALID_AVAIL_RING_ALIGN: u32 = 73;
+    pub const INVALID_USED_RING_ALIGN: u32 = 74;
+    pub const QUEUE_NOT_READY: u32 = 75;
+    pub const ADDRESS_OVERFLOW: u32 = 76;
+    pub const INVALID_AVAIL_RING_INDEX: u32 = 77;
+    pub const INVALID_DESCRIPTOR_INDEX: u32 = 78;
+    pub const DESCRIPTOR_LOOP: u32 = 79;
+    pub const INDIRECT_WITH_NEXT: u32 = 80;
+    pub const NESTED_INDIRECT: u32 = 81;
+    pub const INVALID_INDIRECT_TABLE: u32 = 82;
+    pub const CHAIN_ORDER: u32 = 83;
+    pub const CHAIN_TOO_LONG: u32 = 84;
+    pub const CHAIN_RANGE: u32 = 85;
+    pub const INVALID_USED_ENTRY: u32 = 86;
 }

@@ -1,0 +1,169 @@
+//! Chains that were popped, and what reads and writes them.
+
+use super::{Queue, QueueError};
+use crate::memory::GuestMemory;
+use crate::raw::{kind, Answer, Call};
+use crate::value::ByteValued;
+use std::io;
+
+/// A chain that was popped: bytes that the device reads, and then bytes that it writes.
+///
+/// It is in flight until [`Queue::add_used`] returns its head or [`Queue::forget`] drops it. Dropping this value does
+/// neither. A call on a chain that is in flight no more is refused with `NotInFlight`; if its head was popped again, it
+/// reaches the new chain.
+#[derive(Clone, Debug)]
+#[must_use = "the chain is in flight until `add_used` or `forget`"]
+pub struct DescriptorChain<'a> {
+    queue: Queue<'a>,
+    head: u16,
+    readable: usize,
+    writable: usize,
+}
+
+impl<'a> DescriptorChain<'a> {
+    // The one of an answer to POP.
+    #[inline]
+    pub(super) fn new(queue: Queue<'a>, answer: &Answer) -> DescriptorChain<'a> {
+        DescriptorChain {
+            queue,
+            head: answer.value as u16,
+            readable: answer.count,
+            writable: answer.address as usize,
+        }
+    }
+
+    /// The index of its first descriptor.
+    pub fn head_index(&self) -> u16 {
+        self.head
+    }
+
+    /// How many bytes the device may read.
+    pub fn readable_len(&self) -> usize {
+        self.readable
+    }
+
+    /// How many bytes the device may write.
+    pub fn writable_len(&self) -> usize {
+        self.writable
+    }
+
+    #[inline]
+    fn call_at(&self, kind: u32, mem: &GuestMemory<'_>, offset: usize) -> Call {
+        let mut call = self.queue.call_on(kind, mem);
+        call.third = self.head.into();
+        call.address = offset as u64;
+        call
+    }
+
+    /// Reads its readable bytes from `offset` on into the front of the buffer, and returns how many: fewer than the
+    /// buffer has at their end, or before an address without memory. An error if that is the first address.
+    #[inline]
+    pub fn read_at(&self, mem: &GuestMemory<'_>, offset: usize, buf: &mut [u8]) -> Result<usize, QueueError> {
+        let mut call = self.call_at(kind::READ_CHAIN, mem, offset);
+        call.length = buf.len();
+        let mut answer = Answer::default();
+        self.queue.make(&call, &[], buf, &mut answer)?;
+        Ok(answer.count)
+    }
+
+    /// Writes the beginning of the buffer to its writable bytes from `offset` on, and returns how many bytes that is:
+    /// fewer than the buffer has at their end, or before an address without memory. An error if that is the first
+    /// address.
+    #[inline]
+    pub fn write_at(&self, mem: &GuestMemory<'_>, offset: usize, buf: &[u8]) -> Result<usize, QueueError> {
+        let call = self.call_at(kind::WRITE_CHAIN, mem, offset);
+        let mut answer = Answer::default();
+        self.queue.make(&call, buf, &mut [], &mut answer)?;
+        Ok(answer.count)
+    }
+
+    /// A reader of its readable bytes, from the first on.
+    pub fn reader(&self, mem: &GuestMemory<'a>) -> Reader<'a> {
+        Reader {
+            chain: self.clone(),
+            mem: *mem,
+            count: 0,
+        }
+    }
+
+    /// A writer of its writable bytes, from the first on.
+    pub fn writer(&self, mem: &GuestMemory<'a>) -> Writer<'a> {
+        Writer {
+            chain: self.clone(),
+            mem: *mem,
+            count: 0,
+        }
+    }
+}
+
+/// A place in the readable bytes of a chain. Each `read` is one call of the machine, whatever its length.
+#[derive(Clone, Debug)]
+pub struct Reader<'a> {
+    chain: DescriptorChain<'a>,
+    mem: GuestMemory<'a>,
+    count: usize,
+}
+
+impl Reader<'_> {
+    /// How many bytes are left.
+    pub fn available_bytes(&self) -> usize {
+        self.chain.readable.saturating_sub(self.count)
+    }
+
+    /// How many bytes were read.
+    pub fn bytes_read(&self) -> usize {
+        self.count
+    }
+
+    /// Reads the bytes of a value.
+    pub fn read_obj<T: ByteValued>(&mut self) -> io::Result<T> {
+        let mut bytes = T::zeroed();
+        io::Read::read_exact(self, bytes.as_mut())?;
+        Ok(T::from_bytes(bytes))
+    }
+}
+
+impl io::Read for Reader<'_> {
+    fn read(&mut self, buf: &mut [u8]) -> io::Result<usize> {
+        let read = self.chain.read_at(&self.mem, self.count, buf)?;
+        self.count += read;
+        Ok(read)
+    }
+}
+
+/// A place in the writable bytes of a chain. Each `write` is one call of the machine, whatever its length.
+#[derive(Clone, Debug)]
+pub struct Writer<'a> {
+    chain: DescriptorChain<'a>,
+    mem: GuestMemory<'a>,
+    count: usize,
+}
+
+impl Writer<'_> {
+    /// How many bytes are left.
+    pub fn available_bytes(&self) -> usize {
+        self.chain.writable.saturating_sub(self.count)
+    }
+
+    /// How many bytes were written.
+    pub fn bytes_written(&self) -> usize {
+        self.count
+    }
+
+    /// Writes the bytes of a value.
+    pub fn write_obj<T: ByteValued>(&mut self, val: T) -> io::Result<()> {
+        io::Write::write_all(self, val.to_bytes().as_ref())
+    }
+}
+
+impl io::Write for Writer<'_> {
+    fn write(&mut self, buf: &[u8]) -> io::Result<usize> {
+        let written = self.chain.write_at(&self.mem, self.count, buf)?;
+        self.count += written;
+        Ok(written)
+    }
+
+    fn flush(&mut self) -> io::Result<()> {
+        Ok(())
+    }
+}
