@@ -32,7 +32,10 @@ enum vmm_kind {
     VMM_FROM, VMM_FROMX, VMM_TO, VMM_TOX, VMM_CHECK, VMM_COPY,
     VMM_SET, VMM_INVALIDATE, VMM_CLEAR, VMM_LOOKUP,
     VMM_DIRTY_BLOCK, VMM_DIRTY_SPACE, VMM_HARVEST_BLOCK, VMM_HARVEST_SPACE,
-    VMM_MARK_BLOCK, VMM_MARK_REACHED
+    VMM_MARK_BLOCK, VMM_MARK_REACHED,
+    VMM_QUEUE, VMM_SET_QUEUE, VMM_RESET_QUEUE, VMM_QUEUE_STATE, VMM_FORGET,
+    VMM_QUEUE_IS_VALID, VMM_AVAIL_IDX, VMM_USED_IDX, VMM_POP, VMM_READ_CHAIN, VMM_WRITE_CHAIN, VMM_ADD_USED,
+    VMM_NEEDS_NOTIFICATION, VMM_ENABLE_NOTIFICATION, VMM_DISABLE_NOTIFICATION
 };
 
 /* An access. */
@@ -43,6 +46,7 @@ enum vmm_code {
     VMM_DONE = 0, VMM_NO_SUCH = 1, VMM_BAD_RANGE = 2, VMM_OUT_OF_MEMORY = 3, VMM_FAILS = 4,
     VMM_INVALID_SIZE = 5, VMM_INVALID_REGION = 6,
     VMM_BAD_CALL = 16, VMM_SHORT = 18,
+    VMM_NO_CHAIN = 19, VMM_IN_FLIGHT = 20, VMM_TOO_MANY = 21, VMM_NOT_IN_FLIGHT = 22,
     VMM_INVALID_GUEST_ADDRESS = 32,
     VMM_IO_INTERRUPTED = 33, VMM_IO_WRITE_ZERO = 34, VMM_IO_UNEXPECTED_EOF = 35, VMM_IO_OTHER = 36,
     VMM_PARTIAL_BUFFER = 37, VMM_INVALID_BACKEND_ADDRESS = 38, VMM_HOST_ADDRESS_NOT_AVAILABLE = 39,
@@ -51,7 +55,17 @@ enum vmm_code {
     VMM_MISCONFIGURED_MISSING = 46, VMM_MISCONFIGURED_NOT_ALLOWED = 47, VMM_MISCONFIGURED_NOT_CONFIGURED = 48,
     VMM_IOMMU_MEMORY = 49,
     VMM_NO_MEMORY_REGION = 50, VMM_MEMORY_REGION_OVERLAP = 51, VMM_UNSORTED_MEMORY_REGIONS = 52,
-    VMM_NOT_PAGED = 64, VMM_NO_FILE = 65, VMM_FILE_SHORT = 66, VMM_NOT_MAPPED = 67, VMM_NOT_SHARED = 68
+    VMM_NOT_PAGED = 64, VMM_NO_FILE = 65, VMM_FILE_SHORT = 66, VMM_NOT_MAPPED = 67, VMM_NOT_SHARED = 68,
+    VMM_INVALID_MAX_SIZE = 70, VMM_INVALID_QUEUE_SIZE = 71, VMM_INVALID_DESC_TABLE_ALIGN = 72,
+    VMM_INVALID_AVAIL_RING_ALIGN = 73, VMM_INVALID_USED_RING_ALIGN = 74, VMM_QUEUE_NOT_READY = 75,
+    VMM_ADDRESS_OVERFLOW = 76, VMM_INVALID_AVAIL_RING_INDEX = 77, VMM_INVALID_DESCRIPTOR_INDEX = 78,
+    VMM_DESCRIPTOR_LOOP = 79, VMM_INDIRECT_WITH_NEXT = 80, VMM_NESTED_INDIRECT = 81, VMM_INVALID_INDIRECT_TABLE = 82,
+    VMM_CHAIN_ORDER = 83, VMM_CHAIN_TOO_LONG = 84, VMM_CHAIN_RANGE = 85, VMM_INVALID_USED_ENTRY = 86
+};
+
+/* The parts of a queue that VMM_SET_QUEUE sets. */
+enum vmm_part {
+    VMM_SIZE, VMM_DESC_TABLE, VMM_AVAIL_RING, VMM_USED_RING, VMM_READY, VMM_EVENT_IDX, VMM_NEXT_AVAIL, VMM_NEXT_USED
 };
 
 /* The numbers that close a step of a source, behind the numbers of its bytes, and those of the steps of a sink:
@@ -333,6 +347,244 @@ static inline uint64_t vmm_number(const void *list, size_t place) {
         number = number << 8 | bytes[i];
     }
     return number;
+}
+
+/* Split virtqueues: docs/VIRTQUEUE.md. */
+
+/* A queue that nobody has set up, whose size is the greatest: a power of two, 1 to 32768. All of its chains in flight
+ * have at most so many descriptors. `value` is its number. */
+static inline vmm_answer vmm_queue(vmm_session *s, size_t max_size, size_t descriptors) {
+    vmm_request call = vmm_at(VMM_QUEUE, 0, 0, max_size);
+    call.other_length = descriptors;
+    return vmm_asked(s, &call, NULL, 0, NULL, 0);
+}
+
+static inline vmm_answer vmm_set_queue(vmm_session *s, size_t queue, enum vmm_part part, uint64_t value) {
+    vmm_request call = vmm_at(VMM_SET_QUEUE, queue, 0, 0);
+    call.second = (size_t)part;
+    call.value = value;
+    return vmm_asked(s, &call, NULL, 0, NULL, 0);
+}
+
+static inline vmm_answer vmm_set_queue_size(vmm_session *s, size_t queue, size_t size) {
+    return vmm_set_queue(s, queue, VMM_SIZE, size);
+}
+
+static inline vmm_answer vmm_set_desc_table(vmm_session *s, size_t queue, uint64_t address) {
+    return vmm_set_queue(s, queue, VMM_DESC_TABLE, address);
+}
+
+static inline vmm_answer vmm_set_avail_ring(vmm_session *s, size_t queue, uint64_t address) {
+    return vmm_set_queue(s, queue, VMM_AVAIL_RING, address);
+}
+
+static inline vmm_answer vmm_set_used_ring(vmm_session *s, size_t queue, uint64_t address) {
+    return vmm_set_queue(s, queue, VMM_USED_RING, address);
+}
+
+static inline vmm_answer vmm_set_queue_ready(vmm_session *s, size_t queue, int on) {
+    return vmm_set_queue(s, queue, VMM_READY, on ? 1 : 0);
+}
+
+static inline vmm_answer vmm_set_event_idx(vmm_session *s, size_t queue, int on) {
+    return vmm_set_queue(s, queue, VMM_EVENT_IDX, on ? 1 : 0);
+}
+
+static inline vmm_answer vmm_set_next_avail(vmm_session *s, size_t queue, uint16_t index) {
+    return vmm_set_queue(s, queue, VMM_NEXT_AVAIL, index);
+}
+
+static inline vmm_answer vmm_set_next_used(vmm_session *s, size_t queue, uint16_t index) {
+    return vmm_set_queue(s, queue, VMM_NEXT_USED, index);
+}
+
+/* Makes it what vmm_queue made, with no chain in flight. */
+static inline vmm_answer vmm_reset_queue(vmm_session *s, size_t queue) {
+    vmm_request call = vmm_at(VMM_RESET_QUEUE, queue, 0, 0);
+    return vmm_asked(s, &call, NULL, 0, NULL, 0);
+}
+
+/* The state of a queue. */
+typedef struct vmm_state {
+    uint16_t max_size, size;
+    uint8_t ready, event_idx_enabled;
+    uint64_t desc_table, avail_ring, used_ring;
+    uint16_t next_avail, next_used;
+} vmm_state;
+
+/* If it is refused, `*state` stays. */
+static inline vmm_answer vmm_queue_state(vmm_session *s, size_t queue, vmm_state *state) {
+    vmm_request call = vmm_at(VMM_QUEUE_STATE, queue, 0, 0);
+    uint8_t list[72];
+    vmm_answer answer = vmm_asked(s, &call, NULL, 0, list, sizeof list);
+    if (answer.code == VMM_DONE) {
+        state->max_size = (uint16_t)vmm_number(list, 0);
+        state->size = (uint16_t)vmm_number(list, 1);
+        state->ready = (uint8_t)vmm_number(list, 2);
+        state->desc_table = vmm_number(list, 3);
+        state->avail_ring = vmm_number(list, 4);
+        state->used_ring = vmm_number(list, 5);
+        state->next_avail = (uint16_t)vmm_number(list, 6);
+        state->next_used = (uint16_t)vmm_number(list, 7);
+        state->event_idx_enabled = (uint8_t)vmm_number(list, 8);
+    }
+    return answer;
+}
+
+/* A call on a queue and the memory that it lies in. */
+static inline vmm_request vmm_on(enum vmm_kind kind, size_t queue, size_t memory, size_t head) {
+    vmm_request call = vmm_at(kind, queue, 0, 0);
+    call.second = memory;
+    call.third = head;
+    return call;
+}
+
+/* `value` is 1 if the table and both rings lie whole in memory, else 0. */
+static inline vmm_answer vmm_queue_is_valid(vmm_session *s, size_t queue, size_t memory) {
+    vmm_request call = vmm_on(VMM_QUEUE_IS_VALID, queue, memory, 0);
+    return vmm_asked(s, &call, NULL, 0, NULL, 0);
+}
+
+static inline vmm_answer vmm_avail_idx(vmm_session *s, size_t queue, size_t memory) {
+    vmm_request call = vmm_on(VMM_AVAIL_IDX, queue, memory, 0);
+    return vmm_asked(s, &call, NULL, 0, NULL, 0);
+}
+
+static inline vmm_answer vmm_used_idx(vmm_session *s, size_t queue, size_t memory) {
+    vmm_request call = vmm_on(VMM_USED_IDX, queue, memory, 0);
+    return vmm_asked(s, &call, NULL, 0, NULL, 0);
+}
+
+/* Pops the next chain, which is in flight until vmm_add_used or vmm_forget: `value` is its head, `count` how many bytes
+ * the device may read, and `address` how many it may write. The code is VMM_NO_CHAIN if there is none. */
+static inline vmm_answer vmm_pop(vmm_session *s, size_t queue, size_t memory) {
+    vmm_request call = vmm_on(VMM_POP, queue, memory, 0);
+    return vmm_asked(s, &call, NULL, 0, NULL, 0);
+}
+
+/* Reads `size` bytes of a chain in flight, or fewer at the end of its readable bytes or before an address without
+ * memory: `count` is how many. */
+static inline vmm_answer vmm_read_chain(vmm_session *s, size_t queue, size_t memory, size_t head, uint64_t offset,
+                                        void *bytes, size_t size) {
+    vmm_request call = vmm_on(VMM_READ_CHAIN, queue, memory, head);
+    call.address = offset;
+    call.length = size;
+    return vmm_asked(s, &call, NULL, 0, bytes, size);
+}
+
+static inline vmm_answer vmm_write_chain(vmm_session *s, size_t queue, size_t memory, size_t head, uint64_t offset,
+                                         const void *bytes, size_t size) {
+    vmm_request call = vmm_on(VMM_WRITE_CHAIN, queue, memory, head);
+    call.address = offset;
+    return vmm_asked(s, &call, bytes, size, NULL, 0);
+}
+
+/* Returns a chain in flight, to which so many bytes were written. */
+static inline vmm_answer vmm_add_used(vmm_session *s, size_t queue, size_t memory, size_t head, uint32_t written) {
+    vmm_request call = vmm_on(VMM_ADD_USED, queue, memory, head);
+    call.value = written;
+    return vmm_asked(s, &call, NULL, 0, NULL, 0);
+}
+
+/* Drops a chain in flight, and returns nothing to the driver. */
+static inline vmm_answer vmm_forget(vmm_session *s, size_t queue, size_t head) {
+    vmm_request call = vmm_on(VMM_FORGET, queue, 0, head);
+    return vmm_asked(s, &call, NULL, 0, NULL, 0);
+}
+
+/* `value` is 1 if the driver has to be notified of what was returned since this was last asked. */
+static inline vmm_answer vmm_needs_notification(vmm_session *s, size_t queue, size_t memory) {
+    vmm_request call = vmm_on(VMM_NEEDS_NOTIFICATION, queue, memory, 0);
+    return vmm_asked(s, &call, NULL, 0, NULL, 0);
+}
+
+/* `value` is 1 if the driver has published more by then, so that the device pops on. If it is 0, the device may wait. */
+static inline vmm_answer vmm_enable_notification(vmm_session *s, size_t queue, size_t memory) {
+    vmm_request call = vmm_on(VMM_ENABLE_NOTIFICATION, queue, memory, 0);
+    return vmm_asked(s, &call, NULL, 0, NULL, 0);
+}
+
+static inline vmm_answer vmm_disable_notification(vmm_session *s, size_t queue, size_t memory) {
+    vmm_request call = vmm_on(VMM_DISABLE_NOTIFICATION, queue, memory, 0);
+    return vmm_asked(s, &call, NULL, 0, NULL, 0);
+}
+
+/* A code of an access or a layout in words, or NULL. */
+static inline const char *vmm_access_text(uint32_t code) {
+    switch (code) {
+    case VMM_INVALID_GUEST_ADDRESS: return "invalid guest address";
+    case VMM_IO_INTERRUPTED: return "operation interrupted";
+    case VMM_IO_WRITE_ZERO: return "write zero";
+    case VMM_IO_UNEXPECTED_EOF: return "unexpected end of file";
+    case VMM_IO_OTHER: return "other error";
+    case VMM_PARTIAL_BUFFER: return "only a part of the buffer was used";
+    case VMM_INVALID_BACKEND_ADDRESS: return "invalid backend address";
+    case VMM_HOST_ADDRESS_NOT_AVAILABLE: return "host virtual address not available";
+    case VMM_CALLBACK_OUT_OF_RANGE: return "a callback answered more than was left";
+    case VMM_GUEST_ADDRESS_OVERFLOW: return "a callback passed the greatest address";
+    case VMM_IOMMU_MISSING: return "cannot translate: missing mapping";
+    case VMM_IOMMU_NOT_ALLOWED: return "cannot translate: access not allowed";
+    case VMM_IOMMU_NOT_CONFIGURED: return "cannot translate: not configured";
+    case VMM_IOMMU_FRAGMENTED: return "not a continuous I/O virtual address range";
+    case VMM_MISCONFIGURED_MISSING: return "IOMMU not configured correctly: missing mapping";
+    case VMM_MISCONFIGURED_NOT_ALLOWED: return "IOMMU not configured correctly: access not allowed";
+    case VMM_MISCONFIGURED_NOT_CONFIGURED: return "IOMMU not configured correctly: not configured";
+    case VMM_IOMMU_MEMORY: return "out of memory in the IOMMU";
+    case VMM_NO_MEMORY_REGION: return "no memory region found";
+    case VMM_MEMORY_REGION_OVERLAP: return "some of the memory regions intersect with each other";
+    case VMM_UNSORTED_MEMORY_REGIONS: return "the provided memory regions haven't been sorted";
+    default: return NULL;
+    }
+}
+
+/* A code of a queue in words, or NULL. */
+static inline const char *vmm_queue_text(uint32_t code) {
+    switch (code) {
+    case VMM_INVALID_MAX_SIZE: return "invalid greatest size of a queue";
+    case VMM_INVALID_QUEUE_SIZE: return "invalid size of a queue";
+    case VMM_INVALID_DESC_TABLE_ALIGN: return "descriptor table is not aligned";
+    case VMM_INVALID_AVAIL_RING_ALIGN: return "available ring is not aligned";
+    case VMM_INVALID_USED_RING_ALIGN: return "used ring is not aligned";
+    case VMM_QUEUE_NOT_READY: return "queue is not ready";
+    case VMM_ADDRESS_OVERFLOW: return "address overflow";
+    case VMM_INVALID_AVAIL_RING_INDEX: return "invalid index of the available ring";
+    case VMM_INVALID_DESCRIPTOR_INDEX: return "invalid descriptor index";
+    case VMM_DESCRIPTOR_LOOP: return "loop of descriptors";
+    case VMM_INDIRECT_WITH_NEXT: return "indirect descriptor with a next one";
+    case VMM_NESTED_INDIRECT: return "indirect table inside an indirect table";
+    case VMM_INVALID_INDIRECT_TABLE: return "invalid length of an indirect table";
+    case VMM_CHAIN_ORDER: return "invalid chain: chain order";
+    case VMM_CHAIN_TOO_LONG: return "invalid chain: chain too long";
+    case VMM_CHAIN_RANGE: return "invalid chain: chain range";
+    case VMM_INVALID_USED_ENTRY: return "used entry is not in memory";
+    case VMM_NO_CHAIN: return "no chain is published";
+    case VMM_IN_FLIGHT: return "the chain of this head is in flight";
+    case VMM_TOO_MANY: return "too many descriptors in flight";
+    case VMM_NOT_IN_FLIGHT: return "no chain of this head is in flight";
+    default: return NULL;
+    }
+}
+
+/* A code in words. */
+static inline const char *vmm_code_text(uint32_t code) {
+    const char *text = vmm_access_text(code) ? vmm_access_text(code) : vmm_queue_text(code);
+    switch (code) {
+    case VMM_DONE: return "done";
+    case VMM_NO_SUCH: return "a number names nothing";
+    case VMM_BAD_RANGE: return "a range passes its end";
+    case VMM_OUT_OF_MEMORY: return "out of memory";
+    case VMM_FAILS: return "the look-up fails";
+    case VMM_INVALID_SIZE: return "invalid size of a block";
+    case VMM_INVALID_REGION: return "invalid guest region";
+    case VMM_BAD_CALL: return "a call means nothing";
+    case VMM_SHORT: return "the output is too short";
+    case VMM_NOT_PAGED: return "a size or an offset is no multiple of a page";
+    case VMM_NO_FILE: return "not a regular file";
+    case VMM_FILE_SHORT: return "the file ends before the block";
+    case VMM_NOT_MAPPED: return "the file could not be mapped";
+    case VMM_NOT_SHARED: return "the block has private memory, as its mapping could not be moved";
+    default: return text ? text : "no code of the library";
+    }
 }
 
 #ifdef __cplusplus
