@@ -4,14 +4,16 @@
 use std::ffi::c_int;
 use std::os::fd::{AsFd, AsRawFd};
 use std::ptr::{copy, null_mut};
-use std::sync::atomic::AtomicU64;
 use std::sync::atomic::Ordering::Relaxed;
+use std::sync::atomic::{AtomicU16, AtomicU64};
 
 // Of the C library, as Linux on x86-64 has it.
 unsafe extern "C" {
     fn mmap(at: *mut u8, size: usize, access: c_int, flags: c_int, fd: c_int, offset: i64) -> *mut u8;
     fn munmap(at: *mut u8, size: usize) -> c_int;
     fn prctl(option: c_int, ...) -> c_int;
+    fn sched_getaffinity(thread: c_int, size: usize, processors: *mut u64) -> c_int;
+    fn sched_setaffinity(thread: c_int, size: usize, processors: *const u64) -> c_int;
 }
 
 pub struct Guest {
@@ -51,18 +53,50 @@ impl Guest {
     }
 }
 
-/// A guest that writes while calls run, from a thread of its own.
+/// A guest that reads and writes while calls run, from a thread of its own.
 pub struct BusyGuest(pub Guest);
 
-// SAFETY: its bytes are changed by atomic stores alone.
+// SAFETY: its bytes are read and changed by atomic loads and stores alone.
 unsafe impl Sync for BusyGuest {}
 
+// SAFETY: a mapping is tied to no thread.
+unsafe impl Send for BusyGuest {}
+
 impl BusyGuest {
-    /// Stores a value at a multiple of eight bytes, also while a call of the machine runs.
-    pub fn store(&self, from: usize, value: u64) {
+    /// The number at a multiple of eight bytes.
+    pub fn number(&self, from: usize) -> &AtomicU64 {
         assert!(from % 8 == 0 && from + 8 <= self.0.len);
         // SAFETY: the mapping has these bytes, and it is aligned to pages.
-        unsafe { AtomicU64::from_ptr(self.0.at.add(from).cast()) }.store(value, Relaxed);
+        unsafe { AtomicU64::from_ptr(self.0.at.add(from).cast()) }
+    }
+
+    /// The number of 16 bits at a multiple of two bytes.
+    pub fn word(&self, from: usize) -> &AtomicU16 {
+        assert!(from % 2 == 0 && from + 2 <= self.0.len);
+        // SAFETY: as above.
+        unsafe { AtomicU16::from_ptr(self.0.at.add(from).cast()) }
+    }
+
+    /// Stores a value at a multiple of eight bytes, also while a call of the machine runs.
+    pub fn store(&self, from: usize, value: u64) {
+        self.number(from).store(value, Relaxed);
+    }
+}
+
+/// Keeps this thread on the processor of this place among those that it may run on, if there are so many.
+pub fn stay_on(place: usize) {
+    const WORDS: usize = 16;
+    let mut processors = [0_u64; WORDS];
+    // SAFETY: the declaration fits the function, which is lent so many bytes.
+    if unsafe { sched_getaffinity(0, 8 * WORDS, processors.as_mut_ptr()) } < 0 {
+        return;
+    }
+    let mut all = (0..64 * WORDS).filter(|i| processors[i / 64] >> (i % 64) & 1 == 1);
+    if let Some(one) = all.nth(place) {
+        let mut chosen = [0_u64; WORDS];
+        chosen[one / 64] = 1 << (one % 64);
+        // SAFETY: as above.
+        unsafe { sched_setaffinity(0, 8 * WORDS, chosen.as_ptr()) };
     }
 }
 
