@@ -1,0 +1,175 @@
+/* Each call of a queue, and the text of each code. It ends with 0, or the number of what failed. */
+#include "vm_memory.h"
+
+#include <string.h>
+
+enum { TABLE = 0x1000, AVAIL = 0x2000, USED = 0x3000, DATA = 0x4000 };
+
+static vmm_session session;
+
+/* Whether an answer is this. */
+static int is(vmm_answer answer, uint32_t code, size_t count, uint64_t value, uint64_t address) {
+    return answer.code == code && answer.count == count && answer.value == value && answer.address == address;
+}
+
+static int done(vmm_answer answer) {
+    return answer.code == VMM_DONE;
+}
+
+/* A descriptor. */
+static void put(size_t index, uint64_t address, uint32_t size, uint64_t flags, uint64_t next) {
+    uint64_t place = TABLE + 16 * index;
+    vmm_store(&session, 0, 8, place, address);
+    vmm_store(&session, 0, 4, place + 8, size);
+    vmm_store(&session, 0, 2, place + 12, flags);
+    vmm_store(&session, 0, 2, place + 14, next);
+}
+
+/* The head that the driver publishes as its last one. */
+static void publish(uint64_t index, uint64_t head) {
+    vmm_store(&session, 0, 2, AVAIL + 4 + 2 * (index % 4), head);
+    vmm_store(&session, 0, 2, AVAIL + 2, index + 1);
+}
+
+static int parts(void) {
+    vmm_state state;
+    if (!is(vmm_queue(&session, 3, 8), VMM_INVALID_MAX_SIZE, 0, 0, 0) ||
+        !is(vmm_queue(&session, 16, 3), VMM_DONE, 0, 0, 0)) {
+        return 10;
+    }
+    if (vmm_set_queue_size(&session, 0, 5).code != VMM_INVALID_QUEUE_SIZE || !done(vmm_set_queue_size(&session, 0, 8))) {
+        return 11;
+    }
+    if (vmm_set_desc_table(&session, 0, 8).code != VMM_INVALID_DESC_TABLE_ALIGN ||
+        vmm_set_avail_ring(&session, 0, 1).code != VMM_INVALID_AVAIL_RING_ALIGN ||
+        vmm_set_used_ring(&session, 0, 2).code != VMM_INVALID_USED_RING_ALIGN) {
+        return 12;
+    }
+    if (!done(vmm_set_desc_table(&session, 0, 0x10)) || !done(vmm_set_avail_ring(&session, 0, 0x102)) ||
+        !done(vmm_set_used_ring(&session, 0, 0x1004)) || !done(vmm_set_queue_ready(&session, 0, 1)) ||
+        !done(vmm_set_event_idx(&session, 0, 7)) || !done(vmm_set_next_avail(&session, 0, 0xffff)) ||
+        !done(vmm_set_next_used(&session, 0, 0xfffe))) {
+        return 13;
+    }
+    if (!is(vmm_queue_state(&session, 0, &state), VMM_DONE, 9, 0, 0) || state.max_size != 16 || state.size != 8 ||
+        state.ready != 1 || state.event_idx_enabled != 1 || state.desc_table != 0x10 || state.avail_ring != 0x102 ||
+        state.used_ring != 0x1004 || state.next_avail != 0xffff || state.next_used != 0xfffe) {
+        return 14;
+    }
+    if (vmm_set_queue(&session, 0, VMM_READY, 2).code != VMM_BAD_CALL || !done(vmm_reset_queue(&session, 0)) ||
+        !done(vmm_queue_state(&session, 0, &state)) || state.size != 16 || state.ready != 0 || state.next_used != 0) {
+        return 15;
+    }
+    memset(&state, 7, sizeof state);
+    return vmm_queue_state(&session, 1, &state).code == VMM_NO_SUCH && state.size == 0x0707 ? 0 : 16;
+}
+
+static int chains(void) {
+    uint8_t bytes[8] = {0};
+    if (vmm_pop(&session, 0, 0).code != VMM_QUEUE_NOT_READY) {
+        return 20;
+    }
+    vmm_set_queue_size(&session, 0, 4);
+    vmm_set_desc_table(&session, 0, TABLE);
+    vmm_set_avail_ring(&session, 0, AVAIL);
+    vmm_set_used_ring(&session, 0, USED);
+    vmm_set_queue_ready(&session, 0, 1);
+    put(0, DATA, 5, 1, 1);
+    put(1, DATA + 0x100, 7, 2, 0);
+    put(2, DATA + 5, 3, 1, 3);
+    put(3, DATA + 8, 3, 0, 0);
+    vmm_write(&session, 0, DATA, "askmore", 7);
+    if (!is(vmm_queue_is_valid(&session, 0, 0), VMM_DONE, 0, 1, 0) || vmm_pop(&session, 0, 0).code != VMM_NO_CHAIN) {
+        return 21;
+    }
+    publish(0, 0);
+    publish(1, 0);
+    publish(2, 2);
+    if (vmm_avail_idx(&session, 0, 0).value != 3 || !is(vmm_pop(&session, 0, 0), VMM_DONE, 5, 0, 7)) {
+        return 22;
+    }
+    if (vmm_pop(&session, 0, 0).code != VMM_IN_FLIGHT || !done(vmm_set_next_avail(&session, 0, 2)) ||
+        vmm_pop(&session, 0, 0).code != VMM_TOO_MANY) {
+        return 23;
+    }
+    if (!is(vmm_read_chain(&session, 0, 0, 0, 1, bytes, sizeof bytes), VMM_DONE, 4, 0, 0) ||
+        memcmp(bytes, "skmo\0", 5) != 0) {
+        return 24;
+    }
+    if (!is(vmm_write_chain(&session, 0, 0, 0, 3, "answer", 6), VMM_DONE, 4, 0, 0) ||
+        vmm_read(&session, 0, DATA + 0x103, bytes, 5).count != 5 || memcmp(bytes, "answ\0", 5) != 0) {
+        return 25;
+    }
+    if (vmm_add_used(&session, 0, 0, 1, 0).code != VMM_NOT_IN_FLIGHT || !done(vmm_add_used(&session, 0, 0, 0, 7))) {
+        return 26;
+    }
+    if (vmm_used_idx(&session, 0, 0).value != 1 || vmm_load(&session, 0, 4, USED + 4).value != 0 ||
+        vmm_load(&session, 0, 4, USED + 8).value != 7) {
+        return 27;
+    }
+    if (!is(vmm_pop(&session, 0, 0), VMM_DONE, 6, 2, 0) || !done(vmm_forget(&session, 0, 2)) ||
+        vmm_forget(&session, 0, 2).code != VMM_NOT_IN_FLIGHT) {
+        return 28;
+    }
+    return 0;
+}
+
+static int notifications(void) {
+    if (!is(vmm_needs_notification(&session, 0, 0), VMM_DONE, 0, 1, 0) ||
+        !is(vmm_enable_notification(&session, 0, 0), VMM_DONE, 0, 0, 0)) {
+        return 30;
+    }
+    if (!done(vmm_disable_notification(&session, 0, 0)) || vmm_load(&session, 0, 2, USED).value != 1) {
+        return 31;
+    }
+    publish(3, 0);
+    vmm_store(&session, 0, 2, AVAIL, 1);
+    if (vmm_enable_notification(&session, 0, 0).value != 1 || vmm_load(&session, 0, 2, USED).value != 0 ||
+        vmm_needs_notification(&session, 0, 0).value != 0) {
+        return 32;
+    }
+    vmm_set_event_idx(&session, 0, 1);
+    if (vmm_enable_notification(&session, 0, 0).value != 1 || vmm_load(&session, 0, 2, USED + 4 + 32).value != 3) {
+        return 33;
+    }
+    return 0;
+}
+
+/* Each code has a text of its own. */
+static int texts(void) {
+    static const uint32_t ranges[][2] = {{0, 6}, {16, 16}, {18, 22}, {32, 52}, {64, 68}, {70, 86}};
+    const char *none = vmm_code_text(1000);
+    for (size_t i = 0; i < sizeof ranges / sizeof *ranges; i++) {
+        for (uint32_t code = ranges[i][0]; code <= ranges[i][1]; code++) {
+            if (strcmp(vmm_code_text(code), none) == 0) {
+                return 40;
+            }
+            for (uint32_t other = 0; other < code; other++) {
+                if (strcmp(vmm_code_text(other), vmm_code_text(code)) == 0) {
+                    return 41;
+                }
+            }
+        }
+    }
+    return strcmp(vmm_code_text(17), none) == 0 && strcmp(vmm_code_text(69), none) == 0 ? 0 : 42;
+}
+
+int main(void) {
+    uint8_t region[8] = {0};
+    if (vmm_open(&session) != VMM_DONE) {
+        return 1;
+    }
+    vmm_block(&session, 0x8000, 0x1000);
+    vmm_region(&session, 0, 0);
+    vmm_layout(&session, region, sizeof region);
+    vmm_plain(&session, 0);
+    int (*const tests[])(void) = {parts, chains, notifications, texts};
+    for (size_t i = 0; i < sizeof tests / sizeof *tests; i++) {
+        int failed = tests[i]();
+        if (failed) {
+            return failed;
+        }
+    }
+    vmm_close(&session);
+    return 0;
+}
