@@ -65,7 +65,6 @@ static int parts(void) {
 }
 
 static int chains(void) {
-    uint8_t bytes[8] = {0};
     if (vmm_pop(&session, 0, 0).code != VMM_QUEUE_NOT_READY) {
         return 20;
     }
@@ -88,6 +87,12 @@ static int chains(void) {
     if (vmm_avail_idx(&session, 0, 0).value != 3 || !is(vmm_pop(&session, 0, 0), VMM_DONE, 5, 0, 7)) {
         return 22;
     }
+    return 0;
+}
+
+/* The first chain is in flight, and of three descriptors no two chains are at once. */
+static int in_flight(void) {
+    uint8_t bytes[8] = {0};
     if (vmm_pop(&session, 0, 0).code != VMM_IN_FLIGHT || !done(vmm_set_next_avail(&session, 0, 2)) ||
         vmm_pop(&session, 0, 0).code != VMM_TOO_MANY) {
         return 23;
@@ -163,7 +168,7 @@ int main(void) {
     vmm_region(&session, 0, 0);
     vmm_layout(&session, region, sizeof region);
     vmm_plain(&session, 0);
-    int (*const tests[])(void) = {parts, chains, notifications, texts};
+    int (*const tests[])(void) = {parts, chains, in_flight, notifications, texts};
     for (size_t i = 0; i < sizeof tests / sizeof *tests; i++) {
         int failed = tests[i]();
         if (failed) {

@@ -1,9 +1,9 @@
 /*
  * The proved machine, for C11 and C++17.
  *
- * A session is a machine. Each function below is one call of it, with the name and the order of a script's line
- * (docs/SCRIPT.md), but what a script makes before its first command alone is made at any time; docs/BINDINGS.md has
- * the rules.
+ * A session is a machine. Each function below is one call of it. If a script has a line for it (docs/SCRIPT.md), the name
+ * and the order are those of the line, but what a script makes before its first command alone is made at any time. A
+ * script has no queues. docs/BINDINGS.md has the rules.
  *
  * The caller opens a session before it calls it, and closes it once. It makes one call at a time of a session, from any
  * thread, keeps no pointer into it but those that vmm_shared_block gives, copies its handle nowhere, and gives lengths

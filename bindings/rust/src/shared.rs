@@ -24,8 +24,8 @@ impl SharedBlock {
         self.id
     }
 
-    /// Where its bytes lie, as long as its machine is there. Nothing may write them while a call of the machine runs,
-    /// and no input or output of a call may lie in them.
+    /// Where its bytes lie, as long as its machine is there. No input or output of a call may lie in them. A guest may
+    /// write them while a call runs: docs/BINDINGS.md of the repository says what holds then.
     pub fn as_ptr(&self) -> *mut u8 {
         self.address as *mut u8
     }

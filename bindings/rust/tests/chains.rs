@@ -7,7 +7,7 @@ mod slow;
 use ring::{at, Descriptor, Driver, Numbers, INDIRECT, NEXT};
 use slow::{total, Image, Segment};
 use std::io::{self, ErrorKind, Read, Write};
-use vm_memory_proved::queue::{DescriptorChain, Queue, QueueError};
+use vm_memory_proved::queue::{DescriptorChain, Queue, QueueError, Reader, Writer};
 use vm_memory_proved::{GuestMemory, GuestMemoryError, IommuError, Machine, Permissions, Reason};
 
 // Two regions in a row, the first of which ends at an odd address, and one behind a gap.
@@ -251,53 +251,53 @@ impl<'a> Beside<'a> {
     // A reader and a writer move on by what each call moves, and stay where one is refused.
     fn streams(&mut self, chain: &DescriptorChain<'a>, segments: &[Segment]) {
         let mut reader = chain.reader(&self.memory);
-        loop {
-            let (offset, mut buf) = (reader.bytes_read(), vec![0; 1 + self.numbers.below(9) as usize]);
-            assert_eq!(reader.available_bytes(), chain.readable_len() - offset);
-            let wanted = self.model.call(segments, offset as u64, buf.len(), Permissions::Read);
-            match reader.read(&mut buf) {
-                Ok(count) => {
-                    let bytes = wanted
-                        .unwrap()
-                        .into_iter()
-                        .map(|addr| self.model.image.byte(addr).unwrap());
-                    assert_eq!(buf[..count], bytes.collect::<Vec<_>>());
-                    assert_eq!(reader.bytes_read(), offset + count);
-                    if count == 0 || offset > 300 {
-                        break;
-                    }
-                }
-                Err(error) => {
-                    assert!(wanted.is_err() && error.get_ref().unwrap().is::<QueueError>());
-                    assert_eq!(reader.bytes_read(), offset);
-                    break;
-                }
-            }
+        while self.reads_on(&mut reader, segments) {
+            assert_eq!(reader.bytes_read() + reader.available_bytes(), chain.readable_len());
         }
         let mut writer = chain.writer(&self.memory);
-        loop {
-            let (offset, buf) = (writer.bytes_written(), vec![7; 1 + self.numbers.below(9) as usize]);
-            assert_eq!(writer.available_bytes(), chain.writable_len() - offset);
-            let wanted = self.model.call(segments, offset as u64, buf.len(), Permissions::Write);
-            match writer.write(&buf) {
-                Ok(count) => {
-                    wanted
-                        .unwrap()
-                        .into_iter()
-                        .for_each(|addr| self.model.image.set(addr, 7));
-                    assert_eq!(writer.bytes_written(), offset + count);
-                    if count == 0 || offset > 300 {
-                        break;
-                    }
-                }
-                Err(_) => {
-                    assert!(wanted.is_err());
-                    assert_eq!(writer.bytes_written(), offset);
-                    break;
-                }
-            }
+        while self.writes_on(&mut writer, segments) {
+            assert_eq!(writer.bytes_written() + writer.available_bytes(), chain.writable_len());
         }
         self.compare();
+    }
+
+    // Whether a reader came further, and not too far.
+    fn reads_on(&mut self, reader: &mut Reader<'_>, segments: &[Segment]) -> bool {
+        let (offset, mut buf) = (reader.bytes_read(), vec![0; 1 + self.numbers.below(9) as usize]);
+        let wanted = self.model.call(segments, offset as u64, buf.len(), Permissions::Read);
+        match reader.read(&mut buf) {
+            Ok(count) => {
+                let addrs = wanted.unwrap().into_iter();
+                let bytes: Vec<u8> = addrs.map(|addr| self.model.image.byte(addr).unwrap()).collect();
+                assert_eq!(buf[..count], bytes);
+                assert_eq!(reader.bytes_read(), offset + count);
+                count != 0 && offset < 300
+            }
+            Err(error) => {
+                assert!(wanted.is_err() && error.get_ref().unwrap().is::<QueueError>());
+                assert_eq!(reader.bytes_read(), offset);
+                false
+            }
+        }
+    }
+
+    fn writes_on(&mut self, writer: &mut Writer<'_>, segments: &[Segment]) -> bool {
+        let (offset, buf) = (writer.bytes_written(), vec![7; 1 + self.numbers.below(9) as usize]);
+        let wanted = self.model.call(segments, offset as u64, buf.len(), Permissions::Write);
+        match writer.write(&buf) {
+            Ok(count) => {
+                let addrs = wanted.unwrap();
+                assert_eq!(count, addrs.len());
+                addrs.into_iter().for_each(|addr| self.model.image.set(addr, 7));
+                assert_eq!(writer.bytes_written(), offset + count);
+                count != 0 && offset < 300
+            }
+            Err(error) => {
+                assert!(wanted.is_err() && error.get_ref().unwrap().is::<QueueError>());
+                assert_eq!(writer.bytes_written(), offset);
+                false
+            }
+        }
     }
 }
 
@@ -476,8 +476,14 @@ fn a_chain_is_read_and_written_by_std_io() {
     assert_eq!(memory.read_obj::<[u8; 4]>(at(0x2000)).unwrap(), *b"0027");
     beside.queue.add_used(&memory, 0, 13).unwrap();
     assert_eq!(beside.driver.take(), Some((0, 13)));
+}
 
-    // What no memory has ends a reader and a writer, with the error of the access.
+// What no memory has ends a reader and a writer, with the error of the access.
+#[test]
+fn streams_end_with_memory() {
+    let machine = Machine::new().unwrap();
+    let mut beside = Beside::new(&machine, false);
+    let memory = beside.memory;
     let chain = beside.chain(&[read(0x106e, 4), written(0x203e, 4)], 2);
     let mut bytes = Vec::new();
     let refused = chain.reader(&memory).read_to_end(&mut bytes).unwrap_err();

@@ -39,12 +39,65 @@ macro_rules! assert_refused {
 
 // ---- parts
 
+// Each call that sets a part, of the queue and of what its state has to be then.
+type Set = fn(&Queue<'_>, &mut QueueState);
+
+const SETS: [Set; 8] = [
+    |queue, state| {
+        state.size = 1 << (state.max_size.trailing_zeros() / 2);
+        queue.set_size(state.size).unwrap();
+    },
+    |queue, state| {
+        state.desc_table = u64::MAX - 15;
+        queue.try_set_desc_table_address(at(state.desc_table)).unwrap();
+    },
+    |queue, state| {
+        state.avail_ring = u64::MAX - 1;
+        queue.try_set_avail_ring_address(at(state.avail_ring)).unwrap();
+    },
+    |queue, state| {
+        state.used_ring = u64::MAX - 3;
+        queue.try_set_used_ring_address(at(state.used_ring)).unwrap();
+    },
+    |queue, state| {
+        state.ready = !state.ready;
+        queue.set_ready(state.ready);
+    },
+    |queue, state| {
+        state.event_idx_enabled = !state.event_idx_enabled;
+        queue.set_event_idx(state.event_idx_enabled);
+    },
+    |queue, state| {
+        state.next_avail = 0xffff;
+        queue.set_next_avail(0xffff);
+    },
+    |queue, state| {
+        state.next_used = 0xfffe;
+        queue.set_next_used(0xfffe);
+    },
+];
+
+// By the call for each part.
+fn parts_of(queue: &Queue<'_>) -> QueueState {
+    QueueState {
+        max_size: queue.max_size(),
+        next_avail: queue.next_avail(),
+        next_used: queue.next_used(),
+        event_idx_enabled: queue.event_idx_enabled(),
+        size: queue.size(),
+        ready: queue.ready(),
+        desc_table: queue.desc_table(),
+        avail_ring: queue.avail_ring(),
+        used_ring: queue.used_ring(),
+    }
+}
+
 #[test]
 fn each_part_is_set_by_itself() {
     let (machine, _) = machine_and_memory();
     for max_size in (0..16).map(|k| 1 << k) {
         let queue = machine.queue(max_size, 1).unwrap();
-        let mut state = QueueState {
+        let made = QueueState {
             max_size,
             next_avail: 0,
             next_used: 0,
@@ -55,47 +108,15 @@ fn each_part_is_set_by_itself() {
             avail_ring: 0,
             used_ring: 0,
         };
-        assert_eq!(queue.state(), state);
-        let made = state;
-        state.size = 1 << (max_size.trailing_zeros() / 2);
-        queue.set_size(state.size).unwrap();
-        assert_eq!(queue.state(), state);
-        state.desc_table = u64::MAX - 15;
-        queue.try_set_desc_table_address(at(state.desc_table)).unwrap();
-        assert_eq!(queue.state(), state);
-        state.avail_ring = u64::MAX - 1;
-        queue.try_set_avail_ring_address(at(state.avail_ring)).unwrap();
-        assert_eq!(queue.state(), state);
-        state.used_ring = u64::MAX - 3;
-        queue.try_set_used_ring_address(at(state.used_ring)).unwrap();
-        assert_eq!(queue.state(), state);
-        state.ready = true;
+        let mut state = made;
+        assert_eq!(queue.state(), made);
+        // Twice, so that what is on goes off.
+        for set in SETS.iter().chain(&SETS) {
+            set(&queue, &mut state);
+            assert_eq!(queue.state(), state);
+            assert_eq!(parts_of(&queue), state);
+        }
         queue.set_ready(true);
-        assert_eq!(queue.state(), state);
-        state.event_idx_enabled = true;
-        queue.set_event_idx(true);
-        assert_eq!(queue.state(), state);
-        state.next_avail = 0xffff;
-        queue.set_next_avail(0xffff);
-        assert_eq!(queue.state(), state);
-        state.next_used = 0xfffe;
-        queue.set_next_used(0xfffe);
-        assert_eq!(queue.state(), state);
-        assert_eq!(
-            (queue.max_size(), queue.size(), queue.ready()),
-            (max_size, state.size, true)
-        );
-        assert_eq!(
-            [queue.desc_table(), queue.avail_ring(), queue.used_ring()],
-            [u64::MAX - 15, u64::MAX - 1, u64::MAX - 3]
-        );
-        assert_eq!(
-            (queue.next_avail(), queue.next_used(), queue.event_idx_enabled()),
-            (0xffff, 0xfffe, true)
-        );
-        queue.set_ready(false);
-        queue.set_event_idx(false);
-        assert!(!queue.ready() && !queue.event_idx_enabled());
         queue.reset();
         assert_eq!(queue.state(), made);
     }
@@ -156,25 +177,34 @@ fn queues_are_apart() {
 
 // ---- calls of plain numbers
 
-#[test]
-fn plain_calls_that_mean_nothing_change_nothing() {
-    let (machine, id) = machine_and_memory();
-    let memory = machine.memory(id).unwrap();
-    let mut driver = Driver::new(memory, BASE, 4);
-    let queue = driver.queue(4);
-    driver.put_chain(0, &[(DATA, 8, false), (DATA + 8, 8, true)]);
-    driver.publish(0);
-    assert_eq!(pop(&queue, &memory), Some((0, 8, 8)));
-    let state = queue.state();
-    let (bad, none) = (code::BAD_CALL, code::NO_SUCH);
-    let call = |kind, first, second, third, value| Call {
+fn call(kind: u32, first: usize, second: usize, third: usize, value: u64) -> Call {
+    Call {
         kind,
         first,
         second,
         third,
         value,
         ..Call::default()
-    };
+    }
+}
+
+// A driver and a queue with one chain in flight, of 8 bytes that are read and 8 that are written.
+fn one_in_flight<'a>(memory: GuestMemory<'a>) -> (Driver<'a>, Queue<'a>) {
+    let mut driver = Driver::new(memory, BASE, 4);
+    let queue = driver.queue(4);
+    driver.put_chain(0, &[(DATA, 8, false), (DATA + 8, 8, true)]);
+    driver.publish(0);
+    assert_eq!(pop(&queue, &memory), Some((0, 8, 8)));
+    (driver, queue)
+}
+
+#[test]
+fn plain_calls_that_mean_nothing_change_nothing() {
+    let (machine, id) = machine_and_memory();
+    let memory = machine.memory(id).unwrap();
+    let (mut driver, queue) = one_in_flight(memory);
+    let state = queue.state();
+    let (bad, none, no_chain) = (code::BAD_CALL, code::NO_SUCH, code::NOT_IN_FLIGHT);
     let rows = [
         (call(kind::SET_QUEUE, 0, 8, 0, 0), bad),
         (call(kind::SET_QUEUE, 0, usize::MAX, 0, 0), bad),
@@ -187,13 +217,13 @@ fn plain_calls_that_mean_nothing_change_nothing() {
         (call(kind::RESET_QUEUE, 1, 0, 0, 0), none),
         (call(kind::QUEUE_STATE, 1, 0, 0, 0), none),
         (call(kind::FORGET, 1, 0, 0, 0), none),
-        (call(kind::FORGET, 0, 0, 1, 0), code::NOT_IN_FLIGHT),
-        (call(kind::FORGET, 0, 0, 0x1_0000, 0), code::NOT_IN_FLIGHT),
+        (call(kind::FORGET, 0, 0, 1, 0), no_chain),
+        (call(kind::FORGET, 0, 0, 0x1_0000, 0), no_chain),
         (call(kind::ADD_USED, 0, 0, 0, 1 << 32), bad),
-        (call(kind::ADD_USED, 0, 0, 3, 0), code::NOT_IN_FLIGHT),
-        (call(kind::ADD_USED, 0, 0, 0x1_0000, 0), code::NOT_IN_FLIGHT),
-        (call(kind::READ_CHAIN, 0, 0, 1, 0), code::NOT_IN_FLIGHT),
-        (call(kind::WRITE_CHAIN, 0, 0, usize::MAX, 0), code::NOT_IN_FLIGHT),
+        (call(kind::ADD_USED, 0, 0, 3, 0), no_chain),
+        (call(kind::ADD_USED, 0, 0, 0x1_0000, 0), no_chain),
+        (call(kind::READ_CHAIN, 0, 0, 1, 0), no_chain),
+        (call(kind::WRITE_CHAIN, 0, 0, usize::MAX, 0), no_chain),
     ];
     for (call, code) in rows {
         assert_eq!(machine.call(&call, &[], &mut [0; 72]).code, code, "{call:?}");
@@ -205,17 +235,25 @@ fn plain_calls_that_mean_nothing_change_nothing() {
             assert_eq!(machine.call(&call, &[], &mut []).code, none, "{call:?}");
         }
     }
-    // An output that is too short stays.
-    let mut output = [7; 72];
-    let answer = machine.call(&call(kind::QUEUE_STATE, 0, 0, 0, 0), &[], &mut output[..71]);
-    assert_eq!((answer.code, answer.count), (code::SHORT, 72));
-    let mut read = call(kind::READ_CHAIN, 0, 0, 0, 0);
-    read.length = 9;
-    let answer = machine.call(&read, &[], &mut output[..8]);
-    assert_eq!((answer.code, answer.count, output), (code::SHORT, 9, [7; 72]));
     assert_eq!((queue.state(), driver.used_idx()), (state, 0));
     queue.add_used(&memory, 0, u32::MAX).unwrap();
     assert_eq!(driver.take(), Some((0, u32::MAX)));
+}
+
+#[test]
+fn an_output_that_is_too_short_stays() {
+    let (machine, id) = machine_and_memory();
+    let (_, queue) = one_in_flight(machine.memory(id).unwrap());
+    let state = queue.state();
+    let mut output = [7; 72];
+    let answer = machine.call(&call(kind::QUEUE_STATE, 0, 0, 0, 0), &[], &mut output[..71]);
+    assert_eq!((answer.code, answer.count), (code::SHORT, 72));
+    // Fewer bytes are there to be read than are asked for.
+    let mut read = call(kind::READ_CHAIN, 0, 0, 0, 0);
+    read.length = 9;
+    let answer = machine.call(&read, &[], &mut output[..8]);
+    assert_eq!((answer.code, answer.count), (code::SHORT, 9));
+    assert_eq!((output, queue.state()), ([7; 72], state));
 }
 
 // What the answer of each call is, in plain numbers.

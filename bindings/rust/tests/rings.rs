@@ -361,6 +361,32 @@ fn count(numbers: &mut Numbers, len: u64, all: u64) -> u64 {
     }
 }
 
+// Writes a ring for a driver, with the next head at this index.
+fn write_ring(image: &mut Image, driver: &Driver<'_>, numbers: &mut Numbers, start: u16) {
+    let (size, memory) = (u64::from(driver.size), driver.memory);
+    let head = numbers.below(size);
+    let direct = count(numbers, size, 1 + size / 8);
+    let writes = numbers.below(direct + 2);
+    let table = numbers.one_in(4).then(|| indirect_table(numbers));
+    let mut walk = Walk {
+        image,
+        memory,
+        numbers,
+        table: BASE,
+        len: size,
+    };
+    walk.put(head, direct, writes, table);
+    if let Some((place, bytes)) = table {
+        (walk.table, walk.len) = (place, bytes / 16);
+        let inner = count(walk.numbers, bytes / 16, 2_000);
+        walk.put(0, inner, if writes < direct { 0 } else { inner / 2 }, None);
+    }
+    let slot = driver.avail_ring + 4 + 2 * (u64::from(start) % size);
+    put(image, &memory, slot, &(head as u16).to_le_bytes());
+    let index = start.wrapping_add(1 + numbers.below(size) as u16);
+    put(image, &memory, driver.avail_ring + 2, &index.to_le_bytes());
+}
+
 #[test]
 fn rings_of_every_size() {
     let machine = Machine::new().unwrap();
@@ -374,30 +400,10 @@ fn rings_of_every_size() {
     let mut ends = BTreeMap::new();
     for round in 0..48_000 {
         let driver = Driver::new(memory, BASE, 1 << (round % 16));
-        let (size, start) = (u64::from(driver.size), numbers.any() as u16);
+        let start = numbers.any() as u16;
         driver.set_up(&queue);
         queue.set_next_avail(start);
-        let head = numbers.below(size);
-        let direct = count(&mut numbers, size, 1 + size / 8);
-        let writes = numbers.below(direct + 2);
-        let table = numbers.one_in(4).then(|| indirect_table(&mut numbers));
-        let mut walk = Walk {
-            image: &mut image,
-            memory,
-            numbers: &mut numbers,
-            table: BASE,
-            len: size,
-        };
-        walk.put(head, direct, writes, table);
-        if let Some((place, bytes)) = table {
-            (walk.table, walk.len) = (place, bytes / 16);
-            let inner = count(walk.numbers, bytes / 16, 2_000);
-            walk.put(0, inner, if writes < direct { 0 } else { inner / 2 }, None);
-        }
-        let slot = driver.avail_ring + 4 + 2 * (u64::from(start) % size);
-        put(&mut image, &memory, slot, &(head as u16).to_le_bytes());
-        let index = start.wrapping_add(1 + numbers.below(size) as u16);
-        put(&mut image, &memory, driver.avail_ring + 2, &index.to_le_bytes());
+        write_ring(&mut image, &driver, &mut numbers, start);
         let end = end_of(&queue, &memory, &mut image, &mut numbers, true);
         *ends.entry(end).or_insert(0) += 1;
     }
