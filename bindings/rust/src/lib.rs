@@ -3,7 +3,7 @@
 //! A [`Machine`] is set up with blocks of host memory, regions, I/O tables and translators, and then makes layouts and
 //! memories and accesses them. Its calls are a run of the machine's model, whatever they are: docs/BINDINGS.md of the
 //! repository says what is proved, and what is trusted. [`Machine::shared_block`] makes a block whose bytes are shared
-//! with a guest.
+//! with a guest, and [`Machine::queue`] a virtqueue.
 //!
 //! ```
 //! use vm_memory_proved::{GuestAddress, Machine};
