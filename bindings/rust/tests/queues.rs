@@ -610,8 +610,8 @@ fn an_index_too_far_ahead_is_refused() {
 
 // ---- notifications
 
-// The rule of the specification (2.7.10) for a driver, and turned round for a device: the index that is waited for is
-// among those that were added.
+// The rule of the specification for a device (version 1.2, 2.7.7), as its own helper has it: the index that is waited for
+// is among those that were added.
 fn need_event(event: u16, new: u16, old: u16) -> bool {
     new.wrapping_sub(event).wrapping_sub(1) < new.wrapping_sub(old)
 }
