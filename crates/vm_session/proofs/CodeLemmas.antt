@@ -4,6 +4,7 @@ use Rattle.std.proofs.lemmas.Bool.{false≢true}
 use Rattle.vm_memory.specs.State.{State}
 use Rattle.vm_memory.specs.declared.machine.command.Command as commands
 use Rattle.vm_session.specs.Kinds.{is_access, is_queue, is_work, kinds, marks, sets_up}
+use Rattle.vm_session.specs.Queues.{OnBoth}
 use Rattle.vm_session.specs.Session.{Answers, AnswersIf, AnswersKind, AnswersMade, AnswersOf, AnswersOther, DoesIf, DoesListed, Served}
 use Rattle.vm_session.specs.SessionState.{SessionState}
 use Rattle.vm_session.specs.declared.call.Answer.{Answer}
@@ -71,3 +72,11 @@ access_answers old kind call input out a out' new is access served same =
           (sym (no-marks kind access)) served),
       same,
     )))
+
+-- the same of a call on a queue and a memory
+pub work_answers : (old : SessionState) (kind : Kind) (call : Call) (input out : List ℕ) (a : Answer) (out' : List ℕ)
+    (new : SessionState) → slice_get kinds call.kind ≡ Some kind → IsTrue (is_work kind)
+    → OnBoth kind old call input out a new out' → Answers old call input out a out' new
+work_answers old kind call input out a out' new is work h =
+    subst (λ (o : Option Kind). AnswersIf o old call input out a out' new) (sym is)
+    (subst (λ (b : Bool). AnswersOf b kind old call input out a out' new) (sym work) h)

@@ -337,6 +337,24 @@ pub(crate) fn access_kind(number: u32) -> Option<Kind>
     }
 }
 
+// The kind of a number, if it is that of a call on a queue and a memory.
+#[inline(always)]
+pub(crate) fn work_kind(number: u32) -> Option<Kind>
+    ensures { IfSome result (λ kind. (slice_get kinds number ≡ Some kind) × IsTrue (is_work kind)) }
+{
+    match number {
+        43 => Some(Kind::Pop),
+        44 => Some(Kind::ReadChain),
+        45 => Some(Kind::WriteChain),
+        46 => Some(Kind::AddUsed),
+        47 => Some(Kind::NeedsNotification),
+        48 => Some(Kind::EnableNotification),
+        50 => Some(Kind::BeginRequest),
+        51 => Some(Kind::FinishRequest),
+        _ => None,
+    }
+}
+
 // A part of a queue by its number, if it is one.
 pub(crate) fn part_of(number: usize) -> Option<QueuePart>
     ensures { result ≡ part_at number }

@@ -5,7 +5,7 @@ ghost use Rattle.vm_session.specs.Queues.{AnswersQueue, OnBoth, OneQueue};
 ghost use Rattle.vm_session.specs.Session.{Answers, AnswersKind, Served};
 ghost use Rattle.vm_session.specs.SessionState.{no_session};
 
-use crate::call::{Answer, Call, Kind, access_kind, kind_of, part_of, width_of};
+use crate::call::{Answer, Call, Kind, access_kind, kind_of, part_of, width_of, work_kind};
 use crate::code;
 use crate::commands::{
     load, read, read_slice, serve_listing, serve_making, serve_moving, store, write, write_slice,
@@ -71,6 +71,10 @@ impl Session {
             self.access(kind, call, input, output, answer);
             return;
         }
+        if let Some(kind) = work_kind(call.kind) {
+            self.work(kind, call, input, output, answer);
+            return;
+        }
         self.call_any(call, input, output, answer);
     }
 
@@ -108,6 +112,7 @@ impl Session {
     }
 
     // Serves a call on a queue and a memory.
+    #[inline(never)]
     fn work(
         &mut self,
         kind: Kind,
