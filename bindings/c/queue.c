@@ -1,4 +1,4 @@
-/* Each call of a queue, and the text of each code. It ends with 0, or the number of what failed. */
+/* Each call of a queue and of its requests, and the text of each code. It ends with 0, or the number of what failed. */
 #include "vm_memory.h"
 
 #include <string.h>
@@ -140,6 +140,88 @@ static int notifications(void) {
     return 0;
 }
 
+/* A queue anew, with one chain in flight: a header and so many bytes after it are read, and so many bytes written. */
+static void request(uint32_t kind, uint64_t sector, uint32_t given, uint32_t room) {
+    vmm_reset_queue(&session, 0);
+    vmm_set_queue_size(&session, 0, 4);
+    vmm_set_desc_table(&session, 0, TABLE);
+    vmm_set_avail_ring(&session, 0, AVAIL);
+    vmm_set_used_ring(&session, 0, USED);
+    vmm_set_queue_ready(&session, 0, 1);
+    vmm_store(&session, 0, 2, AVAIL + 2, 0);
+    vmm_store(&session, 0, 4, DATA, kind);
+    vmm_store(&session, 0, 8, DATA + 8, sector);
+    vmm_store(&session, 0, 1, DATA + 0x1000 + room - 1, 0xff);
+    put(0, DATA, 16 + given, 1, 1);
+    put(1, DATA + 0x1000, room, 2, 0);
+    publish(0, 0);
+    vmm_pop(&session, 0, 0);
+}
+
+/* What a device with a disk of four sectors has to do. */
+static vmm_answer begin(int read_only, uint64_t features) {
+    return vmm_begin_request(&session, 0, 0, 0, 4, read_only, features);
+}
+
+/* Whether a status is written, and whether the length is this. */
+static int finishes(uint8_t status, size_t moved, uint32_t room, uint64_t length) {
+    vmm_answer answer = vmm_finish_request(&session, 0, 0, 0, status, moved);
+    return is(answer, VMM_DONE, 0, length, 0) && vmm_load(&session, 0, 1, DATA + 0x1000 + room - 1).value == status;
+}
+
+static int requests(void) {
+    request(0, 3, 0, 513);
+    if (!is(begin(1, 0), VMM_DONE, 512, VMM_BLK_READ, 3) || !finishes(VMM_BLK_S_OK, 512, 513, 513)) {
+        return 50;
+    }
+    request(1, 2, 1024, 1);
+    if (!is(begin(0, 0), VMM_DONE, 1024, VMM_BLK_WRITE_STABLE, 2) ||
+        !is(begin(0, 1 << 9), VMM_DONE, 1024, VMM_BLK_WRITE, 2) || !finishes(VMM_BLK_S_OK, 0, 1, 1)) {
+        return 51;
+    }
+    if (!is(begin(1, 0), VMM_DONE, VMM_BLK_S_IOERR, VMM_BLK_REFUSED, 0) || !finishes(VMM_BLK_S_IOERR, 0, 1, 1)) {
+        return 52;
+    }
+    request(1, 3, 1024, 1);
+    if (!is(begin(0, 0), VMM_DONE, VMM_BLK_S_IOERR, VMM_BLK_REFUSED, 0)) {
+        return 53;
+    }
+    request(4, 9, 0, 1);
+    if (!is(begin(0, 0), VMM_DONE, 0, VMM_BLK_FLUSH, 0)) {
+        return 54;
+    }
+    request(8, 9, 0, 31);
+    if (!is(begin(0, 0), VMM_DONE, 20, VMM_BLK_GET_ID, 0) || !finishes(VMM_BLK_S_OK, 20, 31, 20)) {
+        return 55;
+    }
+    request(2, 0, 0, 2);
+    if (!is(begin(0, 0), VMM_DONE, VMM_BLK_S_UNSUPP, VMM_BLK_REFUSED, 0) || !finishes(VMM_BLK_S_UNSUPP, 0, 2, 0)) {
+        return 56;
+    }
+    request(4, 0, 0, 0);
+    return is(begin(0, 0), VMM_DONE, 0, VMM_BLK_UNSERVED, 0) &&
+                   is(vmm_finish_request(&session, 0, 0, 0, 1, 5), VMM_DONE, 0, 0, 0)
+               ? 0
+               : 57;
+}
+
+/* Calls of requests that mean nothing. */
+static int no_requests(void) {
+    request(4, 0, 0, 1);
+    if (vmm_begin_request(&session, 0, 0, 1, 4, 0, 0).code != VMM_NOT_IN_FLIGHT ||
+        vmm_finish_request(&session, 0, 0, 1, 0, 0).code != VMM_NOT_IN_FLIGHT) {
+        return 60;
+    }
+    vmm_request call = vmm_on(VMM_BEGIN_REQUEST, 0, 0, 0);
+    call.access = VMM_W;
+    if (vmm_asked(&session, &call, NULL, 0, NULL, 0).code != VMM_BAD_CALL) {
+        return 61;
+    }
+    call = vmm_on(VMM_FINISH_REQUEST, 0, 0, 0);
+    call.value = 256;
+    return vmm_asked(&session, &call, NULL, 0, NULL, 0).code == VMM_BAD_CALL ? 0 : 62;
+}
+
 /* Each code has a text of its own. */
 static int texts(void) {
     static const uint32_t ranges[][2] = {{0, 6}, {16, 16}, {18, 22}, {32, 52}, {64, 68}, {70, 86}};
@@ -168,7 +250,7 @@ int main(void) {
     vmm_region(&session, 0, 0);
     vmm_layout(&session, region, sizeof region);
     vmm_plain(&session, 0);
-    int (*const tests[])(void) = {parts, chains, in_flight, notifications, texts};
+    int (*const tests[])(void) = {parts, chains, in_flight, notifications, requests, no_requests, texts};
     for (size_t i = 0; i < sizeof tests / sizeof *tests; i++) {
         int failed = tests[i]();
         if (failed) {

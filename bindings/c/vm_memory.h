@@ -35,7 +35,8 @@ enum vmm_kind {
     VMM_MARK_BLOCK, VMM_MARK_REACHED,
     VMM_QUEUE, VMM_SET_QUEUE, VMM_RESET_QUEUE, VMM_QUEUE_STATE, VMM_FORGET,
     VMM_QUEUE_IS_VALID, VMM_AVAIL_IDX, VMM_USED_IDX, VMM_POP, VMM_READ_CHAIN, VMM_WRITE_CHAIN, VMM_ADD_USED,
-    VMM_NEEDS_NOTIFICATION, VMM_ENABLE_NOTIFICATION, VMM_DISABLE_NOTIFICATION
+    VMM_NEEDS_NOTIFICATION, VMM_ENABLE_NOTIFICATION, VMM_DISABLE_NOTIFICATION,
+    VMM_BEGIN_REQUEST, VMM_FINISH_REQUEST
 };
 
 /* An access. */
@@ -67,6 +68,15 @@ enum vmm_code {
 enum vmm_part {
     VMM_SIZE, VMM_DESC_TABLE, VMM_AVAIL_RING, VMM_USED_RING, VMM_READY, VMM_EVENT_IDX, VMM_NEXT_AVAIL, VMM_NEXT_USED
 };
+
+/* What VMM_BEGIN_REQUEST answers: what a request asks a block device for. */
+enum vmm_blk_request {
+    VMM_BLK_READ = 0, VMM_BLK_WRITE = 1, VMM_BLK_WRITE_STABLE = 2, VMM_BLK_FLUSH = 4, VMM_BLK_GET_ID = 8,
+    VMM_BLK_REFUSED = 16, VMM_BLK_UNSERVED = 17
+};
+
+/* The status of a request: it was done, it failed, or the device does not know its kind. */
+enum vmm_blk_status { VMM_BLK_S_OK, VMM_BLK_S_IOERR, VMM_BLK_S_UNSUPP };
 
 /* The numbers that close a step of a source, behind the numbers of its bytes, and those of the steps of a sink:
  * behind VMM_TAKES stands how many bytes it takes at most. */
@@ -506,6 +516,38 @@ static inline vmm_answer vmm_enable_notification(vmm_session *s, size_t queue, s
 
 static inline vmm_answer vmm_disable_notification(vmm_session *s, size_t queue, size_t memory) {
     vmm_request call = vmm_on(VMM_DISABLE_NOTIFICATION, queue, memory, 0);
+    return vmm_asked(s, &call, NULL, 0, NULL, 0);
+}
+
+/* Requests of a block device whose disk is the caller's: docs/VIRTIO_BLK.md. */
+
+/* Says what the request of a chain in flight asks a device for, and changes nothing. The disk has so many sectors, and
+ * the driver accepted these features, each as its bit: 9 is FLUSH. `value` is one of vmm_blk_request:
+ * - VMM_BLK_READ: `count` bytes of the disk, from the sector `address` on, go to the front of the writable bytes.
+ * - VMM_BLK_WRITE: the `count` readable bytes from the offset 16 on go to the disk, from the sector `address` on.
+ * - VMM_BLK_WRITE_STABLE: the same, and they are made stable before vmm_finish_request.
+ * - VMM_BLK_FLUSH: what was written before is made stable.
+ * - VMM_BLK_GET_ID: the first `count` bytes of the device's name of 20 go to the front of the writable bytes.
+ * - VMM_BLK_REFUSED: nothing is done, and the status is `count`.
+ * - VMM_BLK_UNSERVED: nothing is done, as there is no byte for the status.
+ * The sectors lie on the disk. If an IOMMU refuses an access, nothing is decided, and the call is made again after the
+ * mapping came. */
+static inline vmm_answer vmm_begin_request(vmm_session *s, size_t queue, size_t memory, size_t head, uint64_t sectors,
+                                           int read_only, uint64_t features) {
+    vmm_request call = vmm_on(VMM_BEGIN_REQUEST, queue, memory, head);
+    call.target = sectors;
+    call.access = (uint32_t)(read_only ? VMM_R : VMM_RW);
+    call.value = features;
+    return vmm_asked(s, &call, NULL, 0, NULL, 0);
+}
+
+/* Writes the status of a request, to whose first writable bytes `moved` were written. `value` is the length for
+ * vmm_add_used. If an IOMMU refuses the access, nothing changed, and the call is made again after the mapping came. */
+static inline vmm_answer vmm_finish_request(vmm_session *s, size_t queue, size_t memory, size_t head, uint8_t status,
+                                            size_t moved) {
+    vmm_request call = vmm_on(VMM_FINISH_REQUEST, queue, memory, head);
+    call.value = status;
+    call.length = moved;
     return vmm_asked(s, &call, NULL, 0, NULL, 0);
 }
 

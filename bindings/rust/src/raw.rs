@@ -82,6 +82,8 @@ pub mod kind {
     pub const NEEDS_NOTIFICATION: u32 = 47;
     pub const ENABLE_NOTIFICATION: u32 = 48;
     pub const DISABLE_NOTIFICATION: u32 = 49;
+    pub const BEGIN_REQUEST: u32 = 50;
+    pub const FINISH_REQUEST: u32 = 51;
 }
 
 /// The parts of a queue that `SET_QUEUE` sets.
@@ -95,6 +97,18 @@ pub mod part {
     pub const EVENT_IDX: usize = 5;
     pub const NEXT_AVAIL: usize = 6;
     pub const NEXT_USED: usize = 7;
+}
+
+/// What `BEGIN_REQUEST` answers: what a request asks a block device for.
+#[allow(missing_docs)]
+pub mod request {
+    pub const READ: u64 = 0;
+    pub const WRITE: u64 = 1;
+    pub const WRITE_STABLE: u64 = 2;
+    pub const FLUSH: u64 = 4;
+    pub const GET_ID: u64 = 8;
+    pub const REFUSED: u64 = 16;
+    pub const UNSERVED: u64 = 17;
 }
 
 /// Why a call was refused, or `DONE`.

@@ -66,6 +66,11 @@ fn of_crate(name: &str) -> Vec<(String, u32)> {
 fn the_header_has_the_numbers_of_this_crate() {
     assert_eq!(of_header("vmm_kind"), of_crate("kind"));
     assert_eq!(of_header("vmm_part"), of_crate("part"));
+    let requests = of_header("vmm_blk_request").into_iter();
+    let requests: Vec<_> = requests
+        .map(|(word, number)| (word.replace("BLK_", ""), number))
+        .collect();
+    assert_eq!(requests, of_crate("request"));
     // Shared blocks have codes in C alone.
     let codes = of_header("vmm_code").into_iter();
     let codes: Vec<_> = codes.filter(|(_, number)| !(64..70).contains(number)).collect();

@@ -229,7 +229,7 @@ fn plain_calls_that_mean_nothing_change_nothing() {
         assert_eq!(machine.call(&call, &[], &mut [0; 72]).code, code, "{call:?}");
     }
     // On a queue or a memory that is none.
-    for kind in kind::QUEUE_IS_VALID..=kind::DISABLE_NOTIFICATION {
+    for kind in kind::QUEUE_IS_VALID..=kind::FINISH_REQUEST {
         for (first, second) in [(1, 0), (0, 1), (usize::MAX, 0), (0, usize::MAX)] {
             let call = call(kind, first, second, 0, 0);
             assert_eq!(machine.call(&call, &[], &mut []).code, none, "{call:?}");
