@@ -3,7 +3,7 @@
 //! A [`Machine`] is set up with blocks of host memory, regions, I/O tables and translators, and then makes layouts and
 //! memories and accesses them. Its calls are a run of the machine's model, whatever they are: docs/BINDINGS.md of the
 //! repository says what is proved, and what is trusted. [`Machine::shared_block`] makes a block whose bytes are shared
-//! with a guest, and [`Machine::queue`] a virtqueue.
+//! with a guest, and [`Machine::queue`] a virtqueue. [`block`] has the requests of a block device.
 //!
 //! ```
 //! use vm_memory_proved::{GuestAddress, Machine};
@@ -21,6 +21,7 @@
 #![deny(unsafe_code, unsafe_op_in_unsafe_fn)]
 #![warn(missing_docs)]
 
+pub mod block;
 mod error;
 #[allow(unsafe_code)]
 mod ffi;

@@ -48,11 +48,17 @@ impl<'a> DescriptorChain<'a> {
     }
 
     #[inline]
-    fn call_at(&self, kind: u32, mem: &GuestMemory<'_>, offset: usize) -> Call {
+    pub(crate) fn call_at(&self, kind: u32, mem: &GuestMemory<'_>, offset: usize) -> Call {
         let mut call = self.queue.call_on(kind, mem);
         call.third = self.head.into();
         call.address = offset as u64;
         call
+    }
+
+    // Makes a call without input and output.
+    #[inline]
+    pub(crate) fn ask(&self, call: &Call) -> Result<Answer, QueueError> {
+        self.queue.ask(call)
     }
 
     /// Reads its readable bytes from `offset` on into the front of the buffer, and returns how many: fewer than the
