@@ -1,0 +1,262 @@
+//! Random requests of a block device beside a slow model, and an IOMMU whose mappings come later: each call is made
+//! again then, and a request ends as it does without an IOMMU.
+
+mod disk;
+mod ring;
+mod slow;
+
+use disk::*;
+use ring::{at, Numbers};
+use slow::{addresses, Segment};
+use vm_memory_proved::block::{Request, Terms, HEADER_LEN};
+use vm_memory_proved::queue::{DescriptorChain, QueueError};
+use vm_memory_proved::{IovaRange, Machine, Permissions, Reason};
+
+// ---- each access
+
+// What a call returns at last, and the ranges that it was refused for before.
+type Late<T> = (T, Vec<(u64, usize)>);
+
+// Makes a call until it is not refused, and maps just the range of each refusal. No range is refused twice.
+fn late<T>(guest: &Guest<'_>, mut call: impl FnMut() -> Result<T, QueueError>) -> Late<T> {
+    let mut refused = Vec::new();
+    loop {
+        let (range, reason) = match call() {
+            Ok(answer) => return (answer, refused),
+            Err(error) => missing(&error).unwrap_or_else(|| panic!("{error}")),
+        };
+        let row = (range.base.0, range.length);
+        assert!(reason == Reason::MissingMapping && !refused.contains(&row), "{row:x?}");
+        refused.push(row);
+        guest.map_just(range, Permissions::ReadWrite);
+    }
+}
+
+// Reads the data of a write.
+fn late_data(guest: &Guest<'_>, chain: &DescriptorChain<'_>, len: usize) -> Late<Vec<u8>> {
+    let (mut data, mut all) = (vec![0; len], Vec::new());
+    let mut count = 0;
+    while count < len {
+        let rest = &mut data[count..];
+        let (read, refused) = late(guest, || chain.read_at(&guest.memory, HEADER_LEN + count, rest));
+        count += read;
+        all.extend(refused);
+    }
+    (data, all)
+}
+
+// Nothing is mapped. The refusals of each call name its accesses in order, and no access is refused twice.
+#[test]
+fn each_access_waits_for_its_mapping() {
+    let machine = Machine::new().unwrap();
+    let guest = &mut Guest::new(&machine, Way::Behind(None));
+    let (first, second) = ([read(0x1000, 4), read(0x1200, 1)], [read(0x1400, 111), read(0x1600, 0)]);
+    let (third, room) = (
+        [read(0x1800, 256), read(0x1a00, 156)],
+        [written(0x3000, 7), written(0x3100, 1)],
+    );
+    let segments = [first, second, third, room].concat();
+    for (addr, byte) in addresses(&segments, false, 0, 16).into_iter().zip(header(OUT, 1)) {
+        guest.set(addr, &[byte]);
+    }
+    guest.publish(&segments, segments.len());
+    let (memory, queue) = (guest.memory, guest.queue);
+    let (chain, refused) = late(guest, || queue.pop_descriptor_chain(&memory));
+    let chain = chain.unwrap();
+    // The driver's index, the slot, and a descriptor each.
+    let avail = guest.driver.avail_ring;
+    let descriptors = (0..8).map(|i| (RINGS + 16 * i, 16));
+    let accesses = [(avail + 2, 2), (avail + 4, 2)].into_iter().chain(descriptors);
+    assert_eq!(refused, accesses.collect::<Vec<_>>());
+    let begun = late(guest, || chain.begin_request(&memory, terms(8)));
+    let accesses = vec![(0x1000, 4), (0x1200, 1), (0x1400, 11)];
+    assert_eq!(begun, (to_write(1, 512, false), accesses));
+    let data = addresses(&segments, false, 16, 512).into_iter();
+    let data = data.map(|addr| guest.image.byte(addr).unwrap()).collect();
+    let accesses = vec![(0x140b, 100), (0x1800, 256), (0x1a00, 156)];
+    assert_eq!(late_data(guest, &chain, 512), (data, accesses));
+    guest.image.put(0x3000, u64::from_le_bytes(*b"to read\0"), 7);
+    assert_eq!(
+        late(guest, || chain.write_at(&memory, 0, b"to read")),
+        (7, vec![(0x3000, 7)])
+    );
+    guest.image.set(0x3100, 0);
+    assert_eq!(
+        late(guest, || chain.finish_request(&memory, 0, 7)),
+        (8, vec![(0x3100, 1)])
+    );
+    guest.compare();
+    returned_late(guest, 8);
+}
+
+// If the used entry is not mapped, it does not lie in memory that may be written. The index after it is an access.
+fn returned_late(guest: &mut Guest<'_>, len: u32) {
+    let (memory, queue, used) = (guest.memory, guest.queue, guest.driver.used_ring);
+    let returned = queue.add_used(&memory, 0, len);
+    assert!(matches!(returned, Err(QueueError::InvalidUsedEntry)));
+    let (base, length) = (at(used + 4), 8);
+    guest.map_just(IovaRange { base, length }, Permissions::Write);
+    assert_eq!(guest.driver.take(), None);
+    assert_eq!(
+        late(guest, || queue.add_used(&memory, 0, len)),
+        ((), vec![(used + 2, 2)])
+    );
+    assert_eq!(guest.driver.take(), Some((0, len)));
+    guest.compare();
+}
+
+// ---- random requests
+
+const DISK: usize = 8;
+
+// The lengths of pieces of so many bytes, of which at most three begin in the first 16.
+fn pieces(numbers: &mut Numbers, len: u64) -> Vec<u64> {
+    let (mut place, mut all) = (0, Vec::new());
+    while place < len {
+        let most = (len - place).min(1024);
+        let mut piece = if numbers.one_in(2) {
+            most
+        } else {
+            1 + numbers.below(most)
+        };
+        if all.len() >= 2 && place < 16 {
+            piece = piece.max(most.min(16 - place));
+        }
+        all.push(piece);
+        place += piece;
+    }
+    if numbers.one_in(6) {
+        all.insert(numbers.below(all.len() as u64 + 1) as usize, 0);
+    }
+    all
+}
+
+// Mostly in memory, and else anywhere near it.
+fn place(numbers: &mut Numbers, len: u64) -> u64 {
+    match numbers.below(40) {
+        0 => numbers.below(0x6000),
+        1 => [END, LAST + 1][numbers.below(2) as usize] - numbers.below(len + 1),
+        _ => {
+            let (start, size) = RANGES[numbers.below(2) as usize];
+            start + numbers.below(size as u64 - len + 1)
+        }
+    }
+}
+
+fn random_terms(numbers: &mut Numbers) -> Terms {
+    let acked = numbers.any();
+    Terms {
+        sectors: numbers.below(4).max(numbers.below(DISK as u64 + 1)),
+        read_only: numbers.one_in(6),
+        acked,
+    }
+}
+
+fn random_header(numbers: &mut Numbers, sectors: u64) -> (u32, [u8; 16]) {
+    let kind = match numbers.below(16) {
+        0..=5 => IN,
+        6..=11 => OUT,
+        12 => FLUSH,
+        13 => GET_ID,
+        14 => numbers.below(16) as u32,
+        _ => numbers.any() as u32,
+    };
+    let sector = match numbers.below(16) {
+        0 => numbers.any(),
+        1 => sectors + numbers.below(2),
+        2 => numbers.below(sectors + 1) | 1 << (55 + numbers.below(9)),
+        _ => numbers.below(sectors.max(1)),
+    };
+    (kind, header(kind, sector))
+}
+
+// How many bytes data have: mostly whole sectors.
+fn random_len(numbers: &mut Numbers, is_used: bool) -> u64 {
+    match numbers.below(16) {
+        0 => numbers.below(1200),
+        1 => 512 * numbers.below(4) + 511 + 2 * numbers.below(2),
+        _ if is_used => 512 * (1 + numbers.below(3)),
+        _ => 0,
+    }
+}
+
+fn random_segments(numbers: &mut Numbers, kind: u32) -> Vec<Segment> {
+    let mut readable = 16 + random_len(numbers, kind == OUT);
+    let mut writable = 1 + random_len(numbers, kind == IN || kind == GET_ID);
+    match numbers.below(30) {
+        0 => readable = numbers.below(16),
+        1 => writable = 0,
+        _ => {}
+    }
+    let mut segments = Vec::new();
+    for (len, is_written) in [(readable, false), (writable, true)] {
+        for len in pieces(numbers, len) {
+            let addr = place(numbers, len);
+            segments.push(Segment { addr, len, is_written });
+        }
+    }
+    if segments.is_empty() {
+        segments.push(read(0, 0));
+    }
+    segments
+}
+
+// The number of each kind of request, from 0.
+fn sort_of(request: Request) -> usize {
+    match request {
+        Request::Read { .. } => 0,
+        Request::Write { flush: false, .. } => 1,
+        Request::Write { flush: true, .. } => 2,
+        Request::Flush => 3,
+        Request::GetId { .. } => 4,
+        IOERR => 5,
+        Request::Refused { .. } => 6,
+        Request::Unserved => 7,
+    }
+}
+
+// Serves so many random requests beside the model, and returns what each asked for and the lengths of the used entries.
+fn served_randomly(guest: &mut Guest<'_>, count: usize) -> Vec<(Request, u32)> {
+    let numbers = &mut Numbers(0xb10c);
+    let mut disks = [Disk::new(DISK), Disk::new(DISK)];
+    let mut all = Vec::new();
+    for _ in 0..count {
+        let terms = random_terms(numbers);
+        let (kind, head) = random_header(numbers, terms.sectors);
+        let segments = random_segments(numbers, kind);
+        for _ in 0..20 {
+            let addr = place(numbers, 1);
+            guest.set(addr, &[numbers.any() as u8]);
+        }
+        for (addr, byte) in addresses(&segments, false, 0, 16).into_iter().zip(head) {
+            guest.set(addr, &[byte]);
+        }
+        let direct = numbers.below(segments.len() as u64 + 1).min(60) as usize;
+        all.push(guest.serve(&segments, direct, &mut disks, terms));
+    }
+    for sort in 0..8 {
+        let those = all.iter().filter(|(request, _)| sort_of(*request) == sort).count();
+        assert!(100 * those > count, "only {those} of the sort {sort}");
+    }
+    all
+}
+
+#[test]
+fn random_requests() {
+    let count = 20_000;
+    let machine = Machine::new().unwrap();
+    let mut guest = Guest::new(&machine, Way::Plain);
+    let served = served_randomly(&mut guest, count);
+    assert_eq!(guest.refused, [0; 6]);
+    // Behind an IOMMU each request ends as it does without.
+    for limit in [None, Some(64), Some(8)] {
+        let machine = Machine::new().unwrap();
+        let mut behind = Guest::new(&machine, Way::Behind(limit));
+        assert!(served_randomly(&mut behind, count) == served);
+        assert!(behind.image.ranges() == guest.image.ranges());
+        for step in STEPS {
+            let refused = behind.refused[step as usize];
+            assert!(refused > 200, "{step:?} was refused {refused} times");
+        }
+    }
+}
