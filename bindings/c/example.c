@@ -37,6 +37,9 @@ int main(void) {
     if (answer.code != VMM_IOMMU_MISSING || answer.address != 0x8000 || answer.value != 4) {
         return 5;
     }
+    if (answer.miss.access != VMM_W || answer.miss.address != 0x8000 || answer.miss.length != 4) {
+        return 5;
+    }
     vmm_set(&session, 0, 0x8000, 0x1000, 0x1000, VMM_RW);
     if (vmm_store(&session, device, 4, 0x8000, 0x01020304).code != VMM_DONE) {
         return 6;

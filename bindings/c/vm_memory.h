@@ -94,26 +94,36 @@ typedef struct vmm_request {
     uint64_t value;
 } vmm_request;
 
-/* An answer. */
+/* What a call that a table refused, VMM_IOMMU_MISSING or VMM_IOMMU_NOT_ALLOWED, has to have first: `length` addresses
+ * from `address` on, for an access. `access` is 0 if there was no memory to look it up. */
+typedef struct vmm_miss {
+    uint32_t access;
+    uint64_t address;
+    size_t length;
+} vmm_miss;
+
+/* An answer, and what the call missed. */
 typedef struct vmm_answer {
     uint32_t code;
     size_t count;
     uint64_t value, address;
+    vmm_miss miss;
 } vmm_answer;
 
-/* The three functions of the library. `vmm_open` answers VMM_DONE or VMM_OUT_OF_MEMORY. */
+/* The three functions of the library. `vmm_open` answers VMM_DONE or VMM_OUT_OF_MEMORY. `vmm_call` writes the first four
+ * members of `answer`, and `miss` if a table refused the call. */
 uint32_t vmm_open(vmm_session *session);
 void vmm_call(vmm_session *session, const vmm_request *call, const uint8_t *input, size_t input_size,
-              uint8_t *output, size_t output_size, vmm_answer *answer);
+              uint8_t *output, size_t output_size, vmm_answer *answer, vmm_miss *miss);
 void vmm_close(vmm_session *session);
 
 /* A call with an input and an output, either of which may be of no bytes and null. */
 static inline vmm_answer vmm_asked(vmm_session *session, const vmm_request *call, const void *input,
                                    size_t input_size, void *output, size_t output_size) {
-    vmm_answer answer = {0, 0, 0, 0};
+    vmm_answer answer = {0, 0, 0, 0, {0, 0, 0}};
     uint8_t none[1] = {0};
     vmm_call(session, call, input ? (const uint8_t *)input : none, input ? input_size : 0,
-             output ? (uint8_t *)output : none, output ? output_size : 0, &answer);
+             output ? (uint8_t *)output : none, output ? output_size : 0, &answer, &answer.miss);
     return answer;
 }
 

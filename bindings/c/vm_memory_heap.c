@@ -208,7 +208,7 @@ void rattle_dealloc(void *at) {
 /* Shared blocks. */
 
 static vmm_answer refused(enum vmm_code code, int error) {
-    vmm_answer answer = {(uint32_t)code, (size_t)error, 0, 0};
+    vmm_answer answer = {(uint32_t)code, (size_t)error, 0, 0, {0, 0, 0}};
     return answer;
 }
 

@@ -1,6 +1,6 @@
 //! The calls of the static library and of the system. All `unsafe` of this crate lies here and in the allocator.
 
-use crate::raw::{Answer, Call};
+use crate::raw::{Answer, Call, Miss};
 use std::cell::Cell;
 use std::ffi::{c_char, c_int, c_long, c_uint};
 use std::ptr::null_mut;
@@ -24,6 +24,7 @@ unsafe extern "C" {
         output: *mut u8,
         output_size: usize,
         answer: *mut Answer,
+        miss: *mut Miss,
     );
 
     fn vmm_close(session: *mut Handle);
@@ -74,6 +75,8 @@ pub(crate) mod system {
 /// An open session. It is closed when it is dropped.
 pub(crate) struct Session {
     handle: Cell<Handle>,
+    // What the last call that a table refused missed first.
+    miss: Cell<Miss>,
 }
 
 // SAFETY: the session owns all that its handle points to, shares none of it, and is tied to no thread: the library's
@@ -88,6 +91,7 @@ impl Session {
         let code = unsafe { vmm_open(&mut handle) };
         (code == 0).then(|| Session {
             handle: Cell::new(handle),
+            miss: Cell::default(),
         })
     }
 
@@ -97,7 +101,8 @@ impl Session {
         // SAFETY: the declaration fits the library's function. The handle is that of an open session, as each call leaves
         // it, and no other call of it runs: the session is on this thread alone, and the library calls nothing back. So
         // nothing else reads or writes what the cell has while the library does. The other pointers and the lengths are
-        // those of a `&Call`, a `&[u8]`, a `&mut [u8]` and a `&mut Answer`, and all are borrowed for the call.
+        // those of a `&Call`, a `&[u8]`, a `&mut [u8]` and a `&mut Answer`, and all are borrowed for the call; that of the
+        // miss is the other cell's, which the library alone writes meanwhile.
         unsafe {
             vmm_call(
                 self.handle.as_ptr(),
@@ -107,8 +112,14 @@ impl Session {
                 output.as_mut_ptr(),
                 output.len(),
                 answer,
+                self.miss.as_ptr(),
             );
         }
+    }
+
+    /// Takes what the last call that a table refused missed first.
+    pub(crate) fn take_miss(&self) -> Miss {
+        self.miss.take()
     }
 }
 

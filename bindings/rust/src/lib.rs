@@ -38,7 +38,7 @@ mod stream;
 mod value;
 
 pub use error::{GuestMemoryError, GuestRegionCollectionError, IommuError, MachineError, Reason};
-pub use machine::{IotlbFails, IovaRange, Machine, MappedRange, Permissions};
+pub use machine::{IotlbFails, IovaRange, Machine, MappedRange, Miss, Permissions};
 pub use memory::{GuestAddress, GuestMemory};
 pub use number::{BlockId, LayoutId, MemoryId, QueueId, RegionId, SpaceId, TableId, TranslatorId};
 pub use shared::{memfd, SharedBlock, SharedBlockError};

@@ -51,6 +51,15 @@ pub struct IovaRange {
     pub length: usize,
 }
 
+/// What a call that a table refused has to have first: addresses for an access.
+#[derive(Clone, Copy, Debug, PartialEq, Eq)]
+pub struct Miss {
+    /// The first of those that the call wants and that the table misses or forbids.
+    pub iova_range: IovaRange,
+    /// How the call accesses them.
+    pub access: Permissions,
+}
+
 /// A range that I/O addresses lead to.
 #[derive(Clone, Copy, Debug, PartialEq, Eq)]
 pub struct MappedRange {
@@ -104,6 +113,25 @@ impl Machine {
     #[inline]
     pub(crate) fn call_into(&self, call: &Call, input: &[u8], output: &mut [u8], answer: &mut Answer) {
         self.session.call(call, input, output, answer);
+    }
+
+    /// Takes what the last call missed first that a table refused, with `CannotResolve`, whatever it was a call of. `None`
+    /// if none was refused since it was last taken, or if there was no memory to look it up.
+    ///
+    /// A device asks for a mapping of just this, and makes the call again after it came.
+    pub fn take_miss(&self) -> Option<Miss> {
+        let miss = self.session.take_miss();
+        let access = match miss.access {
+            1 => Permissions::Read,
+            2 => Permissions::Write,
+            3 => Permissions::ReadWrite,
+            _ => return None,
+        };
+        let iova_range = IovaRange {
+            base: GuestAddress(miss.address),
+            length: miss.length,
+        };
+        Some(Miss { iova_range, access })
     }
 
     pub(crate) fn session(&self) -> &Session {

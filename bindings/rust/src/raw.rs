@@ -29,6 +29,15 @@ pub struct Answer {
     pub address: u64,
 }
 
+// What a call that a table refused missed first. The access is 0 if there was no memory to look it up.
+#[repr(C)]
+#[derive(Clone, Copy, Default)]
+pub(crate) struct Miss {
+    pub(crate) access: u32,
+    pub(crate) address: u64,
+    pub(crate) length: usize,
+}
+
 /// What is called, in the order of the lines of a script, and then what no script has a line for.
 #[allow(missing_docs)]
 pub mod kind {

@@ -5,7 +5,7 @@ use std::io::{self, Cursor, ErrorKind, Read, Write};
 use std::sync::atomic::Ordering::{Relaxed, SeqCst};
 use vm_memory_proved::{
     BlockId, GuestAddress, GuestMemoryError, GuestRegionCollectionError, IommuError, IotlbFails, IovaRange, Machine,
-    MachineError, MappedRange, MemoryId, Permissions, Reason, RegionId,
+    MachineError, MappedRange, MemoryId, Miss, Permissions, Reason, RegionId,
 };
 
 fn at(addr: u64) -> GuestAddress {
@@ -267,6 +267,12 @@ fn an_iommu_maps_and_marks() {
         GuestMemoryError::IommuError(IommuError::CannotResolve { iova_range, reason: Reason::MissingMapping })
             if iova_range == range
     ));
+    let missed = |base, length, access| {
+        let iova_range = IovaRange { base: at(base), length };
+        Some(Miss { iova_range, access })
+    };
+    assert_eq!(machine.take_miss(), missed(0x8000, 4, Permissions::Write));
+    assert_eq!(machine.take_miss(), None);
     machine
         .set_mapping(table, at(0x8000), at(0x1020), 0x10, Permissions::Read)
         .unwrap();
@@ -276,6 +282,16 @@ fn an_iommu_maps_and_marks() {
         "IOMMU failed to translate guest address: \
         Cannot translate I/O virtual address range 0x8000+4: access not allowed"
     );
+    assert_eq!(machine.take_miss(), missed(0x8000, 4, Permissions::Write));
+    // A read over the end of what is mapped misses what lies beyond, and a write is forbidden before that.
+    memory.read_obj::<[u8; 8]>(at(0x800c)).unwrap_err();
+    assert_eq!(machine.take_miss(), missed(0x8010, 4, Permissions::Read));
+    memory.write_obj([0_u8; 8], at(0x800c)).unwrap_err();
+    assert_eq!(machine.take_miss(), missed(0x800c, 4, Permissions::Write));
+    // What lies before it is missed first, and a call that is not refused leaves what was told.
+    memory.write_obj([0_u8; 24], at(0x7ffc)).unwrap_err();
+    memory.read_obj::<u32>(at(0x8000)).unwrap();
+    assert_eq!(machine.take_miss(), missed(0x7ffc, 4, Permissions::Write));
     machine
         .set_mapping(table, at(0x8000), at(0x1020), 0x10, Permissions::ReadWrite)
         .unwrap();

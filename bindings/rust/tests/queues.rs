@@ -10,7 +10,7 @@ use std::panic::{catch_unwind, AssertUnwindSafe};
 use std::process::Command;
 use vm_memory_proved::queue::{ChainFault, Queue, QueueError, QueueState};
 use vm_memory_proved::raw::{code, kind, part, Answer, Call};
-use vm_memory_proved::{GuestMemory, GuestMemoryError, Machine, Permissions, QueueId};
+use vm_memory_proved::{GuestMemory, GuestMemoryError, IovaRange, Machine, Miss, Permissions, QueueId};
 
 const BASE: u64 = 0x1000;
 const DATA: u64 = 0x8000;
@@ -906,6 +906,11 @@ fn a_queue_lies_behind_an_iommu() {
     let refused = queue.pop_descriptor_chain(&memory).unwrap_err();
     let text = refused.to_string();
     assert!(text.contains("missing mapping"), "{text}");
+    let missed = |base, length, access| {
+        let iova_range = IovaRange { base: at(base), length };
+        Some(Miss { iova_range, access })
+    };
+    assert_eq!(machine.take_miss(), missed(device.avail_ring + 2, 2, Permissions::Read));
     map(Permissions::Read);
     plain.write_slice(b"ask", at(BASE + 0x1000)).unwrap();
     let chain = queue.pop_descriptor_chain(&memory).unwrap().unwrap();
@@ -914,8 +919,20 @@ fn a_queue_lies_behind_an_iommu() {
     assert_eq!(bytes, *b"ask");
     let refused = chain.write_at(&memory, 0, b"say").unwrap_err().to_string();
     assert!(refused.contains("access not allowed"), "{refused}");
+    assert_eq!(machine.take_miss(), missed(IOVA + 0x2000, 3, Permissions::Write));
+    queue.enable_notification(&memory).unwrap_err();
+    assert_eq!(machine.take_miss(), missed(device.used_ring, 2, Permissions::Write));
+    queue.disable_notification(&memory).unwrap_err();
+    assert_eq!(machine.take_miss(), missed(device.used_ring, 2, Permissions::Write));
     assert!(!queue.is_valid(&memory).unwrap());
+    assert_eq!(machine.take_miss(), None);
     assert_refused!(queue.add_used(&memory, 0, 3), QueueError::InvalidUsedEntry);
+    // If what is written to be notified is mapped, the driver's index is what is read then.
+    machine
+        .set_mapping(table, at(IOVA), at(BASE), SIZE, Permissions::Write)
+        .unwrap();
+    queue.enable_notification(&memory).unwrap_err();
+    assert_eq!(machine.take_miss(), missed(device.avail_ring + 2, 2, Permissions::Read));
     map(Permissions::ReadWrite);
     assert!(queue.is_valid(&memory).unwrap());
     assert_eq!(chain.write_at(&memory, 0, b"say").unwrap(), 3);

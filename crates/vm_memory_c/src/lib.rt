@@ -2,7 +2,7 @@
 #![tactic(auto)]
 
 ghost use Rattle.std.specs.Prelude.{◌≡◌, None, IsSome};
-ghost use Rattle.vm_memory_c.specs.Calls.{CallsAt, Opens};
+ghost use Rattle.vm_memory_c.specs.Calls.{CallsAt, MissesAt, Opens};
 
 mod handle;
 mod loose;
@@ -11,7 +11,7 @@ use handle::Handle;
 use loose::Loose;
 use std::alloc::Global;
 use std::mem;
-use vm_session::{Answer, Call, Session};
+use vm_session::{Answer, Call, Miss, Session};
 
 /// Opens a session, and puts its handle into `session`, which has to be closed or new. Answers 0, or 3 where the
 /// allocation fails, and then the handle stays.
@@ -28,7 +28,7 @@ pub extern "C" fn vmm_open(alloc: Global, session: &mut Handle) -> u32
     }
 }
 
-/// Answers a call of an open session.
+/// Answers a call of an open session. If a table refused it, `miss` is what it missed first, and else `miss` stays.
 #[unsafe(no_mangle)]
 pub extern "C" fn vmm_call(
     alloc: Global,
@@ -37,13 +37,15 @@ pub extern "C" fn vmm_call(
     input: &[u8],
     output: &mut [u8],
     answer: &mut Answer,
+    miss: &mut Miss,
 )
     requires { IsSome session.old.state }
-    ensures { CallsAt session.old.state call.now input.now output.old answer.new output.new session.new.state }
+    ensures calls { CallsAt session.old.state call.now input.now output.old answer.new output.new session.new.state }
+    ensures misses { MissesAt session.new.state call.now answer.new miss.old miss.new }
 {
     let handle = mem::replace(session, Handle::closed(alloc));
     let mut open = handle.loosen().into_box();
-    open.call_into(call, input, output, answer);
+    open.call_telling(call, input, output, answer, miss);
     *session = Handle::of(Loose::of(open));
 }
 

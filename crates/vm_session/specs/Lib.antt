@@ -2,6 +2,7 @@ pub mod Answers
 pub mod Codes
 pub mod Kinds
 pub mod Lists
+pub mod Misses
 pub mod QueueCodes
 pub mod Queues
 pub mod Requests

@@ -45,6 +45,17 @@ pub struct Answer {
     pub address: u64,
 }
 
+/// What a call that a table refused has to have first: `length` addresses from `address` on, for an access. They are the
+/// first of those that the call wants and that the table misses or forbids.
+#[repr(C)]
+#[derive(Clone, Copy, Debug, PartialEq, Eq)]
+pub struct Miss {
+    /// The access: 1 to read, 2 to write, 3 for both; 0 if nothing is told.
+    pub access: u32,
+    pub address: u64,
+    pub length: usize,
+}
+
 /// What is called, in the order of the lines of a script, and then what no script has a line for.
 #[derive(Clone, Copy, Debug, PartialEq, Eq)]
 pub enum Kind {

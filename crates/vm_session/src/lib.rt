@@ -8,6 +8,7 @@ mod commands;
 pub mod laws;
 mod lists;
 mod marks;
+mod miss;
 mod queue;
 mod queue_answer;
 mod session;
@@ -17,5 +18,5 @@ mod transfers;
 mod words;
 mod work;
 
-pub use call::{Answer, Call, Kind, QueuePart};
+pub use call::{Answer, Call, Kind, Miss, QueuePart};
 pub use session::Session;

@@ -1,5 +1,5 @@
 //! Queues of a session, and their chains in flight.
-ghost use Rattle.std.specs.Prelude.{◌≡◌, ◌+◌, ◌≤◌, IfOk, replicate, length, Some, None, is_some, option_copied};
+ghost use Rattle.std.specs.Prelude.{◌≡◌, ◌==◌, ◌+◌, ◌≤◌, IfOk, replicate, length, Some, None, is_some, option_copied};
 ghost use Rattle.vm_memory_guest.specs.Host.{shape_of, Holds};
 ghost use Rattle.vm_session.specs.Queues.{AsksNotToNotify, AsksToNotify, BeginsRequest, FinishesRequest, Forgets, ListsState, MakesQueue, NeedsNotification, Pops, ReadsChain, Returns, SetsPart, TellsAvail, TellsUsed, TellsValid, WritesChain, cleared, forgotten, refusal_of_chain, with_chain};
 ghost use Rattle.vm_session.specs.SessionState.{chain_of, descriptors_in};
@@ -321,6 +321,13 @@ impl SessionQueue {
         ensures shape { shape_of host.new ≡ shape_of host.old }
     {
         queue_done(self.queue.disable_notification(mem, host))
+    }
+
+    // Whether the driver's index lies at an address.
+    pub(crate) fn reads_index_at(&self, address: u64) -> bool
+        ensures { result ≡ (address == self.now.queue.state.avail_ring + 2) }
+    {
+        self.queue.state().avail_ring.checked_add(2) == Some(address)
     }
 
     // Whether its areas lie whole in memory.

@@ -1,22 +1,25 @@
 //! A session: a machine, what is made for it, its commands, and queues on its memories, by calls.
 ghost use Rattle.std.specs.Prelude.{◌≡◌, List, ℕ, IsTrue};
 ghost use Rattle.vm_session.specs.Kinds.{is_access, is_on_queue, is_queue, is_work, sets_up};
+ghost use Rattle.vm_session.specs.Misses.{Misses, MissesFor, MissesIf, access_of, notified};
 ghost use Rattle.vm_session.specs.Queues.{AnswersQueue, OnBoth, OneQueue};
 ghost use Rattle.vm_session.specs.Session.{Answers, AnswersKind, Served};
 ghost use Rattle.vm_session.specs.SessionState.{no_session};
 
-use crate::call::{Answer, Call, Kind, access_kind, kind_of, part_of, width_of, work_kind};
+use crate::call::{Answer, Call, Kind, Miss, access_kind, kind_of, part_of, width_of, work_kind};
 use crate::code;
 use crate::commands::{
     load, read, read_slice, serve_listing, serve_making, serve_moving, store, write, write_slice,
 };
 use crate::marks::mark;
+use crate::miss::look_up;
 use crate::queue::{SessionQueue, make_queue};
 use crate::setup::set_up;
 use crate::work::{Asked, work_on};
 use std::alloc::Global;
 use std::marker::Model;
 use vm_memory::ScriptMachine;
+use vm_memory_base::Permissions;
 
 /// A machine, with what is made for it at any time, and queues.
 ///
@@ -76,6 +79,98 @@ impl Session {
             return;
         }
         self.call_any(call, input, output, answer);
+    }
+
+    /// Answers a call as `call_into` does. If a table refused it, `IOMMU_MISSING` or `IOMMU_NOT_ALLOWED`, what it missed
+    /// first is put into `miss`, which else stays. Without memory to look it up, it is `Miss::none()`.
+    #[inline]
+    pub fn call_telling(
+        &mut self,
+        call: &Call,
+        input: &[u8],
+        output: &mut [u8],
+        answer: &mut Answer,
+        miss: &mut Miss,
+    )
+        ensures answers { Answers self.old call.now input.now output.old answer.new output.new self.new }
+        ensures misses { MissesIf self.new call.now answer.new miss.old miss.new }
+    {
+        self.call_into(call, input, output, answer);
+        if answer.is_untranslated() {
+            *miss = self.missed(call, answer);
+        }
+    }
+
+    // What a call missed that a table refused.
+    #[inline(never)]
+    fn missed(&self, call: &Call, answer: &Answer) -> Miss
+        ensures { Misses self.now call.now answer.now result }
+    {
+        match kind_of(call.kind) {
+            Some(kind) => self.missed_by(kind, call, answer),
+            None => Miss::none(),
+        }
+    }
+
+    fn missed_by(&self, kind: Kind, call: &Call, answer: &Answer) -> Miss
+        ensures { MissesFor self.now call.now answer.now kind result }
+    {
+        let Some(access) = self.accessed(kind, call, answer.address) else {
+            return Miss::none();
+        };
+        let memory = if kind.is_work() {
+            call.second
+        } else {
+            call.first
+        };
+        match self.machine.table_of(memory) {
+            Ok(Some(table)) => look_up(&self.machine, answer, access, table),
+            Ok(None) | Err(_) => Miss::none(),
+        }
+    }
+
+    // How a call of a kind accesses an address.
+    fn accessed(&self, kind: Kind, call: &Call, address: u64) -> Option<Permissions>
+        ensures { result ≡ access_of self.now kind call.now address }
+    {
+        match kind {
+            Kind::Read
+            | Kind::ReadSlice
+            | Kind::Load
+            | Kind::WriteTo
+            | Kind::WriteAllTo
+            | Kind::QueueIsValid
+            | Kind::AvailIdx
+            | Kind::UsedIdx
+            | Kind::Pop
+            | Kind::ReadChain
+            | Kind::NeedsNotification
+            | Kind::BeginRequest => Some(Permissions::Read),
+            Kind::Write
+            | Kind::WriteSlice
+            | Kind::Store
+            | Kind::ReadFrom
+            | Kind::ReadExactFrom
+            | Kind::MarkReached
+            | Kind::WriteChain
+            | Kind::AddUsed
+            | Kind::DisableNotification
+            | Kind::FinishRequest => Some(Permissions::Write),
+            Kind::EnableNotification => self.notified(call.first, address),
+            _ => None,
+        }
+    }
+
+    // How an address is accessed to be notified: the driver's index is read, and the rest is written.
+    fn notified(&self, queue: usize, address: u64) -> Option<Permissions>
+        ensures { result ≡ notified self.now queue address }
+    {
+        let queue = self.queues.get(queue)?;
+        if queue.reads_index_at(address) {
+            Some(Permissions::Read)
+        } else {
+            Some(Permissions::Write)
+        }
     }
 
     #[inline(never)]
