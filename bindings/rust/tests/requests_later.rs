@@ -28,7 +28,10 @@ fn late<T>(guest: &Guest<'_>, mut call: impl FnMut() -> Result<T, QueueError>) -
         let row = (range.base.0, range.length);
         assert!(reason == Reason::MissingMapping && !refused.contains(&row), "{row:x?}");
         refused.push(row);
-        guest.map_just(range, Permissions::ReadWrite);
+        // All of the range is missed, and the access that is told is enough.
+        let miss = guest.machine.take_miss().unwrap();
+        assert_eq!(miss.iova_range, range);
+        guest.map_just(range, miss.access);
     }
 }
 

@@ -7,7 +7,7 @@ use crate::slow::{addresses, total, Image, Segment};
 use vm_memory_proved::block::*;
 use vm_memory_proved::queue::{DescriptorChain, Queue, QueueError};
 use vm_memory_proved::{BlockId, GuestMemory, GuestMemoryError, IommuError, IovaRange};
-use vm_memory_proved::{Machine, Permissions, Reason, TableId};
+use vm_memory_proved::{Machine, Miss, Permissions, Reason, TableId};
 
 /// What the specification calls them: VIRTIO_BLK_T_IN and so on.
 pub const IN: u32 = 0;
@@ -351,6 +351,21 @@ impl<'a> Guest<'a> {
         }
     }
 
+    /// What the machine says that a refused access missed first. Before it nothing is missed, and each end of it is.
+    pub fn first_missed(&self, range: IovaRange, step: Step) -> IovaRange {
+        let Miss { iova_range, access } = self.machine.take_miss().expect("the table refused a call");
+        assert_eq!(access, access_of(step));
+        let allowed = |base: u64, length: u64| {
+            let found = self.machine.lookup(self.table, at(base), length as usize, access);
+            found.unwrap().is_ok()
+        };
+        let (base, length) = (iova_range.base.0, iova_range.length as u64);
+        let (first, end) = (range.base.0, range.base.0 + range.length as u64);
+        assert!(first <= base && length > 0 && base + length <= end);
+        assert!(allowed(first, base - first) && !allowed(base, 1) && !allowed(base + length - 1, 1));
+        iova_range
+    }
+
     /// Makes the call of a step until it is not refused, after a mapping came each time. A call that is refused leaves
     /// memory as it is.
     ///
@@ -370,8 +385,8 @@ impl<'a> Guest<'a> {
             let (range, access) = match call(&self.memory, &self.queue) {
                 Err(QueueError::InvalidUsedEntry) if step == Step::AddUsed => (whole_rings(), Permissions::ReadWrite),
                 Err(error) => match missing(&error) {
-                    Some((range, Reason::MissingMapping)) => (range, access_of(step)),
-                    Some((range, _)) => (range, Permissions::ReadWrite),
+                    Some((range, Reason::MissingMapping)) => (self.first_missed(range, step), access_of(step)),
+                    Some((range, _)) => (self.first_missed(range, step), Permissions::ReadWrite),
                     None => return Err(error),
                 },
                 Ok(answer) => return Ok(answer),
@@ -488,8 +503,7 @@ pub fn whole_rings() -> IovaRange {
 pub fn access_of(step: Step) -> Permissions {
     match step {
         Step::Pop | Step::Begin | Step::Read => Permissions::Read,
-        Step::Write | Step::Finish => Permissions::Write,
-        Step::AddUsed => Permissions::ReadWrite,
+        Step::Write | Step::Finish | Step::AddUsed => Permissions::Write,
     }
 }
 
