@@ -945,6 +945,12 @@ fn a_queue_lies_behind_an_iommu() {
     pages.dedup();
     let dirty = machine.harvest_space(space).unwrap();
     assert_eq!(dirty.iter().map(|page| *page as u64).collect::<Vec<_>>(), pages);
+    // The flags of the available ring say whether the driver is to be interrupted.
+    machine.invalidate_all(table).unwrap();
+    queue.needs_notification(&memory).unwrap_err();
+    assert_eq!(machine.take_miss(), missed(device.avail_ring, 2, Permissions::Read));
+    map(Permissions::Read);
+    assert!(queue.needs_notification(&memory).unwrap());
 }
 
 // ---- errors
