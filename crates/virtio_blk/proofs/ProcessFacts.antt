@@ -3,7 +3,7 @@ use Rattle.std.proofs.Common.{◌≡◌, ◌∙◌, inl, inr, ℕ, ◌+◌, ◌<
 use Rattle.std.proofs.lemmas.Bool.{eq-eqb}
 use Rattle.std.specs.Option.{option_or}
 use Rattle.vm_memory_guest.specs.Host.{Host, shape_of}
-use Rattle.vm_memory_guest.specs.Memory.{Memory, IsOn}
+use Rattle.vm_memory_guest.specs.Memory.{Memory}
 use Rattle.vm_memory_device.specs.declared.chain.Segment.{Segment}
 use Rattle.virtio_queue.specs.Available.{MayWantChain, after_pop, avail_idx, popped}
 use Rattle.virtio_queue.specs.Fields.{Answers}
@@ -92,15 +92,9 @@ module _ {B D : Type 0} (marks : B → ℕ → ℕ → B → Type 0) (bytes : D 
           ap (λ (r : Result ℕ QueueError). and_then r (λ i. Ok (not (i == q.next_avail)))) idx
           ∙ ap (λ b. Ok (not b)) (eq-eqb q.next_avail q.next_avail refl)
 
-      more : (stored : Result (Unit {0}) QueueError)
-          → Answers (IsOn m) (and_then stored (λ _. has_more m start.host q)) (Ok true) → ⊥
-      more (Ok u) (inl e) = let bad : Ok true ≡ Ok false = e ∙ none in absurd (cc)
-      more (Err f) (inl e) = absurd (cc)
-      more stored (inr (e, on)) = absurd (cc)
-
       go : (b : Bool) → MatchBool b (Enables marks m q old.host (Ok true) start.host)
           ((◌≡◌ {A = Result Bool QueueError} (Ok true) (Err QueueNotReady)) × (start.host ≡ old.host)) → ⊥
-      go true (stored, stores, answers) = more stored answers
+      go true (stores, more) = let bad : Ok true ≡ Ok false = sym more ∙ none in absurd (cc)
       go false (refused, same) = absurd (cc)
 
   -- one try that does not ask the driver

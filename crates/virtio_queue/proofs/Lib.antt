@@ -3,4 +3,5 @@ mod FieldLemmas
 mod HistoryLemmas
 mod LawLemmas
 mod LinkedLemmas
+mod RingLemmas
 mod StoreLemmas

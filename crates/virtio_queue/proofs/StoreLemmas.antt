@@ -11,7 +11,7 @@ use Rattle.vm_memory_base.specs.declared.iotlb.Permissions.{Permissions}
 use Rattle.vm_memory_base.specs.declared.iotlb.Permissions.TheVariants as permissions
 use Rattle.vm_memory_base.specs.declared.bitmap.BitmapId.{BitmapId}
 use Rattle.vm_memory_base.specs.declared.bitmap.BitmapId.TheVariants.{Block, Space}
-use Rattle.vm_memory_guest.specs.Access.{access_of, first_fault, meets, path, refusal, stretches, windows}
+use Rattle.vm_memory_guest.specs.Access.{Access, access_of, first_fault, meets, path, refusal, stretches, windows}
 use Rattle.vm_memory_guest.specs.Host as host
 use Rattle.vm_memory_guest.specs.Error.{error_of}
 use Rattle.vm_memory_guest.specs.Host.{Cell, Host, Shape, Holds, block_at, bytes_at, cells_from, shape_of, written}
@@ -49,50 +49,54 @@ module _ (shape : Shape) (regions : List Region) (a n : ℕ) (access : Permissio
     (through : (says : Says) (space : ℕ) → Holds shape (flat_map region_names regions)
     → Holds shape (host.Space space ∷ [])
     → All (λ w. Holds shape (window_names w)) (windows (path (meets regions (Through says space) a) 0 n)))
-    (w : Window) where
-  -- the window of an access that is translated
-  through_held : (says : Says) (space : ℕ) → Holds shape (flat_map region_names regions)
-      → Holds shape (host.Space space ∷ []) → place_of n (access_of regions (Through says space) a n access) ≡ Ok w
-      → Holds shape (window_names w) × (w.size ≡ n)
-  unfolding stretches
-  through_held says space held known is = go (is_allowed says a n access) is
-    where
-      go : (b : Bool) → place_of n (if b
-          then record {
-            path = path (meets regions (Through says space) a) 0 n;
-            fault = first_fault (meets regions (Through says space) a) 0 n;
-          }
-          else record { path = []; fault = Some (refusal (Through says space) a n) }) ≡ Ok w
-          → Holds shape (window_names w) × (w.size ≡ n)
-      go true is = first_of (λ v. Holds shape (window_names v)) n
-          (windows (path (meets regions (Through says space) a) 0 n))
-          (option_map error_of (first_fault (meets regions (Through says space) a) 0 n)) (through says space held known)
-          w is
-      go false is = absurd (cc)
+  where
+    abbrev windows_in : Access → List Window
+    windows_in x = windows x.path
 
-  -- the window of an access of a memory whose names are held
-  pub place_held : (iommu : Option Switched) (tables : List Table) → Holds shape (flat_map region_names regions)
-      → Holds shape (switched_names iommu)
-      → place_of n (access_of regions (route (record { regions = regions; iommu = iommu }) tables) a n access) ≡ Ok w
-      → Holds shape (window_names w) × (w.size ≡ n)
-  place_held iommu tables held known is = go iommu known is
-    where
-      plain : place_of n (access_of regions Direct a n access) ≡ Ok w
-          → Holds shape (window_names w) × (w.size ≡ n)
-      plain is = first_of (λ v. Holds shape (window_names v)) n (windows (path (meets regions Direct a) 0 n))
-          (option_map error_of (first_fault (meets regions Direct a) 0 n)) (direct held) w is
+    -- the windows of an access that is translated
+    through_held : (says : Says) (space : ℕ) → Holds shape (flat_map region_names regions)
+        → Holds shape (host.Space space ∷ [])
+        → All (λ w. Holds shape (window_names w)) (windows_in (access_of regions (Through says space) a n access))
+    unfolding stretches
+    through_held says space held known = go (is_allowed says a n access)
+      where
+        go : (b : Bool) → All (λ w. Holds shape (window_names w)) (windows_in (if b
+            then record {
+              path = path (meets regions (Through says space) a) 0 n;
+              fault = first_fault (meets regions (Through says space) a) 0 n;
+            }
+            else record { path = []; fault = Some (refusal (Through says space) a n) }))
+        go true = through says space held known
+        go false = All-nil (λ w. Holds shape (window_names w))
 
-      switched : (b : Translation) (on : Bool) → Holds shape (host.Space b.space ∷ [])
-          → place_of n (access_of regions (route_behind (behind_if on b) tables) a n access) ≡ Ok w
-          → Holds shape (window_names w) × (w.size ≡ n)
-      switched b true known is = through_held (says_of (slice_get tables b.table)) b.space held known is
-      switched b false known is = plain is
+    -- the windows of an access of a memory whose names are held
+    pub windows_held : (iommu : Option Switched) (tables : List Table) → Holds shape (flat_map region_names regions)
+        → Holds shape (switched_names iommu)
+        → All (λ w. Holds shape (window_names w))
+        (windows (access_of regions (route (record { regions = regions; iommu = iommu }) tables) a n access).path)
+    windows_held iommu tables held known = go iommu known
+      where
+        switched : (b : Translation) (on : Bool) → Holds shape (host.Space b.space ∷ [])
+            → All (λ w. Holds shape (window_names w))
+            (windows (access_of regions (route_behind (behind_if on b) tables) a n access).path)
+        switched b true known = through_held (says_of (slice_get tables b.table)) b.space held known
+        switched b false known = direct held
 
-      go : (iommu : Option Switched) → Holds shape (switched_names iommu)
-          → place_of n (access_of regions (route_behind (behind_of iommu) tables) a n access) ≡ Ok w
-          → Holds shape (window_names w) × (w.size ≡ n)
-      go None known is = plain is
-      go (Some s) known is = switched s.behind s.on known.1 is
+        go : (iommu : Option Switched) → Holds shape (switched_names iommu)
+            → All (λ w. Holds shape (window_names w))
+            (windows (access_of regions (route_behind (behind_of iommu) tables) a n access).path)
+        go None known = direct held
+        go (Some s) known = switched s.behind s.on known.1
+
+    -- the window of such an access
+    pub place_held : (w : Window) (iommu : Option Switched) (tables : List Table)
+        → Holds shape (flat_map region_names regions) → Holds shape (switched_names iommu)
+        → place_of n (access_of regions (route (record { regions = regions; iommu = iommu }) tables) a n access) ≡ Ok w
+        → Holds shape (window_names w) × (w.size ≡ n)
+    place_held w iommu tables held known is =
+        let x = access_of regions (route (record { regions = regions; iommu = iommu }) tables) a n access in
+        first_of (λ v. Holds shape (window_names v)) n (windows x.path) (option_map error_of x.fault)
+        (windows_held iommu tables held known) w is
 
 -- ---- what was written to it
 

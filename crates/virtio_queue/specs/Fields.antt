@@ -1,5 +1,5 @@
 -- The fields of a queue in guest memory, as a device reads and writes them.
-use Rattle.std.specs.Prelude.{◌≡◌, ◌⊎◌, ℕ, ◌+◌, ◌*◌, ◌^◌, nat_le, Bool, ◌&&◌, if◌then◌else◌, List, [], ◌∷◌, take, drop, length, option_map, Result, Ok, Err, MatchResult}
+use Rattle.std.specs.Prelude.{◌≡◌, ◌⊎◌, ℕ, ◌+◌, ◌*◌, ◌%◌, ◌^◌, nat_le, ◌==◌, Bool, ◌&&◌, if◌then◌else◌, List, [], ◌∷◌, take, drop, length, option_map, Result, Ok, Err, MatchResult}
 use Rattle.std.specs.Int.{w16, w32, w64, from_le_bytes, to_le_bytes}
 use Rattle.vm_memory_base.specs.declared.iotlb.Permissions.{Permissions}
 use Rattle.vm_memory_base.specs.declared.iotlb.Permissions.TheVariants as permissions
@@ -88,10 +88,18 @@ abbrev pub lies_whole : {B : Type 0} → Memory → Host B → ℕ → ℕ → P
 lies_whole m host a n access =
     nat_le (a + n) (2 ^ 64) && is_whole (reached_at m host a n access).path n
 
--- the window that a store of a number of 16 bits takes so far behind an address
+-- the window that an access of a number of 16 bits takes so far behind an address
+abbrev pub window_at : {B : Type 0} → Memory → Host B → ℕ → ℕ → Permissions → Result Window QueueError
+window_at m host base offset access = and_then (place base offset 2) (λ a.
+    told (place_of 2 (reached_at m host a 2 access)))
+
+-- whether a window is that of a load or a store of a number of 16 bits: it has two bytes, at an even place
+abbrev pub is_word : Window → Bool
+is_word w = w.size == 2 && w.offset % 2 == 0
+
+-- the window that a store of a number of 16 bits takes
 abbrev pub word_window : {B : Type 0} → Memory → Host B → ℕ → ℕ → Result Window QueueError
-word_window m host base offset = and_then (place base offset 2) (λ a.
-    told (place_of 2 (reached_at m host a 2 permissions.Write)))
+word_window m host base offset = window_at m host base offset permissions.Write
 
 -- the number of 16 bits that lies where such a store goes, whether it may be read there or not
 abbrev pub stored_at : {B : Type 0} → Memory → Host B → ℕ → ℕ → Result ℕ QueueError

@@ -1,10 +1,12 @@
 -- Notifications: by flags, or by event indices.
-use Rattle.std.specs.Prelude.{◌≡◌, ℕ, ◌+◌, ◌*◌, nat_lt, Bool, true, not, ◌==◌, if◌then◌else◌, Option, Some, None, Result, Ok, Err, MatchBool}
+use Rattle.std.specs.Prelude.{◌≡◌, ℕ, ◌+◌, ◌*◌, nat_lt, Bool, true, not, ◌==◌, if◌then◌else◌, Option, Some, None, Result, Ok, Err, MatchBool, MatchResult}
+use Rattle.vm_memory_base.specs.declared.iotlb.Permissions.TheVariants as permissions
 use Rattle.vm_memory_guest.specs.Host.{Host}
 use Rattle.vm_memory_guest.specs.Memory.{Memory, IsOn}
+use Rattle.vm_memory_guest.specs.Window.{Window}
 use Rattle.virtio_queue.specs.Available.{avail_idx}
 use Rattle.virtio_queue.specs.Descriptor.{has_flag}
-use Rattle.virtio_queue.specs.Fields.{stored_at, word_at, Answers, StoresWord}
+use Rattle.virtio_queue.specs.Fields.{stored_at, window_at, word_at, word_window, Refuses, StoresWord}
 use Rattle.virtio_queue.specs.Rings.{ahead, and_then, before}
 use Rattle.virtio_queue.specs.State.{Virtqueue}
 use Rattle.virtio_queue.specs.declared.error.QueueError.{QueueError}
@@ -45,6 +47,11 @@ kick_offset q = if q.event_idx_enabled then 4 + 8 * q.size else 0
 abbrev pub kick_value : QueueState → ℕ
 kick_value q = if q.event_idx_enabled then q.next_avail else 0
 
+-- where a device writes this, and where it finds the driver's index
+abbrev pub kick_places : {B : Type 0} → Memory → Host B → QueueState → Result (Window × Window) QueueError
+kick_places m host q = and_then (word_window m host q.used_ring (kick_offset q)) (λ kick.
+    and_then (window_at m host q.avail_ring 2 permissions.Read) (λ idx. Ok (kick, idx)))
+
 -- what a device waits for: the driver finds in memory when to notify it, the value that asks for a notification of the
 -- next head, and has published no head beyond those that were popped
 pub record Waits {B : Type 0} (m : Memory) (host : Host B) (q : QueueState) : Type 0 where
@@ -52,11 +59,13 @@ pub record Waits {B : Type 0} (m : Memory) (host : Host B) (q : QueueState) : Ty
   pub none : avail_idx m host q ≡ Ok q.next_avail
 
 module _ {B : Type 0} (marks : B → ℕ → ℕ → B → Type 0) (m : Memory) (q : QueueState) where
-  -- the driver is asked to notify, and then it is answered whether there is more in the ring by now
+  -- the driver is asked to notify, and then it is answered whether there is more in the ring by now. Or one of the two
+  -- was refused, and nothing changed
   abbrev pub Enables : Host B → Result Bool QueueError → Host B → Type 0
-  Enables old answer new = (stored : Result (Unit {0}) QueueError)
-      × StoresWord marks m q.used_ring (kick_offset q) (kick_value q) old stored new
-      × Answers (IsOn m) (and_then stored (λ _. has_more m new q)) answer
+  Enables old answer new = MatchResult answer
+      (λ more. StoresWord marks m q.used_ring (kick_offset q) (kick_value q) old (Ok tt) new
+      × (has_more m new q ≡ Ok more))
+      (λ e. Refuses (IsOn m) (kick_places m old q) e × (new ≡ old))
 
   -- a queue that is not ready is refused, and nothing changes
   abbrev pub EnablesIfReady : Host B → Result Bool QueueError → Host B → Type 0

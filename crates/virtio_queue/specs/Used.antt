@@ -1,10 +1,14 @@
 -- What the device gives back: the used ring, and whether a queue's areas lie in memory.
-use Rattle.std.specs.Prelude.{◌≡◌, ◌⊎◌, ℕ, ◌+◌, ◌*◌, nat_le, not, ◌&&◌, min, if◌then◌else◌, List, ◌++◌, option_map, Bool, Result, Ok, Err}
+use Rattle.std.specs.Prelude.{◌≡◌, ℕ, ◌+◌, ◌*◌, nat_le, not, ◌&&◌, min, if◌then◌else◌, List, ◌++◌, option_map, Bool, Result, Ok, Err, MatchResult}
 use Rattle.std.specs.Int.{w32, to_le_bytes}
 use Rattle.vm_memory_base.specs.declared.iotlb.Permissions.TheVariants as permissions
+use Rattle.vm_memory_guest.specs.Access.{allowed, refusal}
+use Rattle.vm_memory_guest.specs.Error.{error_of}
 use Rattle.vm_memory_guest.specs.Host.{Host}
-use Rattle.vm_memory_guest.specs.Memory.{Memory, IsOn}
-use Rattle.virtio_queue.specs.Fields.{lies_whole, place, word_at, Refuses, StoresWord, WritesBytes}
+use Rattle.vm_memory_guest.specs.Memory.{Memory, IsOn, route}
+use Rattle.vm_memory_guest.specs.Window.{Window}
+use Rattle.virtio_queue.specs.Error.{of_access}
+use Rattle.virtio_queue.specs.Fields.{lies_whole, place, word_at, word_window, Refuses, StoresWord, WritesBytes}
 use Rattle.virtio_queue.specs.Rings.{and_then, behind, slot}
 use Rattle.virtio_queue.specs.State.{Virtqueue}
 use Rattle.virtio_queue.specs.declared.error.QueueError.{QueueError}
@@ -25,12 +29,22 @@ module _ {B : Type 0} (m : Memory) (host : Host B) where
   abbrev pub used_idx : QueueState → Result ℕ QueueError
   used_idx q = if q.ready then word_at m host q.used_ring 2 else Err errors.QueueNotReady
 
+  -- why an entry cannot be written at an address: its translation is refused, or it does not lie whole in memory
+  abbrev pub entry_fault : ℕ → QueueError
+  entry_fault a = let way = route m host.tables in
+      if allowed way a 8 permissions.Write then errors.InvalidUsedEntry else of_access (error_of (refusal way a 8))
+
   -- the address of the entry of the next index, where it can be written for a head, which has to be below the size
   abbrev pub entry_place : QueueState → ℕ → Result ℕ QueueError
   entry_place q head = if not q.ready then Err errors.QueueNotReady
       else if nat_le q.size head then Err errors.InvalidDescriptorIndex
       else and_then (place q.used_ring (4 + 8 * slot q.size q.next_used) 8) (λ a.
-      if lies_whole m host a 8 permissions.Write then Ok a else Err errors.InvalidUsedEntry)
+      if lies_whole m host a 8 permissions.Write then Ok a else Err (entry_fault a))
+
+  -- where the entry and the index go
+  abbrev pub used_places : QueueState → ℕ → Result (ℕ × Window) QueueError
+  used_places q head =
+      and_then (entry_place q head) (λ a. and_then (word_window m host q.used_ring 2) (λ w. Ok (a, w)))
 
 -- the bytes of an entry: a head and how many bytes the device wrote, each with its lowest byte first
 abbrev pub entry_bytes : ℕ → ℕ → List ℕ
@@ -42,11 +56,15 @@ module _ {B : Type 0} (marks : B → ℕ → ℕ → B → Type 0) (m : Memory) 
   WritesEntry old new =
       (a : ℕ) × (entry_place m old q head ≡ Ok a) × WritesBytes marks m a (entry_bytes head len) old new
 
-  -- the entry was refused, and nothing changed. Or it was written, and behind it the index was stored or refused
+  -- the index that publishes the entry was stored, and nothing else changed
+  abbrev pub StoresIndex : Host B → Host B → Type 0
+  StoresIndex old new = StoresWord marks m q.used_ring 2 (behind q.next_used) old (Ok tt) new
+
+  -- the entry was written, and then the index was stored. Or one of the two was refused, and nothing changed
   abbrev pub AddsUsed : Host B → Result (Unit {0}) QueueError → Host B → Type 0
-  AddsUsed old answer new =
-      ((e : QueueError) × (answer ≡ Err e) × Refuses (IsOn m) (entry_place m old q head) e × (new ≡ old))
-      ⊎ ((mid : Host B) × WritesEntry old mid × StoresWord marks m q.used_ring 2 (behind q.next_used) mid answer new)
+  AddsUsed old answer new = MatchResult answer
+      (λ _. (mid : Host B) × WritesEntry old mid × StoresIndex mid new)
+      (λ e. Refuses (IsOn m) (used_places m old q head) e × (new ≡ old))
 
 -- one entry more is counted, up to 65536
 abbrev pub one_more : ℕ → ℕ

@@ -1,11 +1,14 @@
 //! The fields of a queue in guest memory: each is read or written by one access.
-ghost use Rattle.std.specs.Prelude.{◌≡◌, ◌+◌, ◌<◌, ◌^◌, ◌++◌, Ok, IsTrue, MatchResult, OnOk};
-ghost use Rattle.std.specs.Int.{w32, to_le_bytes};
+ghost use Rattle.std.specs.Prelude.{◌≡◌, ◌+◌, ◌<◌, ◌^◌, ◌++◌, ◌∷◌, [], true, option_map, All, Ok, IfOk, IsTrue, MatchResult, OnOk};
+ghost use Rattle.std.specs.Int.{w16, w32, from_le_bytes, to_le_bytes};
 ghost use Rattle.vm_memory_base.specs.declared.iotlb.Permissions.TheVariants.{Write};
-ghost use Rattle.vm_memory_guest.specs.Host.{shape_of, Holds};
+ghost use Rattle.vm_memory_guest.specs.Error.{error_of};
+ghost use Rattle.vm_memory_guest.specs.Host.{bytes_at, shape_of, Holds};
 ghost use Rattle.vm_memory_guest.specs.Memory.{IsOn};
+ghost use Rattle.vm_memory_guest.specs.Typed.{first_aligned};
+ghost use Rattle.vm_memory_guest.specs.Window.{Writes, cells_of, window_names};
 ghost use Rattle.virtio_queue.specs.Driver.{Puts};
-ghost use Rattle.virtio_queue.specs.Fields.{Answers, StoresWord, WritesBytes, descriptor_at, lies_whole, pair_at, place, stored_at, word_at};
+ghost use Rattle.virtio_queue.specs.Fields.{Answers, StoresWord, WritesBytes, descriptor_at, is_word, lies_whole, pair_at, place, stored_at, told, window_at, word_at};
 
 use crate::descriptor::Descriptor;
 use crate::error::QueueError;
@@ -16,7 +19,10 @@ use vm_memory_guest::laws::effects::{writes_keep_shapes, written_is_read_back};
 use vm_memory_guest::laws::host::names_are_held_one_by_one;
 use vm_memory_guest::laws::paths::windows_are_the_path;
 use vm_memory_guest::laws::typed::loads_and_stores_are_by_bytes;
-use vm_memory_guest::{Bytes, GuestMemory, HostMemory};
+use vm_memory_guest::{
+    Bytes, GuestMemory, GuestMemoryBackend, GuestMemoryError, HostMemory, IommuMemorySliceIterator,
+    VolatileSlice,
+};
 
 // The address of a field of `size` bytes that lies so far behind an address.
 #[inline]
@@ -94,6 +100,85 @@ pub(crate) fn store_word<M: GuestMemory, B: Bitmap>(
     match Bytes::store(mem, host, value, addr, Ordering::SeqCst) {
         Ok(()) => Ok(()),
         Err(error) => Err(QueueError::of_access(error)),
+    }
+}
+
+// Whether a window is that of a load or a store of a number of 16 bits.
+#[inline]
+fn is_word<B: Bitmap>(window: &VolatileSlice, host: &HostMemory<B>) -> bool
+    requires { Holds (shape_of host.now) (window_names window.now) }
+    ensures { result ≡ is_word window.now }
+{
+    window.len() == 2 && Bytes::<usize>::load::<u16, B>(window, host, 0, Ordering::SeqCst).is_ok()
+}
+
+// The window of a load or a store of a number of 16 bits: the first that a walk gives.
+#[inline]
+fn first_word<P: GuestMemoryBackend, B: Bitmap>(
+    mut walk: IommuMemorySliceIterator<'_, P>,
+    host: &HostMemory<B>,
+) -> Result<VolatileSlice, QueueError>
+    requires { All (λ w. Holds (shape_of host.now) (window_names w)) walk.windows }
+    ensures { result ≡ told (first_aligned 2 walk.entry.windows (option_map error_of walk.entry.fault)) }
+{
+    match walk.next() {
+        Some(Ok(window)) if is_word(&window, host) => Ok(window),
+        Some(Err(error)) => Err(QueueError::of_access(error)),
+        _ => Err(QueueError::of_access(GuestMemoryError::InvalidBackendAddress)),
+    }
+}
+
+// The window that an access of a number of 16 bits takes so far behind an address. What is in it can be accessed with
+// no further look-up, so that it cannot be refused.
+#[inline]
+pub(crate) fn window_at<M: GuestMemory, B: Bitmap>(
+    mem: &M,
+    host: &HostMemory<B>,
+    base: u64,
+    offset: u64,
+    access: Permissions,
+) -> Result<VolatileSlice, QueueError>
+    requires held { Holds (shape_of host.now) (M.names mem.now) }
+    requires near { offset + 2 < 2 ^ 32 }
+    ensures window { let m = M.memory mem.now in
+        Answers (IsOn m) (window_at m host.now base offset access) result }
+    ensures held { IfOk result (λ w. Holds (shape_of host.now) (window_names w)) }
+    ensures word { IfOk result (λ w. is_word w ≡ true) }
+{
+    windows_are_the_path();
+    names_are_held_one_by_one();
+    let addr = GuestAddress(place(base, offset, 2)?);
+    match mem.get_slices(host, addr, 2, access) {
+        Ok(walk) => first_word(walk, host),
+        Err(error) => Err(QueueError::of_access(error)),
+    }
+}
+
+// The number of 16 bits in its window.
+#[inline]
+pub(crate) fn load_in<B: Bitmap>(window: &VolatileSlice, host: &HostMemory<B>) -> u16
+    requires held { Holds (shape_of host.now) (window_names window.now) }
+    requires word { is_word window.now ≡ true }
+    ensures { result ≡ from_le_bytes w16 (bytes_at host.now.blocks (cells_of window.now)) }
+{
+    match Bytes::<usize>::load::<u16, B>(window, host, 0, Ordering::SeqCst) {
+        Ok(word) => word,
+        Err(_) => unreachable!(),
+    }
+}
+
+// Stores a number of 16 bits in its window.
+#[inline]
+pub(crate) fn store_in<B: Bitmap>(window: &VolatileSlice, host: &mut HostMemory<B>, value: u16)
+    requires held { Holds (shape_of host.old) (window_names window.now) }
+    requires word { is_word window.now ≡ true }
+    ensures written { Writes B.marks (window.now ∷ []) (to_le_bytes w16 value) host.old host.new }
+    ensures shape { shape_of host.new ≡ shape_of host.old }
+{
+    let _view = window.bitmap();
+    match Bytes::<usize>::store::<u16, B>(window, host, value, 0, Ordering::SeqCst) {
+        Ok(()) => (),
+        Err(_) => unreachable!(),
     }
 }
 

@@ -82,9 +82,14 @@ module _ {B : Type 0} (marks : B → ℕ → ℕ → B → Type 0) (pages : B �
 
     adds_seen : (q : QueueState) (head len : ℕ) (old : Host B) (answer : Result (Unit {0}) QueueError) (new : Host B)
         → AddsUsed marks m q head len old answer new → AddsUsed marks_pages m q head len (seen old) answer (seen new)
-    adds_seen q head len old answer new (inl h) = inl (h.0, h.1, h.2, ap seen h.3)
-    adds_seen q head len old answer new (inr h) =
-        inr (seen h.0, (h.1.0, h.1.1, writes_seen _ _ old h.0 h.1.2), stores_seen _ _ _ h.0 answer new h.2)
+    adds_seen q head len old (Ok u) new h =
+        (seen h.0, (h.1.0, h.1.1, writes_seen _ _ old h.0 h.1.2), stores_seen _ _ _ h.0 (Ok tt) new h.2)
+    adds_seen q head len old (Err e) new h = (h.0, ap seen h.1)
+
+    enables_both : (q : QueueState) (old : Host B) (answer : Result Bool QueueError) (new : Host B)
+        → Enables marks m q old answer new → Enables marks_pages m q (seen old) answer (seen new)
+    enables_both q old (Ok more) new h = (stores_seen _ _ _ old (Ok tt) new h.0, h.1)
+    enables_both q old (Err e) new h = (h.0, ap seen h.1)
 
     enables_seen : (q : QueueState) (old : Host B) (answer : Result Bool QueueError) (new : Host B)
         → EnablesIfReady marks m q old answer new → EnablesIfReady marks_pages m q (seen old) answer (seen new)
@@ -94,7 +99,7 @@ module _ {B : Type 0} (marks : B → ℕ → ℕ → B → Type 0) (pages : B �
             → MatchBool b (Enables marks m q old answer new) ((answer ≡ Err errors.QueueNotReady) × (new ≡ old))
             → MatchBool b (Enables marks_pages m q (seen old) answer (seen new))
             ((answer ≡ Err errors.QueueNotReady) × (seen new ≡ seen old))
-        at true h = (h.0, stores_seen _ _ _ old h.0 new h.1, h.2)
+        at true h = enables_both q old answer new h
         at false h = (h.0, ap seen h.1)
 
     disables_seen : (q : QueueState) (old : Host B) (answer : Result (Unit {0}) QueueError) (new : Host B)

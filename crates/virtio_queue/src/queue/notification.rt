@@ -1,17 +1,19 @@
 //! Notifications: when the driver has to be told of used entries, and the device of available ones.
-ghost use Rattle.std.specs.Prelude.{◌≡◌, false, Ok, OnOk};
+ghost use Rattle.std.specs.Prelude.{◌≡◌, ◌<◌, ◌^◌, false, true, Ok, IfOk, OnOk};
 ghost use Rattle.vm_memory_guest.specs.Host.{shape_of, Holds};
 ghost use Rattle.vm_memory_guest.specs.Memory.{IsOn};
-ghost use Rattle.virtio_queue.specs.Fields.{Answers, stored_at};
-ghost use Rattle.virtio_queue.specs.Notification.{Disables, EnablesIfReady, Waits, after_asked, is_among, kick_offset, kick_value, needs_notification, wants_notification};
+ghost use Rattle.vm_memory_guest.specs.Window.{window_names};
+ghost use Rattle.virtio_queue.specs.Fields.{Answers, is_word, stored_at};
+ghost use Rattle.virtio_queue.specs.Notification.{Disables, EnablesIfReady, Waits, after_asked, is_among, kick_offset, kick_places, kick_value, needs_notification, wants_notification};
 
 use super::Queue;
-use super::available::avail_idx;
 use crate::error::QueueError;
-use crate::fields::{load_word, store_word};
+use crate::fields::{load_in, load_word, store_in, store_word, window_at};
 use crate::state::QueueState;
-use vm_memory_base::Bitmap;
-use vm_memory_guest::{GuestMemory, HostMemory};
+use vm_memory_base::{Bitmap, Permissions};
+use vm_memory_guest::laws::effects::{writes_keep_shapes, written_is_read_back};
+use vm_memory_guest::laws::typed::loads_and_stores_are_by_bytes;
+use vm_memory_guest::{GuestMemory, HostMemory, VolatileSlice};
 
 /// The flag of the available ring by which a driver asks for no notification.
 pub const VRING_AVAIL_F_NO_INTERRUPT: u16 = 1;
@@ -49,6 +51,55 @@ fn wants_notification<M: GuestMemory, B: Bitmap>(
     Ok(flags & VRING_AVAIL_F_NO_INTERRUPT == 0)
 }
 
+// How far behind the start of the used ring lies what says when to notify the device.
+#[inline]
+fn kick_offset(state: &QueueState) -> u64
+    ensures offset { result ≡ kick_offset state.now }
+    ensures small { result < 2 ^ 20 }
+{
+    if state.event_idx_enabled {
+        4 + 8 * u64::from(state.size)
+    } else {
+        0
+    }
+}
+
+// What is written there to be notified.
+#[inline]
+fn kick_value(state: &QueueState) -> u16
+    ensures { result ≡ kick_value state.now }
+{
+    if state.event_idx_enabled {
+        state.next_avail
+    } else {
+        0
+    }
+}
+
+// Where a device writes when it is to be notified, and where it finds the driver's index.
+#[inline]
+fn kick_places<M: GuestMemory, B: Bitmap>(
+    mem: &M,
+    host: &HostMemory<B>,
+    state: &QueueState,
+) -> Result<(VolatileSlice, VolatileSlice), QueueError>
+    requires { Holds (shape_of host.now) (M.names mem.now) }
+    ensures places { let m = M.memory mem.now in Answers (IsOn m) (kick_places m host.now state.now) result }
+    ensures held { IfOk result (λ p. Holds (shape_of host.now) (window_names p.0)
+        × Holds (shape_of host.now) (window_names p.1)) }
+    ensures words { IfOk result (λ p. (is_word p.0 ≡ true) × (is_word p.1 ≡ true)) }
+{
+    let kick = window_at(
+        mem,
+        host,
+        state.used_ring,
+        kick_offset(state),
+        Permissions::Write,
+    )?;
+    let idx = window_at(mem, host, state.avail_ring, 2, Permissions::Read)?;
+    Ok((kick, idx))
+}
+
 impl Queue {
     /// Whether the driver has to be notified of what was added to the used ring since this was last asked. With event
     /// indices it has to where the index that it waits for is among these entries, and else where its flag does not
@@ -74,7 +125,8 @@ impl Queue {
 
     /// Asks the driver to notify the device of what it publishes next: by `avail_event` with event indices, or else by
     /// clearing the flag. It says whether there is more in the ring by then than was popped. If there is, the device
-    /// goes on popping, since the driver may not notify it of that. If there is not, it waits for the next head.
+    /// goes on popping, since the driver may not notify it of that. If there is not, it waits for the next head. Both
+    /// fields are looked up before one is written, so a call that is refused changes nothing.
     pub fn enable_notification<M: GuestMemory, B: Bitmap>(
         &self,
         mem: &M,
@@ -90,15 +142,14 @@ impl Queue {
         if !self.state.ready {
             return Err(QueueError::QueueNotReady);
         }
+        written_is_read_back();
+        writes_keep_shapes::<B>();
+        loads_and_stores_are_by_bytes::<()>();
         let state = &self.state;
-        if state.event_idx_enabled {
-            let offset = 4 + 8 * u64::from(state.size);
-            store_word(mem, host, state.used_ring, offset, state.next_avail)?;
-        } else {
-            store_word(mem, host, state.used_ring, 0, 0)?;
-        }
+        let (kick, idx) = kick_places(mem, host, state)?;
+        store_in(&kick, host, kick_value(state));
         self.barrier.full_barrier();
-        Ok(avail_idx(mem, host, state)? != state.next_avail)
+        Ok(load_in(&idx, host) != state.next_avail)
     }
 
     /// Asks the driver not to notify the device. With event indices it does nothing: the driver notifies once, of the

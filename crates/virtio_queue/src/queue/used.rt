@@ -1,16 +1,19 @@
 //! What the device gives back: the used ring.
-ghost use Rattle.std.specs.Prelude.{◌≡◌, ◌⊎◌, ◌<◌, ℕ, Err, MatchResult};
+ghost use Rattle.std.specs.Prelude.{◌≡◌, ◌⊎◌, ◌<◌, true, IfOk, IsTrue};
+ghost use Rattle.vm_memory_base.specs.declared.iotlb.Permissions.TheVariants.{Write};
 ghost use Rattle.vm_memory_guest.specs.Host.{shape_of, Holds};
 ghost use Rattle.vm_memory_guest.specs.Memory.{IsOn};
-ghost use Rattle.virtio_queue.specs.Fields.{Answers, Refuses};
-ghost use Rattle.virtio_queue.specs.Used.{AddsUsed, WritesEntry, after_used, entry_place, one_more, used_idx, valid};
+ghost use Rattle.vm_memory_guest.specs.Window.{window_names};
+ghost use Rattle.virtio_queue.specs.Fields.{Answers, is_word, lies_whole};
+ghost use Rattle.virtio_queue.specs.Used.{AddsUsed, after_used, entry_fault, entry_place, one_more, used_idx, used_places, valid};
 
 use super::Queue;
 use crate::error::QueueError;
-use crate::fields::{lies_whole, load_word, place, store_word, write_pair};
+use crate::fields::{lies_whole, load_word, place, store_in, window_at, write_pair};
 use crate::state::QueueState;
-use vm_memory_base::{Bitmap, Permissions};
-use vm_memory_guest::{GuestMemory, HostMemory};
+use vm_memory_base::{Bitmap, GuestAddress, Permissions};
+use vm_memory_guest::laws::effects::writes_keep_shapes;
+use vm_memory_guest::{GuestMemory, HostMemory, VolatileSlice};
 
 // The address of the entry that is written next, for this head.
 #[inline]
@@ -22,7 +25,8 @@ fn entry_place<M: GuestMemory, B: Bitmap>(
 ) -> Result<u64, QueueError>
     requires held { Holds (shape_of host.now) (M.names mem.now) }
     requires some { 0 < state.now.size }
-    ensures { let m = M.memory mem.now in Answers (IsOn m) (entry_place m host.now state.now head) result }
+    ensures place { let m = M.memory mem.now in Answers (IsOn m) (entry_place m host.now state.now head) result }
+    ensures whole { IfOk result (λ a. IsTrue (lies_whole (M.memory mem.now) host.now a 8 Write)) }
 {
     if !state.ready {
         return Err(QueueError::QueueNotReady);
@@ -32,30 +36,46 @@ fn entry_place<M: GuestMemory, B: Bitmap>(
     }
     let slot = state.next_used % state.size;
     let addr = place(state.used_ring, 4 + 8 * u64::from(slot), 8)?;
-    if !lies_whole(mem, host, addr, 8, Permissions::Write)? {
-        return Err(QueueError::InvalidUsedEntry);
+    if lies_whole(mem, host, addr, 8, Permissions::Write)? {
+        return Ok(addr);
     }
-    Ok(addr)
+    Err(entry_fault(mem, host, addr))
 }
 
-// Writes the entry that is written next.
+// Why an entry cannot be written at an address, at which it does not lie whole.
+#[inline(never)]
+fn entry_fault<M: GuestMemory, B: Bitmap>(mem: &M, host: &HostMemory<B>, addr: u64) -> QueueError
+    requires { Holds (shape_of host.now) (M.names mem.now) }
+    ensures { let m = M.memory mem.now in
+        (result ≡ entry_fault m host.now addr) ⊎ ((result ≡ QueueError.Memory) × IsOn m) }
+{
+    match mem.get_slices(host, GuestAddress(addr), 8, Permissions::Write) {
+        Ok(walk) => {
+            drop(walk);
+            QueueError::InvalidUsedEntry
+        }
+        Err(error) => QueueError::of_access(error),
+    }
+}
+
+// Where the entry that is written next goes, for this head, and the index.
 #[inline]
-fn write_entry<M: GuestMemory, B: Bitmap>(
+fn used_places<M: GuestMemory, B: Bitmap>(
     mem: &M,
-    host: &mut HostMemory<B>,
+    host: &HostMemory<B>,
     state: &QueueState,
     head: u16,
-    len: u32,
-) -> Result<(), QueueError>
-    requires held { Holds (shape_of host.old) (M.names mem.now) }
+) -> Result<(u64, VolatileSlice), QueueError>
+    requires held { Holds (shape_of host.now) (M.names mem.now) }
     requires some { 0 < state.now.size }
-    ensures written { let m = M.memory mem.now in MatchResult result
-        (λ _. WritesEntry B.marks m state.now head len host.old host.new)
-        (λ e. Refuses (IsOn m) (entry_place m host.old state.now head) e × (host.new ≡ host.old)) }
-    ensures shape { shape_of host.new ≡ shape_of host.old }
+    ensures places { let m = M.memory mem.now in Answers (IsOn m) (used_places m host.now state.now head) result }
+    ensures entry { IfOk result (λ p. IsTrue (lies_whole (M.memory mem.now) host.now p.0 8 Write)) }
+    ensures index { IfOk result (λ p. Holds (shape_of host.now) (window_names p.1)) }
+    ensures word { IfOk result (λ p. is_word p.1 ≡ true) }
 {
-    let addr = entry_place(mem, host, state, head)?;
-    write_pair(mem, host, addr, u32::from(head), len)
+    let entry = entry_place(mem, host, state, head)?;
+    let index = window_at(mem, host, state.used_ring, 2, Permissions::Write)?;
+    Ok((entry, index))
 }
 
 // One entry more is counted.
@@ -105,12 +125,11 @@ impl Queue {
         load_word(mem, host, self.state.used_ring, 2)
     }
 
-    /// Gives a chain back, of this head, and tells how many bytes were written to it: the entry first, and behind it
-    /// the index that publishes it.
+    /// Gives a chain back, of this head, with how many bytes were written to it: the entry first, and then the index
+    /// that publishes it. Both are looked up before one is written, so a call that is refused changes nothing.
     ///
-    /// `InvalidDescriptorIndex` where the head is at or past the size, and `InvalidUsedEntry` where the entry does not
-    /// lie whole in memory that may be written: then nothing changes. Where the index is refused, the entry is
-    /// written and not published, and the next call writes over it.
+    /// `InvalidDescriptorIndex` if the head is at or past the size, and `InvalidUsedEntry` if the entry does not lie
+    /// whole in memory. A translation that is refused, and an index that cannot be stored, are `GuestMemory`.
     pub fn add_used<M: GuestMemory, B: Bitmap>(
         &mut self,
         mem: &M,
@@ -123,10 +142,12 @@ impl Queue {
         ensures moved { self.new ≡ after_used self.old result }
         ensures shape { shape_of host.new ≡ shape_of host.old }
     {
+        writes_keep_shapes::<B>();
         let next = self.state.next_used.wrapping_add(1);
-        write_entry(mem, host, &self.state, head, len)?;
+        let (entry, index) = used_places(mem, host, &self.state, head)?;
+        write_pair(mem, host, entry, u32::from(head), len)?;
         self.barrier.full_barrier();
-        store_word(mem, host, self.state.used_ring, 2, next)?;
+        store_in(&index, host, next);
         self.state.next_used = next;
         self.added = self.added.map(one_more);
         Ok(())
