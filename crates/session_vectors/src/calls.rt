@@ -223,6 +223,52 @@ const REQUESTS: [&str; 32] = [
     "13 first=3 address=0x1030f length=3 output=3: 0 3 0 0 00 01 00",
 ];
 
+// Messages on the I/O table of memory 1, with as numbers: address, size, user address, kind and permissions; and then rows
+// of the front end's memory.
+const MESSAGES: [&str; 19] = [
+    "52 list=0,0,0,0x300: 54 0 0 0",
+    "52 first=9 list=0,0,0,0x300: 1 0 0 0",
+    "52 first=1 list=0,0,0: 16 0 0 0",
+    "52 first=1 list=0x80,0x10,0x7010,0x203,0x7000: 16 0 0 0",
+    "52 first=1 list=0x80,0x10,0x7010,0x203,0x7000,0x1000,0x40 output=1: 0 0 0 0 ee",
+    "28 address=0x80 length=4 access=3 output=16: 0 1 0 0 10 10 00 00 00 00 00 00 04 00 00 00 00 00 00 00",
+    "14 first=1 address=0x80 bytes=7: 0 1 0 0",
+    // What is malformed changes nothing.
+    "52 first=1 list=0x80,0x10,0x7031,0x203,0x7000,0x1000,0x40: 61 0 0 0",
+    "52 first=1 list=0x80,0x10,0x7010,0x200,0x7000,0x1000,0x40: 60 0 0 0",
+    "52 first=1 list=0xffffffffffffffff,1,0,0x203: 59 0 0 0",
+    "52 first=1 list=0x80,0,0,0x203: 58 0 0 0",
+    "52 first=1 list=0x80,0,0,0x101: 57 0 0 0",
+    "52 first=1 list=0x80,0,0,0x501: 57 0 0 0",
+    "28 address=0x8f length=1 access=3 output=16: 0 1 0 0 1f 10 00 00 00 00 00 00 01 00 00 00 00 00 00 00",
+    "52 first=1 list=0x84,1,0,0x300: 0 0 0 0",
+    "13 first=1 address=0x83 length=2 output=2: 42 0 2 131 ee ee",
+    "13 first=1 address=0x80 length=1 output=1: 0 1 0 0 07",
+    // A malformed INVALIDATE takes everything back.
+    "52 first=1 list=0x90,0,0,0x300: 58 0 0 0",
+    "13 first=1 address=0x80 length=1 output=1: 42 0 1 128 ee",
+];
+
+// Calls that are made again after each mapping came, through the table of memory 1, which keeps two ranges: a call that
+// needs two, and one that needs three. The second miss of each has the table emptied before the next mapping.
+const RETRIES: [&str; 15] = [
+    "13 first=1 address=0x100 length=2 output=2: 42 0 2 256 ee ee",
+    "52 first=1 list=0x100,1,0x7000,0x203,0x7000,0x1000,0x40: 0 0 0 0",
+    "13 first=1 address=0x100 length=2 output=2: 42 0 2 256 ee ee",
+    "52 first=1 list=0x101,1,0x7003,0x203,0x7000,0x1000,0x40: 0 0 0 0",
+    "28 address=0x100 length=2 access=1 output=16: 4 1 0 0 00 01 00 00 00 00 00 00 01 00 00 00 00 00 00 00",
+    "52 first=1 list=0x100,1,0x7000,0x203,0x7000,0x1000,0x40: 0 0 0 0",
+    "13 first=1 address=0x100 length=2 output=2: 0 2 0 0 01 04",
+    "13 first=1 address=0x100 length=3 output=3: 42 0 3 256 ee ee ee",
+    "52 first=1 list=0x102,1,0x7006,0x203,0x7000,0x1000,0x40: 0 0 0 0",
+    "13 first=1 address=0x100 length=3 output=3: 42 0 3 256 ee ee ee",
+    "52 first=1 list=0x100,1,0x7000,0x203,0x7000,0x1000,0x40: 0 0 0 0",
+    "13 first=1 address=0x100 length=3 output=3: 42 0 3 256 ee ee ee",
+    "52 first=1 list=0x101,1,0x7003,0x203,0x7000,0x1000,0x40: 0 0 0 0",
+    "13 first=1 address=0x100 length=3 output=3: 53 0 3 256 ee ee ee",
+    "13 first=1 address=0x100 length=3 output=3: 42 0 3 256 ee ee ee",
+];
+
 // A call, its input and its output.
 #[derive(Drop)]
 struct Asked {
@@ -310,8 +356,8 @@ fn told(alloc: Global, session: &mut Session, words: &str) -> Result<String, Fai
 #[test]
 fn calls_are_answered_by_numbers(rt: HostRuntime) -> Result<(), Fail> {
     let mut session = Session::new(rt.alloc());
-    let tables: [&[&str]; 7] = [
-        &SETUPS, &MAKINGS, &ACCESSES, &TABLES, &MARKS, &QUEUES, &REQUESTS,
+    let tables: [&[&str]; 9] = [
+        &SETUPS, &MAKINGS, &ACCESSES, &TABLES, &MARKS, &QUEUES, &REQUESTS, &MESSAGES, &RETRIES,
     ];
     for (table, cases) in tables.iter().enumerate() {
         for (number, case) in cases.iter().enumerate() {

@@ -17,7 +17,7 @@ use Rattle.core.proofs.cell.Inside.{Good}
 use Rattle.std.specs.contracts.alloc.Global
 use Rattle.std.proofs.alloc.Global.TheLaws.{the_row_laws}
 use Rattle.std.specs.contracts.impls.GlobalAllocator.TheImpl
-use Rattle.vm_session.specs.SessionState.{SessionState}
+use Rattle.vm_session.specs.Retries.{WholeSession}
 use Rattle.vm_memory_c.specs.Handle.{handle_owns}
 use Rattle.vm_memory_c.specs.contracts.handle.Handle as handle
 
@@ -44,7 +44,7 @@ module _ {M : Type 1} {𝓤 : Ura M} {𝓛 : Logic 𝓤} {K : Type 0} {Γ : List
       (subst (λ (ws : List Val). vs ≡ vstruct (of_list (ptr_val d.at ∷ (ws ++ []))) ∷ []) ea
       (subst (λ (ps : List Val). vs ≡ vstruct (of_list (ps ++ (vss.1.0 ++ []))) ∷ []) ep ev)) fits))))
 
-  pub handle_in : K → (p : Ptr) (h : Val) (a : Z.Denot) (x : Option SessionState)
+  pub handle_in : K → (p : Ptr) (h : Val) (a : Z.Denot) (x : Option WholeSession)
       → Step K 𝓛 (‵ (Handle.own_val (record { at = p; alloc = a; state = x }) (word p h ∷ [])) ∷ Γ) G
       (‵ (handle_owns p x) ∷ ‵ (Z.own_val a (h ∷ [])) ∷ Γ) G
   handle_in t p h a x = step (λ s. let v : Val = word p h in

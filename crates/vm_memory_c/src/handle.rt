@@ -1,6 +1,6 @@
 //! The handle of a session: where it lies.
 ghost use Rattle.std.specs.Prelude.{◌≡◌, Option, Some, None, IsSome};
-ghost use Rattle.vm_session.specs.SessionState.{SessionState};
+ghost use Rattle.vm_session.specs.Retries.{WholeSession};
 ghost use Rattle.vm_memory_c.specs.Handle.{handle_owns};
 
 use crate::loose::Loose;
@@ -15,7 +15,7 @@ use vm_session::Session;
 pub struct Handle {
     at: *mut u8,
     alloc: Global,
-    pub ghost state: { Option SessionState },
+    pub ghost state: { Option WholeSession },
 }
 
 impl Model for Handle {

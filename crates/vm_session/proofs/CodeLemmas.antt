@@ -3,9 +3,9 @@ use Rattle.std.proofs.Common.{◌≡◌, Bool, true, false, IsTrue, List, ℕ, O
 use Rattle.std.proofs.lemmas.Bool.{false≢true}
 use Rattle.vm_memory.specs.State.{State}
 use Rattle.vm_memory.specs.declared.machine.command.Command as commands
-use Rattle.vm_session.specs.Kinds.{is_access, is_queue, is_work, kinds, marks, sets_up}
+use Rattle.vm_session.specs.Kinds.{is_access, is_message, is_queue, is_work, kinds, marks, sets_up}
 use Rattle.vm_session.specs.Queues.{OnBoth}
-use Rattle.vm_session.specs.Session.{Answers, AnswersIf, AnswersKind, AnswersMade, AnswersOf, AnswersOther, DoesIf, DoesListed, Served}
+use Rattle.vm_session.specs.Session.{Answers, AnswersIf, AnswersKind, AnswersMade, AnswersOf, AnswersOther, AnswersSent, DoesIf, DoesListed, Served}
 use Rattle.vm_session.specs.SessionState.{SessionState}
 use Rattle.vm_session.specs.declared.call.Answer.{Answer}
 use Rattle.vm_session.specs.declared.call.Call.{Call}
@@ -32,6 +32,11 @@ no-marks : (kind : Kind) → IsTrue (is_access kind) → marks kind ≡ false
 no-marks kind.MarkBlock h = absurd (false≢true h)
 no-marks kind.MarkReached h = absurd (false≢true h)
 no-marks k h = refl
+
+-- nor is it a message
+no-message : (kind : Kind) → IsTrue (is_access kind) → is_message kind ≡ false
+no-message kind.IotlbMessage h = absurd (false≢true h)
+no-message k h = refl
 
 -- nor is it one on a queue
 no-work : (kind : Kind) → IsTrue (is_access kind) → is_work kind ≡ false
@@ -69,7 +74,9 @@ access_answers old kind call input out a out' new is access served same =
       subst (λ (b : Bool). AnswersKind b kind old.machine call input out a out' new.machine)
           (sym (no-setup kind access))
           (subst (λ (b : Bool). AnswersMade b kind old.machine call input out a out' new.machine)
-          (sym (no-marks kind access)) served),
+          (sym (no-marks kind access))
+          (subst (λ (b : Bool). AnswersSent b kind old.machine call input out a out' new.machine)
+          (sym (no-message kind access)) served)),
       same,
     )))
 

@@ -1,5 +1,5 @@
 -- Chains in flight stay there.
-use Rattle.std.proofs.Common.{◌≡◌, ◌∙◌, ◌⊎◌, ◌==◌, ◌+◌, ◌^◌, ℕ, zero, suc, Bool, true, false, IsTrue, nat_lt, cond, is_some, List, [], ◌∷◌, ◌++◌, All, length, slice_get, slice_set, get_or, Option, Some, None, MatchBool, MatchOption, Result, Ok, Err, refl, sym, ap, subst, inl, inr, arith}
+use Rattle.std.proofs.Common.{◌≡◌, ◌∙◌, ◌⊎◌, ◌==◌, ◌+◌, ◌^◌, ℕ, zero, suc, Bool, true, false, IsTrue, nat_lt, cond, is_some, List, [], ◌∷◌, ◌++◌, All, drop, length, slice_get, slice_set, get_or, Option, Some, None, MatchBool, MatchOption, Result, Ok, Err, refl, sym, ap, subst, inl, inr, arith}
 use Rattle.std.specs.Option.{option_and_then}
 use Rattle.std.proofs.lemmas.Bool.{false≢true}
 use Rattle.std.proofs.lemmas.Bool.Decides.{nat_tests}
@@ -16,6 +16,9 @@ use Rattle.vm_session.specs.QueueCodes.{answer_of_done, in_flight, no_such, not_
 use Rattle.vm_session.specs.Codes.{bad_call, coded, no_memory}
 use Rattle.vm_session.specs.Answers.{valued}
 use Rattle.vm_session.specs.Queues.{AnswersQueue, Forgets, MakesQueue, OnBoth, OneQueue, OnQueue, Refuses, Returns, ReturnsIf, Works, WorksOn, after_popped, after_popped_if, after_returned, forgotten, marks_pages, refusal_of_chain, unused}
+use Rattle.vm_session.proofs.RetryLemmas.{readies_queues, told_as, told_done}
+use Rattle.vm_session.specs.Messages.{regions_in}
+use Rattle.vm_session.specs.Retries.{WholeSession, message_at}
 use Rattle.vm_session.specs.Run.{EndsFlight, EndsIf, Event, Exchange, HappenAll, Happens, calls, chain_at, ends_flight, writes}
 use Rattle.vm_session.specs.Session.{AnswersIf, AnswersOf, AnswersOther}
 use Rattle.vm_session.specs.SessionState.{DeviceQueue, SessionState, chain_of, descriptors_in}
@@ -286,16 +289,26 @@ module _ (number head : ℕ) (chain : List Segment) where
   call_stays None e old new is not h = same_stays old new (ap (λ (s : SessionState). s.queues) h.2)
   call_stays (Some k) e old new is not h = any_stays (is_work k) e k old new is not h
 
-  event_stays : (shared : List ℕ) (e : Event) (old new : SessionState) → Happens shared old e new
-      → (EndsFlight number head e → ⊥) → Stays number head chain old new
-  event_stays shared (calls e) old new h not = call_stays (slice_get kinds e.call.kind) e old new refl not h
-  event_stays shared (writes blocks) old new h not = same_stays old new (ap (λ (s : SessionState). s.queues) h.1)
+  event_stays : (shared : List ℕ) (e : Event) (old new : WholeSession) → Happens shared old e new
+      → (EndsFlight number head e → ⊥) → Stays number head chain old.parts new.parts
+  event_stays shared (calls e) old new h not = λ here.
+      ap (λ (s : WholeSession). chain_at s.parts number head) h.4
+      ∙ call_stays (slice_get kinds e.call.kind) (record e { answer = h.0 }) h.2.0 h.1.parts refl
+      (λ ends. not (
+        told_done h.0 e.answer (told_as h.1 e.call (length e.input) h.0 e.answer new.retry h.3) ends.0,
+        ends.1,
+        ends.2,
+      )) h.2.2
+      (same_stays old.parts h.2.0 (readies_queues old.retry (regions_in (drop 32 e.input))
+      (message_at old.parts.machine e.call e.input) old.parts h.2.0 h.2.1) here)
+  event_stays shared (writes blocks) old new h not =
+      same_stays old.parts new.parts (ap (λ (s : SessionState). s.queues) h.0.1)
 
-pub chains-stay : (shared : List ℕ) (es : List Event) (old new : SessionState) (number head : ℕ)
+pub chains-stay : (shared : List ℕ) (es : List Event) (old new : WholeSession) (number head : ℕ)
     (chain : List Segment) → HappenAll shared old es new → All (λ e. EndsFlight number head e → ⊥) es
-    → chain_at old number head ≡ Some chain → chain_at new number head ≡ Some chain
+    → chain_at old.parts number head ≡ Some chain → chain_at new.parts number head ≡ Some chain
 chains-stay shared [] old new number head chain h not here =
-    ap (λ (s : SessionState). chain_at s number head) h ∙ here
+    ap (λ (s : WholeSession). chain_at s.parts number head) h ∙ here
 chains-stay shared (e ∷ es) old new number head chain h not here =
     chains-stay shared es h.0 new number head chain h.2
     (All-tail (λ (x : Event). EndsFlight number head x → ⊥) e es not)

@@ -4,7 +4,9 @@ mod ListLemmas
 mod HarvestLemmas
 mod ReadLemmas
 mod CodeLemmas
+mod RetryLemmas
 mod RunLaws
+mod MessageLemmas
 mod PageLemmas
 mod FlightLaws
 mod QueueLemmas

@@ -1,5 +1,5 @@
 -- Steps on a host with exact bitmaps are steps on a host that has their pages.
-use Rattle.std.proofs.Common.{◌≡◌, ◌∙◌, ◌^◌, ◌==◌, ◌&&◌, ◌-◌, ℕ, Bool, true, false, is_none, is_ok, length, min, nat_lt, List, [], ◌∷◌, drop, map, Option, Some, None, option_map, MatchBool, MatchOption, Result, Ok, Err, ap, inl, inr}
+use Rattle.std.proofs.Common.{◌≡◌, ◌∙◌, ◌^◌, ◌==◌, ◌&&◌, ◌-◌, ℕ, Bool, true, false, is_none, is_ok, length, min, nat_lt, List, [], ◌∷◌, drop, map, Option, Some, None, option_map, MatchBool, MatchOption, Result, Ok, Err, ap}
 use Rattle.std.proofs.lemmas.Option.{slice_get-map}
 use Rattle.std.proofs.lemmas.List.{map-set}
 use Rattle.vm_memory_base.specs.Pages.{PageSet, marked}

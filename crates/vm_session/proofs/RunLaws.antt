@@ -1,16 +1,22 @@
 -- What happens to a session is a run of the model.
-use Rattle.std.proofs.Common.{◌≡◌, Bool, true, false, ℕ, List, [], ◌∷◌, Option, Some, None, length, slice_get, refl, ap, ap₂, inl, inr, arith}
+use Rattle.std.proofs.Common.{◌≡◌, ◌∙◌, Bool, true, false, ℕ, List, [], ◌∷◌, Option, Some, None, drop, length, slice_get, refl, sym, ap, ap₂, subst, inl, inr, arith}
+use Rattle.std.proofs.lemmas.Bool.{false≢true}
 use Rattle.vm_memory.specs.Machine.{Run}
 use Rattle.vm_memory.specs.State.{State}
 use Rattle.vm_memory.specs.declared.machine.command.Command as commands
 use Rattle.vm_memory.specs.declared.machine.command.Reply.{Reply}
 use Rattle.vm_session.proofs.CodeLemmas.{served-listed}
-use Rattle.vm_session.specs.Kinds.{is_queue, is_work, kinds, marks, sets_up, takes_list}
+use Rattle.vm_session.proofs.RetryLemmas.{no_message, readies_none, readies_queues, readies_same, told_as}
+use Rattle.vm_session.specs.Kinds.{is_message, is_queue, is_work, kinds, marks, sets_up, takes_list}
+use Rattle.vm_session.specs.Messages.{regions_in}
 use Rattle.vm_session.specs.Requests.{command_at}
-use Rattle.vm_session.specs.Run.{AreDeeds, Deed, Does, Event, Exchange, HappenAll, Happens, IsDeed, all_ran, calls, made, marked, nothing, queued, ran, worked, writes, wrote}
-use Rattle.vm_session.specs.Session.{AnswersIf, AnswersKind, AnswersMade, AnswersOf, AnswersOther, DoesListed, IsSetUp}
+use Rattle.vm_session.specs.Retries.{Readies, WholeSession, is_sent, message_at}
+use Rattle.vm_session.specs.Run.{AreDeeds, Deed, Does, Event, Exchange, HappenAll, Happens, IsDeed, MayReady, all_ran, calls, made, marked, messaged, nothing, queued, ran, worked, writes, wrote}
+use Rattle.vm_session.specs.Session.{AnswersIf, AnswersKind, AnswersMade, AnswersOf, AnswersOther, AnswersSent, DoesListed, IsSetUp}
 use Rattle.vm_session.specs.SessionState.{DeviceQueue, SessionState}
+use Rattle.vm_session.specs.declared.call.Answer.{Answer}
 use Rattle.vm_session.specs.declared.call.Kind.{Kind}
+use Rattle.vm_session.specs.declared.call.Kind.TheVariants as kind
 
 abbrev Moves : SessionState → Exchange → SessionState → Type 0
 Moves old e new = (d : Deed) × Does old e d new
@@ -35,14 +41,23 @@ module _ (old new : SessionState) (e : Exchange) (kind : Kind) (is : slice_get k
       (nothing, (inr (inr (_, h.1)), h.2, unchanged old new h.3 queues))
   command_moves o means (inr h) queues = (nothing, (inr (inl h.0), h.1, unchanged old new h.2 queues))
 
+  sent_moves : (b : Bool) → is_message kind ≡ b
+      → AnswersSent b kind old.machine e.call e.input e.before e.answer e.after new.machine
+      → new.queues ≡ old.queues → Moves old e new
+  sent_moves true one h queues = (
+    messaged,
+    (kind, is, one, (old, (None, readies_none old (regions_in (drop 32 e.input)) (message_at old.machine e.call e.input)), h.0), queues, h.1),
+  )
+  sent_moves false one h queues =
+      command_moves (command_at kind e.call e.input) refl
+      (served-listed (takes_list kind) old.machine (command_at kind e.call e.input) e.before e.answer e.after
+      new.machine h) queues
+
   made_moves : (b : Bool)
       → AnswersMade b kind old.machine e.call e.input e.before e.answer e.after new.machine
       → new.queues ≡ old.queues → Moves old e new
   made_moves true h queues = (marked h.0.0, (kind, is, h.0.1, queues, h.0.2, h.1))
-  made_moves false h queues =
-      command_moves (command_at kind e.call e.input) refl
-      (served-listed (takes_list kind) old.machine (command_at kind e.call e.input) e.before e.answer e.after
-      new.machine h) queues
+  made_moves false h queues = sent_moves (is_message kind) refl h queues
 
   kind_moves : (b : Bool)
       → AnswersKind b kind old.machine e.call e.input e.before e.answer e.after new.machine
@@ -65,18 +80,62 @@ call_moves : (o : Option Kind) (old new : SessionState) (e : Exchange) → slice
 call_moves None old new e is h = (nothing, (inl h.0, h.1, h.2))
 call_moves (Some kind) old new e is h = any_moves old new e kind is (is_work kind) refl h
 
-moves : (shared : List ℕ) (old new : SessionState) (e : Event) → Happens shared old e new
-    → (d : Deed) × IsDeed shared old e d new
-moves shared old new (calls e) h = call_moves (slice_get kinds e.call.kind) old new e refl h
-moves shared old new (writes blocks) h = (wrote blocks, (refl, h))
+-- a call that is no message finds the parts as they were
+plain_moves : (o : Option Kind) (old ready new : SessionState) (e : Exchange) → slice_get kinds e.call.kind ≡ o
+    → ready ≡ old → AnswersIf o ready e.call e.input e.before e.answer e.after new → Moves old e new
+plain_moves o old ready new e is same h =
+    call_moves o old new e is
+    (subst (λ (s : SessionState). AnswersIf o s e.call e.input e.before e.answer e.after new) same h)
 
-pub calls-run : (shared : List ℕ) (es : List Event) (old new : SessionState) → HappenAll shared old es new
-    → (deeds : List Deed) × AreDeeds shared old es deeds new
-calls-run shared [] old new h = ([], h)
+-- a message finds its table as it was, or empty
+message_moves : (k : Kind) (old ready new : SessionState) (e : Exchange) → slice_get kinds e.call.kind ≡ Some k
+    → is_message k ≡ true → ready.queues ≡ old.queues → MayReady old e ready
+    → AnswersIf (Some k) ready e.call e.input e.before e.answer e.after new → Moves old e new
+message_moves kind.IotlbMessage old ready new e is one queues may h =
+    (messaged, (kind.IotlbMessage, is, refl, (ready, may, h.0.0), h.1 ∙ queues, h.0.1))
+message_moves k old ready new e is one queues may h = absurd (false≢true one)
+
+module _ (old : WholeSession) (e : Exchange) (told : Answer) (ready new : SessionState) where
+  -- the call as its parts answered it
+  abbrev as_told : Exchange
+  as_told = record e { answer = told }
+
+  served_moves : (b : Bool) (o : Option Kind) → slice_get kinds e.call.kind ≡ o → is_sent o ≡ b
+      → Readies old.retry (regions_in (drop 32 e.input)) (message_at old.parts.machine e.call e.input) old.parts ready
+      → AnswersIf o ready e.call e.input e.before told e.after new → Moves old.parts as_told new
+  served_moves false o is none may h =
+      plain_moves o old.parts ready new as_told is
+      (readies_same old.retry (regions_in (drop 32 e.input)) (message_at old.parts.machine e.call e.input) old.parts
+      ready (no_message old.parts.machine e.call e.input o is none) may) h
+  served_moves true None is none may h = absurd (false≢true none)
+  served_moves true (Some k) is one may h =
+      message_moves k old.parts ready new as_told is one
+      (readies_queues old.retry (regions_in (drop 32 e.input)) (message_at old.parts.machine e.call e.input) old.parts
+      ready may) (old.retry, may) h
+
+moves : (shared : List ℕ) (old new : WholeSession) (e : Event) → Happens shared old e new
+    → (d : Deed) × IsDeed shared old.parts e d new.parts
+moves shared old new (calls e) h =
+    let o : Option Kind = slice_get kinds e.call.kind in
+    let m : Moves old.parts (record e { answer = h.0 }) h.1.parts =
+    served_moves old e h.0 h.2.0 h.1.parts (is_sent o) o refl refl h.2.1 h.2.2 in (
+      m.0,
+      (
+        h.0,
+        told_as h.1 e.call (length e.input) h.0 e.answer new.retry h.3,
+        subst (λ (s : SessionState). Does old.parts (record e { answer = h.0 }) m.0 s)
+            (sym (ap (λ (s : WholeSession). s.parts) h.4)) m.1,
+      ),
+    )
+moves shared old new (writes blocks) h = (wrote blocks, (refl, h.0))
+
+pub calls-run : (shared : List ℕ) (es : List Event) (old new : WholeSession) → HappenAll shared old es new
+    → (deeds : List Deed) × AreDeeds shared old.parts es deeds new.parts
+calls-run shared [] old new h = ([], ap (λ (s : WholeSession). s.parts) h)
 calls-run shared (e ∷ es) old new h =
     let m = moves shared old h.0 e h.1 in
     let rest = calls-run shared es h.0 new h.2 in
-    (m.0 ∷ rest.0, (h.0, m.1, rest.1))
+    (m.0 ∷ rest.0, (h.0.parts, m.1, rest.1))
 
 pub ran-run : (shared : List ℕ) (es : List Event) (cs : List commands.Command) (rs : List Reply) (old new : SessionState)
     → length cs ≡ length rs → AreDeeds shared old es (all_ran cs rs) new → Run old.machine cs rs new.machine
@@ -86,5 +145,5 @@ ran-run shared es [] (r ∷ rs) old new same h = absurd (omega (arith, same))
 ran-run shared es (c ∷ cs) [] old new same h = absurd (omega (arith, same))
 ran-run shared [] (c ∷ cs) (r ∷ rs) old new same h = absurd h
 ran-run shared (calls e ∷ es) (c ∷ cs) (r ∷ rs) old new same h =
-    (h.0.machine, h.1.3, ran-run shared es cs rs h.0 new (omega (arith, same)) h.2)
+    (h.0.machine, h.1.2.3, ran-run shared es cs rs h.0 new (omega (arith, same)) h.2)
 ran-run shared (writes blocks ∷ es) (c ∷ cs) (r ∷ rs) old new same h = absurd (cc)

@@ -21,7 +21,7 @@ kinds = kind.Block ∷ kind.Space ∷ kind.Table ∷ kind.LimitedTable ∷ kind.
     ∷ kind.Queue ∷ kind.SetQueue ∷ kind.ResetQueue ∷ kind.QueueState ∷ kind.Forget
     ∷ kind.QueueIsValid ∷ kind.AvailIdx ∷ kind.UsedIdx ∷ kind.Pop ∷ kind.ReadChain ∷ kind.WriteChain ∷ kind.AddUsed
     ∷ kind.NeedsNotification ∷ kind.EnableNotification ∷ kind.DisableNotification
-    ∷ kind.BeginRequest ∷ kind.FinishRequest ∷ []
+    ∷ kind.BeginRequest ∷ kind.FinishRequest ∷ kind.IotlbMessage ∷ []
 
 -- an access by its number
 abbrev pub access_at : ℕ → Option Permissions
@@ -104,11 +104,22 @@ sets_up kind.Region = true
 sets_up kind.Translator = true
 sets_up k = false
 
+-- whether a call of a kind makes a table
+abbrev pub is_table : Kind → Bool
+is_table kind.Table = true
+is_table kind.LimitedTable = true
+is_table k = false
+
 -- whether a call of a kind marks pages
 abbrev pub marks : Kind → Bool
 marks kind.MarkBlock = true
 marks kind.MarkReached = true
 marks k = false
+
+-- whether a call of a kind is a message on an I/O table
+abbrev pub is_message : Kind → Bool
+is_message kind.IotlbMessage = true
+is_message k = false
 
 -- whether the input of a call of a kind is a list
 abbrev pub takes_list : Kind → Bool

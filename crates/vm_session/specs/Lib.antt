@@ -2,10 +2,12 @@ pub mod Answers
 pub mod Codes
 pub mod Kinds
 pub mod Lists
+pub mod Messages
 pub mod Misses
 pub mod QueueCodes
 pub mod Queues
 pub mod Requests
+pub mod Retries
 pub mod Run
 pub mod Session
 pub mod SessionState

@@ -19,9 +19,9 @@ use Rattle.vm_session.specs.declared.call.Kind.{Kind}
 use Rattle.vm_session.specs.declared.call.Kind.TheVariants as kind
 use Rattle.vm_session.specs.declared.call.Miss.{Miss}
 
--- a table refused a call: it misses a mapping, or forbids the access
+-- a table refused a call: it misses a mapping, forbids the access, or keeps too few ranges for the call
 abbrev pub is_untranslated : Answer → Bool
-is_untranslated a = (a.code == 42) || (a.code == 43)
+is_untranslated a = (a.code == 42) || ((a.code == 43) || (a.code == 53))
 
 -- how an address is accessed to be notified: the driver's index is read, and what says when to notify is written
 abbrev pub notified : SessionState → ℕ → ℕ → Option Permissions

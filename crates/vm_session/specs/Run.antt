@@ -1,5 +1,5 @@
 -- What happens to a session, one after another: calls, and steps of a guest that has blocks in common with it.
-use Rattle.std.specs.Prelude.{◌≡◌, ◌==◌, ◌⊎◌, ◌<◌, ℕ, Bool, true, false, List, [], ◌∷◌, All, Contains, IsTrue, Option, Some, None, length, map, slice_get}
+use Rattle.std.specs.Prelude.{◌≡◌, ◌==◌, ◌⊎◌, ◌<◌, ℕ, Bool, true, false, List, [], ◌∷◌, All, Contains, IsTrue, Option, Some, None, drop, length, map, slice_get}
 use Rattle.std.specs.Option.{option_and_then}
 use Rattle.vm_memory.specs.Machine.{Step}
 use Rattle.vm_memory_device.specs.declared.chain.Segment.{Segment}
@@ -11,15 +11,18 @@ use Rattle.vm_memory.specs.declared.machine.setup.Setup as setups
 use Rattle.vm_memory.specs.declared.machine.setup.SetupReply.{SetupReply}
 use Rattle.vm_session.specs.Answers.{answer_of, answer_of_setup}
 use Rattle.vm_session.specs.Codes.{bad_call, no_memory, short_of}
-use Rattle.vm_session.specs.Kinds.{is_queue, is_work, kinds}
+use Rattle.vm_session.specs.Kinds.{is_message, is_queue, is_work, kinds}
+use Rattle.vm_session.specs.Messages.{AnswersMessage, regions_in}
 use Rattle.vm_session.specs.Queues.{AnswersQueue, OnBoth}
 use Rattle.vm_session.specs.Requests.{IsSetup, command_at}
-use Rattle.vm_session.specs.Session.{Answers, Fills, Marks}
+use Rattle.vm_session.specs.Retries.{AnswersCall, Readies, WholeSession, message_at}
+use Rattle.vm_session.specs.Session.{Fills, Marks}
 use Rattle.vm_session.specs.SessionState.{SessionState, chain_of, with_machine}
 use Rattle.vm_session.specs.declared.call.Answer.{Answer}
 use Rattle.vm_session.specs.declared.call.Call.{Call}
 use Rattle.vm_session.specs.declared.call.Kind.{Kind}
 use Rattle.vm_session.specs.declared.call.Kind.TheVariants as kind
+use Rattle.vm_session.specs.declared.retry.Retry.{Retry}
 
 -- a call with its input and what its output was, and what was answered and left of the output
 pub record Exchange : Type 0 where
@@ -50,23 +53,25 @@ abbrev pub WritesTo : List ℕ → SessionState → List (List ℕ) → SessionS
 WritesTo shared old blocks new = GuestWrites shared old.machine.host.blocks blocks
     × (new ≡ with_machine old (with_blocks old.machine blocks))
 
--- an event leads from a state to a state
-abbrev pub Happens : List ℕ → SessionState → Event → SessionState → Type 0
-Happens shared old (calls e) new = Answers old e.call e.input e.before e.answer e.after new
-Happens shared old (writes blocks) new = WritesTo shared old blocks new
+-- an event leads from a session to a session
+abbrev pub Happens : List ℕ → WholeSession → Event → WholeSession → Type 0
+Happens shared old (calls e) new = AnswersCall old e.call e.input e.before e.answer e.after new
+Happens shared old (writes blocks) new =
+    WritesTo shared old.parts blocks new.parts × (new ≡ record old { parts = new.parts })
 
 -- events one after another
-abbrev pub HappenAll : List ℕ → SessionState → List Event → SessionState → Type 0
+abbrev pub HappenAll : List ℕ → WholeSession → List Event → WholeSession → Type 0
 HappenAll shared old [] new = new ≡ old
-HappenAll shared old (e ∷ es) new = (mid : SessionState) × Happens shared old e mid × HappenAll shared mid es new
+HappenAll shared old (e ∷ es) new = (mid : WholeSession) × Happens shared old e mid × HappenAll shared mid es new
 
--- a step of the model: nothing, something is made, a command runs, pages are marked, a queue is made or changed, a
--- device works with a queue and a memory, or the guest writes
+-- a step of the model: nothing, something is made, a command runs, pages are marked, a table takes a message, a queue is
+-- made or changed, a device works with a queue and a memory, or the guest writes
 pub data Deed : Type 0 where
   nothing : Deed
   made : setups.Setup → SetupReply → Deed
   ran : commands.Command → Reply → Deed
   marked : Reply → Deed
+  messaged : Deed
   queued : Kind → Deed
   worked : Kind → Deed
   wrote : List (List ℕ) → Deed
@@ -74,6 +79,11 @@ pub data Deed : Type 0 where
 -- the answers of calls that did nothing
 abbrev pub Refuses : Answer → Type 0
 Refuses a = (a ≡ bad_call) ⊎ ((a ≡ no_memory) ⊎ ((n : ℕ) × (a ≡ short_of n)))
+
+-- the table that takes a message may be emptied for a call that is made again
+abbrev pub MayReady : SessionState → Exchange → SessionState → Type 0
+MayReady old e ready = (retry : Option Retry)
+    × Readies retry (regions_in (drop 32 e.input)) (message_at old.machine e.call e.input) old ready
 
 -- a call asks for it, and its answer and its output are those of the reply. A call on a queue does what the queue's own
 -- call does
@@ -88,15 +98,24 @@ Does old e (ran c r) new = (kind : Kind) × (slice_get kinds e.call.kind ≡ Som
 Does old e (marked r) new = (kind : Kind) × (slice_get kinds e.call.kind ≡ Some kind)
     × Marks kind old.machine e.call r new.machine × (new.queues ≡ old.queues) × (e.answer ≡ answer_of r)
     × (e.after ≡ e.before)
+Does old e messaged new = (kind : Kind) × (slice_get kinds e.call.kind ≡ Some kind) × IsTrue (is_message kind)
+    × ((ready : SessionState) × MayReady old e ready
+    × AnswersMessage ready.machine e.call e.input e.answer new.machine) × (new.queues ≡ old.queues)
+    × (e.after ≡ e.before)
 Does old e (queued kind) new = (slice_get kinds e.call.kind ≡ Some kind) × IsTrue (is_queue kind)
     × AnswersQueue kind old e.call e.input e.before e.answer new e.after
 Does old e (worked kind) new = (slice_get kinds e.call.kind ≡ Some kind) × IsTrue (is_work kind)
     × OnBoth kind old e.call e.input e.before e.answer new e.after
 Does old e (wrote blocks) new = ⊥
 
+-- a call is answered so, or in place of a miss that its table is too small
+abbrev pub IsToldAs : Answer → Answer → Type 0
+IsToldAs told a = (a ≡ told) ⊎ ((told.code ≡ 42) × (a ≡ record told { code = 53 }))
+
 -- an event is this step of the model
 abbrev pub IsDeed : List ℕ → SessionState → Event → Deed → SessionState → Type 0
-IsDeed shared old (calls e) d new = Does old e d new
+IsDeed shared old (calls e) d new =
+    (told : Answer) × IsToldAs told e.answer × Does old (record e { answer = told }) d new
 IsDeed shared old (writes blocks) d new = (d ≡ wrote blocks) × WritesTo shared old blocks new
 
 -- events are these steps, one after another

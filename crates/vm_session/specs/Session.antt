@@ -16,7 +16,8 @@ use Rattle.vm_memory.specs.declared.machine.setup.Setup as setups
 use Rattle.vm_memory.specs.declared.machine.setup.SetupReply.{SetupReply}
 use Rattle.vm_session.specs.Answers.{answer_of, answer_of_setup, bytes_of}
 use Rattle.vm_session.specs.Codes.{bad_call, no_memory, short_of}
-use Rattle.vm_session.specs.Kinds.{is_queue, is_work, kinds, marks, sets_up, takes_list}
+use Rattle.vm_session.specs.Kinds.{is_message, is_queue, is_work, kinds, marks, sets_up, takes_list}
+use Rattle.vm_session.specs.Messages.{AnswersMessage}
 use Rattle.vm_session.specs.Queues.{AnswersQueue, OnBoth}
 use Rattle.vm_session.specs.Requests.{IsSetup, address, command_at, is_without_size}
 use Rattle.vm_session.specs.SessionState.{SessionState}
@@ -114,10 +115,16 @@ Marks k old call r new = ⊥
 abbrev pub AnswersMarks : Kind → State → Call → Answer → State → Type 0
 AnswersMarks kind old call a new = (r : replies.Reply) × Marks kind old call r new × (a ≡ answer_of r)
 
+-- what is answered to a call that sets nothing up and marks nothing
+abbrev pub AnswersSent : Bool → Kind → State → Call → List ℕ → List ℕ → Answer → List ℕ → State → Type 0
+AnswersSent true kind old call input out a out' new = AnswersMessage old call input a new × (out' ≡ out)
+AnswersSent false kind old call input out a out' new = Served old kind call input out a out' new
+
 -- what is answered to a call that sets nothing up
 abbrev pub AnswersMade : Bool → Kind → State → Call → List ℕ → List ℕ → Answer → List ℕ → State → Type 0
 AnswersMade true kind old call input out a out' new = AnswersMarks kind old call a new × (out' ≡ out)
-AnswersMade false kind old call input out a out' new = Served old kind call input out a out' new
+AnswersMade false kind old call input out a out' new =
+    AnswersSent (is_message kind) kind old call input out a out' new
 
 -- what is answered to a call of a kind
 abbrev pub AnswersKind : Bool → Kind → State → Call → List ℕ → List ℕ → Answer → List ℕ → State → Type 0

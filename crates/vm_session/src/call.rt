@@ -1,6 +1,6 @@
 //! Calls and answers as plain numbers, as they cross to C.
 ghost use Rattle.std.specs.Prelude.{◌≡◌, IfSome, IsTrue, Some, slice_get};
-ghost use Rattle.vm_session.specs.Kinds.{access_at, is_access, is_queue, is_work, kinds, marks, part_at, read_only_at, sets_up, switch_at, width_at};
+ghost use Rattle.vm_session.specs.Kinds.{access_at, is_access, is_message, is_queue, is_table, is_work, kinds, marks, part_at, read_only_at, sets_up, switch_at, width_at};
 
 use vm_memory::Width;
 use vm_memory_base::Permissions;
@@ -176,6 +176,10 @@ pub enum Kind {
     /// Finishes the request of the chain in flight of the head `third`, to which `length` bytes were written: its status is
     /// `value`. The answer's `value` is the length that the chain is returned with.
     FinishRequest,
+    /// Applies a message of a vhost front end to the I/O table of the memory `first`, whose IOMMU is on. The input has the
+    /// message's 32 bytes, and then a row of 24 for each part of the memory that the front end announced: where the part
+    /// begins in the front end's memory, where in guest memory, and how many bytes it has. An INVALIDATE needs no rows.
+    IotlbMessage,
 }
 
 /// A part of a queue that a transport sets as the driver asks.
@@ -214,6 +218,13 @@ impl Kind {
             | Kind::Translator => true,
             _ => false,
         }
+    }
+
+    // Whether a call of this kind makes a table.
+    pub(crate) fn is_table(self) -> bool
+        ensures { result ≡ is_table self }
+    {
+        matches!(self, Kind::Table | Kind::LimitedTable)
     }
 
     // Whether a call of this kind is one on queues alone.
@@ -256,9 +267,17 @@ impl Kind {
     {
         matches!(self, Kind::MarkBlock | Kind::MarkReached)
     }
+
+    // Whether a call of this kind is a message on an I/O table.
+    #[inline(always)]
+    pub(crate) fn is_message(self) -> bool
+        ensures { result ≡ is_message self }
+    {
+        matches!(self, Kind::IotlbMessage)
+    }
 }
 
-const KINDS: [Kind; 52] = [
+const KINDS: [Kind; 53] = [
     Kind::Block,
     Kind::Space,
     Kind::Table,
@@ -311,6 +330,7 @@ const KINDS: [Kind; 52] = [
     Kind::DisableNotification,
     Kind::BeginRequest,
     Kind::FinishRequest,
+    Kind::IotlbMessage,
 ];
 
 // The kind of a number, if it is one.

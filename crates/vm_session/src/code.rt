@@ -92,6 +92,28 @@ pub const MEMORY_REGION_OVERLAP: u32 = 51;
 
 pub const UNSORTED_MEMORY_REGIONS: u32 = 52;
 
+/// The call needs more ranges than its I/O table keeps, which missed the `value` addresses from `address` on.
+pub const IOTLB_TOO_SMALL: u32 = 53;
+
+/// A message names a memory that lies behind no I/O table, or whose IOMMU is off.
+pub const NO_IOTLB: u32 = 54;
+
+/// Why a message on an I/O table is malformed. It maps nothing, and an INVALIDATE whose range is malformed invalidates
+/// everything.
+pub const MESSAGE_VERSION: u32 = 55;
+
+pub const MESSAGE_PAYLOAD_SIZE: u32 = 56;
+
+pub const MESSAGE_KIND: u32 = 57;
+
+pub const MESSAGE_EMPTY_RANGE: u32 = 58;
+
+pub const MESSAGE_RANGE: u32 = 59;
+
+pub const MESSAGE_PERMISSIONS: u32 = 60;
+
+pub const MESSAGE_USER_ADDRESS: u32 = 61;
+
 /// Why a call of a queue was refused.
 pub const INVALID_MAX_SIZE: u32 = 70;
 

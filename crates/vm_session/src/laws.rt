@@ -5,15 +5,16 @@ ghost use Rattle.vm_memory.specs.declared.machine.command.Command.{Command};
 ghost use Rattle.vm_memory.specs.declared.machine.command.Reply.{Reply};
 ghost use Rattle.vm_memory_device.specs.declared.chain.Segment.{Segment};
 ghost use Rattle.vm_session.specs.Run.{AreDeeds, Deed, EndsFlight, Event, HappenAll, all_ran, chain_at};
+ghost use Rattle.vm_session.specs.Retries.{WholeSession};
 ghost use Rattle.vm_session.specs.SessionState.{SessionState};
 
 /// Any list of calls of a session, with a guest that writes into shared blocks between them, is a run of the model with
 /// the same writes. Each call did nothing and was refused, or it made something, or it ran a command, and its answer and
-/// its output are those of the reply; or it did what the call of a queue does. Commands one after another are a run of a
-/// machine.
+/// its output are those of the reply; or a table took a message, or it did what the call of a queue does. Commands one
+/// after another are a run of a machine.
 pub fn calls_run_the_model()
-    ensures all { (shared : List ℕ) (es : List Event) (old new : SessionState) → HappenAll shared old es new
-        → (deeds : List Deed) × AreDeeds shared old es deeds new }
+    ensures all { (shared : List ℕ) (es : List Event) (old new : WholeSession) → HappenAll shared old es new
+        → (deeds : List Deed) × AreDeeds shared old.parts es deeds new.parts }
     ensures run { (shared : List ℕ) (es : List Event) (cs : List Command) (rs : List Reply) (old new : SessionState)
         → length cs ≡ length rs → AreDeeds shared old es (all_ran cs rs) new → Run old.machine cs rs new.machine }
 {}
@@ -21,7 +22,7 @@ pub fn calls_run_the_model()
 /// A chain in flight keeps its descriptors, whatever calls are made and whatever the guest writes to its tables, until a
 /// call returns it, forgets it, or makes its queue what it was.
 pub fn chains_stay_in_flight()
-    ensures { (shared : List ℕ) (es : List Event) (old new : SessionState) (number head : ℕ) (chain : List Segment)
+    ensures { (shared : List ℕ) (es : List Event) (old new : WholeSession) (number head : ℕ) (chain : List Segment)
         → HappenAll shared old es new → All (λ e. EndsFlight number head e → ⊥) es
-        → chain_at old number head ≡ Some chain → chain_at new number head ≡ Some chain }
+        → chain_at old.parts number head ≡ Some chain → chain_at new.parts number head ≡ Some chain }
 {}

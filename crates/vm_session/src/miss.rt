@@ -1,5 +1,5 @@
 //! What a call misses that a table refused.
-ghost use Rattle.std.specs.Prelude.{◌≡◌, MatchOption, slice_get, map};
+ghost use Rattle.std.specs.Prelude.{◌≡◌, ◌==◌, false, MatchOption, slice_get, map};
 ghost use Rattle.vm_memory_base.specs.Lookup.{range_in};
 ghost use Rattle.vm_session.specs.Misses.{LooksUp, access_of, first_of, is_untranslated, miss_at, miss_of, no_miss, number_of};
 ghost use Rattle.vm_session.specs.Requests.{address};
@@ -18,7 +18,17 @@ impl Answer {
     pub(crate) fn is_untranslated(&self) -> bool
         ensures { result ≡ is_untranslated self.now }
     {
-        self.code == code::IOMMU_MISSING || self.code == code::IOMMU_NOT_ALLOWED
+        self.code == code::IOMMU_MISSING
+            || (self.code == code::IOMMU_NOT_ALLOWED || self.code == code::IOTLB_TOO_SMALL)
+    }
+
+    // Whether its code is one of those around them. This test is made of each answer, and takes two instructions.
+    #[inline(always)]
+    pub(crate) fn may_be_untranslated(&self) -> bool
+        ensures refused { result ≡ false → is_untranslated self.now ≡ false }
+        ensures missing { result ≡ false → (self.now.code == 42) ≡ false }
+    {
+        self.code >= code::IOMMU_MISSING && self.code <= code::IOTLB_TOO_SMALL
     }
 }
 

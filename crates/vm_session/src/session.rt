@@ -1,54 +1,49 @@
-//! A session: a machine, what is made for it, its commands, and queues on its memories, by calls.
-ghost use Rattle.std.specs.Prelude.{◌≡◌, List, ℕ, IsTrue};
-ghost use Rattle.vm_session.specs.Kinds.{is_access, is_on_queue, is_queue, is_work, sets_up};
-ghost use Rattle.vm_session.specs.Misses.{Misses, MissesFor, MissesIf, access_of, notified};
-ghost use Rattle.vm_session.specs.Queues.{AnswersQueue, OnBoth, OneQueue};
-ghost use Rattle.vm_session.specs.Session.{Answers, AnswersKind, Served};
-ghost use Rattle.vm_session.specs.SessionState.{no_session};
+//! A session: its parts, and what it remembers of the call that misses a mapping and is made again.
+ghost use Rattle.std.specs.Prelude.{◌≡◌, ◌≤◌, IsTrue, Some, drop, length, slice_get};
+ghost use Rattle.vm_session.specs.Kinds.{is_table, kinds};
+ghost use Rattle.vm_session.specs.declared.call.Kind.TheVariants as kind;
+ghost use Rattle.vm_session.specs.Messages.{regions_in};
+ghost use Rattle.vm_session.specs.Misses.{MissesIf};
+ghost use Rattle.vm_session.specs.Retries.{AnswersCall, IsServed, Readies, bound_of, new_session, noted};
 
-use crate::call::{Answer, Call, Kind, Miss, access_kind, kind_of, part_of, width_of, work_kind};
+use crate::call::{Answer, Call, Kind, Miss, access_kind, kind_of, work_kind};
 use crate::code;
-use crate::commands::{
-    load, read, read_slice, serve_listing, serve_making, serve_moving, store, write, write_slice,
-};
-use crate::marks::mark;
-use crate::miss::look_up;
-use crate::queue::{SessionQueue, make_queue};
-use crate::setup::set_up;
-use crate::work::{Asked, work_on};
+use crate::messages::is_announced;
+use crate::parts::SessionParts;
+use crate::retry::{Retry, forgotten, heard_by, is_due, missed};
+use crate::setup::{limit_made, no_room};
 use std::alloc::Global;
 use std::marker::Model;
-use vm_memory::ScriptMachine;
-use vm_memory_base::Permissions;
+use vhost_iotlb::IotlbMessage;
 
 /// A machine, with what is made for it at any time, and queues.
 ///
 /// Its calls are a run of the model: docs/BINDINGS.md, "What is proved".
 #[derive(Drop)]
 pub struct Session {
-    alloc: Global,
-    machine: ScriptMachine,
-    queues: Vec<SessionQueue>,
+    parts: SessionParts,
+    // The limit of each table, if it has one: no table tells it.
+    limits: Vec<Option<usize>>,
+    retry: Option<Retry>,
 }
 
 impl Model for Session {
-    ghost use Rattle.vm_memory.specs.ScriptMachine.{state_made};
-    ghost use Rattle.vm_session.specs.SessionState.{SessionState};
+    ghost use Rattle.vm_session.specs.Retries.{WholeSession};
 
-    ghost Value = { SessionState };
+    ghost Value = { WholeSession };
 
-    ghost view = { λ s. record { machine = state_made s.machine; queues = s.queues.items } };
+    ghost view = { λ s. record { parts = s.parts; limits = s.limits.items; retry = s.retry } };
 }
 
 impl Session {
     /// A session that made nothing. It allocates nothing.
     pub fn new(alloc: Global) -> Session
-        ensures { result ≡ no_session }
+        ensures { result ≡ new_session }
     {
         Session {
-            alloc,
-            machine: ScriptMachine::empty(alloc),
-            queues: Vec::new(alloc),
+            parts: SessionParts::new(alloc),
+            limits: Vec::new(alloc),
+            retry: None,
         }
     }
 
@@ -57,8 +52,12 @@ impl Session {
     /// Bytes that are written and lists come by the input; bytes that are read and lists go to the front of the output,
     /// whose other bytes stay. If the output is too short, the answer says how many bytes it has to have, and nothing
     /// changed.
+    ///
+    /// A call that is refused with `IOMMU_MISSING` is made again after the mapping came by a call of the kind
+    /// `IotlbMessage`. The session remembers it, so that it is done or refused with `IOTLB_TOO_SMALL` in the end:
+    /// docs/BINDINGS.md, "A device's I/O table".
     pub fn call(&mut self, call: &Call, input: &[u8], output: &mut [u8]) -> Answer
-        ensures { Answers self.old call.now input.now output.old result output.new self.new }
+        ensures { AnswersCall self.old call.now input.now output.old result output.new self.new }
     {
         let mut answer = Answer::of_code(code::DONE);
         self.call_into(call, input, output, &mut answer);
@@ -68,21 +67,17 @@ impl Session {
     /// Answers a call as `call` does, and puts the answer where it is wanted, so that it is not copied.
     #[inline]
     pub fn call_into(&mut self, call: &Call, input: &[u8], output: &mut [u8], answer: &mut Answer)
-        ensures { Answers self.old call.now input.now output.old answer.new output.new self.new }
+        ensures { AnswersCall self.old call.now input.now output.old answer.new output.new self.new }
     {
-        if let Some(kind) = access_kind(call.kind) {
-            self.access(kind, call, input, output, answer);
-            return;
+        self.serve(call, input, output, answer);
+        if answer.may_be_untranslated() || self.retry.is_some() {
+            self.note(call, input.len(), answer);
         }
-        if let Some(kind) = work_kind(call.kind) {
-            self.work(kind, call, input, output, answer);
-            return;
-        }
-        self.call_any(call, input, output, answer);
     }
 
-    /// Answers a call as `call_into` does. If a table refused it, `IOMMU_MISSING` or `IOMMU_NOT_ALLOWED`, what it missed
-    /// first is put into `miss`, which else stays. Without memory to look it up, it is `Miss::none()`.
+    /// Answers a call as `call_into` does. If a table refused it, `IOMMU_MISSING`, `IOMMU_NOT_ALLOWED` or
+    /// `IOTLB_TOO_SMALL`, what it missed first is put into `miss`, which else stays. Without memory to look it up, it is
+    /// `Miss::none()`.
     #[inline]
     pub fn call_telling(
         &mut self,
@@ -92,238 +87,44 @@ impl Session {
         answer: &mut Answer,
         miss: &mut Miss,
     )
-        ensures answers { Answers self.old call.now input.now output.old answer.new output.new self.new }
-        ensures misses { MissesIf self.new call.now answer.new miss.old miss.new }
+        ensures answers { AnswersCall self.old call.now input.now output.old answer.new output.new self.new }
+        ensures misses { MissesIf self.new.parts call.now answer.new miss.old miss.new }
     {
-        self.call_into(call, input, output, answer);
-        if answer.is_untranslated() {
-            *miss = self.missed(call, answer);
+        self.serve(call, input, output, answer);
+        if answer.may_be_untranslated() || self.retry.is_some() {
+            self.note_telling(call, input.len(), answer, miss);
         }
     }
 
-    // What a call missed that a table refused.
-    #[inline(never)]
-    fn missed(&self, call: &Call, answer: &Answer) -> Miss
-        ensures { Misses self.now call.now answer.now result }
-    {
-        match kind_of(call.kind) {
-            Some(kind) => self.missed_by(kind, call, answer),
-            None => Miss::none(),
-        }
-    }
-
-    fn missed_by(&self, kind: Kind, call: &Call, answer: &Answer) -> Miss
-        ensures { MissesFor self.now call.now answer.now kind result }
-    {
-        let Some(access) = self.accessed(kind, call, answer.address) else {
-            return Miss::none();
-        };
-        let memory = if kind.is_work() {
-            call.second
-        } else {
-            call.first
-        };
-        match self.machine.table_of(memory) {
-            Ok(Some(table)) => look_up(&self.machine, answer, access, table),
-            Ok(None) | Err(_) => Miss::none(),
-        }
-    }
-
-    // How a call of a kind accesses an address.
-    fn accessed(&self, kind: Kind, call: &Call, address: u64) -> Option<Permissions>
-        ensures { result ≡ access_of self.now kind call.now address }
-    {
-        match kind {
-            Kind::Read
-            | Kind::ReadSlice
-            | Kind::Load
-            | Kind::WriteTo
-            | Kind::WriteAllTo
-            | Kind::QueueIsValid
-            | Kind::AvailIdx
-            | Kind::UsedIdx
-            | Kind::Pop
-            | Kind::ReadChain
-            | Kind::NeedsNotification
-            | Kind::BeginRequest => Some(Permissions::Read),
-            Kind::Write
-            | Kind::WriteSlice
-            | Kind::Store
-            | Kind::ReadFrom
-            | Kind::ReadExactFrom
-            | Kind::MarkReached
-            | Kind::WriteChain
-            | Kind::AddUsed
-            | Kind::DisableNotification
-            | Kind::FinishRequest => Some(Permissions::Write),
-            Kind::EnableNotification => self.notified(call.first, address),
-            _ => None,
-        }
-    }
-
-    // How an address is accessed to be notified: the driver's index is read, and the rest is written.
-    fn notified(&self, queue: usize, address: u64) -> Option<Permissions>
-        ensures { result ≡ notified self.now queue address }
-    {
-        let queue = self.queues.get(queue)?;
-        if queue.reads_index_at(address) {
-            Some(Permissions::Read)
-        } else {
-            Some(Permissions::Write)
-        }
-    }
-
-    #[inline(never)]
-    fn call_any(&mut self, call: &Call, input: &[u8], output: &mut [u8], answer: &mut Answer)
-        ensures { Answers self.old call.now input.now output.old answer.new output.new self.new }
-    {
-        match kind_of(call.kind) {
-            None => *answer = Answer::of_code(code::BAD_CALL),
-            Some(kind) => {
-                if kind.is_work() {
-                    self.work(kind, call, input, output, answer);
-                } else if kind.is_queue() {
-                    self.call_queue(kind, call, output, answer);
-                } else {
-                    self.call_machine(kind, call, input, output, answer);
-                }
-            }
-        }
-    }
-
-    // Serves a call on queues alone.
-    fn call_queue(&mut self, kind: Kind, call: &Call, output: &mut [u8], answer: &mut Answer)
-        requires { IsTrue (is_queue kind) }
-        ensures { (input : List ℕ) → AnswersQueue kind self.old call.now input output.old answer.new self.new output.new }
-    {
-        if let Kind::Queue = kind {
-            *answer = make_queue(self.alloc, &mut self.queues, call);
-            return;
-        }
-        match self.queues.get_mut(call.first) {
-            Some(queue) => *answer = on_queue(queue, kind, call, output),
-            None => *answer = Answer::of_code(code::NO_SUCH),
-        }
-    }
-
-    // Serves a call on a queue and a memory.
-    #[inline(never)]
-    fn work(
-        &mut self,
-        kind: Kind,
-        call: &Call,
-        input: &[u8],
-        output: &mut [u8],
-        answer: &mut Answer,
-    )
-        requires { IsTrue (is_work kind) }
-        ensures { OnBoth kind self.old call.now input.now output.old answer.new self.new output.new }
-    {
-        let Some(queue) = self.queues.get_mut(call.first) else {
-            *answer = Answer::of_code(code::NO_SUCH);
-            return;
-        };
-        let asked = Asked { kind, call, input };
-        *answer = work_on(self.alloc, &mut self.machine, queue, asked, output);
-    }
-
-    // Serves a call of the machine.
-    fn call_machine(
-        &mut self,
-        kind: Kind,
-        call: &Call,
-        input: &[u8],
-        output: &mut [u8],
-        answer: &mut Answer,
-    )
-        ensures answers { AnswersKind (sets_up kind) kind self.old.machine call.now input.now output.old answer.new
-            output.new self.new.machine }
-        ensures queues { self.new.queues ≡ self.old.queues }
-    {
-        if kind.sets_up() {
-            *answer = set_up(&mut self.machine, kind, call);
-        } else if kind.marks() {
-            mark(&mut self.machine, kind, call, answer);
-        } else {
-            self.serve(kind, call, input, output, answer);
-        }
-    }
-
-    // Serves a call of a kind that is none of setup.
-    fn serve(
-        &mut self,
-        kind: Kind,
-        call: &Call,
-        input: &[u8],
-        output: &mut [u8],
-        answer: &mut Answer,
-    )
-        ensures served { Served self.old.machine kind call.now input.now output.old answer.new output.new self.new.machine }
-        ensures queues { self.new.queues ≡ self.old.queues }
-    {
-        let (alloc, machine) = (self.alloc, &mut self.machine);
-        match kind {
-            Kind::Read
-            | Kind::Write
-            | Kind::ReadSlice
-            | Kind::WriteSlice
-            | Kind::Store
-            | Kind::Load => self.access(kind, call, input, output, answer),
-            Kind::Layout
-            | Kind::Insert
-            | Kind::Remove
-            | Kind::Plain
-            | Kind::Memory
-            | Kind::Replace
-            | Kind::Enable => serve_making(alloc, machine, kind, call, input, answer),
-            Kind::ReadFrom
-            | Kind::ReadExactFrom
-            | Kind::CheckRange
-            | Kind::Copy
-            | Kind::Set
-            | Kind::Invalidate
-            | Kind::InvalidateAll => serve_moving(alloc, machine, kind, call, input, answer),
-            Kind::WriteTo
-            | Kind::WriteAllTo
-            | Kind::Lookup
-            | Kind::DirtyBlock
-            | Kind::DirtySpace
-            | Kind::HarvestBlock
-            | Kind::HarvestSpace => *answer = serve_listing(
-                alloc, machine, kind, call, input, output,
-            ),
-            Kind::Block
-            | Kind::Space
-            | Kind::Table
-            | Kind::LimitedTable
-            | Kind::Region
-            | Kind::Translator
-            | Kind::MarkBlock
-            | Kind::MarkReached
-            | Kind::Queue
-            | Kind::SetQueue
-            | Kind::ResetQueue
-            | Kind::QueueState
-            | Kind::Forget
-            | Kind::QueueIsValid
-            | Kind::AvailIdx
-            | Kind::UsedIdx
-            | Kind::Pop
-            | Kind::ReadChain
-            | Kind::WriteChain
-            | Kind::AddUsed
-            | Kind::NeedsNotification
-            | Kind::EnableNotification
-            | Kind::DisableNotification
-            | Kind::BeginRequest
-            | Kind::FinishRequest => *answer = Answer::of_code(code::BAD_CALL),
-        }
-    }
-
-    // The calls that are made most often: those that access bytes of a memory. Each has a function of its own, since a
-    // function pays at its entry for all values that it may come to have.
+    // Has the parts answer a call.
     #[inline(always)]
-    fn access(
+    fn serve(&mut self, call: &Call, input: &[u8], output: &mut [u8], answer: &mut Answer)
+        ensures { IsServed self.old call.now input.now output.old answer.new output.new self.new }
+    {
+        if let Some(kind) = access_kind(call.kind) {
+            self.parts.access(kind, call, input, output, answer);
+            return;
+        }
+        if let Some(kind) = work_kind(call.kind) {
+            self.parts.work(kind, call, input, output, answer);
+            return;
+        }
+        self.serve_any(call, input, output, answer);
+    }
+
+    #[inline(never)]
+    fn serve_any(&mut self, call: &Call, input: &[u8], output: &mut [u8], answer: &mut Answer)
+        ensures { IsServed self.old call.now input.now output.old answer.new output.new self.new }
+    {
+        match kind_of(call.kind) {
+            Some(Kind::IotlbMessage) => self.take_message(call, input, output, answer),
+            Some(kind) if kind.is_table() => self.make_table(kind, call, input, output, answer),
+            Some(_) | None => self.parts.call_any(call, input, output, answer),
+        }
+    }
+
+    // Makes a table, if there is room for its limit.
+    fn make_table(
         &mut self,
         kind: Kind,
         call: &Call,
@@ -331,41 +132,93 @@ impl Session {
         output: &mut [u8],
         answer: &mut Answer,
     )
-        requires { IsTrue (is_access kind) }
-        ensures served { Served self.old.machine kind call.now input.now output.old answer.new output.new self.new.machine }
-        ensures queues { self.new.queues ≡ self.old.queues }
+        requires is { slice_get kinds call.now.kind ≡ Some kind }
+        requires table { IsTrue (is_table kind) }
+        ensures { IsServed self.old call.now input.now output.old answer.new output.new self.new }
     {
-        match kind {
-            Kind::Read => read(&self.machine, call, output, answer),
-            Kind::Write => write(&mut self.machine, call, input, answer),
-            Kind::ReadSlice => read_slice(&self.machine, call, output, answer),
-            Kind::WriteSlice => write_slice(&mut self.machine, call, input, answer),
-            Kind::Store => match width_of(call.width) {
-                Some(width) => store(&mut self.machine, call, width, answer),
-                None => *answer = Answer::of_code(code::BAD_CALL),
-            },
-            Kind::Load => match width_of(call.width) {
-                Some(width) => load(&self.machine, call, width, answer),
-                None => *answer = Answer::of_code(code::BAD_CALL),
-            },
-            _ => unreachable!(),
+        if self.limits.reserve(1).is_err() {
+            *answer = no_room(kind, call);
+            return;
+        }
+        let limit = limit_made(kind, call);
+        self.parts.call_any(call, input, output, answer);
+        if answer.code != code::DONE {
+            return;
+        }
+        if self.limits.push(limit).is_err() {
+            unreachable!();
         }
     }
-}
 
-// Serves a call on one queue alone.
-fn on_queue(queue: &mut SessionQueue, kind: Kind, call: &Call, output: &mut [u8]) -> Answer
-    requires { IsTrue (is_on_queue kind) }
-    ensures { OneQueue kind call.now queue.old output.old result queue.new output.new }
-{
-    match kind {
-        Kind::SetQueue => queue.set(part_of(call.second), call.value),
-        Kind::ResetQueue => {
-            queue.reset();
-            Answer::of_code(code::DONE)
+    // Takes a message.
+    fn take_message(&mut self, call: &Call, input: &[u8], output: &mut [u8], answer: &mut Answer)
+        requires { slice_get kinds call.now.kind ≡ Some kind.IotlbMessage }
+        ensures { IsServed self.old call.now input.now output.old answer.new output.new self.new }
+    {
+        let Some((table, message)) = self.parts.message_at(call, input) else {
+            self.parts.call_any(call, input, output, answer);
+            return;
+        };
+        self.ready(table, &message, input);
+        self.parts.call_any(call, input, output, answer);
+        self.retry = heard_by(self.retry, table, &message, answer);
+    }
+
+    // Empties the table of a call that missed again before it takes an UPDATE.
+    fn ready(&mut self, table: usize, message: &IotlbMessage, input: &[u8])
+        requires { 32 ≤ length input.now }
+        ensures ready { Readies self.old.retry (regions_in (drop 32 input.now)) (Some (table, message.now))
+            self.old.parts self.new.parts }
+        ensures rest { self.new ≡ record self.old { parts = self.new.parts } }
+    {
+        if is_due(self.retry, table) && is_announced(message, input) {
+            self.parts.clear(table);
         }
-        Kind::QueueState => queue.list_state(output),
-        Kind::Forget => queue.forget(call.third),
-        _ => unreachable!(),
+    }
+
+    // Notes whether a call missed a mapping, and refuses one for which its table has no room.
+    #[inline(never)]
+    fn note(&mut self, call: &Call, input_len: usize, answer: &mut Answer)
+        ensures answer { (answer.new, self.new.retry) ≡ noted self.old call.now input_len answer.old }
+        ensures rest { self.new ≡ record self.old { retry = self.new.retry } }
+    {
+        if answer.code != code::IOMMU_MISSING {
+            self.retry = forgotten(self.retry, call, input_len);
+            return;
+        }
+        let Some((table, limit)) = self.bound_of(call) else {
+            return;
+        };
+        let retry = missed(self.retry, call, input_len, table, limit);
+        if retry.left == 0 {
+            answer.code = code::IOTLB_TOO_SMALL;
+            self.retry = None;
+        } else {
+            self.retry = Some(retry);
+        }
+    }
+
+    // The table that the addresses of a call's memory go through, and its limit, if it has one.
+    fn bound_of(&self, call: &Call) -> Option<(usize, usize)>
+        ensures { result ≡ bound_of self.now call.now }
+    {
+        let table = self.parts.table_at(call)?;
+        match self.limits.get(table) {
+            Some(Some(limit)) => Some((table, *limit)),
+            Some(None) | None => None,
+        }
+    }
+
+    // Notes it, and tells what the call missed.
+    #[inline(never)]
+    fn note_telling(&mut self, call: &Call, input_len: usize, answer: &mut Answer, miss: &mut Miss)
+        ensures answer { (answer.new, self.new.retry) ≡ noted self.old call.now input_len answer.old }
+        ensures rest { self.new ≡ record self.old { retry = self.new.retry } }
+        ensures misses { MissesIf self.new.parts call.now answer.new miss.old miss.new }
+    {
+        self.note(call, input_len, answer);
+        if answer.is_untranslated() {
+            *miss = self.parts.missed(call, answer);
+        }
     }
 }

@@ -1,9 +1,11 @@
 //! The setup calls: what they ask for, and what they are answered.
-ghost use Rattle.std.specs.Prelude.{◌≡◌, IsTrue, MatchOption};
+ghost use Rattle.std.specs.Prelude.{◌≡◌, ◌==◌, false, IsTrue, MatchOption};
 ghost use Rattle.vm_memory.specs.ScriptMachine.{state_made};
+ghost use Rattle.vm_memory.specs.State.{State};
 ghost use Rattle.vm_session.specs.Answers.{answer_of_setup};
-ghost use Rattle.vm_session.specs.Kinds.{sets_up};
+ghost use Rattle.vm_session.specs.Kinds.{is_table, sets_up};
 ghost use Rattle.vm_session.specs.Requests.{IsSetup, is_without_size};
+ghost use Rattle.vm_session.specs.Retries.{limit_made};
 ghost use Rattle.vm_session.specs.Session.{IsSetUp};
 
 use crate::call::{Answer, Call, Kind};
@@ -55,6 +57,28 @@ fn setup_of(kind: Kind, call: &Call) -> Option<Setup>
         }),
         Kind::Translator => Some(Setup::Translator(TlbId(call.first))),
         _ => unreachable!(),
+    }
+}
+
+// The answer to a call that makes a table, if there is no memory for it.
+pub(crate) fn no_room(kind: Kind, call: &Call) -> Answer
+    requires { IsTrue (is_table kind) }
+    ensures answers { (now : State) → IsSetUp now kind call.now result now }
+    ensures refused { (result.code == 0) ≡ false }
+{
+    match setup_of(kind, call) {
+        Some(_) => Answer::of_code(code::MEMORY),
+        None => Answer::of_code(code::BAD_CALL),
+    }
+}
+
+// The limit of the table that a call makes.
+pub(crate) fn limit_made(kind: Kind, call: &Call) -> Option<usize>
+    ensures { result ≡ limit_made kind call.now }
+{
+    match kind {
+        Kind::LimitedTable => Some(call.length),
+        _ => None,
     }
 }
 

@@ -20,7 +20,7 @@ use denote.Triple.Entry.{alive}
 use denote.Triple.Walked.{Stays, stay_dropped, walk_of}
 use Rattle.core.proofs.alloc.Calls.{Goes-blank, handle_tells}
 use Rattle.std.proofs.raw_atomic.Walks.{proved_at, leaves}
-use Rattle.vm_session.specs.SessionState.{SessionState}
+use Rattle.vm_session.specs.Retries.{WholeSession}
 use Rattle.vm_memory_c.proofs.HandleValues.{Z, al, word, handle_in}
 use Rattle.vm_memory_c.specs.contracts.handle.Handle.closed.{ended, clauses}
 use Rattle.vm_memory_c.specs.contracts.handle.Handle.closed.Key.{name as #self}
@@ -39,7 +39,7 @@ closed_spec 𝓤 𝓛 𝓜 𝓡 wired =
     qed 𝓛 ((raw (alive 𝓛 En.signature z.0.0 z.0.1) ⊛ ‵ (owns (types_at En.signature.params z.0.0) z.0.3 z.0.4)) ∷
     ‵ ftrue ∷ []) ∵
     move ! (1 ∷ []) $ drop ! $ split ! $ move ! (1 ∷ []) $ fsplit ! $ handle_tells al ! a z.0.4.0 (λ h ws fits.
-    let w : Val = word null_ptr h in let none : Option SessionState = None in
+    let w : Val = word null_ptr h in let none : Option WholeSession = None in
     suffices ! (Run (h ∷ [])) (subst (λ (us : List Val). ent 𝓤 (Run (h ∷
     [])) (Run us)) (sym (λ i. ws i ++ [])) (id⊢ 𝓤 (Run (h ∷ [])))) $
     enter ! 𝓣.C 𝓣.Λ fn (h ∷ []) Post $ alloc_all ! (λ l. pass_all ! refl (fits, tt) $

@@ -24,7 +24,7 @@ use Rattle.std.proofs.alloc.Global.TheLaws.{the_row_laws}
 use Rattle.std.specs.Box.Ownership.{box_owns}
 use Rattle.std.specs.contracts.impls.GlobalAllocator.TheImpl
 use Rattle.libc.specs.Heap.{chunk}
-use Rattle.vm_session.specs.SessionState.{SessionState}
+use Rattle.vm_session.specs.Retries.{WholeSession}
 use Rattle.vm_session.specs.contracts.session.Session
 use Rattle.vm_memory_c.specs.Handle.{handle_owns}
 use Rattle.vm_memory_c.proofs.HandleValues.{Handle, Z, word, handle_out}
@@ -34,11 +34,11 @@ use Rattle.vm_memory_c.specs.contracts.handle.Handle.loosen.Key.{name as #self}
 use Rattle.vm_memory_c.proofs.handle.Handle.loosen.Statement.{statement}
 use Rattle.vm_memory_c.proofs.handle.Handle.loosen.Code as code
 
-some_of : (o : Option SessionState) → IsSome o → (s : SessionState) × (o ≡ Some s)
+some_of : (o : Option WholeSession) → IsSome o → (s : WholeSession) × (o ≡ Some s)
 some_of (Some s) h = (s, refl)
 some_of None h = absurd (no h)
   where
-    no : IsSome {T = SessionState} None → ⊥
+    no : IsSome {T = WholeSession} None → ⊥
     no e = cc
 
 pub loosen_spec : {M : Type 1} → statement M
@@ -55,7 +55,7 @@ loosen_spec 𝓤 𝓛 𝓜 𝓡 wired =
     move ! (1 ∷ []) $ heard ! (IsSome d.state) (λ is_open.
     let s = some_of d.state is_open in
     split ! $ move ! (1 ∷ []) $ fsplit ! $ handle_out ! d z.0.4.0 (λ h ws fits.
-    rewrite ! 0 (λ (o : Option SessionState). ‵ (handle_owns d.at o)) s.1 refl $
+    rewrite ! 0 (λ (o : Option WholeSession). ‵ (handle_owns d.at o)) s.1 refl $
     in_a_block ! d.at (λ p. box_owns chunk R p s.0) (fst∗ 𝓤 (never 𝓤) (sem 𝓛 (chunk (bare (lone R.mir)) null_ptr)))
     (λ b o e.
     let w : Val = both (vptr b o) h in let typed = loose_good R Z the_row_laws g b o h fits in

@@ -1,0 +1,251 @@
+//! Messages of a front end on the I/O table of a memory.
+ghost use Rattle.std.specs.Prelude.{◌≡◌, ◌⊎◌, ◌≤◌, true, false, length, take, drop, IfOk, IsSome, IsTrue, is_some, List, MatchOption, Result, slice_get};
+ghost use Rattle.std.specs.Int.{w64, from_le_bytes};
+ghost use Rattle.vm_memory_base.specs.Table.{TableEvent};
+ghost use Rattle.vm_memory.specs.Parts.{state_of};
+ghost use Rattle.vm_memory.specs.ScriptMachine.{state_made};
+ghost use Rattle.vhost_iotlb.specs.Changes.{Applies};
+ghost use Rattle.vhost_iotlb.specs.UserMemory.{guest_of, has_range};
+ghost use Rattle.vhost_iotlb.specs.declared.table.Refusal as refusals;
+ghost use Rattle.vm_session.specs.Codes.{no_memory};
+ghost use Rattle.vm_session.specs.Messages.{AnswersMessage, IsApplied, answer_of_applied, answer_of_refusal, code_of_malformed, is_announced, is_update, is_whole, message_of, region_in, regions_in};
+ghost use Rattle.vm_session.specs.QueueCodes.{no_such};
+
+use crate::answer::refused;
+use crate::call::{Answer, Call};
+use crate::code;
+use std::alloc::{AllocError, Global};
+use vhost_iotlb::{
+    DeviceTable, IotlbMessage, Malformed, PAYLOAD_LEN, Refusal, UserMemory, UserRegion,
+};
+use vm_memory::{Machine, ScriptMachine, Work};
+use vm_memory_base::{Bitmap, ExactBitmap, GuestAddress};
+use vm_memory_device::Iommu;
+use vm_memory_guest::{GuestMemory, GuestMemoryRegion, HostMemory, TlbId};
+
+// How many bytes a row has: three numbers.
+const ROW_LEN: usize = 24;
+
+// The number of 8 bytes at the front, and the bytes behind it.
+fn number_at(bytes: &[u8]) -> (u64, &[u8])
+    requires { 8 ≤ length bytes.now }
+    ensures number { result.0 ≡ from_le_bytes w64 (take 8 bytes.now) }
+    ensures rest { result.1.now ≡ drop 8 bytes.now }
+{
+    match bytes.split_first_chunk::<8>() {
+        Some((word, rest)) => (u64::from_le_bytes(*word), rest),
+        None => unreachable!(),
+    }
+}
+
+fn region_in(row: &[u8; ROW_LEN]) -> UserRegion
+    ensures { result ≡ region_in row.now }
+{
+    let (user_address, rest) = number_at(row);
+    let (guest_address, rest) = number_at(rest);
+    let (len, _) = number_at(rest);
+    UserRegion {
+        user_address,
+        guest_address: GuestAddress(guest_address),
+        len,
+    }
+}
+
+fn regions_in(alloc: Global, rows: &[u8]) -> Result<Vec<UserRegion>, AllocError>
+    ensures { IfOk result (λ regions. regions.items ≡ regions_in rows.now) }
+{
+    let mut regions = Vec::with_capacity(alloc, rows.len() / ROW_LEN)?;
+    let (chunks, _) = rows.as_chunks::<ROW_LEN>();
+    for chunk in chunks {
+        regions.push(region_in(chunk))?;
+    }
+    Ok(regions)
+}
+
+// A message and whole rows, if an input is both.
+fn halves(input: &[u8]) -> Option<(&[u8; PAYLOAD_LEN], &[u8])>
+    ensures { MatchOption result (is_whole input.now ≡ false) (λ p. (is_whole input.now ≡ true)
+        × (p.0.now ≡ take 32 input.now) × (p.1.now ≡ drop 32 input.now) × (32 ≤ length input.now)) }
+{
+    let (payload, rows) = input.split_first_chunk::<PAYLOAD_LEN>()?;
+    if rows.len() % ROW_LEN != 0 {
+        return None;
+    }
+    Some((payload, rows))
+}
+
+fn code_of_malformed(malformed: Malformed) -> u32
+    ensures { result ≡ code_of_malformed malformed }
+{
+    match malformed {
+        Malformed::Version => code::MESSAGE_VERSION,
+        Malformed::PayloadSize => code::MESSAGE_PAYLOAD_SIZE,
+        Malformed::Kind => code::MESSAGE_KIND,
+        Malformed::EmptyRange => code::MESSAGE_EMPTY_RANGE,
+        Malformed::Range => code::MESSAGE_RANGE,
+        Malformed::Permissions => code::MESSAGE_PERMISSIONS,
+        Malformed::UserAddress => code::MESSAGE_USER_ADDRESS,
+    }
+}
+
+// The answer to a message that was applied, or was not.
+fn applied(outcome: Result<(), Refusal>) -> Answer
+    ensures { result ≡ answer_of_applied outcome }
+{
+    Answer::of_code(match outcome {
+        Ok(()) => code::DONE,
+        Err(Refusal::Malformed(malformed)) => code_of_malformed(malformed),
+        Err(Refusal::Memory) => code::MEMORY,
+        Err(Refusal::NoTable) => code::NO_SUCH,
+    })
+}
+
+// Whether a part has so many bytes of the front end's memory from an address on.
+fn has_range(region: &UserRegion, user_address: u64, size: u64) -> bool
+    ensures { result ≡ has_range user_address size region.now }
+{
+    match user_address.checked_sub(region.user_address) {
+        Some(behind) => behind <= region.len && size <= region.len - behind,
+        None => false,
+    }
+}
+
+// Whether some row has so many bytes of the front end's memory from an address on. It allocates nothing.
+fn any_has_range(rows: &[u8], user_address: u64, size: u64) -> bool
+    ensures { result ≡ is_some (guest_of (regions_in rows.now) user_address size) }
+{
+    let (chunks, _) = rows.as_chunks::<ROW_LEN>();
+    for chunk in chunks {
+        if has_range(&region_in(chunk), user_address, size) {
+            return true;
+        }
+    }
+    false
+}
+
+// Whether a message is an UPDATE of a range that the announced memory has, whose rows stand after the message.
+pub(crate) fn is_announced(message: &IotlbMessage, input: &[u8]) -> bool
+    requires { 32 ≤ length input.now }
+    ensures { result ≡ is_announced (regions_in (drop 32 input.now)) message.now }
+{
+    match message {
+        IotlbMessage::Update {
+            user_address,
+            size,
+            ..
+        } => {
+            let (_, rows) = input.split_at(PAYLOAD_LEN);
+            any_has_range(rows, *user_address, *size)
+        }
+        IotlbMessage::Invalidate { .. }
+        | IotlbMessage::Miss { .. }
+        | IotlbMessage::AccessFail { .. } => false,
+    }
+}
+
+// A message to a table, as work on the host that has it. Its answer is put into `answer`.
+#[derive(Drop)]
+struct MessageWork {
+    device: DeviceTable,
+    message: IotlbMessage,
+    answer: Answer,
+}
+
+impl<B: Bitmap> Work<B> for MessageWork {
+    ghost does = { λ w m host after host'. (r : Result (Unit {0}) refusals.Refusal) × (calls : List TableEvent)
+        × Applies w.device.table.0 w.device.memory w.message r calls host host'
+        × (after.answer ≡ answer_of_applied r) };
+
+    fn work<M: GuestMemory>(&mut self, _mem: &M, host: &mut HostMemory<B>) {
+        self.answer = applied(self.device.apply(host, &self.message));
+    }
+}
+
+// Applies a message to a table of a machine that has this memory.
+fn apply_to<R: GuestMemoryRegion, I: Iommu, B: ExactBitmap>(
+    machine: &mut Machine<R, I, B>,
+    memory: usize,
+    device: DeviceTable,
+    message: IotlbMessage,
+) -> Answer
+    ensures { let before = state_of R.region I.number B.pages machine.old in
+        let after = state_of R.region I.number B.pages machine.new in
+        MatchOption (slice_get before.memories memory) ((result ≡ no_such) × (after ≡ before))
+        (λ m. IsApplied device.table.0 device.memory message before result after) }
+{
+    let mut work = MessageWork {
+        device,
+        message,
+        answer: Answer::of_code(code::DONE),
+    };
+    match machine.lend(memory, &mut work) {
+        Ok(()) => work.answer,
+        Err(refusal) => refused(refusal),
+    }
+}
+
+// Applies a message to a table of a machine that has this memory. Rows are read for an UPDATE alone: what takes
+// mappings back never wants memory.
+fn apply_with(
+    alloc: Global,
+    machine: &mut ScriptMachine,
+    memory: usize,
+    table: usize,
+    message: IotlbMessage,
+    rows: &[u8],
+) -> Answer
+    ensures { let before = state_made machine.old in
+        let after = state_made machine.new in
+        MatchOption (slice_get before.memories memory) (after ≡ before)
+        (λ m. IsApplied table (regions_in rows.now) message before result after
+        ⊎ (IsTrue (is_update message) × (result ≡ no_memory) × (after ≡ before))) }
+{
+    let regions = match message {
+        IotlbMessage::Update { .. } => match regions_in(alloc, rows) {
+            Ok(regions) => regions,
+            Err(_) => return Answer::of_code(code::MEMORY),
+        },
+        _ => Vec::new(alloc),
+    };
+    let device = DeviceTable {
+        table: TlbId(table),
+        memory: UserMemory::new(regions),
+    };
+    apply_to(machine, memory, device, message)
+}
+
+// The message of an input, if it has one and whole rows.
+pub(crate) fn message_in(input: &[u8]) -> Option<IotlbMessage>
+    ensures message { result ≡ message_of input.now }
+    ensures whole { IsSome result → 32 ≤ length input.now }
+{
+    let (payload, _) = halves(input)?;
+    match IotlbMessage::decode(payload) {
+        Ok(message) => Some(message),
+        Err(_) => None,
+    }
+}
+
+// Takes the message of a call, with the memory that the front end announced.
+pub(crate) fn take_message(
+    alloc: Global,
+    machine: &mut ScriptMachine,
+    call: &Call,
+    input: &[u8],
+) -> Answer
+    ensures { AnswersMessage (state_made machine.old) call.now input.now result (state_made machine.new) }
+{
+    let Some((payload, rows)) = halves(input) else {
+        return Answer::of_code(code::BAD_CALL);
+    };
+    let memory = call.first;
+    let table = match machine.table_of(memory) {
+        Ok(Some(table)) => table,
+        Ok(None) => return Answer::of_code(code::NO_IOTLB),
+        Err(refusal) => return refused(refusal),
+    };
+    match IotlbMessage::decode(payload) {
+        Ok(message) => apply_with(alloc, machine, memory, table, message, rows),
+        Err(malformed) => Answer::of_code(code_of_malformed(malformed)),
+    }
+}

@@ -1,0 +1,377 @@
+//! The parts of a session: a machine, what is made for it, its commands, and queues on its memories, by calls.
+ghost use Rattle.std.specs.Prelude.{◌≡◌, ◌≤◌, true, List, ℕ, IsSome, IsTrue, length, slice_get};
+ghost use Rattle.std.specs.Option.{option_and_then};
+ghost use Rattle.vm_memory.specs.Memories.{table_of};
+ghost use Rattle.vm_session.specs.Kinds.{is_access, is_on_queue, is_queue, is_work, kinds, sets_up};
+ghost use Rattle.vm_session.specs.Misses.{Misses, MissesFor, access_of, memory_of, notified};
+ghost use Rattle.vm_session.specs.Queues.{AnswersQueue, OnBoth, OneQueue};
+ghost use Rattle.vm_session.specs.Retries.{Clears, is_sent, message_at, table_at};
+ghost use Rattle.vm_session.specs.Session.{Answers, AnswersKind, Served};
+ghost use Rattle.vm_session.specs.SessionState.{no_session};
+
+use crate::call::{Answer, Call, Kind, Miss, kind_of, part_of, width_of};
+use crate::code;
+use crate::commands::{
+    load, read, read_slice, serve_listing, serve_making, serve_moving, store, write, write_slice,
+};
+use crate::marks::mark;
+use crate::messages::{message_in, take_message};
+use crate::miss::look_up;
+use crate::queue::{SessionQueue, make_queue};
+use crate::setup::set_up;
+use crate::work::{Asked, work_on};
+use std::alloc::Global;
+use std::marker::Model;
+use vhost_iotlb::IotlbMessage;
+use vm_memory::ScriptMachine;
+use vm_memory_base::Permissions;
+
+/// A machine, with what is made for it at any time, and queues.
+#[derive(Drop)]
+pub(crate) struct SessionParts {
+    alloc: Global,
+    machine: ScriptMachine,
+    queues: Vec<SessionQueue>,
+}
+
+impl Model for SessionParts {
+    ghost use Rattle.vm_memory.specs.ScriptMachine.{state_made};
+    ghost use Rattle.vm_session.specs.SessionState.{SessionState};
+
+    ghost Value = { SessionState };
+
+    ghost view = { λ s. record { machine = state_made s.machine; queues = s.queues.items } };
+}
+
+impl SessionParts {
+    // Those of a session that made nothing. It allocates nothing.
+    pub(crate) fn new(alloc: Global) -> SessionParts
+        ensures { result ≡ no_session }
+    {
+        SessionParts {
+            alloc,
+            machine: ScriptMachine::empty(alloc),
+            queues: Vec::new(alloc),
+        }
+    }
+
+    // What a call missed that a table refused.
+    #[inline(never)]
+    pub(crate) fn missed(&self, call: &Call, answer: &Answer) -> Miss
+        ensures { Misses self.now call.now answer.now result }
+    {
+        match kind_of(call.kind) {
+            Some(kind) => self.missed_by(kind, call, answer),
+            None => Miss::none(),
+        }
+    }
+
+    fn missed_by(&self, kind: Kind, call: &Call, answer: &Answer) -> Miss
+        ensures { MissesFor self.now call.now answer.now kind result }
+    {
+        let Some(access) = self.accessed(kind, call, answer.address) else {
+            return Miss::none();
+        };
+        match self.machine.table_of(memory_of(kind, call)) {
+            Ok(Some(table)) => look_up(&self.machine, answer, access, table),
+            Ok(None) | Err(_) => Miss::none(),
+        }
+    }
+
+    // The table that the addresses of a call's memory go through.
+    pub(crate) fn table_at(&self, call: &Call) -> Option<usize>
+        ensures { result ≡ table_at self.now call.now }
+    {
+        let kind = kind_of(call.kind)?;
+        self.table_of(memory_of(kind, call))
+    }
+
+    // The table of a memory, if it has one.
+    fn table_of(&self, memory: usize) -> Option<usize>
+        ensures { result ≡ option_and_then table_of (slice_get self.now.machine.memories memory) }
+    {
+        match self.machine.table_of(memory) {
+            Ok(table) => table,
+            Err(_) => None,
+        }
+    }
+
+    // The message of a call of that kind, and the table that it is to, if there are both.
+    pub(crate) fn message_at(&self, call: &Call, input: &[u8]) -> Option<(usize, IotlbMessage)>
+        requires { is_sent (slice_get kinds call.now.kind) ≡ true }
+        ensures message { result ≡ message_at self.now.machine call.now input.now }
+        ensures whole { IsSome result → 32 ≤ length input.now }
+    {
+        let message = message_in(input)?;
+        let table = self.table_of(call.first)?;
+        Some((table, message))
+    }
+
+    // Takes back all mappings of a table.
+    pub(crate) fn clear(&mut self, table: usize)
+        ensures { Clears table self.old self.new }
+    {
+        // One that is not there has none.
+        let _ = self.machine.invalidate_all(table);
+    }
+
+    // How a call of a kind accesses an address.
+    fn accessed(&self, kind: Kind, call: &Call, address: u64) -> Option<Permissions>
+        ensures { result ≡ access_of self.now kind call.now address }
+    {
+        match kind {
+            Kind::Read
+            | Kind::ReadSlice
+            | Kind::Load
+            | Kind::WriteTo
+            | Kind::WriteAllTo
+            | Kind::QueueIsValid
+            | Kind::AvailIdx
+            | Kind::UsedIdx
+            | Kind::Pop
+            | Kind::ReadChain
+            | Kind::NeedsNotification
+            | Kind::BeginRequest => Some(Permissions::Read),
+            Kind::Write
+            | Kind::WriteSlice
+            | Kind::Store
+            | Kind::ReadFrom
+            | Kind::ReadExactFrom
+            | Kind::MarkReached
+            | Kind::WriteChain
+            | Kind::AddUsed
+            | Kind::DisableNotification
+            | Kind::FinishRequest => Some(Permissions::Write),
+            Kind::EnableNotification => self.notified(call.first, address),
+            _ => None,
+        }
+    }
+
+    // How an address is accessed to be notified: the driver's index is read, and the rest is written.
+    fn notified(&self, queue: usize, address: u64) -> Option<Permissions>
+        ensures { result ≡ notified self.now queue address }
+    {
+        let queue = self.queues.get(queue)?;
+        if queue.reads_index_at(address) {
+            Some(Permissions::Read)
+        } else {
+            Some(Permissions::Write)
+        }
+    }
+
+    #[inline(never)]
+    pub(crate) fn call_any(
+        &mut self,
+        call: &Call,
+        input: &[u8],
+        output: &mut [u8],
+        answer: &mut Answer,
+    )
+        ensures { Answers self.old call.now input.now output.old answer.new output.new self.new }
+    {
+        match kind_of(call.kind) {
+            None => *answer = Answer::of_code(code::BAD_CALL),
+            Some(kind) => {
+                if kind.is_work() {
+                    self.work(kind, call, input, output, answer);
+                } else if kind.is_queue() {
+                    self.call_queue(kind, call, output, answer);
+                } else {
+                    self.call_machine(kind, call, input, output, answer);
+                }
+            }
+        }
+    }
+
+    // Serves a call on queues alone.
+    fn call_queue(&mut self, kind: Kind, call: &Call, output: &mut [u8], answer: &mut Answer)
+        requires { IsTrue (is_queue kind) }
+        ensures { (input : List ℕ) → AnswersQueue kind self.old call.now input output.old answer.new self.new output.new }
+    {
+        if let Kind::Queue = kind {
+            *answer = make_queue(self.alloc, &mut self.queues, call);
+            return;
+        }
+        match self.queues.get_mut(call.first) {
+            Some(queue) => *answer = on_queue(queue, kind, call, output),
+            None => *answer = Answer::of_code(code::NO_SUCH),
+        }
+    }
+
+    // Serves a call on a queue and a memory.
+    #[inline(never)]
+    pub(crate) fn work(
+        &mut self,
+        kind: Kind,
+        call: &Call,
+        input: &[u8],
+        output: &mut [u8],
+        answer: &mut Answer,
+    )
+        requires { IsTrue (is_work kind) }
+        ensures { OnBoth kind self.old call.now input.now output.old answer.new self.new output.new }
+    {
+        let Some(queue) = self.queues.get_mut(call.first) else {
+            *answer = Answer::of_code(code::NO_SUCH);
+            return;
+        };
+        let asked = Asked { kind, call, input };
+        *answer = work_on(self.alloc, &mut self.machine, queue, asked, output);
+    }
+
+    // Serves a call of the machine.
+    fn call_machine(
+        &mut self,
+        kind: Kind,
+        call: &Call,
+        input: &[u8],
+        output: &mut [u8],
+        answer: &mut Answer,
+    )
+        ensures answers { AnswersKind (sets_up kind) kind self.old.machine call.now input.now output.old answer.new
+            output.new self.new.machine }
+        ensures queues { self.new.queues ≡ self.old.queues }
+    {
+        if kind.sets_up() {
+            *answer = set_up(&mut self.machine, kind, call);
+        } else if kind.marks() {
+            mark(&mut self.machine, kind, call, answer);
+        } else if kind.is_message() {
+            *answer = take_message(self.alloc, &mut self.machine, call, input);
+        } else {
+            self.serve(kind, call, input, output, answer);
+        }
+    }
+
+    // Serves a call of a kind that is none of setup.
+    fn serve(
+        &mut self,
+        kind: Kind,
+        call: &Call,
+        input: &[u8],
+        output: &mut [u8],
+        answer: &mut Answer,
+    )
+        ensures served { Served self.old.machine kind call.now input.now output.old answer.new output.new self.new.machine }
+        ensures queues { self.new.queues ≡ self.old.queues }
+    {
+        let (alloc, machine) = (self.alloc, &mut self.machine);
+        match kind {
+            Kind::Read
+            | Kind::Write
+            | Kind::ReadSlice
+            | Kind::WriteSlice
+            | Kind::Store
+            | Kind::Load => self.access(kind, call, input, output, answer),
+            Kind::Layout
+            | Kind::Insert
+            | Kind::Remove
+            | Kind::Plain
+            | Kind::Memory
+            | Kind::Replace
+            | Kind::Enable => serve_making(alloc, machine, kind, call, input, answer),
+            Kind::ReadFrom
+            | Kind::ReadExactFrom
+            | Kind::CheckRange
+            | Kind::Copy
+            | Kind::Set
+            | Kind::Invalidate
+            | Kind::InvalidateAll => serve_moving(alloc, machine, kind, call, input, answer),
+            Kind::WriteTo
+            | Kind::WriteAllTo
+            | Kind::Lookup
+            | Kind::DirtyBlock
+            | Kind::DirtySpace
+            | Kind::HarvestBlock
+            | Kind::HarvestSpace => *answer = serve_listing(
+                alloc, machine, kind, call, input, output,
+            ),
+            Kind::Block
+            | Kind::Space
+            | Kind::Table
+            | Kind::LimitedTable
+            | Kind::Region
+            | Kind::Translator
+            | Kind::MarkBlock
+            | Kind::MarkReached
+            | Kind::Queue
+            | Kind::SetQueue
+            | Kind::ResetQueue
+            | Kind::QueueState
+            | Kind::Forget
+            | Kind::QueueIsValid
+            | Kind::AvailIdx
+            | Kind::UsedIdx
+            | Kind::Pop
+            | Kind::ReadChain
+            | Kind::WriteChain
+            | Kind::AddUsed
+            | Kind::NeedsNotification
+            | Kind::EnableNotification
+            | Kind::DisableNotification
+            | Kind::BeginRequest
+            | Kind::FinishRequest
+            | Kind::IotlbMessage => *answer = Answer::of_code(code::BAD_CALL),
+        }
+    }
+
+    // The calls that are made most often: those that access bytes of a memory. Each has a function of its own, since a
+    // function pays at its entry for all values that it may come to have.
+    #[inline(always)]
+    pub(crate) fn access(
+        &mut self,
+        kind: Kind,
+        call: &Call,
+        input: &[u8],
+        output: &mut [u8],
+        answer: &mut Answer,
+    )
+        requires { IsTrue (is_access kind) }
+        ensures served { Served self.old.machine kind call.now input.now output.old answer.new output.new self.new.machine }
+        ensures queues { self.new.queues ≡ self.old.queues }
+    {
+        match kind {
+            Kind::Read => read(&self.machine, call, output, answer),
+            Kind::Write => write(&mut self.machine, call, input, answer),
+            Kind::ReadSlice => read_slice(&self.machine, call, output, answer),
+            Kind::WriteSlice => write_slice(&mut self.machine, call, input, answer),
+            Kind::Store => match width_of(call.width) {
+                Some(width) => store(&mut self.machine, call, width, answer),
+                None => *answer = Answer::of_code(code::BAD_CALL),
+            },
+            Kind::Load => match width_of(call.width) {
+                Some(width) => load(&self.machine, call, width, answer),
+                None => *answer = Answer::of_code(code::BAD_CALL),
+            },
+            _ => unreachable!(),
+        }
+    }
+}
+
+// The memory of a call.
+fn memory_of(kind: Kind, call: &Call) -> usize
+    ensures { result ≡ memory_of kind call.now }
+{
+    if kind.is_work() {
+        call.second
+    } else {
+        call.first
+    }
+}
+
+// Serves a call on one queue alone.
+fn on_queue(queue: &mut SessionQueue, kind: Kind, call: &Call, output: &mut [u8]) -> Answer
+    requires { IsTrue (is_on_queue kind) }
+    ensures { OneQueue kind call.now queue.old output.old result queue.new output.new }
+{
+    match kind {
+        Kind::SetQueue => queue.set(part_of(call.second), call.value),
+        Kind::ResetQueue => {
+            queue.reset();
+            Answer::of_code(code::DONE)
+        }
+        Kind::QueueState => queue.list_state(output),
+        Kind::Forget => queue.forget(call.third),
+        _ => unreachable!(),
+    }
+}
