@@ -1,4 +1,5 @@
-/* Each call of a queue and of its requests, and the text of each code. It ends with 0, or the number of what failed. */
+/* Each call of a queue and of its requests, messages on an I/O table, and the text of each code. It ends with 0, or the
+ * number of what failed. */
 #include "vm_memory.h"
 
 #include <string.h>
@@ -222,9 +223,73 @@ static int no_requests(void) {
     return vmm_asked(&session, &call, NULL, 0, NULL, 0).code == VMM_BAD_CALL ? 0 : 62;
 }
 
+/* A message of a front end, which announced the block's first half as its memory from USER on. */
+enum { USER = 0x700000 };
+
+typedef struct update {
+    uint8_t message[32];
+    vmm_user_region announced[1];
+} update;
+
+static update message(uint64_t iova, uint64_t size, uint64_t user, uint8_t permissions, uint8_t kind) {
+    update made = {{0}, {{USER, 0, 0x4000}}};
+    uint64_t numbers[3];
+    numbers[0] = iova;
+    numbers[1] = size;
+    numbers[2] = user;
+    for (size_t i = 0; i < 24; i++) {
+        made.message[i] = (uint8_t)(numbers[i / 8] >> 8 * (i % 8));
+    }
+    made.message[24] = permissions;
+    made.message[25] = kind;
+    return made;
+}
+
+/* Memory 1 lies behind a table of one range. */
+static int messages(void) {
+    update map = message(0x100, 0x10, USER + 0x3000, VMM_RW, 2), other = message(0x110, 0x10, USER + 0x3100, VMM_RW, 2);
+    update bad = message(0x100, 0x10, USER + 0x3ff8, VMM_RW, 2), none = message(0, 0, 0, 0, 3);
+    vmm_answer answer;
+    vmm_space(&session, 0x10000, 0x1000);
+    vmm_limited_table(&session, 1);
+    vmm_translator(&session, 0);
+    if (!is(vmm_memory(&session, 0, 0, 0, 1), VMM_DONE, 0, 1, 0)) {
+        return 70;
+    }
+    if (vmm_iotlb_message(&session, 0, &map, sizeof map).code != VMM_NO_IOTLB ||
+        vmm_iotlb_message(&session, 9, &map, sizeof map).code != VMM_NO_SUCH ||
+        vmm_iotlb_message(&session, 1, &map, 33).code != VMM_BAD_CALL ||
+        vmm_iotlb_message(&session, 1, &map, 32).code != VMM_MESSAGE_USER_ADDRESS ||
+        vmm_iotlb_message(&session, 1, &bad, sizeof bad).code != VMM_MESSAGE_USER_ADDRESS) {
+        return 71;
+    }
+    answer = vmm_writex(&session, 1, 0x100, "ab", 2);
+    if (answer.code != VMM_IOMMU_MISSING || answer.miss.access != VMM_W || answer.miss.address != 0x100 ||
+        answer.miss.length != 2 || !done(vmm_iotlb_message(&session, 1, &map, sizeof map)) ||
+        !done(vmm_writex(&session, 1, 0x100, "ab", 2)) || !is(vmm_load(&session, 0, 2, 0x3000), VMM_DONE, 0, 0x6261, 0)) {
+        return 72;
+    }
+    /* Two pages that are not mapped to neighbours need two ranges. */
+    for (int i = 0; i < 2; i++) {
+        answer = vmm_writex(&session, 1, 0x10f, "cd", 2);
+        if (answer.code != VMM_IOMMU_MISSING ||
+            !done(vmm_iotlb_message(&session, 1, answer.miss.address < 0x110 ? &map : &other, sizeof map))) {
+            return 73;
+        }
+    }
+    answer = vmm_writex(&session, 1, 0x10f, "cd", 2);
+    if (answer.code != VMM_IOTLB_TOO_SMALL || answer.miss.access != VMM_W || answer.miss.length != 1) {
+        return 74;
+    }
+    return done(vmm_iotlb_message(&session, 1, &none, 32)) &&
+                   vmm_writex(&session, 1, 0x100, "ab", 2).code == VMM_IOMMU_MISSING
+               ? 0
+               : 75;
+}
+
 /* Each code has a text of its own. */
 static int texts(void) {
-    static const uint32_t ranges[][2] = {{0, 6}, {16, 16}, {18, 22}, {32, 52}, {64, 68}, {70, 86}};
+    static const uint32_t ranges[][2] = {{0, 6}, {16, 16}, {18, 22}, {32, 61}, {64, 68}, {70, 86}};
     const char *none = vmm_code_text(1000);
     for (size_t i = 0; i < sizeof ranges / sizeof *ranges; i++) {
         for (uint32_t code = ranges[i][0]; code <= ranges[i][1]; code++) {
@@ -250,7 +315,8 @@ int main(void) {
     vmm_region(&session, 0, 0);
     vmm_layout(&session, region, sizeof region);
     vmm_plain(&session, 0);
-    int (*const tests[])(void) = {parts, chains, in_flight, notifications, requests, no_requests, texts};
+    int (*const tests[])(void) = {parts,    chains,      in_flight, notifications,
+                                  requests, no_requests, messages,  texts};
     for (size_t i = 0; i < sizeof tests / sizeof *tests; i++) {
         int failed = tests[i]();
         if (failed) {

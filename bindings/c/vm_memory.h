@@ -36,7 +36,7 @@ enum vmm_kind {
     VMM_QUEUE, VMM_SET_QUEUE, VMM_RESET_QUEUE, VMM_QUEUE_STATE, VMM_FORGET,
     VMM_QUEUE_IS_VALID, VMM_AVAIL_IDX, VMM_USED_IDX, VMM_POP, VMM_READ_CHAIN, VMM_WRITE_CHAIN, VMM_ADD_USED,
     VMM_NEEDS_NOTIFICATION, VMM_ENABLE_NOTIFICATION, VMM_DISABLE_NOTIFICATION,
-    VMM_BEGIN_REQUEST, VMM_FINISH_REQUEST
+    VMM_BEGIN_REQUEST, VMM_FINISH_REQUEST, VMM_IOTLB_MESSAGE
 };
 
 /* An access. */
@@ -56,6 +56,9 @@ enum vmm_code {
     VMM_MISCONFIGURED_MISSING = 46, VMM_MISCONFIGURED_NOT_ALLOWED = 47, VMM_MISCONFIGURED_NOT_CONFIGURED = 48,
     VMM_IOMMU_MEMORY = 49,
     VMM_NO_MEMORY_REGION = 50, VMM_MEMORY_REGION_OVERLAP = 51, VMM_UNSORTED_MEMORY_REGIONS = 52,
+    VMM_IOTLB_TOO_SMALL = 53, VMM_NO_IOTLB = 54,
+    VMM_MESSAGE_VERSION = 55, VMM_MESSAGE_PAYLOAD_SIZE = 56, VMM_MESSAGE_KIND = 57, VMM_MESSAGE_EMPTY_RANGE = 58,
+    VMM_MESSAGE_RANGE = 59, VMM_MESSAGE_PERMISSIONS = 60, VMM_MESSAGE_USER_ADDRESS = 61,
     VMM_NOT_PAGED = 64, VMM_NO_FILE = 65, VMM_FILE_SHORT = 66, VMM_NOT_MAPPED = 67, VMM_NOT_SHARED = 68,
     VMM_INVALID_MAX_SIZE = 70, VMM_INVALID_QUEUE_SIZE = 71, VMM_INVALID_DESC_TABLE_ALIGN = 72,
     VMM_INVALID_AVAIL_RING_ALIGN = 73, VMM_INVALID_USED_RING_ALIGN = 74, VMM_QUEUE_NOT_READY = 75,
@@ -94,8 +97,8 @@ typedef struct vmm_request {
     uint64_t value;
 } vmm_request;
 
-/* What a call that a table refused, VMM_IOMMU_MISSING or VMM_IOMMU_NOT_ALLOWED, has to have first: `length` addresses
- * from `address` on, for an access. `access` is 0 if there was no memory to look it up. */
+/* What a call that a table refused, VMM_IOMMU_MISSING, VMM_IOMMU_NOT_ALLOWED or VMM_IOTLB_TOO_SMALL, has to have first:
+ * `length` addresses from `address` on, for an access. `access` is 0 if there was no memory to look it up. */
 typedef struct vmm_miss {
     uint32_t access;
     uint64_t address;
@@ -316,6 +319,23 @@ static inline vmm_answer vmm_invalidate(vmm_session *s, size_t table, uint64_t a
 static inline vmm_answer vmm_clear(vmm_session *s, size_t table) {
     vmm_request call = vmm_at(VMM_CLEAR, table, 0, 0);
     return vmm_asked(s, &call, NULL, 0, NULL, 0);
+}
+
+/* A part of the memory that a vhost front end announced: where it begins there, where in guest memory, and how many
+ * bytes it has. */
+typedef struct vmm_user_region {
+    uint64_t user_address, guest_address, size;
+} vmm_user_region;
+
+/* Applies a message of a front end to the I/O table of a memory, whose IOMMU is on. The input has the 32 bytes of the
+ * message, and then a vmm_user_region for each part of the announced memory. An INVALIDATE needs none, and is never
+ * refused for want of memory. A malformed message is refused with VMM_MESSAGE_KIND and so on, and maps nothing; if it is
+ * an INVALIDATE, all mappings are taken back. A call that was refused with VMM_IOMMU_MISSING is made again after its
+ * UPDATE was applied so, until it is not. It ends then: if the table has a limit, the call is refused with
+ * VMM_IOTLB_TOO_SMALL if it needs more ranges than that (docs/BINDINGS.md). */
+static inline vmm_answer vmm_iotlb_message(vmm_session *s, size_t memory, const void *input, size_t input_size) {
+    vmm_request call = vmm_at(VMM_IOTLB_MESSAGE, memory, 0, 0);
+    return vmm_asked(s, &call, input, input_size, NULL, 0);
 }
 
 /* Ranges go to `list`, sixteen bytes each: where one begins, and how long it is. */
@@ -589,6 +609,22 @@ static inline const char *vmm_access_text(uint32_t code) {
     }
 }
 
+/* A code of an I/O table and its messages in words, or NULL. */
+static inline const char *vmm_iotlb_text(uint32_t code) {
+    switch (code) {
+    case VMM_IOTLB_TOO_SMALL: return "cannot translate: the call needs more ranges than the I/O table keeps";
+    case VMM_NO_IOTLB: return "the memory lies behind no I/O table";
+    case VMM_MESSAGE_VERSION: return "malformed message: unknown version";
+    case VMM_MESSAGE_PAYLOAD_SIZE: return "malformed message: invalid size of the payload";
+    case VMM_MESSAGE_KIND: return "malformed message: unknown kind of message";
+    case VMM_MESSAGE_EMPTY_RANGE: return "malformed message: empty range";
+    case VMM_MESSAGE_RANGE: return "malformed message: range past the last address";
+    case VMM_MESSAGE_PERMISSIONS: return "malformed message: no permissions";
+    case VMM_MESSAGE_USER_ADDRESS: return "malformed message: user address outside the announced memory";
+    default: return NULL;
+    }
+}
+
 /* A code of a queue in words, or NULL. */
 static inline const char *vmm_queue_text(uint32_t code) {
     switch (code) {
@@ -620,6 +656,7 @@ static inline const char *vmm_queue_text(uint32_t code) {
 /* A code in words. */
 static inline const char *vmm_code_text(uint32_t code) {
     const char *text = vmm_access_text(code) ? vmm_access_text(code) : vmm_queue_text(code);
+    text = text ? text : vmm_iotlb_text(code);
     switch (code) {
     case VMM_DONE: return "done";
     case VMM_NO_SUCH: return "a number names nothing";

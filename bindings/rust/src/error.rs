@@ -98,6 +98,11 @@ pub enum IommuError {
         /// Why it does not.
         reason: Reason,
     },
+    /// The call needs more ranges than the table keeps. It was made again after each of its mappings came.
+    TableTooSmall {
+        /// The whole range.
+        iova_range: IovaRange,
+    },
     /// The range does not lie in a row.
     Fragmented {
         /// The whole range.
@@ -120,6 +125,11 @@ impl fmt::Display for IommuError {
             IommuError::CannotResolve { iova_range, reason } => write!(
                 f,
                 "Cannot translate I/O virtual address range {:#x}+{}: {reason}",
+                iova_range.base.0, iova_range.length
+            ),
+            IommuError::TableTooSmall { iova_range } => write!(
+                f,
+                "The I/O table keeps fewer ranges than an access with the range {:#x}+{} needs",
                 iova_range.base.0, iova_range.length
             ),
             IommuError::Fragmented {
@@ -256,6 +266,7 @@ pub(crate) fn error_of(answer: &Answer) -> Option<MachineError> {
         code::CALLBACK_OUT_OF_RANGE => GuestMemoryError::CallbackOutOfRange,
         code::GUEST_ADDRESS_OVERFLOW => GuestMemoryError::GuestAddressOverflow,
         code::IOMMU_MISSING => unresolved(Reason::MissingMapping),
+        code::IOTLB_TOO_SMALL => iommu(IommuError::TableTooSmall { iova_range }),
         code::IOMMU_NOT_ALLOWED => unresolved(Reason::AccessNotAllowed),
         code::IOMMU_NOT_CONFIGURED => unresolved(Reason::NotConfigured),
         code::IOMMU_FRAGMENTED => iommu(IommuError::Fragmented {

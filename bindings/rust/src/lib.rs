@@ -27,6 +27,7 @@ mod error;
 mod ffi;
 #[allow(unsafe_code)]
 mod heap;
+pub mod iotlb;
 mod machine;
 mod memory;
 mod number;

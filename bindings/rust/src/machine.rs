@@ -115,10 +115,11 @@ impl Machine {
         self.session.call(call, input, output, answer);
     }
 
-    /// Takes what the last call missed first that a table refused, with `CannotResolve`, whatever it was a call of. `None`
-    /// if none was refused since it was last taken, or if there was no memory to look it up.
+    /// Takes what the last call missed first that a table refused, with `CannotResolve` or `TableTooSmall`, whatever it was
+    /// a call of. `None` if none was refused since it was last taken, or if there was no memory to look it up.
     ///
-    /// A device asks for a mapping of just this, and makes the call again after it came.
+    /// A device asks for a mapping of just this, and makes the call again after it came:
+    /// [`apply_iotlb`](Machine::apply_iotlb).
     pub fn take_miss(&self) -> Option<Miss> {
         let miss = self.session.take_miss();
         let access = match miss.access {

@@ -93,6 +93,7 @@ pub mod kind {
     pub const DISABLE_NOTIFICATION: u32 = 49;
     pub const BEGIN_REQUEST: u32 = 50;
     pub const FINISH_REQUEST: u32 = 51;
+    pub const IOTLB_MESSAGE: u32 = 52;
 }
 
 /// The parts of a queue that `SET_QUEUE` sets.
@@ -157,6 +158,15 @@ pub mod code {
     pub const NO_MEMORY_REGION: u32 = 50;
     pub const MEMORY_REGION_OVERLAP: u32 = 51;
     pub const UNSORTED_MEMORY_REGIONS: u32 = 52;
+    pub const IOTLB_TOO_SMALL: u32 = 53;
+    pub const NO_IOTLB: u32 = 54;
+    pub const MESSAGE_VERSION: u32 = 55;
+    pub const MESSAGE_PAYLOAD_SIZE: u32 = 56;
+    pub const MESSAGE_KIND: u32 = 57;
+    pub const MESSAGE_EMPTY_RANGE: u32 = 58;
+    pub const MESSAGE_RANGE: u32 = 59;
+    pub const MESSAGE_PERMISSIONS: u32 = 60;
+    pub const MESSAGE_USER_ADDRESS: u32 = 61;
     pub const INVALID_MAX_SIZE: u32 = 70;
     pub const INVALID_QUEUE_SIZE: u32 = 71;
     pub const INVALID_DESC_TABLE_ALIGN: u32 = 72;

@@ -1,6 +1,7 @@
 //! Transfers between memories and the sources and sinks of `std::io`.
 
 use crate::error::{GuestMemoryError, IommuError, Reason};
+use crate::iotlb::PAYLOAD_LEN;
 use crate::machine::{answered, IovaRange, Permissions};
 use crate::memory::{GuestAddress, GuestMemory};
 use crate::raw::{code, kind};
@@ -125,7 +126,7 @@ impl GuestMemory<'_> {
         }
         // Which addresses are mapped is the same for a write, which is asked for by one call whatever the length.
         match self.expect_write(addr, count) {
-            Err(error) if is_refusal(&error, Reason::MissingMapping) => return Err(error),
+            Err(error) if is_missing(&error) => return Err(error),
             _ => {}
         }
         self.expect_readable(addr, count)?;
@@ -168,10 +169,11 @@ impl GuestMemory<'_> {
         Ok(())
     }
 
-    // Whether an IOMMU translates the addresses. If so it refuses the last one, which no table maps.
+    // Whether an IOMMU translates the addresses. If so its table refuses a message that is none, and nothing changes.
     fn is_translated(&self) -> bool {
-        let last = self.read(&mut [0], GuestAddress(u64::MAX));
-        last.is_err_and(|error| is_refusal(&error, Reason::MissingMapping))
+        let call = self.at(kind::IOTLB_MESSAGE, GuestAddress(0), 0);
+        let answer = self.machine().call(&call, &[0; PAYLOAD_LEN], &mut []);
+        answer.code == code::MESSAGE_KIND
     }
 }
 
@@ -181,6 +183,12 @@ fn is_refusal(error: &GuestMemoryError, wanted: Reason) -> bool {
         GuestMemoryError::IommuError(IommuError::CannotResolve { reason, .. }) => *reason == wanted,
         _ => false,
     }
+}
+
+// Whether an IOMMU refused the access for a mapping that its table misses, or has no room for.
+fn is_missing(error: &GuestMemoryError) -> bool {
+    let is_too_small = matches!(error, GuestMemoryError::IommuError(IommuError::TableTooSmall { .. }));
+    is_too_small || is_refusal(error, Reason::MissingMapping)
 }
 
 // The address after so many bytes.

@@ -56,6 +56,7 @@ fn all_crates_below_are_watched() {
     assert_eq!(
         names,
         [
+            "vhost_iotlb",
             "virtio_blk",
             "virtio_queue",
             "vm_memory",

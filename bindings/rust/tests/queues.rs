@@ -926,7 +926,9 @@ fn a_queue_lies_behind_an_iommu() {
     assert_eq!(machine.take_miss(), missed(device.used_ring, 2, Permissions::Write));
     assert!(!queue.is_valid(&memory).unwrap());
     assert_eq!(machine.take_miss(), None);
-    assert_refused!(queue.add_used(&memory, 0, 3), QueueError::InvalidUsedEntry);
+    let refused = queue.add_used(&memory, 0, 3).unwrap_err().to_string();
+    assert!(refused.contains("access not allowed"), "{refused}");
+    assert_eq!(machine.take_miss(), missed(device.used_ring + 4, 8, Permissions::Write));
     // If what is written to be notified is mapped, the driver's index is what is read then.
     machine
         .set_mapping(table, at(IOVA), at(BASE), SIZE, Permissions::Write)

@@ -2,6 +2,7 @@
 //! mean nothing.
 
 mod disk;
+mod messages;
 mod ring;
 mod slow;
 

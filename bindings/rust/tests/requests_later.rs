@@ -2,6 +2,7 @@
 //! again then, and a request ends as it does without an IOMMU.
 
 mod disk;
+mod messages;
 mod ring;
 mod slow;
 
@@ -10,7 +11,7 @@ use ring::{at, Numbers};
 use slow::{addresses, Segment};
 use vm_memory_proved::block::{Request, Terms, HEADER_LEN};
 use vm_memory_proved::queue::{DescriptorChain, QueueError};
-use vm_memory_proved::{IovaRange, Machine, Permissions, Reason};
+use vm_memory_proved::{Machine, Reason};
 
 // ---- each access
 
@@ -92,18 +93,16 @@ fn each_access_waits_for_its_mapping() {
     returned_late(guest, 8);
 }
 
-// If the used entry is not mapped, it does not lie in memory that may be written. The index after it is an access.
+// The used entry and the index after it are an access each, and neither is written before both are mapped.
 fn returned_late(guest: &mut Guest<'_>, len: u32) {
     let (memory, queue, used) = (guest.memory, guest.queue, guest.driver.used_ring);
-    let returned = queue.add_used(&memory, 0, len);
-    assert!(matches!(returned, Err(QueueError::InvalidUsedEntry)));
-    let (base, length) = (at(used + 4), 8);
-    guest.map_just(IovaRange { base, length }, Permissions::Write);
-    assert_eq!(guest.driver.take(), None);
-    assert_eq!(
-        late(guest, || queue.add_used(&memory, 0, len)),
-        ((), vec![(used + 2, 2)])
-    );
+    let returned = late(guest, || {
+        let mut entry = [0; 8];
+        guest.plain.read_slice(&mut entry, at(used + 4)).unwrap();
+        assert_eq!(entry, [0; 8]);
+        queue.add_used(&memory, 0, len)
+    });
+    assert_eq!(returned, ((), vec![(used + 4, 8), (used + 2, 2)]));
     assert_eq!(guest.driver.take(), Some((0, len)));
     guest.compare();
 }

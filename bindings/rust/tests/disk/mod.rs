@@ -2,9 +2,11 @@
 //! specification (version 1.2, 5.2.6), and where that leaves a choice, from docs/VIRTIO_BLK.md.
 #![allow(dead_code)]
 
+use crate::messages;
 use crate::ring::{at, Descriptor, Driver, Numbers, INDIRECT};
 use crate::slow::{addresses, total, Image, Segment};
 use vm_memory_proved::block::*;
+use vm_memory_proved::iotlb::UserRegion;
 use vm_memory_proved::queue::{DescriptorChain, Queue, QueueError};
 use vm_memory_proved::{BlockId, GuestMemory, GuestMemoryError, IommuError, IovaRange};
 use vm_memory_proved::{Machine, Miss, Permissions, Reason, TableId};
@@ -309,20 +311,27 @@ impl<'a> Guest<'a> {
 
     // ---- the IOMMU
 
-    /// Maps the pages of a range, or all of the rings.
-    pub fn map(&self, range: IovaRange, access: Permissions) {
-        let set = |from: u64, to: u64, len: u64| {
-            let table = self.table;
-            self.machine
-                .set_mapping(table, at(from), at(to), len as usize, access)
-                .unwrap();
-        };
-        if range.base.0 >= RINGS && range.base.0 < RINGS + RINGS_LEN as u64 {
-            return set(RINGS, RINGS, RINGS_LEN as u64);
-        }
-        let (first, last) = (range.base.0, range.base.0 + range.length as u64 - 1);
-        for addr in (first / self.page..=last / self.page).map(|page| self.page * page) {
-            set(addr, self.physical(addr), self.page);
+    /// Where the front end, which announced all of memory and what lies around it, has a guest address.
+    const USER: u64 = 0x7000_0000;
+
+    /// The front end maps a range of addresses to those that they lead to.
+    fn update(&self, from: u64, len: u64, access: Permissions) {
+        let user = Guest::USER + self.physical(from);
+        let all = [UserRegion {
+            user_address: Guest::USER,
+            guest_address: at(0),
+            len: 1 << 32,
+        }];
+        let message = messages::update(from, len, user, access);
+        self.machine.apply_iotlb(self.memory.id(), &message, &all).unwrap();
+    }
+
+    /// The front end answers a MISS of an address: it maps the address's page, or all of the rings.
+    pub fn map(&self, addr: u64, access: Permissions) {
+        if (RINGS..RINGS + RINGS_LEN as u64).contains(&addr) {
+            self.update(RINGS, RINGS_LEN as u64, access);
+        } else {
+            self.update(addr / self.page * self.page, self.page, access);
         }
     }
 
@@ -340,15 +349,13 @@ impl<'a> Guest<'a> {
         if self.way == Way::Plain {
             return;
         }
-        match self.forgets.below(12) {
-            0 => self.machine.invalidate_all(self.table).unwrap(),
-            1 => {
-                let (start, len) = (PAGE * self.forgets.below(0x40), PAGE << self.forgets.below(4));
-                let len = len as usize;
-                self.machine.invalidate_mapping(self.table, at(start), len).unwrap();
-            }
-            _ => {}
-        }
+        let (start, len) = match self.forgets.below(12) {
+            0 => (0, 0),
+            1 => (PAGE * self.forgets.below(0x40), PAGE << self.forgets.below(4)),
+            _ => return,
+        };
+        let message = messages::invalidate(start, len);
+        self.machine.apply_iotlb(self.memory.id(), &message, &[]).unwrap();
     }
 
     /// What the machine says that a refused access missed first. Before it nothing is missed, and each end of it is.
@@ -366,27 +373,32 @@ impl<'a> Guest<'a> {
         iova_range
     }
 
-    /// Makes the call of a step until it is not refused, after a mapping came each time. A call that is refused leaves
-    /// memory as it is.
-    ///
-    /// If the used entry is not mapped, `add_used` is refused with `InvalidUsedEntry`, as the entry does not lie in
-    /// memory that may be written. Then all of the rings are mapped.
+    /// Makes the call of a step until it is not refused, after a mapping came each time: the front end answers the first
+    /// address that the call missed. A call that is refused leaves memory as it is. With a limit of ranges, at most one
+    /// more than that are missed in a row. No call here needs more ranges than the limit, so none is refused for it.
     pub fn until_done<T>(
         &mut self,
         step: Step,
         mut call: impl FnMut(&GuestMemory<'a>, &Queue<'a>) -> Result<T, QueueError>,
     ) -> Result<T, QueueError> {
         self.forget_some();
-        for tries in 0..40 {
-            // A full table drops its lowest ranges first, so those of one call may drive each other out.
-            if tries == 10 {
-                self.machine.invalidate_all(self.table).unwrap();
-            }
+        let most = match self.way {
+            Way::Behind(Some(limit)) => limit + 1,
+            _ => 40,
+        };
+        let mut misses = 0;
+        for _ in 0..100 {
             let (range, access) = match call(&self.memory, &self.queue) {
-                Err(QueueError::InvalidUsedEntry) if step == Step::AddUsed => (whole_rings(), Permissions::ReadWrite),
                 Err(error) => match missing(&error) {
-                    Some((range, Reason::MissingMapping)) => (self.first_missed(range, step), access_of(step)),
-                    Some((range, _)) => (self.first_missed(range, step), Permissions::ReadWrite),
+                    Some((range, Reason::MissingMapping)) => {
+                        misses += 1;
+                        assert!(misses <= most, "{step:?} missed {misses} times");
+                        (self.first_missed(range, step), access_of(step))
+                    }
+                    Some((range, _)) => {
+                        misses = 0;
+                        (self.first_missed(range, step), Permissions::ReadWrite)
+                    }
                     None => return Err(error),
                 },
                 Ok(answer) => return Ok(answer),
@@ -395,7 +407,7 @@ impl<'a> Guest<'a> {
             if step != Step::Write {
                 self.compare();
             }
-            self.map(range, access);
+            self.map(range.base.0, access);
         }
         panic!("{step:?} is refused again and again");
     }
@@ -490,13 +502,6 @@ impl<'a> Guest<'a> {
         assert_eq!((self.driver.take(), self.driver.take()), (Some((0, len)), None));
         assert!(disks[0] == disks[1]);
         (request, len)
-    }
-}
-
-pub fn whole_rings() -> IovaRange {
-    IovaRange {
-        base: at(RINGS),
-        length: RINGS_LEN,
     }
 }
 

@@ -148,6 +148,7 @@ pub fn fault(error: &GuestMemoryError) -> String {
                 )
             }
             IommuError::IommuMisconfigured { reason: why } => format!("G8 I3 {}", reason(*why)),
+            IommuError::TableTooSmall { .. } => panic!("no script has messages"),
             IommuError::Memory => "G8 I4".to_string(),
         },
         GuestMemoryError::Memory => "Memory".to_string(),
