@@ -7,7 +7,7 @@ use crate::code;
 use vhost_iotlb::IotlbMessage;
 
 /// How far it has come.
-#[derive(Clone, Copy, Debug, PartialEq, Eq)]
+#[derive(Clone, Copy)]
 pub(crate) enum Stage {
     /// It missed.
     Missed,
@@ -18,7 +18,7 @@ pub(crate) enum Stage {
 }
 
 /// A call that missed a mapping of a table with a limit.
-#[derive(Clone, Copy, Debug, PartialEq, Eq)]
+#[derive(Clone, Copy)]
 pub(crate) struct Retry {
     pub(crate) call: Call,
     pub(crate) input_len: usize,
