@@ -1,0 +1,9 @@
+pub mod BackendReq
+pub mod FrontendReq
+pub mod Header
+pub mod Iotlb
+pub mod Numbers
+pub mod Regions
+pub mod Requests
+pub mod Spelling
+pub mod Stream
