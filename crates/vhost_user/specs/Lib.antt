@@ -1,0 +1,5 @@
+pub mod Connection
+pub mod Features
+pub mod Reply
+pub mod Running
+pub mod Vring
