@@ -1,0 +1,7 @@
+//! Tests of the vhost-user protocol: what front ends send, and what a back end makes of it.
+#![tactic(auto)]
+
+#[cfg(test)]
+mod connections;
+#[cfg(test)]
+mod rows;
