@@ -44,11 +44,15 @@ fn pop_and_forget(queue: &Queue<'_>, memory: &GuestMemory<'_>) -> Result<(), Que
     queue.forget(chain.head_index())
 }
 
-fn request(queue: &Queue<'_>, memory: &GuestMemory<'_>) -> Result<(), QueueError> {
-    let (mut asked, reply) = ([0; 16], [7; 512]);
+fn request(
+    queue: &Queue<'_>,
+    memory: &GuestMemory<'_>,
+    asked: &mut [u8; 16],
+    reply: &[u8; 512],
+) -> Result<(), QueueError> {
     let chain = queue.pop_descriptor_chain(memory)?.ok_or(QueueError::NotInFlight)?;
-    chain.read_at(memory, 0, black_box(&mut asked))?;
-    chain.write_at(memory, 0, black_box(&reply))?;
+    chain.read_at(memory, 0, black_box(asked))?;
+    chain.write_at(memory, 0, black_box(reply))?;
     queue.add_used(memory, chain.head_index(), 512)
 }
 
@@ -56,7 +60,7 @@ fn row(
     name: &str,
     queue: &Queue<'_>,
     memory: &GuestMemory<'_>,
-    part: impl Fn(&Queue<'_>, &GuestMemory<'_>) -> Result<(), QueueError>,
+    mut part: impl FnMut(&Queue<'_>, &GuestMemory<'_>) -> Result<(), QueueError>,
 ) -> Result<(), QueueError> {
     let mut fastest = f64::MAX;
     for _ in 0..9 {
@@ -93,6 +97,7 @@ fn main() -> Result<(), Box<dyn std::error::Error>> {
     queue.try_set_avail_ring_address(GuestAddress(AVAIL))?;
     queue.try_set_used_ring_address(GuestAddress(USED))?;
     queue.set_ready(true);
+    let (mut asked, reply) = ([0; 16], [7; 512]);
     for (name, memory) in [("", plain), (", mapped", behind)] {
         row(&format!("pop, forget{name}"), &queue, &memory, pop_and_forget)?;
         row(&format!("pop, return{name}"), &queue, &memory, pop_and_return)?;
@@ -100,11 +105,11 @@ fn main() -> Result<(), Box<dyn std::error::Error>> {
             &format!("pop, read 16, write 512, return{name}"),
             &queue,
             &memory,
-            request,
+            |queue, memory| request(queue, memory, &mut asked, &reply),
         )?;
     }
     row("the same, and whether to notify", &queue, &plain, |queue, memory| {
-        request(queue, memory)?;
+        request(queue, memory, &mut asked, &reply)?;
         black_box(queue.needs_notification(memory)?);
         Ok(())
     })?;

@@ -65,6 +65,7 @@ impl QueueError {
     ghost use Rattle.virtio_queue.specs.Error.{of_access};
 
     // The error of a queue for one of an access.
+    #[cold]
     pub(crate) fn of_access(error: GuestMemoryError) -> QueueError
         ensures { result ≡ of_access error }
     {

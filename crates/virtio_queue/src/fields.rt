@@ -104,7 +104,7 @@ pub(crate) fn store_word<M: GuestMemory, B: Bitmap>(
 }
 
 // Whether a window is that of a load or a store of a number of 16 bits.
-#[inline]
+#[inline(always)]
 fn is_word<B: Bitmap>(window: &VolatileSlice, host: &HostMemory<B>) -> bool
     requires { Holds (shape_of host.now) (window_names window.now) }
     ensures { result ≡ is_word window.now }
@@ -113,7 +113,7 @@ fn is_word<B: Bitmap>(window: &VolatileSlice, host: &HostMemory<B>) -> bool
 }
 
 // The window of a load or a store of a number of 16 bits: the first that a walk gives.
-#[inline]
+#[inline(always)]
 fn first_word<P: GuestMemoryBackend, B: Bitmap>(
     mut walk: IommuMemorySliceIterator<'_, P>,
     host: &HostMemory<B>,
@@ -130,7 +130,7 @@ fn first_word<P: GuestMemoryBackend, B: Bitmap>(
 
 // The window that an access of a number of 16 bits takes so far behind an address. What is in it can be accessed with
 // no further look-up, so that it cannot be refused.
-#[inline]
+#[inline(always)]
 pub(crate) fn window_at<M: GuestMemory, B: Bitmap>(
     mem: &M,
     host: &HostMemory<B>,
@@ -155,7 +155,7 @@ pub(crate) fn window_at<M: GuestMemory, B: Bitmap>(
 }
 
 // The number of 16 bits in its window.
-#[inline]
+#[inline(always)]
 pub(crate) fn load_in<B: Bitmap>(window: &VolatileSlice, host: &HostMemory<B>) -> u16
     requires held { Holds (shape_of host.now) (window_names window.now) }
     requires word { is_word window.now ≡ true }
@@ -168,7 +168,7 @@ pub(crate) fn load_in<B: Bitmap>(window: &VolatileSlice, host: &HostMemory<B>) -
 }
 
 // Stores a number of 16 bits in its window.
-#[inline]
+#[inline(always)]
 pub(crate) fn store_in<B: Bitmap>(window: &VolatileSlice, host: &mut HostMemory<B>, value: u16)
     requires held { Holds (shape_of host.old) (window_names window.now) }
     requires word { is_word window.now ≡ true }

@@ -1,12 +1,14 @@
 -- What calls of a kind are answered.
-use Rattle.std.proofs.Common.{◌≡◌, Bool, true, false, IsTrue, List, ℕ, Option, Some, refl, sym, inl, subst, slice_get}
+use Rattle.std.proofs.Common.{◌≡◌, Bool, true, false, IsTrue, List, ℕ, Option, Some, MatchOption, refl, sym, inl, subst, slice_get, slice_set, get_or, length, ◌<◌, ◌≤◌}
 use Rattle.std.proofs.lemmas.Bool.{false≢true}
+use Rattle.std.proofs.lemmas.Option.{slice_get_past, slice_get_read}
 use Rattle.vm_memory.specs.State.{State}
 use Rattle.vm_memory.specs.declared.machine.command.Command as commands
 use Rattle.vm_session.specs.Kinds.{is_access, is_message, is_queue, is_work, kinds, marks, sets_up}
-use Rattle.vm_session.specs.Queues.{OnBoth}
+use Rattle.vm_session.specs.QueueCodes.{no_such}
+use Rattle.vm_session.specs.Queues.{OnBoth, Refuses, WorksOn}
 use Rattle.vm_session.specs.Session.{Answers, AnswersIf, AnswersKind, AnswersMade, AnswersOf, AnswersOther, AnswersSent, DoesIf, DoesListed, Served}
-use Rattle.vm_session.specs.SessionState.{SessionState}
+use Rattle.vm_session.specs.SessionState.{DeviceQueue, SessionState}
 use Rattle.vm_session.specs.declared.call.Answer.{Answer}
 use Rattle.vm_session.specs.declared.call.Call.{Call}
 use Rattle.vm_session.specs.declared.call.Kind.{Kind}
@@ -87,3 +89,27 @@ pub work_answers : (old : SessionState) (kind : Kind) (call : Call) (input out :
 work_answers old kind call input out a out' new is work h =
     subst (λ (o : Option Kind). AnswersIf o old call input out a out' new) (sym is)
     (subst (λ (b : Bool). AnswersOf b kind old call input out a out' new) (sym work) h)
+
+-- a call on a queue that there is, and on one that there is not
+module _ (k : Kind) (old : SessionState) (call : Call) (input out : List ℕ) (a : Answer) (out' : List ℕ) where
+  abbrev AtQueue : SessionState → Option DeviceQueue → Type 0
+  AtQueue new o = MatchOption o (Refuses no_such old out a new out')
+      (λ q. (q' : DeviceQueue) × WorksOn k call input old.machine q out a new.machine q' out'
+      × (new.queues ≡ slice_set old.queues call.first q'))
+
+  pub on_queue : (q q' : DeviceQueue) → call.first < length old.queues → q ≡ get_or old.queues call.first q
+      → (machine : State)
+      → WorksOn k call input old.machine q out a machine q' out' → (new : SessionState) → new.machine ≡ machine
+      → new.queues ≡ slice_set old.queues call.first q' → OnBoth k old call input out a new out'
+  on_queue q q' within is machine works new left set =
+      subst (AtQueue new)
+      (sym (slice_get_read old.queues (length old.queues) call.first q refl within is)) (
+        q',
+        subst (λ (m : State). WorksOn k call input old.machine q out a m q' out') (sym left) works,
+        set,
+      )
+
+  pub on_no_queue : length old.queues ≤ call.first → a ≡ no_such → out' ≡ out → (new : SessionState)
+      → new ≡ old → OnBoth k old call input out a new out'
+  on_no_queue past told same new kept =
+      subst (AtQueue new) (sym (slice_get_past old.queues call.first past)) (told, kept, same)

@@ -1,5 +1,5 @@
 -- Work on a queue that a machine was given is a step on its state.
-use Rattle.std.proofs.Common.{◌≡◌, ◌∙◌, ℕ, List, slice_get, Option, Some, None, option_map, MatchOption, Ok, Err, sym, ap, subst}
+use Rattle.std.proofs.Common.{◌≡◌, ℕ, List, slice_get, Option, Some, None, option_map, MatchOption, Ok, Err, sym, ap, subst}
 use Rattle.std.proofs.lemmas.Option.{slice_get-map}
 use Rattle.vm_memory_base.specs.Pages.{PageSet, marked}
 use Rattle.vm_memory_guest.specs.Dirt.{with_pages}
@@ -11,85 +11,103 @@ use Rattle.vm_memory_device.specs.declared.machine_memory.MachineMemory.{Machine
 use Rattle.vm_memory.specs.Lend.{Lends, LendsIf}
 use Rattle.vm_memory.specs.Parts.{Parts, state_of}
 use Rattle.vm_memory.specs.declared.machine.refusal.Refusal.{Refusal}
-use Rattle.vm_memory.specs.declared.machine.refusal.Refusal.TheVariants as refusal
 use Rattle.vm_session.proofs.PageLemmas.{work_seen}
 use Rattle.vm_session.specs.QueueCodes.{no_such}
-use Rattle.vm_session.specs.Queues.{Works, WorksOn, marks_pages}
+use Rattle.vm_session.specs.Queues.{NeedsNotification, Pops, ReadsInto, ReturnsIf, Works, WorksOn, WritesChain, marks_pages}
 use Rattle.vm_session.specs.SessionState.{DeviceQueue}
 use Rattle.vm_session.specs.declared.call.Answer.{Answer}
+use Rattle.vm_session.specs.declared.call.Call.{Call}
+use Rattle.vm_session.specs.declared.call.Kind.{Kind}
+use Rattle.vm_session.specs.declared.requests.PopWork.{PopWork}
+use Rattle.vm_session.specs.declared.requests.ReadWork.{ReadWork}
+use Rattle.vm_session.specs.declared.requests.WriteWork.{WriteWork}
+use Rattle.vm_session.specs.declared.requests.UsedWork.{UsedWork}
+use Rattle.vm_session.specs.declared.requests.NotifyWork.{NotifyWork}
 use Rattle.vm_session.specs.declared.work.QueueWork.{QueueWork}
 
-module _ {R I B : Type 0} (region : R → Region) (number : I → ℕ) (marks : B → ℕ → ℕ → B → Type 0)
+module _ {R I B W : Type 0} (region : R → Region) (number : I → ℕ) (marks : B → ℕ → ℕ → B → Type 0)
     (pages : B → PageSet)
     (exact : (old new : B) (offset len : ℕ) → marks old offset len new
-    → pages new ≡ marked offset len (pages old)) where
-  -- what the work on a queue does, as a machine is told
-  abbrev pub WorkDoes : QueueWork → Memory → Host B → QueueWork → Host B → Type 0
-  WorkDoes w m host w' host' = (w'.queue.ghost_name ≡ w.queue.ghost_name)
-      × (w'.output.ghost_name ≡ w.output.ghost_name)
-      × Works marks m w.asked.kind w.asked.call.now w.asked.input.now w.queue.now host w.output.now w'.answer
-      w'.queue.now host' w'.output.now
-
-  module _ (old new : Parts R I B) (w w' : QueueWork) (q' : DeviceQueue) (out' : List ℕ) where
-    abbrev Done : Option Memory → Answer → Type 0
-    Done o a = MatchOption o ((a ≡ no_such) × (state_of region number pages new ≡ state_of region number pages old)
-        × (q' ≡ w.queue.now) × (out' ≡ w.output.now))
-        (λ m. (host : Host PageSet) × Works marks_pages m w.asked.kind w.asked.call.now w.asked.input.now w.queue.now
-        (with_pages pages old.host) w.output.now a q' host out'
+    → pages new ≡ marked offset len (pages old))
+    (does : W → Memory → Host B → W → Host B → Type 0) where
+  module _ (k : Kind) (call : Call) (input : List ℕ) (old new : Parts R I B) (w w' : W) (q q' : DeviceQueue)
+      (out out' : List ℕ) (a : Answer) where
+    abbrev Done : Option Memory → Type 0
+    Done o = MatchOption o ((a ≡ no_such) × (state_of region number pages new ≡ state_of region number pages old)
+        × (q' ≡ q) × (out' ≡ out))
+        (λ m. (host : Host PageSet) × Works marks_pages m k call input q (with_pages pages old.host) out a q' host out'
         × (state_of region number pages new ≡ record (state_of region number pages old) { host = host }))
 
-    module _ (queue : w.queue.ghost_name ≡ w'.queue.ghost_name → q' ≡ w'.queue.now)
-        (output : w.output.ghost_name ≡ w'.output.ghost_name → out' ≡ w'.output.now) where
-      done : (o : Option (MachineMemory R I)) (u : Unit {0})
-          → LendsIf region number WorkDoes o old w (Ok u) w' new
-          → Done (option_map (memory_meant region number) o) w'.answer
-      done None u h = absurd (cc)
-      done (Some m) u h =
-          let q = queue (sym h.1.0) in
-          let out = output (sym h.1.1) in (
-            with_pages pages new.host,
-            subst (λ (x : DeviceQueue). Works marks_pages (memory_meant region number m) w.asked.kind w.asked.call.now
-                w.asked.input.now w.queue.now (with_pages pages old.host) w.output.now w'.answer x
-                (with_pages pages new.host) out') (sym q)
-                (subst (λ (x : List ℕ). Works marks_pages (memory_meant region number m) w.asked.kind
-                w.asked.call.now w.asked.input.now w.queue.now (with_pages pages old.host) w.output.now w'.answer
-                w'.queue.now (with_pages pages new.host) x) (sym out)
-                (work_seen marks pages exact (memory_meant region number m) w.asked.kind w.asked.call.now
-                w.asked.input.now w.queue.now old.host w.output.now w'.answer w'.queue.now new.host w'.output.now
-                h.1.2)),
-            ap (state_of region number pages) h.2,
-          )
+    -- the work of a call was done
+    done : ((m : Memory) → does w m old.host w' new.host → Works marks m k call input q old.host out a q' new.host out')
+        → (o : Option (MachineMemory R I)) (u : Unit {0}) → LendsIf region number does o old w (Ok u) w' new
+        → Done (option_map (memory_meant region number) o)
+    done works None u h = absurd (cc)
+    done works (Some m) u h = (
+      with_pages pages new.host,
+      work_seen marks pages exact (memory_meant region number m) k call input q old.host out a q' new.host out'
+          (works (memory_meant region number m) h.1),
+      ap (state_of region number pages) h.2,
+    )
 
-      refused : (o : Option (MachineMemory R I)) (e : Refusal)
-          → LendsIf region number WorkDoes o old w (Err e) w' new
-          → (a : Answer) → (e ≡ refusal.NoSuch → a ≡ no_such)
-          → Done (option_map (memory_meant region number) o) a
-      refused (Some m) e h a told = absurd (cc)
-      refused None e h a told = (
-        told (cc),
-        ap (state_of region number pages) h.2,
-        queue (ap (λ (x : QueueWork). x.queue.ghost_name) (sym h.1)) ∙ ap (λ (x : QueueWork). x.queue.now) h.1,
-        output (ap (λ (x : QueueWork). x.output.ghost_name) (sym h.1)) ∙ ap (λ (x : QueueWork). x.output.now) h.1,
-      )
+    -- or there is no such memory
+    refused : (a ≡ no_such) × (q' ≡ q) × (out' ≡ out) → (o : Option (MachineMemory R I)) (e : Refusal)
+        → LendsIf region number does o old w (Err e) w' new → Done (option_map (memory_meant region number) o)
+    refused told (Some m) e h = absurd (cc)
+    refused told None e h = (told.0, ap (state_of region number pages) h.2, told.1, told.2)
 
-    pub work_done : (u : Unit {0}) → Lends region number WorkDoes old w.asked.call.now.second w (Ok u) w' new
-        → (w.queue.ghost_name ≡ w'.queue.ghost_name → q' ≡ w'.queue.now)
-        → (w.output.ghost_name ≡ w'.output.ghost_name → out' ≡ w'.output.now)
-        → WorksOn w.asked.kind w.asked.call.now w.asked.input.now (state_of region number pages old) w.queue.now
-        w.output.now w'.answer (state_of region number pages new) q' out'
-    work_done u h queue output =
-        let n = w.asked.call.now.second in
-        subst (λ (o : Option Memory). Done o w'.answer)
-        (sym (slice_get-map (memory_meant region number) old.memories n)) (done queue output (slice_get old.memories n) u h)
+    pub work_done : (u : Unit {0}) → Lends region number does old call.second w (Ok u) w' new
+        → ((m : Memory) → does w m old.host w' new.host → Works marks m k call input q old.host out a q' new.host out')
+        → WorksOn k call input (state_of region number pages old) q out a (state_of region number pages new) q' out'
+    work_done u h works =
+        subst Done (sym (slice_get-map (memory_meant region number) old.memories call.second))
+        (done works (slice_get old.memories call.second) u h)
 
-    pub work_refused : (e : Refusal) → Lends region number WorkDoes old w.asked.call.now.second w (Err e) w' new
-        → (w.queue.ghost_name ≡ w'.queue.ghost_name → q' ≡ w'.queue.now)
-        → (w.output.ghost_name ≡ w'.output.ghost_name → out' ≡ w'.output.now)
-        → (a : Answer) → (e ≡ refusal.NoSuch → a ≡ no_such)
-        → WorksOn w.asked.kind w.asked.call.now w.asked.input.now (state_of region number pages old) w.queue.now
-        w.output.now a (state_of region number pages new) q' out'
-    work_refused e h queue output a told =
-        let n = w.asked.call.now.second in
-        subst (λ (o : Option Memory). Done o a)
-        (sym (slice_get-map (memory_meant region number) old.memories n))
-        (refused queue output (slice_get old.memories n) e h a told)
+    pub work_refused : (e : Refusal) → Lends region number does old call.second w (Err e) w' new
+        → (a ≡ no_such) × (q' ≡ q) × (out' ≡ out)
+        → WorksOn k call input (state_of region number pages old) q out a (state_of region number pages new) q' out'
+    work_refused e h told =
+        subst Done (sym (slice_get-map (memory_meant region number) old.memories call.second))
+        (refused told (slice_get old.memories call.second) e h)
+
+-- what a reference that work kept leads to, once the work is over, is what the work left there
+module _ {N X : Type 0} {was is : N} {x : X} (left : X) (same : is ≡ was) where
+  pub left_in_one : (P : X → Type 0) → (was ≡ is → x ≡ left) → P left → P x
+  left_in_one P follows h = subst P (sym (follows (sym same))) h
+
+  module _ {Y : Type 0} {was₂ is₂ : N} {y : Y} (left₂ : Y) (same₂ : is₂ ≡ was₂) (P : X → Y → Type 0) where
+    pub left_in_two : (was ≡ is → x ≡ left) → (was₂ ≡ is₂ → y ≡ left₂) → P left left₂ → P x y
+    left_in_two follows also h =
+        subst (λ (v : X). P v y) (sym (follows (sym same))) (subst (P left) (sym (also (sym same₂))) h)
+
+-- what each work does, as a machine is told
+module _ {B : Type 0} (marks : B → ℕ → ℕ → B → Type 0) where
+  abbrev pub PopDoes : PopWork → Memory → Host B → PopWork → Host B → Type 0
+  PopDoes w m host after host' = (after.queue.ghost_name ≡ w.queue.ghost_name)
+      × (after.answer.ghost_name ≡ w.answer.ghost_name)
+      × Pops m host w.queue.now after.answer.now after.queue.now × (host' ≡ host)
+
+  abbrev pub ReadDoes : ReadWork → Memory → Host B → ReadWork → Host B → Type 0
+  ReadDoes w m host after host' = (after.output.ghost_name ≡ w.output.ghost_name)
+      × (after.answer.ghost_name ≡ w.answer.ghost_name)
+      × ReadsInto m w.call.now w.queue.now host w.output.now after.answer.now after.output.now × (host' ≡ host)
+
+  abbrev pub WriteDoes : WriteWork → Memory → Host B → WriteWork → Host B → Type 0
+  WriteDoes w m host after host' = (after.answer.ghost_name ≡ w.answer.ghost_name)
+      × WritesChain marks m w.queue.now w.call.now.third w.call.now.address w.input.now host
+      after.answer.now host'
+
+  abbrev pub UsedDoes : UsedWork → Memory → Host B → UsedWork → Host B → Type 0
+  UsedDoes w m host after host' = (after.queue.ghost_name ≡ w.queue.ghost_name)
+      × (after.answer.ghost_name ≡ w.answer.ghost_name)
+      × ReturnsIf marks m w.call.now w.queue.now host after.answer.now after.queue.now host'
+
+  abbrev pub NotifyDoes : NotifyWork → Memory → Host B → NotifyWork → Host B → Type 0
+  NotifyDoes w m host after host' = (after.queue.ghost_name ≡ w.queue.ghost_name)
+      × (after.answer.ghost_name ≡ w.answer.ghost_name)
+      × NeedsNotification m host w.queue.now after.answer.now after.queue.now × (host' ≡ host)
+
+  abbrev pub QueueDoes : QueueWork → Memory → Host B → QueueWork → Host B → Type 0
+  QueueDoes w m host after host' = (after.answer.ghost_name ≡ w.answer.ghost_name)
+      × ((input out : List ℕ) → Works marks m w.kind w.call.now input w.queue.now host out
+      after.answer.now w.queue.now host' out)

@@ -94,6 +94,17 @@ is_work kind.BeginRequest = true
 is_work kind.FinishRequest = true
 is_work k = false
 
+-- whether it is one that takes and gives no bytes and leaves the queue as it is
+abbrev pub keeps_queue : Kind → Bool
+keeps_queue kind.QueueIsValid = true
+keeps_queue kind.AvailIdx = true
+keeps_queue kind.UsedIdx = true
+keeps_queue kind.EnableNotification = true
+keeps_queue kind.DisableNotification = true
+keeps_queue kind.BeginRequest = true
+keeps_queue kind.FinishRequest = true
+keeps_queue k = false
+
 -- whether a call of a kind sets up
 abbrev pub sets_up : Kind → Bool
 sets_up kind.Block = true

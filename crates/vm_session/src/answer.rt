@@ -77,6 +77,16 @@ pub(crate) fn refused(refusal: Refusal) -> Answer
     }
 }
 
+// Refuses a call by a code alone. It is cold, as what refuses is: so the code of a call is laid out for what is served,
+// and what that calls is inlined.
+#[cold]
+#[inline(never)]
+pub(crate) fn refuse(code: u32, answer: &mut Answer)
+    ensures { answer.new ≡ coded code }
+{
+    *answer = Answer::of_code(code);
+}
+
 // Answers a call that gives nothing back. An answer is put where it is wanted, so that it is not copied.
 #[inline(always)]
 pub(crate) fn done(outcome: Result<(), Refusal>, answer: &mut Answer)

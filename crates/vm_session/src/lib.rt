@@ -13,6 +13,7 @@ mod miss;
 mod parts;
 mod queue;
 mod queue_answer;
+mod requests;
 mod retry;
 mod session;
 mod setup;

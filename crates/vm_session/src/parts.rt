@@ -2,13 +2,14 @@
 ghost use Rattle.std.specs.Prelude.{◌≡◌, ◌≤◌, true, List, ℕ, IsSome, IsTrue, length, slice_get};
 ghost use Rattle.std.specs.Option.{option_and_then};
 ghost use Rattle.vm_memory.specs.Memories.{table_of};
-ghost use Rattle.vm_session.specs.Kinds.{is_access, is_on_queue, is_queue, is_work, kinds, sets_up};
+ghost use Rattle.vm_session.specs.Kinds.{is_access, is_on_queue, is_queue, is_work, keeps_queue, kinds, sets_up};
 ghost use Rattle.vm_session.specs.Misses.{Misses, MissesFor, access_of, memory_of, notified};
 ghost use Rattle.vm_session.specs.Queues.{AnswersQueue, OnBoth, OneQueue};
 ghost use Rattle.vm_session.specs.Retries.{Clears, is_sent, message_at, table_at};
 ghost use Rattle.vm_session.specs.Session.{Answers, AnswersKind, Served};
 ghost use Rattle.vm_session.specs.SessionState.{no_session};
 
+use crate::answer::refuse;
 use crate::call::{Answer, Call, Kind, Miss, kind_of, part_of, width_of};
 use crate::code;
 use crate::commands::{
@@ -18,8 +19,9 @@ use crate::marks::mark;
 use crate::messages::{message_in, take_message};
 use crate::miss::look_up;
 use crate::queue::{SessionQueue, make_queue};
+use crate::requests::{add_used, needs_notification, pop, read_chain, write_chain};
 use crate::setup::set_up;
-use crate::work::{Asked, work_on};
+use crate::work::work_on;
 use std::alloc::Global;
 use std::marker::Model;
 use vhost_iotlb::IotlbMessage;
@@ -198,8 +200,9 @@ impl SessionParts {
         }
     }
 
-    // Serves a call on a queue and a memory.
-    #[inline(never)]
+    // Serves a call on a queue and a memory. Each kind that is made often has a function of its own, since a function pays
+    // at its entry for all values that it may come to have.
+    #[inline(always)]
     pub(crate) fn work(
         &mut self,
         kind: Kind,
@@ -211,12 +214,81 @@ impl SessionParts {
         requires { IsTrue (is_work kind) }
         ensures { OnBoth kind self.old call.now input.now output.old answer.new self.new output.new }
     {
-        let Some(queue) = self.queues.get_mut(call.first) else {
-            *answer = Answer::of_code(code::NO_SUCH);
-            return;
-        };
-        let asked = Asked { kind, call, input };
-        *answer = work_on(self.alloc, &mut self.machine, queue, asked, output);
+        match kind {
+            Kind::Pop => self.pop(call, answer),
+            Kind::ReadChain => self.read_chain(call, output, answer),
+            Kind::WriteChain => self.write_chain(call, input, answer),
+            Kind::AddUsed => self.add_used(call, answer),
+            Kind::NeedsNotification => self.needs_notification(call, answer),
+            _ => self.work_on(kind, call, answer),
+        }
+    }
+
+    // Pops the next chain of a queue.
+    #[inline(never)]
+    fn pop(&mut self, call: &Call, answer: &mut Answer)
+        ensures { (input out : List ℕ) → OnBoth Kind.Pop self.old call.now input out answer.new self.new out }
+    {
+        match self.queues.get_mut(call.first) {
+            Some(queue) => pop(self.alloc, &mut self.machine, queue, call, answer),
+            None => refuse(code::NO_SUCH, answer),
+        }
+    }
+
+    // Reads a chain in flight.
+    #[inline(never)]
+    fn read_chain(&mut self, call: &Call, output: &mut [u8], answer: &mut Answer)
+        ensures { (input : List ℕ) → OnBoth Kind.ReadChain self.old call.now input output.old answer.new self.new output.new }
+    {
+        match self.queues.get_mut(call.first) {
+            Some(queue) => read_chain(&mut self.machine, queue, call, output, answer),
+            None => refuse(code::NO_SUCH, answer),
+        }
+    }
+
+    // Writes to a chain in flight.
+    #[inline(never)]
+    fn write_chain(&mut self, call: &Call, input: &[u8], answer: &mut Answer)
+        ensures { (out : List ℕ) → OnBoth Kind.WriteChain self.old call.now input.now out answer.new self.new out }
+    {
+        match self.queues.get_mut(call.first) {
+            Some(queue) => write_chain(&mut self.machine, queue, call, input, answer),
+            None => refuse(code::NO_SUCH, answer),
+        }
+    }
+
+    // Returns a chain in flight.
+    #[inline(never)]
+    fn add_used(&mut self, call: &Call, answer: &mut Answer)
+        ensures { (input out : List ℕ) → OnBoth Kind.AddUsed self.old call.now input out answer.new self.new out }
+    {
+        match self.queues.get_mut(call.first) {
+            Some(queue) => add_used(&mut self.machine, queue, call, answer),
+            None => refuse(code::NO_SUCH, answer),
+        }
+    }
+
+    // Whether the driver of a queue has to be notified.
+    #[inline(never)]
+    fn needs_notification(&mut self, call: &Call, answer: &mut Answer)
+        ensures { (input out : List ℕ) → OnBoth Kind.NeedsNotification self.old call.now input out answer.new self.new out }
+    {
+        match self.queues.get_mut(call.first) {
+            Some(queue) => needs_notification(&mut self.machine, queue, call, answer),
+            None => refuse(code::NO_SUCH, answer),
+        }
+    }
+
+    // Serves the other calls on a queue and a memory.
+    #[inline(never)]
+    fn work_on(&mut self, kind: Kind, call: &Call, answer: &mut Answer)
+        requires { IsTrue (keeps_queue kind) }
+        ensures { (input out : List ℕ) → OnBoth kind self.old call.now input out answer.new self.new out }
+    {
+        match self.queues.get_mut(call.first) {
+            Some(queue) => work_on(&mut self.machine, queue, kind, call, answer),
+            None => refuse(code::NO_SUCH, answer),
+        }
     }
 
     // Serves a call of the machine.

@@ -4,6 +4,7 @@ ghost use Rattle.vm_memory_guest.specs.Host.{shape_of, Holds};
 ghost use Rattle.vm_session.specs.Queues.{AsksNotToNotify, AsksToNotify, BeginsRequest, FinishesRequest, Forgets, ListsState, MakesQueue, NeedsNotification, Pops, ReadsChain, Returns, SetsPart, TellsAvail, TellsUsed, TellsValid, WritesChain, cleared, forgotten, refusal_of_chain, with_chain};
 ghost use Rattle.vm_session.specs.SessionState.{chain_of, descriptors_in};
 
+use crate::answer::refuse;
 use crate::call::{Answer, Call, QueuePart};
 use crate::code;
 use crate::queue_answer::{
@@ -124,7 +125,7 @@ impl SessionQueue {
     }
 
     // The chain of a head that is in flight.
-    #[inline]
+    #[inline(always)]
     fn chain(&self, head: usize) -> Option<&Chain>
         ensures { option_copied result ≡ chain_of self.now head }
     {
@@ -135,7 +136,7 @@ impl SessionQueue {
     }
 
     // Whether the chain of a head is in flight.
-    #[inline]
+    #[inline(always)]
     fn has(&self, head: usize) -> bool
         ensures { result ≡ is_some (chain_of self.now head) }
     {
@@ -143,7 +144,7 @@ impl SessionQueue {
     }
 
     // Puts a chain in flight for which there is room.
-    #[inline]
+    #[inline(always)]
     fn put(&mut self, head: usize, chain: Chain)
         requires none { chain_of self.old head ≡ None }
         requires room { descriptors_in self.old.flight + length chain ≤ self.old.most }
@@ -157,7 +158,7 @@ impl SessionQueue {
     }
 
     // Takes the chain of a head out of flight, if it is there, and drops it.
-    #[inline]
+    #[inline(always)]
     fn take(&mut self, head: usize)
         ensures { self.new ≡ forgotten self.old head }
     {
@@ -169,7 +170,7 @@ impl SessionQueue {
     }
 
     // Why a chain that was popped cannot be in flight, if that is so.
-    #[inline]
+    #[inline(always)]
     fn refusal_of(&self, head: usize, chain: &Chain) -> Option<Answer>
         ensures { result ≡ refusal_of_chain self.now head chain.now }
     {
@@ -182,30 +183,32 @@ impl SessionQueue {
         None
     }
 
-    // Pops the next chain.
+    // Pops the next chain. An answer is put where it is wanted, so that it is not copied.
+    #[inline(always)]
     pub(crate) fn pop<M: GuestMemory, B: Bitmap>(
         &mut self,
         alloc: Global,
         mem: &M,
         host: &HostMemory<B>,
-    ) -> Answer
+        answer: &mut Answer,
+    )
         requires { Holds (shape_of host.now) (M.names mem.now) }
-        ensures { Pops (M.memory mem.now) host.now self.old result self.new }
+        ensures { Pops (M.memory mem.now) host.now self.old answer.new self.new }
     {
         let next = self.queue.next_avail();
         match self.queue.pop_descriptor_chain(alloc, mem, host) {
             Ok(Some((head, chain))) => {
                 let head = usize::from(head);
-                if let Some(answer) = self.refusal_of(head, &chain) {
+                if let Some(refusal) = self.refusal_of(head, &chain) {
                     self.queue.set_next_avail(next);
-                    return answer;
+                    *answer = refusal;
+                } else {
+                    *answer = popped(head, &chain);
+                    self.put(head, chain);
                 }
-                let answer = popped(head, &chain);
-                self.put(head, chain);
-                answer
             }
-            Ok(None) => Answer::of_code(code::NO_CHAIN),
-            Err(error) => queue_refused(error),
+            Ok(None) => *answer = Answer::of_code(code::NO_CHAIN),
+            Err(error) => *answer = queue_refused(error),
         }
     }
 
@@ -221,6 +224,7 @@ impl SessionQueue {
     }
 
     // Reads the readable bytes of a chain in flight from an offset on.
+    #[inline(always)]
     pub(crate) fn read<M: GuestMemory, B: Bitmap>(
         &self,
         mem: &M,
@@ -228,19 +232,22 @@ impl SessionQueue {
         head: usize,
         offset: usize,
         buf: &mut [u8],
-    ) -> Answer
+        answer: &mut Answer,
+    )
         requires { Holds (shape_of host.now) (M.names mem.now) }
-        ensures { ReadsChain (M.memory mem.now) host.now self.now head offset buf.old result buf.new }
+        ensures { ReadsChain (M.memory mem.now) host.now self.now head offset buf.old answer.new buf.new }
     {
         let Some(chain) = self.chain(head) else {
-            return Answer::of_code(code::NOT_IN_FLIGHT);
+            refuse(code::NOT_IN_FLIGHT, answer);
+            return;
         };
         let mut reader = chain.reader();
         reader.skip(offset);
-        bytes_moved(reader.read(mem, host, buf))
+        bytes_moved(reader.read(mem, host, buf), answer);
     }
 
     // Writes to the writable bytes of a chain in flight from an offset on.
+    #[inline(always)]
     pub(crate) fn write<M: GuestMemory, B: Bitmap>(
         &self,
         mem: &M,
@@ -248,53 +255,60 @@ impl SessionQueue {
         head: usize,
         offset: usize,
         bytes: &[u8],
-    ) -> Answer
+        answer: &mut Answer,
+    )
         requires { Holds (shape_of host.old) (M.names mem.now) }
-        ensures written { WritesChain B.marks (M.memory mem.now) self.now head offset bytes.now host.old result host.new }
+        ensures written { WritesChain B.marks (M.memory mem.now) self.now head offset bytes.now host.old answer.new host.new }
         ensures shape { shape_of host.new ≡ shape_of host.old }
     {
         let Some(chain) = self.chain(head) else {
-            return Answer::of_code(code::NOT_IN_FLIGHT);
+            refuse(code::NOT_IN_FLIGHT, answer);
+            return;
         };
         let mut writer = chain.writer();
         writer.skip(offset);
-        bytes_moved(writer.write(mem, host, bytes))
+        bytes_moved(writer.write(mem, host, bytes), answer);
     }
 
     // Returns a chain in flight.
+    #[inline(always)]
     pub(crate) fn add_used<M: GuestMemory, B: Bitmap>(
         &mut self,
         mem: &M,
         host: &mut HostMemory<B>,
         head: usize,
         len: u32,
-    ) -> Answer
+        answer: &mut Answer,
+    )
         requires { Holds (shape_of host.old) (M.names mem.now) }
-        ensures returned { Returns B.marks (M.memory mem.now) self.old head len host.old result self.new host.new }
+        ensures returned { Returns B.marks (M.memory mem.now) self.old head len host.old answer.new self.new host.new }
         ensures shape { shape_of host.new ≡ shape_of host.old }
     {
         if !self.has(head) || head >= self.flight.len() {
-            return Answer::of_code(code::NOT_IN_FLIGHT);
+            refuse(code::NOT_IN_FLIGHT, answer);
+            return;
         }
         match self.queue.add_used(mem, host, head as u16, len) {
             Ok(()) => {
                 self.take(head);
-                Answer::of_code(code::DONE)
+                *answer = Answer::of_code(code::DONE);
             }
-            Err(error) => queue_refused(error),
+            Err(error) => *answer = queue_refused(error),
         }
     }
 
     // Whether the driver has to be notified.
+    #[inline(always)]
     pub(crate) fn needs_notification<M: GuestMemory, B: Bitmap>(
         &mut self,
         mem: &M,
         host: &HostMemory<B>,
-    ) -> Answer
+        answer: &mut Answer,
+    )
         requires { Holds (shape_of host.now) (M.names mem.now) }
-        ensures { NeedsNotification (M.memory mem.now) host.now self.old result self.new }
+        ensures { NeedsNotification (M.memory mem.now) host.now self.old answer.new self.new }
     {
-        asked(self.queue.needs_notification(mem, host))
+        *answer = asked(self.queue.needs_notification(mem, host));
     }
 
     // Asks the driver to notify the device.

@@ -1,5 +1,5 @@
 //! The answers of calls on queues.
-ghost use Rattle.std.specs.Prelude.{◌≡◌, Some};
+ghost use Rattle.std.specs.Prelude.{◌≡◌, Some, Err};
 ghost use Rattle.vm_session.specs.QueueCodes.{answer_of_begun, answer_of_bytes, answer_of_done, answer_of_length, answer_of_number, answer_of_queue, answer_of_request, answer_of_truth, code_of_chain, popped_as};
 ghost use Rattle.vm_session.specs.Answers.{number_of_truth};
 ghost use Rattle.vm_session.specs.Queues.{ListsState, SetsPart, word};
@@ -13,7 +13,7 @@ use virtio_queue::{Queue, QueueError, QueueState};
 use vm_memory::Refusal;
 use vm_memory_base::GuestAddress;
 use vm_memory_device::{Chain, ChainFault};
-use vm_memory_guest::GuestMemoryResult;
+use vm_memory_guest::{GuestMemoryError, GuestMemoryResult};
 
 fn code_of_chain(fault: ChainFault) -> u32
     ensures { result ≡ code_of_chain fault }
@@ -26,6 +26,7 @@ fn code_of_chain(fault: ChainFault) -> u32
 }
 
 // The answer to a call that a queue refused.
+#[cold]
 #[inline(never)]
 pub(crate) fn queue_refused(error: QueueError) -> Answer
     ensures { result ≡ answer_of_queue error }
@@ -85,14 +86,23 @@ pub(crate) fn asked(outcome: Result<bool, QueueError>) -> Answer
 }
 
 // The answer to a call that moved bytes of a chain.
-#[inline]
-pub(crate) fn bytes_moved(outcome: GuestMemoryResult<usize>) -> Answer
-    ensures { result ≡ answer_of_bytes outcome }
+#[inline(always)]
+pub(crate) fn bytes_moved(outcome: GuestMemoryResult<usize>, answer: &mut Answer)
+    ensures { answer.new ≡ answer_of_bytes outcome }
 {
     match outcome {
-        Ok(count) => Answer::of_count(count),
-        Err(error) => refused(Refusal::from(error)),
+        Ok(count) => *answer = Answer::of_count(count),
+        Err(error) => *answer = memory_refused(error),
     }
+}
+
+// The answer to a call that memory refused.
+#[cold]
+#[inline(never)]
+fn memory_refused(error: GuestMemoryError) -> Answer
+    ensures { result ≡ answer_of_bytes (Err error) }
+{
+    refused(Refusal::from(error))
 }
 
 // The answer that says what a block request asks for.

@@ -43,6 +43,7 @@ fn entry_place<M: GuestMemory, B: Bitmap>(
 }
 
 // Why an entry cannot be written at an address, at which it does not lie whole.
+#[cold]
 #[inline(never)]
 fn entry_fault<M: GuestMemory, B: Bitmap>(mem: &M, host: &HostMemory<B>, addr: u64) -> QueueError
     requires { Holds (shape_of host.now) (M.names mem.now) }

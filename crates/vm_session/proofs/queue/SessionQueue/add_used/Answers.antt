@@ -12,8 +12,8 @@ returns-in-Ok-clause-returned g c =
     let there = rw (← c.self.view_is) at (sym c.has.ensures ∙ c.if-not-has.false) in
     rw (← c.self.view_is) (
     returned g.B.Bitmap.marks (g.M.GuestMemory.memory c.args.mem.now) _ c.args.head c.args.len c.args.host.now
-    c.of_code-in-Ok.result c.take.new.self c.add_used.new.host (Ok c.in-Ok.field-0) there c.in-Ok.ensures.added
-    c.of_code-in-Ok.ensures (c.take.ensures ∙ ap without c.in-Ok.ensures.moved))
+    c.of_code.result c.take.new.self c.add_used.new.host (Ok c.in-Ok.field-0) there c.in-Ok.ensures.added
+    c.of_code.ensures (c.take.ensures ∙ ap without c.in-Ok.ensures.moved))
 
 pub returns-in-Err-clause-returned : goal.returns-in-Err-clause-returned
 returns-in-Err-clause-returned g c =
