@@ -1,0 +1,467 @@
+//! A connection: the front end's messages, and the rings that it has started.
+
+use crate::disk::Disk;
+use crate::features;
+use crate::memory::{Files, Memory};
+use crate::options::Options;
+use crate::protocol::{self, Backend, Refusal, Request, Vring};
+use crate::say;
+use crate::serve::{Fault, Server};
+use crate::system::{self, Epoll, Watch, Watched};
+use std::fmt;
+use std::fs::File;
+use std::io::{self, Write};
+use std::os::fd::OwnedFd;
+use std::os::unix::net::UnixStream;
+use std::time::{Duration, Instant};
+use vm_memory_proved::queue::{Queue, QueueError, QueueState};
+use vm_memory_proved::{GuestAddress, QueueId};
+
+/// The number of the descriptor by which the program is ended, and of the socket. Rings come after them.
+pub const ENDING: u64 = 0;
+pub const SOCKET: u64 = 1;
+const RINGS: u64 = 2;
+
+// All chains in flight have at most so many descriptors. One chain has them: an indirect table has 65,535 at most.
+const MAX_DESCRIPTORS: usize = 65_535 + 1;
+
+// How often a ring is looked at whose driver has no descriptor to notify by.
+const POLL: Duration = Duration::from_millis(1);
+
+/// Why a connection ended.
+#[derive(Debug)]
+pub enum End {
+    /// The front end closed it.
+    Gone,
+    /// The program is to end.
+    Terminated,
+    /// The front end broke the protocol, by a message of this number.
+    Refused(u32, Refusal),
+    /// What the front end asked for failed.
+    Failed(&'static str, Box<dyn std::error::Error>),
+    /// Guest memory went away.
+    MemoryLost,
+}
+
+impl fmt::Display for End {
+    fn fmt(&self, f: &mut fmt::Formatter<'_>) -> fmt::Result {
+        match self {
+            End::Gone => f.write_str("the front end closed it"),
+            End::Terminated => f.write_str("the program was asked to stop"),
+            End::Refused(request, refusal) => write!(f, "message {request} breaks the protocol: {refusal}"),
+            End::Failed(what, error) => write!(f, "{what}: {error}"),
+            End::MemoryLost => f.write_str("guest memory disappeared"),
+        }
+    }
+}
+
+// A message as it comes, with the descriptors that came with its bytes.
+struct Incoming {
+    bytes: [u8; protocol::MAX_MESSAGE],
+    len: usize,
+    descriptors: Vec<OwnedFd>,
+}
+
+#[derive(Default)]
+struct Ring {
+    kick: Option<Watched>,
+    call: Option<File>,
+    err: Option<File>,
+    // The machine's queue has what the front end set, and goes on where it is.
+    is_set_up: bool,
+    // Where it is while there is no memory.
+    kept: Option<QueueState>,
+    // It is to be served now.
+    is_running: bool,
+    is_polled: bool,
+    // The driver broke a rule. The ring is served no more until it is started again.
+    is_broken: bool,
+    // There may be requests of which no notification comes.
+    has_more: bool,
+}
+
+pub struct Connection<'a> {
+    socket: &'a UnixStream,
+    epoll: &'a Epoll,
+    stats: Option<Duration>,
+    backend: Backend,
+    // The names of what was acknowledged when it was last said.
+    said: (u64, u64),
+    incoming: Incoming,
+    memory: Option<Memory>,
+    // Of the machine of `memory`, one for each ring.
+    queues: Vec<QueueId>,
+    rings: Vec<Ring>,
+    features: u64,
+    server: Server<'a>,
+}
+
+impl<'a> Connection<'a> {
+    pub fn new(
+        socket: &'a UnixStream,
+        epoll: &'a Epoll,
+        disk: &'a Disk,
+        options: &Options,
+    ) -> Result<Connection<'a>, Refusal> {
+        Ok(Connection {
+            socket,
+            epoll,
+            stats: options.stats,
+            backend: Backend::new(&features::offer(options), &features::config(disk, options))?,
+            said: (0, 0),
+            incoming: Incoming {
+                bytes: [0; protocol::MAX_MESSAGE],
+                len: 0,
+                descriptors: Vec::new(),
+            },
+            memory: None,
+            queues: Vec::new(),
+            rings: (0..options.queues).map(|_| Ring::default()).collect(),
+            features: 0,
+            server: Server::new(disk),
+        })
+    }
+
+    /// Serves the front end until the connection ends.
+    pub fn run(&mut self) -> End {
+        let end = self.turns().expect_err("turns end by an error");
+        if self.stats.is_some() {
+            say!("served {}", self.server.stats);
+        }
+        end
+    }
+
+    fn turns(&mut self) -> Result<std::convert::Infallible, End> {
+        let mut ready = Vec::new();
+        let mut next = self.stats.map(|every| Instant::now() + every);
+        loop {
+            let waited = self.epoll.wait(self.time_to_wait(next), &mut ready);
+            waited.map_err(|error| End::Failed("waiting", error.into()))?;
+            for &number in &ready {
+                match number {
+                    ENDING => return Err(End::Terminated),
+                    SOCKET => self.receive()?,
+                    number => self.rings[(number - RINGS) as usize].has_more = true,
+                }
+            }
+            for index in 0..self.rings.len() {
+                let ring = &self.rings[index];
+                if ring.is_running && (ring.has_more || ring.is_polled) {
+                    self.serve(index)?;
+                }
+            }
+            if let (Some(every), Some(time)) = (self.stats, next) {
+                if Instant::now() >= time {
+                    say!("served {}", self.server.stats);
+                    next = Some(Instant::now() + every);
+                }
+            }
+        }
+    }
+
+    fn time_to_wait(&self, next: Option<Instant>) -> Option<Duration> {
+        let mut running = self.rings.iter().filter(|it| it.is_running);
+        if running.clone().any(|it| it.has_more) {
+            return Some(Duration::ZERO);
+        }
+        let left = next.map(|time| time.saturating_duration_since(Instant::now()));
+        if running.any(|it| it.is_polled) {
+            return Some(left.map_or(POLL, |left| left.min(POLL)));
+        }
+        left
+    }
+
+    // ---- messages
+
+    // Takes what has come of a message. A whole one is handled.
+    fn receive(&mut self) -> Result<(), End> {
+        loop {
+            let wanted = self.incoming.wanted().map_err(|refusal| self.refused(refusal))?;
+            if wanted == 0 {
+                return self.take_message();
+            }
+            let incoming = &mut self.incoming;
+            let part = &mut incoming.bytes[incoming.len..incoming.len + wanted];
+            match system::receive(self.socket, part, &mut incoming.descriptors) {
+                Ok(0) => return Err(End::Gone),
+                Ok(count) => incoming.len += count,
+                Err(error) if error.kind() == io::ErrorKind::WouldBlock => return Ok(()),
+                Err(error) if error.kind() == io::ErrorKind::Interrupted => (),
+                Err(error) => return Err(End::Failed("receiving", error.into())),
+            }
+            if incoming.descriptors.len() > protocol::MAX_DESCRIPTORS {
+                return Err(self.refused(Refusal::Descriptors));
+            }
+        }
+    }
+
+    fn refused(&self, refusal: Refusal) -> End {
+        End::Refused(self.incoming.request(), refusal)
+    }
+
+    fn take_message(&mut self) -> Result<(), End> {
+        let descriptors = std::mem::take(&mut self.incoming.descriptors);
+        let (bytes, len) = (self.incoming.bytes, std::mem::take(&mut self.incoming.len));
+        let message = &bytes[..len];
+        // Descriptors of a message that is refused are closed here.
+        let done = match self.backend.handle(message, descriptors.len()) {
+            Ok(request) => self.perform(request, descriptors),
+            Err(refusal) => Err(self.refused(refusal)),
+        };
+        let reply = match &done {
+            Ok(()) => self.backend.reply(message),
+            Err(_) => self.backend.refuse(message),
+        };
+        if !reply.is_empty() {
+            let sent = system::send(self.socket, &reply);
+            sent.map_err(|error| End::Failed("replying", error.into()))?;
+        }
+        done?;
+        self.features = self.backend.features();
+        for index in 0..self.rings.len() {
+            self.refresh(index)?;
+        }
+        Ok(())
+    }
+
+    // Does what a message asks for beside what the protocol's state has.
+    fn perform(&mut self, request: Request, mut descriptors: Vec<OwnedFd>) -> Result<(), End> {
+        let failed = |error: io::Error| End::Failed("a descriptor", error.into());
+        let descriptor = descriptors.pop();
+        match request {
+            Request::SetMemTable => {
+                descriptors.extend(descriptor);
+                self.set_memory(descriptors)?;
+            }
+            Request::GetVringBase { index } => self.stop(index),
+            Request::SetVringKick { index, .. } => {
+                let ring = &mut self.rings[index as usize];
+                ring.let_go_of_kick();
+                ring.is_polled = descriptor.is_none();
+                if let Some(descriptor) = descriptor {
+                    system::never_wait(&descriptor).map_err(failed)?;
+                    let watched = self.epoll.watch(descriptor, RINGS + u64::from(index), Watch::Edge);
+                    ring.kick = Some(watched.map_err(failed)?);
+                }
+            }
+            Request::SetVringCall { index, .. } => {
+                let ring = &mut self.rings[index as usize];
+                ring.call = file_of(descriptor).map_err(failed)?;
+                // A back end before this one may have ended between a request and its interrupt.
+                ring.interrupt();
+            }
+            Request::SetVringErr { index, .. } => {
+                self.rings[index as usize].err = file_of(descriptor).map_err(failed)?;
+            }
+            Request::Other => (),
+        }
+        Ok(())
+    }
+
+    // The same parts of the same files change nothing. Nothing is in flight: a request is served as a whole.
+    fn set_memory(&mut self, descriptors: Vec<OwnedFd>) -> Result<(), End> {
+        let files = Files::new(&self.backend.regions(), descriptors);
+        let files = files.map_err(|error| End::Failed("the table of memory", error.into()))?;
+        if self.memory.as_ref().is_some_and(|it| it.has(&files)) {
+            return Ok(());
+        }
+        for index in 0..self.rings.len() {
+            if let Some(queue) = self.queue(index) {
+                self.rings[index].kept = Some(queue.state());
+            }
+        }
+        self.queues.clear();
+        self.memory = None;
+        if files.is_empty() {
+            return Ok(());
+        }
+        let memory = Memory::new(files).map_err(|error| End::Failed("the table of memory", error))?;
+        for ring in &mut self.rings {
+            let queue = memory.machine().queue(features::MAX_QUEUE_SIZE, MAX_DESCRIPTORS);
+            let queue = queue.map_err(|error| End::Failed("a queue", error.into()))?;
+            if let Some(state) = ring.kept.take().filter(|_| ring.is_set_up) {
+                take_state(&queue, &state).map_err(|error| End::Failed("a queue", error.into()))?;
+            }
+            self.queues.push(queue.id());
+        }
+        self.memory = Some(memory);
+        Ok(())
+    }
+
+    // ---- rings
+
+    fn queue(&self, index: usize) -> Option<Queue<'_>> {
+        self.memory.as_ref()?.machine().queue_by_id(*self.queues.get(index)?)
+    }
+
+    // The ring stops, and its next available index is told.
+    fn stop(&mut self, index: u32) {
+        let ring = index as usize;
+        if self.rings[ring].is_set_up {
+            let kept = self.rings[ring].kept.map(|it| it.next_avail);
+            if let Some(base) = self.queue(ring).map(|it| it.next_avail()).or(kept) {
+                let told = self.backend.stop(index, base.into());
+                told.expect("the ring is there, and this is one of its indices");
+            }
+        }
+        let ring = &mut self.rings[ring];
+        ring.let_go_of_kick();
+        ring.is_set_up = false;
+    }
+
+    // Asks the protocol's state whether a ring is to be served and where it lies, and sets its queue up if it was started.
+    fn refresh(&mut self, index: usize) -> Result<(), End> {
+        let running = match (self.backend.running(index as u32), self.queue(index)) {
+            (Ok(vring), Some(queue)) => Some((vring, queue)),
+            _ => None,
+        };
+        let Some((vring, queue)) = running else {
+            self.rings[index].is_running = false;
+            return Ok(());
+        };
+        let memory = self.memory.as_ref().expect("a queue has a memory");
+        let starts = !self.rings[index].is_set_up;
+        if self.rings[index].is_broken && !starts {
+            return Ok(());
+        }
+        let set = set_up(&queue, memory, &vring, self.features & features::EVENT_IDX != 0, starts);
+        if memory.is_lost() {
+            return Err(End::MemoryLost);
+        }
+        if starts {
+            self.say_negotiated();
+            say!(
+                "ring {index} started: {} descriptors, next available index {}",
+                vring.size,
+                vring.base
+            );
+        }
+        let ring = &mut self.rings[index];
+        ring.is_set_up = true;
+        ring.is_broken = false;
+        if let Err(error) = set {
+            ring.fail(index, &error);
+        }
+        ring.is_running = !ring.is_broken;
+        // A notification may have come before.
+        ring.has_more = true;
+        Ok(())
+    }
+
+    fn say_negotiated(&mut self) {
+        let now = (self.features, self.backend.protocol_features());
+        if self.said != now {
+            self.said = now;
+            say!("{}", features::names(now.0, now.1));
+        }
+    }
+
+    // Serves a turn of a ring.
+    fn serve(&mut self, index: usize) -> Result<(), End> {
+        let memory = self.memory.as_ref().expect("a ring that runs has a memory");
+        let queue = memory.machine().queue_by_id(self.queues[index]);
+        let queue = queue.expect("the machine has the queue that it made");
+        let (turn, ended) = self.server.turn(&queue, memory, self.features);
+        let ring = &mut self.rings[index];
+        ring.has_more = turn.more;
+        if memory.is_lost() {
+            return Err(End::MemoryLost);
+        }
+        if turn.interrupt {
+            ring.interrupt();
+        }
+        match ended {
+            Ok(()) => Ok(()),
+            Err(Fault::Lost) => Err(End::MemoryLost),
+            Err(Fault::Queue(error)) => {
+                ring.fail(index, &error);
+                Ok(())
+            }
+        }
+    }
+}
+
+impl Incoming {
+    // How many bytes are still wanted: of the header, and then of the payload.
+    fn wanted(&self) -> Result<usize, Refusal> {
+        let Some(header) = self.bytes[..self.len].first_chunk() else {
+            return Ok(protocol::HEADER_LEN - self.len);
+        };
+        let expected = protocol::expects(header)?;
+        Ok(protocol::HEADER_LEN + expected.payload - self.len)
+    }
+
+    fn request(&self) -> u32 {
+        u32::from_le_bytes(*self.bytes.first_chunk().expect("a message has a header"))
+    }
+}
+
+impl Ring {
+    // The front end goes on reading its notifications by itself, and finds none of those that were meant for this program.
+    fn let_go_of_kick(&mut self) {
+        if let Some(kick) = self.kick.take() {
+            kick.drain();
+        }
+    }
+
+    // A counter that is full has been notified.
+    fn interrupt(&self) {
+        if let Some(mut call) = self.call.as_ref() {
+            let _ = call.write(&1_u64.to_ne_bytes());
+        }
+    }
+
+    fn fail(&mut self, index: usize, error: &QueueError) {
+        self.is_broken = true;
+        self.is_running = false;
+        say!("ring {index} failed, and waits to be started again: {error}");
+        if let Some(mut err) = self.err.as_ref() {
+            let _ = err.write(&1_u64.to_ne_bytes());
+        }
+    }
+}
+
+impl Drop for Ring {
+    fn drop(&mut self) {
+        self.let_go_of_kick();
+    }
+}
+
+fn file_of(descriptor: Option<OwnedFd>) -> io::Result<Option<File>> {
+    let Some(descriptor) = descriptor else {
+        return Ok(None);
+    };
+    system::never_wait(&descriptor)?;
+    Ok(Some(File::from(descriptor)))
+}
+
+// Gives a queue the addresses of a ring, and if it starts also its size and where it begins.
+fn set_up(queue: &Queue<'_>, memory: &Memory, vring: &Vring, event_idx: bool, starts: bool) -> Result<(), QueueError> {
+    if starts {
+        queue.reset();
+        queue.set_size(vring.size.try_into().map_err(|_| QueueError::InvalidSize)?)?;
+        queue.set_event_idx(event_idx);
+        queue.set_next_avail(vring.base as u16);
+    }
+    queue.try_set_desc_table_address(GuestAddress(vring.descriptor))?;
+    queue.try_set_avail_ring_address(GuestAddress(vring.available))?;
+    queue.try_set_used_ring_address(GuestAddress(vring.used))?;
+    queue.set_ready(true);
+    if starts {
+        queue.set_next_used(queue.used_idx(&memory.guest())?);
+    }
+    Ok(())
+}
+
+// Makes a queue go on where another one was.
+fn take_state(queue: &Queue<'_>, state: &QueueState) -> Result<(), QueueError> {
+    queue.set_size(state.size)?;
+    queue.try_set_desc_table_address(GuestAddress(state.desc_table))?;
+    queue.try_set_avail_ring_address(GuestAddress(state.avail_ring))?;
+    queue.try_set_used_ring_address(GuestAddress(state.used_ring))?;
+    queue.set_event_idx(state.event_idx_enabled);
+    queue.set_ready(state.ready);
+    queue.set_next_avail(state.next_avail);
+    queue.set_next_used(state.next_used);
+    Ok(())
+}

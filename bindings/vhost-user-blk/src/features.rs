@@ -1,0 +1,77 @@
+//! What is offered, by name.
+
+use crate::disk::Disk;
+use crate::options::Options;
+use crate::protocol::Offer;
+
+/// The greatest size of a ring: QEMU's.
+pub const MAX_QUEUE_SIZE: u16 = 1024;
+
+// How many segments the data of a request have at most: with the header and the status a chain of 128 descriptors.
+const SEG_MAX: u32 = 126;
+
+pub const EVENT_IDX: u64 = 1 << 29;
+
+const RO: u64 = 1 << 5;
+const FLUSH: u64 = 1 << 9;
+const MQ: u64 = 1 << 12;
+
+const FEATURES: [(u64, &str); 9] = [
+    (1 << 2, "SEG_MAX"),
+    (RO, "RO"),
+    (1 << 6, "BLK_SIZE"),
+    (FLUSH, "FLUSH"),
+    (MQ, "MQ"),
+    (1 << 28, "INDIRECT_DESC"),
+    (EVENT_IDX, "EVENT_IDX"),
+    (1 << 30, "PROTOCOL_FEATURES"),
+    (1 << 32, "VERSION_1"),
+];
+
+const PROTOCOL_FEATURES: [(u64, &str); 3] = [(1, "MQ"), (1 << 3, "REPLY_ACK"), (1 << 9, "CONFIG")];
+
+fn all(features: &[(u64, &str)]) -> u64 {
+    features.iter().map(|(bit, _)| bit).sum()
+}
+
+pub fn offer(options: &Options) -> Offer {
+    let mut features = all(&FEATURES);
+    if !options.read_only {
+        features &= !RO;
+    }
+    if options.write_through {
+        features &= !FLUSH;
+    }
+    if options.queues == 1 {
+        features &= !MQ;
+    }
+    Offer {
+        features,
+        protocol_features: all(&PROTOCOL_FEATURES),
+        queues: options.queues,
+        max_queue_size: MAX_QUEUE_SIZE.into(),
+    }
+}
+
+/// The device's configuration: `virtio_blk_config`, and zeros after it.
+pub fn config(disk: &Disk, options: &Options) -> [u8; 256] {
+    let mut config = [0; 256];
+    config[..8].copy_from_slice(&disk.sectors().to_le_bytes());
+    config[12..16].copy_from_slice(&SEG_MAX.to_le_bytes());
+    config[20..24].copy_from_slice(&512_u32.to_le_bytes());
+    config[34..36].copy_from_slice(&(options.queues as u16).to_le_bytes());
+    config
+}
+
+/// The names of features that were acknowledged.
+pub fn names(features: u64, protocol_features: u64) -> String {
+    let of = |bits: u64, known: &[(u64, &'static str)]| {
+        let names = known.iter().filter(|(bit, _)| bits & bit != 0).map(|(_, name)| *name);
+        names.collect::<Vec<_>>().join(", ")
+    };
+    format!(
+        "features: {}; protocol features: {}",
+        of(features, &FEATURES),
+        of(protocol_features, &PROTOCOL_FEATURES)
+    )
+}

@@ -1,0 +1,293 @@
+//! The calls of the system that the standard library lacks. All `unsafe` of this program lies here.
+
+use libc::{c_int, c_void};
+use std::fs::File;
+use std::io::{self, Read};
+use std::mem::{size_of, zeroed, MaybeUninit};
+use std::os::fd::{AsRawFd, FromRawFd, OwnedFd, RawFd};
+use std::os::unix::net::UnixStream;
+use std::ptr::{addr_of_mut, null_mut};
+use std::rc::Rc;
+use std::sync::atomic::{AtomicBool, AtomicUsize, Ordering::SeqCst};
+use std::time::Duration;
+
+// The result of a call that is -1 if it failed.
+fn checked(result: c_int) -> io::Result<c_int> {
+    if result == -1 {
+        return Err(io::Error::last_os_error());
+    }
+    Ok(result)
+}
+
+// ---- messages with descriptors
+
+// Room for the descriptors of one message, with the alignment that its header wants.
+const MOST: usize = crate::protocol::MAX_DESCRIPTORS;
+
+#[repr(C)]
+union Control {
+    header: libc::cmsghdr,
+    bytes: [u8; 128],
+}
+
+/// Reads at most so many bytes, and takes the descriptors that came with them. Waits for none. 0 bytes are the end.
+pub fn receive(socket: &UnixStream, bytes: &mut [u8], descriptors: &mut Vec<OwnedFd>) -> io::Result<usize> {
+    let mut part = libc::iovec {
+        iov_base: bytes.as_mut_ptr().cast(),
+        iov_len: bytes.len(),
+    };
+    let mut control = Control { bytes: [0; 128] };
+    // SAFETY: a header of a message is numbers and pointers, which may be 0.
+    let mut message: libc::msghdr = unsafe { zeroed() };
+    message.msg_iov = &mut part;
+    message.msg_iovlen = 1;
+    message.msg_control = addr_of_mut!(control).cast();
+    // SAFETY: this computes a length.
+    message.msg_controllen = unsafe { libc::CMSG_SPACE((MOST * size_of::<RawFd>()) as u32) } as _;
+    assert!(message.msg_controllen as usize <= size_of::<Control>());
+    let flags = libc::MSG_DONTWAIT | libc::MSG_CMSG_CLOEXEC;
+    // SAFETY: the message has one part, which is `bytes`, and room for control that is as long as it says.
+    let count = unsafe { libc::recvmsg(socket.as_raw_fd(), &mut message, flags) };
+    if count < 0 {
+        return Err(io::Error::last_os_error());
+    }
+    // SAFETY: the system has filled in the message, whose control lies in `control`.
+    let mut at = unsafe { libc::CMSG_FIRSTHDR(&message) };
+    while !at.is_null() {
+        // SAFETY: `at` is a header of the message's control, as these functions give it. Its data are the rest of its
+        // length, of which each descriptor may lie anywhere.
+        unsafe {
+            if (*at).cmsg_level == libc::SOL_SOCKET && (*at).cmsg_type == libc::SCM_RIGHTS {
+                let len = (*at).cmsg_len as usize - libc::CMSG_LEN(0) as usize;
+                for i in 0..len / size_of::<RawFd>() {
+                    let descriptor = libc::CMSG_DATA(at).cast::<RawFd>().add(i).read_unaligned();
+                    // The system has just opened it for this process, and nothing else has it.
+                    descriptors.push(OwnedFd::from_raw_fd(descriptor));
+                }
+            }
+            at = libc::CMSG_NXTHDR(&message, at);
+        }
+    }
+    if message.msg_flags & libc::MSG_CTRUNC != 0 {
+        return Err(io::Error::new(
+            io::ErrorKind::InvalidData,
+            "more descriptors than there is room for",
+        ));
+    }
+    Ok(count as usize)
+}
+
+/// Sends all of a reply, or fails. It waits for nothing: a front end reads the replies that it asks for.
+pub fn send(socket: &UnixStream, bytes: &[u8]) -> io::Result<()> {
+    let flags = libc::MSG_DONTWAIT | libc::MSG_NOSIGNAL;
+    // SAFETY: the pointer and the length are those of `bytes`.
+    let count = unsafe { libc::send(socket.as_raw_fd(), bytes.as_ptr().cast(), bytes.len(), flags) };
+    if count < 0 {
+        return Err(io::Error::last_os_error());
+    }
+    if count as usize != bytes.len() {
+        return Err(io::Error::new(
+            io::ErrorKind::WouldBlock,
+            "the front end reads no replies",
+        ));
+    }
+    Ok(())
+}
+
+// ---- waiting
+
+/// What the system watches for this program. Each descriptor has a number.
+pub struct Epoll(Rc<OwnedFd>);
+
+/// A descriptor that is watched as long as this is there.
+pub struct Watched {
+    file: File,
+    epoll: Rc<OwnedFd>,
+}
+
+/// How a descriptor is watched.
+#[derive(Clone, Copy, PartialEq, Eq)]
+pub enum Watch {
+    /// It is ready as long as there is something to read.
+    Level,
+    /// It is ready once after each write to it, and need not be read.
+    Edge,
+}
+
+impl Epoll {
+    pub fn new() -> io::Result<Epoll> {
+        // SAFETY: it takes a number.
+        let descriptor = checked(unsafe { libc::epoll_create1(libc::EPOLL_CLOEXEC) })?;
+        // SAFETY: the system has just opened this descriptor, and nothing else has it.
+        Ok(Epoll(Rc::new(unsafe { OwnedFd::from_raw_fd(descriptor) })))
+    }
+
+    /// Watches whether a descriptor can be read. Of a file on a disk nothing can be watched: it is refused.
+    pub fn watch(&self, descriptor: OwnedFd, number: u64, how: Watch) -> io::Result<Watched> {
+        let edge = if how == Watch::Edge { libc::EPOLLET } else { 0 };
+        let mut event = libc::epoll_event {
+            events: (libc::EPOLLIN | edge) as u32,
+            u64: number,
+        };
+        // SAFETY: the event is read while the call runs.
+        checked(unsafe {
+            libc::epoll_ctl(
+                self.0.as_raw_fd(),
+                libc::EPOLL_CTL_ADD,
+                descriptor.as_raw_fd(),
+                &mut event,
+            )
+        })?;
+        Ok(Watched {
+            file: File::from(descriptor),
+            epoll: Rc::clone(&self.0),
+        })
+    }
+
+    /// Waits, and puts the numbers of what is ready into `ready`. `None` waits as long as it takes.
+    pub fn wait(&self, time: Option<Duration>, ready: &mut Vec<u64>) -> io::Result<()> {
+        const ROOM: usize = 16;
+        let mut events = [const { MaybeUninit::<libc::epoll_event>::uninit() }; ROOM];
+        // Of a part of a millisecond it waits a whole one.
+        let millis = time.map_or(-1, |time| time.as_nanos().div_ceil(1_000_000).min(1 << 30) as c_int);
+        // SAFETY: there is room for so many events.
+        let count = unsafe { libc::epoll_wait(self.0.as_raw_fd(), events.as_mut_ptr().cast(), ROOM as c_int, millis) };
+        ready.clear();
+        match checked(count) {
+            // SAFETY: the system has filled in so many of them.
+            Ok(count) => ready.extend(
+                events
+                    .iter()
+                    .take(count as usize)
+                    .map(|it| unsafe { it.assume_init_ref() }.u64),
+            ),
+            Err(error) if error.kind() == io::ErrorKind::Interrupted => (),
+            Err(error) => return Err(error),
+        }
+        Ok(())
+    }
+}
+
+impl Watched {
+    /// Reads what is there, so that nothing is left for whoever has the other end.
+    pub fn drain(&self) {
+        // An event's counter is 0 after one read. What else came in its place may stay as it is.
+        let _ = (&self.file).read(&mut [0; 8]);
+    }
+}
+
+impl Drop for Watched {
+    fn drop(&mut self) {
+        // Another process may have the same open file: closing this descriptor would not end the watch.
+        // SAFETY: it takes numbers, and to end a watch it reads no event.
+        unsafe {
+            libc::epoll_ctl(
+                self.epoll.as_raw_fd(),
+                libc::EPOLL_CTL_DEL,
+                self.file.as_raw_fd(),
+                null_mut(),
+            )
+        };
+    }
+}
+
+/// Has reads and writes of a descriptor fail if they would wait.
+pub fn never_wait(descriptor: &OwnedFd) -> io::Result<()> {
+    // SAFETY: it takes numbers.
+    let flags = checked(unsafe { libc::fcntl(descriptor.as_raw_fd(), libc::F_GETFL) })?;
+    if flags & libc::O_NONBLOCK == 0 {
+        // SAFETY: it takes numbers.
+        checked(unsafe { libc::fcntl(descriptor.as_raw_fd(), libc::F_SETFL, flags | libc::O_NONBLOCK) })?;
+    }
+    Ok(())
+}
+
+// ---- signals
+
+/// A descriptor that can be read once SIGTERM or SIGINT came, which end the process no more.
+pub fn termination() -> io::Result<OwnedFd> {
+    let mut signals = MaybeUninit::uninit();
+    // SAFETY: the first call fills the set in, the others read and write it. The mask is this thread's, of which there is
+    // one.
+    let descriptor = unsafe {
+        checked(libc::sigemptyset(signals.as_mut_ptr()))?;
+        checked(libc::sigaddset(signals.as_mut_ptr(), libc::SIGTERM))?;
+        checked(libc::sigaddset(signals.as_mut_ptr(), libc::SIGINT))?;
+        checked(libc::sigprocmask(libc::SIG_BLOCK, signals.as_ptr(), null_mut()))?;
+        checked(libc::signalfd(
+            -1,
+            signals.as_ptr(),
+            libc::SFD_CLOEXEC | libc::SFD_NONBLOCK,
+        ))?
+    };
+    // SAFETY: the system has just opened this descriptor, and nothing else has it.
+    Ok(unsafe { OwnedFd::from_raw_fd(descriptor) })
+}
+
+// ---- memory that goes away
+
+// The blocks of the machine that is called: where each begins, and its length, or 0. The handler reads them.
+static BLOCKS: [(AtomicUsize, AtomicUsize); MOST] = [const { (AtomicUsize::new(0), AtomicUsize::new(0)) }; MOST];
+static LOST: AtomicBool = AtomicBool::new(false);
+
+// Called by the system on the thread that touched memory which its file has no more.
+extern "C" fn memory_lost(_signal: c_int, info: *mut libc::siginfo_t, _context: *mut c_void) {
+    // SAFETY: the system gives the handler of this signal its information, and an address in it.
+    let place = unsafe { (*info).si_addr() } as usize;
+    for (at, len) in &BLOCKS {
+        let (at, len) = (at.load(SeqCst), len.load(SeqCst));
+        if place.wrapping_sub(at) < len {
+            let access = libc::PROT_READ | libc::PROT_WRITE;
+            let flags = libc::MAP_PRIVATE | libc::MAP_ANONYMOUS | libc::MAP_FIXED | libc::MAP_NORESERVE;
+            // SAFETY: these are the bytes of a shared block, which the machine keeps no reference to and reads and writes
+            // as memory that a guest changes. Its mapping may be replaced by one of the same length. The call may be made
+            // in a handler: it is one call of the system, and takes no lock of this process.
+            if unsafe { libc::mmap(at as *mut c_void, len, access, flags, -1, 0) } != libc::MAP_FAILED {
+                LOST.store(true, SeqCst);
+                return;
+            }
+        }
+    }
+    // It is none of these: the access is made again, and ends the process as if there were no handler.
+    // SAFETY: it takes numbers, and may be called in a handler.
+    unsafe { libc::signal(libc::SIGBUS, libc::SIG_DFL) };
+}
+
+/// Has the process live on if the memory of a front end goes away.
+pub fn survive_lost_memory() -> io::Result<()> {
+    // SAFETY: an action is numbers, a set and a pointer, which may be 0.
+    let mut action: libc::sigaction = unsafe { zeroed() };
+    action.sa_sigaction = memory_lost as extern "C" fn(c_int, *mut libc::siginfo_t, *mut c_void) as usize;
+    action.sa_flags = libc::SA_SIGINFO;
+    // SAFETY: the handler has the signature that SA_SIGINFO asks for, and calls nothing that a handler may not.
+    checked(unsafe { libc::sigaction(libc::SIGBUS, &action, null_mut()) })?;
+    Ok(())
+}
+
+/// The blocks that the handler of lost memory knows, as long as this is there. There is one at a time.
+pub struct Guarded(());
+
+impl Guarded {
+    /// Takes where each block begins and how long it is.
+    pub fn new(blocks: impl Iterator<Item = (usize, usize)>) -> Guarded {
+        LOST.store(false, SeqCst);
+        for (place, (at, len)) in BLOCKS.iter().zip(blocks) {
+            place.0.store(at, SeqCst);
+            place.1.store(len, SeqCst);
+        }
+        Guarded(())
+    }
+
+    /// Whether memory was lost. What calls read of it since then are zeros.
+    pub fn is_lost(&self) -> bool {
+        LOST.load(SeqCst)
+    }
+}
+
+impl Drop for Guarded {
+    fn drop(&mut self) {
+        for (_, len) in &BLOCKS {
+            len.store(0, SeqCst);
+        }
+    }
+}

@@ -1,0 +1,301 @@
+//! Front ends that send anything, with real descriptors: the program lives, and has as many descriptors and as much
+//! memory as before.
+
+mod front_end;
+
+use front_end::*;
+use std::fs::{File, OpenOptions};
+use std::io::Read;
+use std::net::Shutdown;
+use std::os::fd::{AsRawFd, OwnedFd, RawFd};
+use std::os::unix::net::UnixStream;
+use std::time::Instant;
+
+const LEN: usize = 1 << 20;
+const CONNECTIONS: usize = 20_000;
+
+// Where the parts of a ring of 16 descriptors lie in a memory of 64 KiB, whose rest is for requests.
+const SIZE: u64 = 0x1_0000;
+const PARTS: [u64; 3] = [0x1000, 0x2000, 0x3000];
+
+struct Message {
+    bytes: Vec<u8>,
+    descriptors: Vec<RawFd>,
+}
+
+// What a front end may have.
+struct Things {
+    ram: OwnedFd,
+    // Its file shrinks and grows while it is mapped.
+    other_ram: OwnedFd,
+    kick: OwnedFd,
+    call: OwnedFd,
+    pipe: [OwnedFd; 2],
+    socket: UnixStream,
+    file: File,
+    zero: File,
+}
+
+impl Things {
+    fn new(program: &Program) -> Things {
+        let file = OpenOptions::new()
+            .create(true)
+            .read(true)
+            .append(true)
+            .open(program.folder.join("file"));
+        Things {
+            ram: memfd(SIZE as usize),
+            other_ram: memfd(SIZE as usize),
+            kick: eventfd(),
+            call: eventfd(),
+            pipe: pipe(),
+            socket: UnixStream::pair().unwrap().0,
+            file: file.unwrap(),
+            zero: File::open("/dev/zero").unwrap(),
+        }
+    }
+
+    fn any(&self, numbers: &mut Numbers) -> RawFd {
+        match numbers.below(9) {
+            0 => self.ram.as_raw_fd(),
+            1 => self.other_ram.as_raw_fd(),
+            2 => self.kick.as_raw_fd(),
+            3 => self.call.as_raw_fd(),
+            4 => self.pipe[0].as_raw_fd(),
+            5 => self.pipe[1].as_raw_fd(),
+            6 => self.socket.as_raw_fd(),
+            7 => self.file.as_raw_fd(),
+            _ => self.zero.as_raw_fd(),
+        }
+    }
+}
+
+// The messages of a front end that keeps the protocol.
+fn usual(things: &Things, ram: RawFd, numbers: &mut Numbers) -> Vec<Message> {
+    let of = |request: u32, flags: u32, payload: &[u8], descriptors: &[RawFd]| Message {
+        bytes: message(request, 1 | flags, payload),
+        descriptors: descriptors.to_vec(),
+    };
+    let bits = USUAL | if numbers.one_in(2) { EVENT_IDX } else { 0 };
+    let user = |at: u64| (USER + at).to_le_bytes();
+    let addresses = [
+        &two(0, 0)[..],
+        &user(PARTS[0]),
+        &user(PARTS[2]),
+        &user(PARTS[1]),
+        &[0; 8],
+    ]
+    .concat();
+    let asked = [&[0, 60, 0].map(u32::to_le_bytes).concat()[..], &[0; 60]].concat();
+    let zero = 0_u64.to_le_bytes();
+    vec![
+        of(GET_FEATURES, 0, &[], &[]),
+        of(GET_PROTOCOL_FEATURES, 0, &[], &[]),
+        of(SET_PROTOCOL_FEATURES, 0, &0x209_u64.to_le_bytes(), &[]),
+        of(GET_QUEUE_NUM, 0, &[], &[]),
+        of(SET_OWNER, 0, &[], &[]),
+        of(GET_CONFIG, 0, &asked, &[]),
+        of(SET_FEATURES, NEED_REPLY, &bits.to_le_bytes(), &[]),
+        of(SET_MEM_TABLE, NEED_REPLY, &FrontEnd::table(&[(0, SIZE, 0)]), &[ram]),
+        of(SET_VRING_NUM, 0, &two(0, 16), &[]),
+        of(SET_VRING_BASE, 0, &two(0, 0), &[]),
+        of(SET_VRING_ADDR, 0, &addresses, &[]),
+        of(SET_VRING_CALL, 0, &zero, &[things.call.as_raw_fd()]),
+        of(SET_VRING_ERR, 0, &zero, &[things.call.as_raw_fd()]),
+        of(SET_VRING_KICK, 0, &zero, &[things.kick.as_raw_fd()]),
+        of(SET_VRING_ENABLE, NEED_REPLY, &two(0, 1), &[]),
+        of(SET_MEM_TABLE, NEED_REPLY, &FrontEnd::table(&[(0, SIZE, 0)]), &[ram]),
+        of(GET_VRING_BASE, 0, &two(0, 0), &[]),
+        of(SET_VRING_KICK, 0, &zero, &[things.kick.as_raw_fd()]),
+        of(GET_VRING_BASE, 0, &two(0, 0), &[]),
+    ]
+}
+
+// A ring of requests, some of them wrong.
+fn ring(numbers: &mut Numbers) -> Vec<u8> {
+    let mut ram = vec![0; SIZE as usize];
+    let mut put = |at: u64, bytes: &[u8]| ram[at as usize..at as usize + bytes.len()].copy_from_slice(bytes);
+    for i in 0..16_u64 {
+        let addr = if numbers.one_in(20) {
+            numbers.any()
+        } else {
+            0x4000 + numbers.below(SIZE - 0x4000)
+        };
+        let len = [16, 512, 1, 4096, numbers.below(1 << 32)][numbers.below(5) as usize];
+        let flags = if numbers.one_in(10) {
+            numbers.below(8)
+        } else {
+            numbers.below(4)
+        };
+        let entry = [
+            &addr.to_le_bytes()[..],
+            &(len as u32).to_le_bytes(),
+            &(flags as u16).to_le_bytes(),
+        ]
+        .concat();
+        put(PARTS[0] + 16 * i, &entry);
+        put(PARTS[0] + 16 * i + 14, &(numbers.below(17) as u16).to_le_bytes());
+        let most = if numbers.one_in(9) { 20 } else { 16 };
+        put(PARTS[1] + 4 + 2 * i, &(numbers.below(most) as u16).to_le_bytes());
+        // Headers of requests that exist, most of them.
+        put(
+            0x4000 + 64 * i,
+            &[0, 1, 4, 8, 9_u32][numbers.below(5) as usize].to_le_bytes(),
+        );
+        put(0x4000 + 64 * i + 8, &numbers.below(LEN as u64 / 512 + 2).to_le_bytes());
+    }
+    // The first chain is right.
+    for (i, (addr, len, flags)) in [(0x4000_u64, 16_u32, 1_u16), (0x5000, 512, 3), (0x6000, 1, 2)]
+        .into_iter()
+        .enumerate()
+    {
+        put(
+            PARTS[0] + 16 * i as u64,
+            &[&addr.to_le_bytes()[..], &len.to_le_bytes(), &flags.to_le_bytes()].concat(),
+        );
+        put(PARTS[0] + 16 * i as u64 + 14, &(i as u16 + 1).to_le_bytes());
+    }
+    put(PARTS[1] + 4, &[0, 0]);
+    let most = if numbers.one_in(20) { 40 } else { 16 };
+    put(PARTS[1] + 2, &(1 + numbers.below(most) as u16).to_le_bytes());
+    ram
+}
+
+// Changes messages, or leaves them as they are.
+fn change(messages: &mut Vec<Message>, things: &Things, numbers: &mut Numbers) {
+    for _ in 0..numbers.below(4) {
+        let place = numbers.below(messages.len() as u64) as usize;
+        let other = numbers.below(messages.len() as u64) as usize;
+        let it = &mut messages[place];
+        match numbers.below(10) {
+            0 => messages.swap(place, other),
+            1 => drop(messages.remove(place)),
+            2 => {
+                let again = Message {
+                    bytes: it.bytes.clone(),
+                    descriptors: it.descriptors.clone(),
+                };
+                messages.insert(other, again);
+            }
+            3 => it.descriptors.push(things.any(numbers)),
+            4 => it.descriptors.clear(),
+            5 => {
+                it.descriptors.clear();
+                for _ in 0..numbers.below(20) {
+                    it.descriptors.push(things.any(numbers));
+                }
+            }
+            6 => {
+                let len = numbers.below(it.bytes.len() as u64 + 1);
+                it.bytes.truncate(len as usize);
+            }
+            7 => {
+                for _ in 0..numbers.below(40) {
+                    it.bytes.push(numbers.any() as u8);
+                }
+            }
+            _ => {
+                let at = numbers.below(it.bytes.len().max(1) as u64) as usize;
+                if let Some(byte) = it.bytes.get_mut(at) {
+                    *byte = if numbers.one_in(2) {
+                        numbers.any() as u8
+                    } else {
+                        *byte ^ 1 << numbers.below(8)
+                    };
+                }
+            }
+        }
+        if messages.is_empty() {
+            return;
+        }
+    }
+}
+
+// Sends messages, cut anywhere, until the other end closes, and reads all that comes.
+fn speak(program: &Program, messages: &[Message], things: &Things, numbers: &mut Numbers) {
+    let mut socket = UnixStream::connect(program.folder.join("s")).unwrap();
+    socket.set_write_timeout(Some(LONG)).unwrap();
+    let is_cut = numbers.one_in(4);
+    'all: for it in messages {
+        let mut rest = &it.bytes[..];
+        let mut descriptors = &it.descriptors[..];
+        while !rest.is_empty() {
+            let len = if is_cut {
+                1 + numbers.below(rest.len() as u64) as usize
+            } else {
+                rest.len()
+            };
+            if !send(&socket, &rest[..len], descriptors) {
+                break 'all;
+            }
+            (rest, descriptors) = (&rest[len..], &[]);
+        }
+        if numbers.one_in(8) {
+            // Kicks, of which the counter may be full.
+            let _ = std::io::Write::write(&mut File::from(again(&things.kick)), &numbers.any().to_ne_bytes());
+            take(&things.call);
+        }
+        if numbers.one_in(200) {
+            let file = File::from(again(&things.other_ram));
+            file.set_len(numbers.below(2) * SIZE).unwrap();
+        }
+    }
+    let _ = socket.shutdown(Shutdown::Write);
+    socket.set_read_timeout(Some(LONG)).unwrap();
+    let mut rest = [0; 4096];
+    let begun = Instant::now();
+    while let Ok(count) = socket.read(&mut rest) {
+        assert!(begun.elapsed() < LONG, "the connection does not end");
+        if count == 0 {
+            break;
+        }
+    }
+}
+
+#[test]
+fn no_front_end_ends_the_program() {
+    let mut program = Program::start("hostile", LEN, &[]);
+    let things = Things::new(&program);
+    let mut numbers = Numbers(0x9e37_79b9_7f4a_7c15);
+    let (mut early, mut served) = (None, 0);
+    for round in 0..CONNECTIONS {
+        let ram = if numbers.one_in(3) {
+            &things.other_ram
+        } else {
+            &things.ram
+        };
+        let file = File::from(again(ram));
+        file.set_len(SIZE).unwrap();
+        std::os::unix::fs::FileExt::write_all_at(&file, &ring(&mut numbers), 0).unwrap();
+        let mut messages = usual(&things, ram.as_raw_fd(), &mut numbers);
+        change(&mut messages, &things, &mut numbers);
+        speak(&program, &messages, &things, &mut numbers);
+        let mut idx = [0; 2];
+        let read = std::os::unix::fs::FileExt::read_at(&file, &mut idx, PARTS[2] + 2).unwrap();
+        served += usize::from(read == 2 && idx != [0; 2]);
+        if round + 1 == CONNECTIONS / 10 {
+            early = Some((program.descriptors(), program.memory()));
+        }
+    }
+    assert!(program.lives());
+    let (descriptors, (resident, mapped)) = early.unwrap();
+    assert_eq!(program.descriptors(), descriptors);
+    let (now, now_mapped) = program.memory();
+    assert!(now < resident + (4 << 20), "{resident} bytes of memory became {now}");
+    assert!(
+        now_mapped < mapped + (4 << 20),
+        "{mapped} bytes of mappings became {now_mapped}"
+    );
+    // Enough of them came so far that requests were served.
+    assert!(served > CONNECTIONS / 4, "{served} served requests");
+    let mut front = program.connect();
+    front.negotiate(USUAL);
+    front.set_memory();
+    front.start_ring(64, 0);
+    front.write_disk(0, 1, &[3; 512]);
+    assert_eq!(front.read_disk(0, 1, 512), [3; 512]);
+    assert_eq!(program.image.metadata().unwrap().len(), LEN as u64);
+    println!(
+        "{served} of {CONNECTIONS} connections had a request served; {now} bytes of memory, {descriptors} descriptors"
+    );
+}

@@ -1,0 +1,209 @@
+//! How long a processor works for a request of the program, beside the parts that it cannot do without.
+
+mod front_end;
+
+use front_end::*;
+use std::fs::File;
+use std::hint::black_box;
+use std::io::{Read, Write};
+use std::os::fd::{AsFd, AsRawFd};
+use std::os::unix::fs::FileExt;
+use std::time::Duration;
+use vm_memory_proved::block::{Request, Terms};
+use vm_memory_proved::queue::Queue;
+use vm_memory_proved::{GuestAddress, GuestMemory, Machine};
+
+const LEN: usize = 64 << 20;
+const BYTES: u32 = 4096;
+const ROUNDS: usize = 9;
+const REQUESTS: usize = 20_000;
+
+// Nanoseconds that this thread has worked.
+fn own_time() -> u64 {
+    let words = std::fs::read_to_string("/proc/thread-self/schedstat").unwrap();
+    words.split(' ').next().unwrap().parse().unwrap()
+}
+
+// The least of several rounds, in nanoseconds each.
+fn least(mut round: impl FnMut() -> u64) -> f64 {
+    (0..ROUNDS).map(|_| round()).min().unwrap() as f64 / REQUESTS as f64
+}
+
+fn place(i: usize) -> u64 {
+    (i as u64).wrapping_mul(0x9e37_79b9) % (LEN as u64 / u64::from(BYTES)) * u64::from(BYTES)
+}
+
+// A read of 4 KiB of the image.
+fn pread(file: &File) -> f64 {
+    let mut bytes = [0; BYTES as usize];
+    least(|| {
+        let begun = own_time();
+        for i in 0..REQUESTS {
+            file.read_exact_at(black_box(&mut bytes), place(i)).unwrap();
+        }
+        own_time() - begun
+    })
+}
+
+// A write to a counter and a read of it.
+fn eventfds() -> f64 {
+    let (mut fd, mut bytes) = (File::from(eventfd()), [0; 8]);
+    least(|| {
+        let begun = own_time();
+        for _ in 0..REQUESTS {
+            fd.write_all(black_box(&1_u64.to_ne_bytes())).unwrap();
+            fd.read_exact(black_box(&mut bytes)).unwrap();
+        }
+        own_time() - begun
+    })
+}
+
+// The same two calls of a thread that sleeps until the other end notifies it, and wakes the other end.
+fn eventfds_asleep() -> f64 {
+    let (kick, call) = (eventfd(), eventfd());
+    for fd in [&kick, &call] {
+        // SAFETY: it takes numbers. Reads wait from now on.
+        assert_eq!(unsafe { libc::fcntl(fd.as_raw_fd(), libc::F_SETFL, 0) }, 0);
+    }
+    let (mut asked, mut answered) = (File::from(again(&kick)), File::from(again(&call)));
+    let other = std::thread::spawn(move || {
+        let mut bytes = [0; 8];
+        least(|| {
+            let begun = own_time();
+            for _ in 0..REQUESTS {
+                asked.read_exact(black_box(&mut bytes)).unwrap();
+                answered.write_all(black_box(&1_u64.to_ne_bytes())).unwrap();
+            }
+            own_time() - begun
+        })
+    });
+    let (mut kick, mut call, mut bytes) = (File::from(kick), File::from(call), [0; 8]);
+    for _ in 0..ROUNDS * REQUESTS {
+        kick.write_all(&1_u64.to_ne_bytes()).unwrap();
+        call.read_exact(&mut bytes).unwrap();
+    }
+    other.join().unwrap()
+}
+
+fn serve(queue: &Queue<'_>, memory: &GuestMemory<'_>, bytes: &[u8]) -> usize {
+    let terms = Terms {
+        sectors: LEN as u64 / 512,
+        read_only: false,
+        acked: USUAL,
+    };
+    let mut served = 0;
+    queue.disable_notification(memory).unwrap();
+    while let Some(chain) = queue.pop_descriptor_chain(memory).unwrap() {
+        let Request::Read { len, .. } = chain.begin_request(memory, terms).unwrap() else {
+            panic!("it is a read");
+        };
+        let moved = chain.write_at(memory, 0, &bytes[..len]).unwrap();
+        let len = chain.finish_request(memory, 0, moved).unwrap();
+        queue.add_used(memory, chain.head_index(), len).unwrap();
+        served += 1;
+    }
+    assert!(!queue.enable_notification(memory).unwrap());
+    black_box(queue.needs_notification(memory).unwrap());
+    served
+}
+
+// The library's own part of a request, of so many that come at once. The driver's part is not counted.
+fn request(front: &mut FrontEnd, depth: usize) -> f64 {
+    let machine = Machine::new().unwrap();
+    let block = machine.shared_block(RAM, 4096, Some((front.ram.as_fd(), 0))).unwrap();
+    let layout = machine
+        .layout(&[machine.region(block.id(), GuestAddress(0)).unwrap()])
+        .unwrap();
+    let memory = machine.memory(machine.plain(layout).unwrap()).unwrap();
+    let queue = machine.queue(256, 65_536).unwrap();
+    for (set, at) in [
+        (Queue::try_set_desc_table_address as fn(&_, _) -> _, 0_u64),
+        (Queue::try_set_avail_ring_address, 0x4000),
+        (Queue::try_set_used_ring_address, 0x6000),
+    ] {
+        set(&queue, GuestAddress((1 << 20) + at)).unwrap();
+    }
+    queue.set_ready(true);
+    let bytes = [0; BYTES as usize];
+    // What the driver itself takes, as if nothing were served.
+    let driver = least(|| {
+        let begun = own_time();
+        for _ in 0..REQUESTS / depth {
+            publish(front, depth);
+        }
+        own_time() - begun
+    });
+    queue.set_next_avail(front.rings[0].next_avail);
+    queue.set_next_used(front.rings[0].next_avail);
+    let both = least(|| {
+        let begun = own_time();
+        for _ in 0..REQUESTS / depth {
+            publish(front, depth);
+            assert_eq!(serve(&queue, &memory, &bytes), depth);
+        }
+        own_time() - begun
+    });
+    front.rings[0].next_used = front.used_idx(0);
+    both - driver
+}
+
+fn publish(front: &mut FrontEnd, depth: usize) {
+    for i in 0..depth {
+        front.publish(0, 3 * i as u16);
+    }
+}
+
+fn put(front: &FrontEnd, depth: usize) {
+    for i in 0..depth {
+        front.put_request(0, 3 * i as u16, 0, place(i) / 512, BYTES);
+    }
+}
+
+// What a processor works for each request in the program.
+fn whole(program: &Program, front: &mut FrontEnd, depth: usize) -> f64 {
+    least(|| {
+        let begun = program.processor_time();
+        for round in 0..REQUESTS / depth {
+            for i in 0..depth {
+                let data = front.places(0, 3 * i as u16).0;
+                front.write(data - 0x1000 + 8, &(place(round * depth + i) / 512).to_le_bytes());
+            }
+            publish(front, depth);
+            front.kick(0);
+            while front.used_idx(0) != front.rings[0].next_avail {
+                can_read(&front.rings[0].call, Duration::from_millis(100));
+                take(&front.rings[0].call);
+            }
+        }
+        program.processor_time() - begun
+    })
+}
+
+#[test]
+#[ignore = "it measures"]
+fn processor_time_of_a_request() {
+    let program = Program::start("speed", LEN, &[]);
+    let file = File::open(&program.image).unwrap();
+    let mut front = program.connect();
+    front.negotiate(USUAL);
+    front.set_memory();
+    front.start_ring(256, 0);
+    println!("batch | pread | library | eventfd | sum | program | program / sum");
+    for depth in [1, 4, 16, 64] {
+        put(&front, depth);
+        let whole = whole(&program, &mut front, depth);
+        front.rings[0].next_used = front.used_idx(0);
+        let [file, library, counter] = [pread(&file), request(&mut front, depth), eventfds()];
+        let sum = file + library + counter;
+        // The program's own queue goes on where this one ended.
+        let base = front.stop_ring(0);
+        assert_ne!(u32::from(front.rings[0].next_avail), base);
+        front.restart_ring(0, front.rings[0].next_avail);
+        let of_sum = whole / sum;
+        println!("{depth} | {file:.0} | {library:.0} | {counter:.0} | {sum:.0} | {whole:.0} | {of_sum:.2}");
+    }
+    println!(
+        "the two calls on eventfds of a thread that sleeps between them: {:.0}",
+        eventfds_asleep()
+    );
+}

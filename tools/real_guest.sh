@@ -1,0 +1,319 @@
+#!/usr/bin/env bash
+# Boots Linux in QEMU on a disk that bindings/vhost-user-blk serves, and compares the disk with what the guest wrote.
+#
+# usage: tools/real_guest.sh [--install] [--list] [--keep] [VARIANT..]
+#
+# --install installs the packages that it needs, by apt-get, --list prints the variants, and --keep keeps the files of
+# each run. Without a VARIANT it runs all. Each prints one line: its name, ok or FAILED, the seconds, and what the back
+# end served. The status is 0 if all are ok, 1 if one failed, and 3 if a package is missing, which is named. The variant
+# qemu has QEMU's own device in place of ours.
+#
+# The guest is Debian's kernel with an initial RAM disk of busybox, made here: tools/real_guest_init.sh is its first
+# process. QEMU emulates the processor, so no KVM is needed.
+#
+# VHOST_USER_BLK names the program (without it cargo builds it), and REAL_GUEST_SECONDS is how long a guest may take.
+set -u
+TOP=$(cd "$(dirname "${BASH_SOURCE[0]}")/.." && pwd)
+SECONDS_LEFT=${REAL_GUEST_SECONDS:-240}
+PACKAGES=(qemu-system-x86 linux-image-amd64 busybox-static e2fsprogs librust-libc-dev)
+# The disk has 64 MiB and 3 sectors, and its file has 100 bytes more, which are no part of it.
+SECTORS=$(((64 << 11) + 3))
+SIZE=$((SECTORS * 512))
+PATTERN_SIZE=$((4 << 20))
+HALF=$((32 << 20))
+
+# A variant: what the guest does, the words of the device, those of the back end, and how the back end is ended
+# meanwhile.
+variant() {
+    work=full device="" backend="" ending="" queues=1
+    case $1 in
+    default) ;;
+    no-event-idx) device=event_idx=off ;;
+    no-indirect) device=indirect_desc=off ;;
+    queue-16) device=queue-size=16 ;;
+    queue-256) device=queue-size=256 ;;
+    queue-1024) device=queue-size=1024 ;;
+    two-queues) queues=2 backend="--queues 2" ;;
+    read-only) work=read backend=--read-only ;;
+    no-flush) backend=--write-through ;;
+    sigterm) work=load ending=TERM ;;
+    sigkill) work=load ending=KILL ;;
+    qemu) device=qemu ;;
+    *) return 1 ;;
+    esac
+}
+VARIANTS=(default no-event-idx no-indirect queue-16 queue-256 queue-1024 two-queues read-only no-flush sigterm sigkill)
+
+missing() {
+    local found=()
+    command -v qemu-system-x86_64 > /dev/null || found+=(qemu-system-x86)
+    [ -n "$(kernel)" ] || found+=(linux-image-amd64)
+    [ -x /bin/busybox ] && ! ldd /bin/busybox > /dev/null 2>&1 || found+=(busybox-static)
+    [ -x /sbin/mke2fs ] && [ -x /sbin/debugfs ] || found+=(e2fsprogs)
+    [ -n "${VHOST_USER_BLK:-}" ] || compgen -G "/usr/share/cargo/registry/libc-0.2*" > /dev/null || found+=(librust-libc-dev)
+    echo "${found[*]}"
+}
+
+# The newest kernel that has its modules here.
+kernel() {
+    local file
+    for file in $(ls -1 /boot/vmlinuz-*-amd64 2> /dev/null | sort -rV); do
+        if [ -d "/lib/modules/${file#/boot/vmlinuz-}" ]; then
+            echo "$file"
+            return
+        fi
+    done
+}
+
+install_packages() {
+    local root=()
+    [ "$(id -u)" = 0 ] || root=(sudo)
+    "${root[@]}" apt-get update -q && DEBIAN_FRONTEND=noninteractive "${root[@]}" apt-get install -q -y --no-install-recommends "${PACKAGES[@]}"
+}
+
+# A module and those that it needs, each after what it needs.
+modules_of() {
+    local name file
+    for name in "$@"; do
+        file=$(find "$MODULES" -name "${name//[-_]/[-_]}.ko*" | head -n 1)
+        [ -n "$file" ] || continue
+        modules_of $(modinfo -F depends "$file" | tr ',' ' ')
+        echo "$file"
+    done
+}
+
+# An initial RAM disk: busybox, modules, mke2fs with its libraries, and the pattern that the guest writes pieces of.
+build_initrd() {
+    local root=$1/root file
+    mkdir -p "$root"/{bin,sbin,dev,modules}
+    cp /bin/busybox "$root/bin/busybox"
+    cp "$TOP/tools/real_guest_init.sh" "$root/init"
+    chmod 755 "$root/init"
+    for file in $(modules_of virtio_pci virtio_blk crc32c_generic ext4 | awk '!seen[$0]++'); do
+        cp "$file" "$root/modules/"
+        basename "$file" >> "$root/modules/list"
+    done
+    for file in /sbin/mke2fs $(ldd /sbin/mke2fs | grep -o '/[^ ]*'); do
+        mkdir -p "$root$(dirname "$file")"
+        cp -L "$file" "$root$file"
+    done
+    cp "$1/pattern" "$root/pattern"
+    (cd "$root" && find . | /bin/busybox cpio -o -H newc 2> /dev/null | gzip -1) > "$1/initrd"
+}
+
+build_backend() {
+    [ -n "${VHOST_USER_BLK:-}" ] && return
+    "$TOP/bindings/vhost-user-blk/build" || exit 1
+    VHOST_USER_BLK=$TOP/bindings/vhost-user-blk/target/release/vhost-user-blk
+}
+
+start_backend() {
+    rm -f "$room/socket"
+    # shellcheck disable=SC2086
+    "$VHOST_USER_BLK" --socket "$room/socket" --image "$room/disk.img" --stats 5 $backend >> "$room/backend" 2>&1 &
+    backend_pid=$!
+    starts=$((starts + 1))
+    for _ in $(seq 100); do
+        [ -S "$room/socket" ] && return
+        sleep 0.05
+    done
+    echo "the back end does not listen" >> "$room/why"
+}
+
+start_qemu() {
+    local words="console=ttyS0 quiet panic=-1 mitigations=off no_timer_check disk=vda work=$work size=$SECTORS ops=$ops flush=$flush"
+    local disk=(-chardev "socket,id=disk,path=$room/socket${ending:+,reconnect=1}")
+    disk+=(-device "vhost-user-blk-pci,chardev=disk,num-queues=$queues${device:+,$device}")
+    if [ "$device" = qemu ]; then
+        disk=(-drive "file=$room/disk.img,format=raw,if=none,id=disk,cache=writeback")
+        disk+=(-device "virtio-blk-pci,drive=disk,serial=disk.img")
+    fi
+    mkfifo "$room/in"
+    timeout -k 5 "$SECONDS_LEFT" qemu-system-x86_64 -accel tcg,thread=multi -machine q35,memory-backend=ram -smp 2 \
+        -m 256M -object memory-backend-memfd,id=ram,size=256M,share=on -nodefaults -no-user-config -display none \
+        -no-reboot -kernel "$(kernel)" -initrd "$shared/initrd" -append "$words id=disk.img" "${disk[@]}" \
+        -serial stdio < "$room/in" > "$room/console" 2> "$room/qemu" &
+    qemu_pid=$!
+    exec 3> "$room/in"
+}
+
+lines_of() {
+    grep -c "^$1 " "$room/console"
+}
+
+# Waits until the guest has said so many lines more that begin with a word, and returns whether it did.
+wait_for_lines() {
+    local wanted=$(($(lines_of "$1") + $2))
+    while kill -0 "$qemu_pid" 2> /dev/null; do
+        [ "$(lines_of "$1")" -ge "$wanted" ] && return 0
+        sleep 0.2
+    done
+    return 1
+}
+
+# Ends the back end under load and starts it again, several times.
+end_backend() {
+    for _ in 1 2 3 4; do
+        wait_for_lines wrote 40 || return
+        kill "-$ending" "$backend_pid"
+        wait "$backend_pid" 2> /dev/null
+        [ $((starts % 2)) = 0 ] && sleep 2
+        start_backend
+    done
+    wait_for_lines round 1 || return
+    echo enough >&3
+}
+
+# The second half of the disk is what it was, with what the guest wrote.
+compare_raw() {
+    cp --sparse=never "$shared/disk.img" "$room/expected"
+    grep '^wrote ' "$room/said" | while read -r _ offset len from; do
+        dd if="$shared/pattern" of="$room/expected" bs=64k iflag=skip_bytes,count_bytes oflag=seek_bytes conv=notrunc \
+            status=none skip="$from" seek="$offset" count="$len"
+    done
+    if [ "$work" = read ]; then
+        cmp "$room/disk.img" "$room/expected" >> "$room/why" 2>&1
+    else
+        [ "$device" = qemu ] && truncate -s "$SIZE" "$room/expected"
+        cmp -i "$HALF" "$room/disk.img" "$room/expected" >> "$room/why" 2>&1
+    fi
+}
+
+# Each file has the pieces that the guest said last, and the file system is whole.
+compare_files() {
+    local count=0 name pieces offset len
+    e2fsck -fn "$room/disk.img" > "$room/e2fsck" 2>&1 || echo "e2fsck found faults" >> "$room/why"
+    while read -r name pieces; do
+        # shellcheck disable=SC2086
+        set -- $pieces
+        : > "$room/file"
+        while [ $# -ge 2 ]; do
+            offset=$1 len=$2
+            dd if="$shared/pattern" bs=64k iflag=skip_bytes,count_bytes status=none skip="$offset" count="$len" >> "$room/file"
+            shift 2
+        done
+        rm -f "$room/dumped"
+        debugfs -R "dump /$name $room/dumped" "$room/disk.img" > /dev/null 2>&1
+        cmp "$room/file" "$room/dumped" >> "$room/why" 2>&1
+        count=$((count + 1))
+    done < <(awk '$1 == "file" { name = $2; $1 = $2 = ""; said[name] = $0 } END { for (name in said) print name said[name] }' "$room/said")
+    [ "$count" -gt 0 ] || echo "the guest wrote no files" >> "$room/why"
+}
+
+# What the guest read is what the image has.
+compare_reads() {
+    local count=0 digest words
+    while read -r words; do
+        # shellcheck disable=SC2086
+        set -- $words
+        if [ $# = 1 ]; then
+            digest=$(head -c "$SIZE" "$room/disk.img" | sha256sum)
+        else
+            digest=$(dd if="$room/disk.img" bs=64k iflag=skip_bytes,count_bytes status=none skip="$1" count="$2" | sha256sum)
+        fi
+        [ "${digest%% *}" = "${!#}" ] || echo "the guest read other bytes: $words" >> "$room/why"
+        count=$((count + 1))
+    done < <(sed -n 's/^sha256 //p' "$room/said")
+    [ "$count" -gt 1 ] || echo "the guest read nothing" >> "$room/why"
+}
+
+# The back end served requests without an error, and made them stable as it had to.
+compare_counts() {
+    local said flushes syncs
+    said=$(grep -a '^served' "$room/backend" | tail -n 1)
+    flushes=$(sed 's/.* \([0-9]*\) flushes.*/\1/' <<< "$said")
+    syncs=$(sed 's/.* \([0-9]*\) syncs.*/\1/' <<< "$said")
+    grep -q ' 0 errors$' <<< "$said" || echo "the back end had errors" >> "$room/why"
+    [ "$work" = read ] && return
+    if [ "$flush" = 1 ]; then
+        { [ "$flushes" -gt 0 ] || [ -n "$ending" ]; } && [ "$syncs" = "$flushes" ] || echo "$flushes flushes, $syncs syncs" >> "$room/why"
+    else
+        [ "$flushes" = 0 ] && [ "$syncs" -gt 0 ] || echo "$flushes flushes, $syncs syncs" >> "$room/why"
+    fi
+}
+
+run_variant() {
+    local name=$1 starts=0 backend_pid="" qemu_pid begun status
+    local work device backend ending queues flush=1 ops=40
+    variant "$name"
+    [ "$name" = no-flush ] && flush=0
+    room=$shared/$name
+    mkdir -p "$room"
+    : > "$room/why"
+    cp --sparse=never "$shared/disk.img" "$room/disk.img"
+    # QEMU's own device takes a part of a sector for a whole one.
+    [ "$device" = qemu ] && truncate -s "$SIZE" "$room/disk.img"
+    begun=$(date +%s.%N)
+    [ "$device" = qemu ] || start_backend
+    start_qemu
+    [ -n "$ending" ] && end_backend
+    wait "$qemu_pid"
+    status=$?
+    exec 3>&-
+    [ "$status" = 0 ] || echo "QEMU ended with status $status: $(tail -n 1 "$room/qemu")" >> "$room/why"
+    if [ -n "$backend_pid" ]; then
+        kill -TERM "$backend_pid" 2> /dev/null
+        wait "$backend_pid"
+        status=$?
+        [ "$status" = 0 ] || echo "the back end ended with status $status" >> "$room/why"
+    fi
+    tr -d '\r' < "$room/console" > "$room/said"
+    grep -q '^guest ok' "$room/said" || echo "the guest did not end: $(grep -a '^guest' "$room/said" | tail -n 1)" >> "$room/why"
+    [ -z "$backend_pid" ] || compare_counts
+    compare_raw
+    [ "$work" = read ] && compare_reads || compare_files
+    local took verdict=ok
+    took=$(awk -v begun="$begun" -v now="$(date +%s.%N)" 'BEGIN { printf "%.0f", now - begun }')
+    [ -s "$room/why" ] && verdict=FAILED
+    local said
+    said=$(grep -a '^served' "$room/backend" 2> /dev/null | tail -n 1)
+    [ "$starts" -lt 2 ] || said="$starts back ends, of which the last $said"
+    printf '%-13s %-6s %4s s  %s\n' "$name" "$verdict" "$took" "$said"
+    if [ -s "$room/why" ]; then
+        sed 's/^/    /' "$room/why"
+        grep -av '^wrote \|^file \|^sha256 ' "$room/said" | tail -n 5 | sed 's/^/    console: /'
+        tail -n 5 "$room/backend" 2> /dev/null | sed 's/^/    back end: /'
+        return 1
+    fi
+}
+
+main() {
+    local keep="" names=() word failed=0 name
+    for word in "$@"; do
+        case $word in
+        --install) install_packages || exit 1 ;;
+        --list) printf '%s\n' "${VARIANTS[@]}"; exit 0 ;;
+        --keep) keep=1 ;;
+        -*) sed -n '2,/^set/{/^#/p}' "${BASH_SOURCE[0]}"; exit 2 ;;
+        *) names+=("$word") ;;
+        esac
+    done
+    [ ${#names[@]} -gt 0 ] || names=("${VARIANTS[@]}")
+    for name in "${names[@]}"; do
+        (variant "$name") || { echo "no such variant: $name"; exit 2; }
+    done
+    local wanted
+    wanted=$(missing)
+    if [ -n "$wanted" ]; then
+        echo "packages of Debian are missing: $wanted (--install gets them)"
+        exit 3
+    fi
+    [ "${names[*]}" = qemu ] || build_backend
+    shared=$(mktemp -d "${TMPDIR:-/tmp}/real_guest.XXXXXX")
+    if [ -z "$keep" ]; then
+        # shellcheck disable=SC2064
+        trap "rm -rf '$shared'" EXIT
+    else
+        echo "files: $shared"
+    fi
+    MODULES=/lib/modules/$(basename "$(kernel)" | sed 's/^vmlinuz-//')
+    head -c "$PATTERN_SIZE" /dev/urandom > "$shared/pattern"
+    head -c $((SIZE + 100)) /dev/urandom > "$shared/disk.img"
+    build_initrd "$shared"
+    for name in "${names[@]}"; do
+        run_variant "$name" || failed=1
+    done
+    exit "$failed"
+}
+
+main "$@"
