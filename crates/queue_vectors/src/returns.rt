@@ -66,14 +66,14 @@ const CASES: [Case; 12] = [
     (4, END - 12, 0, &[(1, 1)], "Ok(()) 3; 1 (1, 1)"),
     (4, END - 8, 0, &[(1, 1)], "Err(InvalidUsedEntry) 0; 0"),
     (4, END - 12, 1, &[(1, 1)], "Err(InvalidUsedEntry) 0; 1"),
-    // The index lies before memory: the entry is written, and not published.
+    // The index lies before memory: the entry is not written, either.
     (
         4,
         BEGIN - 4,
         0,
         &[(1, 1), (2, 2)],
-        "Err(GuestMemory(InvalidGuestAddress(GuestAddress(4094)))) 2; \
-         Err(GuestMemory(InvalidGuestAddress(GuestAddress(4094)))) 2; 0",
+        "Err(GuestMemory(InvalidGuestAddress(GuestAddress(4094)))) 0; \
+         Err(GuestMemory(InvalidGuestAddress(GuestAddress(4094)))) 0; 0",
     ),
     // Past the greatest address.
     (

@@ -78,6 +78,12 @@ impl QueueTurn {
         self.refused(host, self.queue.used_ring().0, size, Permissions::Write)
     }
 
+    // What a read of the driver's index comes to, unless the table allows it.
+    fn refused_index<B>(&self, host: &HostMemory<B>) -> Option<Outcome> {
+        let index = self.queue.avail_ring().0.wrapping_add(2);
+        self.refused(host, index, 2, Permissions::Read)
+    }
+
     fn pop<B: Bitmap>(&mut self, host: &mut HostMemory<B>) -> Outcome {
         if !host.holds(&self.memory) {
             return Outcome::Failed;
@@ -104,22 +110,10 @@ impl QueueTurn {
     }
 }
 
-// Whether a call of a queue was refused as the table misses an address.
-fn is_missed(error: &QueueError) -> bool {
-    match error {
-        QueueError::GuestMemory(GuestMemoryError::IommuError(error)) => {
-            matches!(error, IommuError::CannotResolve { .. })
-        }
-        _ => false,
-    }
-}
-
-// What comes of asking the driver to notify, by a used ring that is mapped. If the available ring is missed then, the
-// next pop asks for it.
+// What comes of asking the driver to notify: whether there is more in the ring, the next pop finds.
 fn asked(answer: Result<bool, QueueError>) -> Result<(), QueueError> {
     match answer {
         Ok(_) => Ok(()),
-        Err(error) if is_missed(&error) => Ok(()),
         Err(error) => Err(error),
     }
 }
@@ -133,6 +127,11 @@ impl Request for QueueTurn {
         }
         if let Some(outcome) = self.refused_ring(host) {
             return outcome;
+        }
+        if let Act::Enable = self.act {
+            if let Some(outcome) = self.refused_index(host) {
+                return outcome;
+            }
         }
         if !host.holds(&self.memory) {
             return Outcome::Failed;
