@@ -139,8 +139,9 @@ impl Machine {
     /// reads none of `announced` for an INVALIDATE, which allocates nothing.
     ///
     /// A call that was refused for a missing mapping ([`take_miss`](Machine::take_miss)) is made again after its UPDATE
-    /// was applied so, and again, until it is not. It ends: behind a table that keeps `limit` ranges by the call of number
-    /// `limit + 2` at the latest, with [`TableTooSmall`](crate::IommuError::TableTooSmall) if it needs more ranges.
+    /// was applied so, and again, until it is not. If the front end maps each address that is missed, and takes no mapping
+    /// back meanwhile, this ends: behind a table that keeps `limit` ranges by the call of number `limit + 2` at the latest,
+    /// with [`TableTooSmall`](crate::IommuError::TableTooSmall) if it needs more ranges.
     pub fn apply_iotlb(
         &self,
         memory: MemoryId,
