@@ -100,7 +100,7 @@ fn next_window<I: GuestMemorySliceIterator>(walk: &mut I) -> Option<VolatileSlic
 }
 
 // Whether a walk gives no error.
-#[inline]
+#[inline(always)]
 pub(super) fn ends_well<I: GuestMemorySliceIterator>(walk: I) -> bool
     ensures { result ≡ is_none (I.left walk).fault }
 {
