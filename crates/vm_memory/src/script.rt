@@ -28,7 +28,7 @@ use std::io::{ErrorKind, Read, Write};
 /// Why a script did not run to its end.
 #[derive(Debug, Drop)]
 pub enum DriveFault {
-    /// The line of this number, from 1, has none of the forms, or sets up after a command.
+    /// The line with this number, from 1, has none of the forms, or is a setup line after a command.
     BadLine(usize),
     /// The input failed.
     Read,
@@ -66,11 +66,11 @@ impl DriveFault {
     }
 }
 
-/// Reads all of the input, and then runs it line by line and writes a reply for each line that has one.
+/// Reads the whole input, then runs it line by line, and writes a reply for each line that has one.
 ///
-/// It stops at the first bad line, after the replies to the lines before it, with `BadLine`. Where the input fails it
-/// stops with `Read`, where the output does with `Write`, and where an allocation of its own does with `Memory`. A
-/// setup line or a command whose allocation fails replies so, and the script goes on.
+/// It stops at the first bad line with `BadLine`, after the replies to the lines before it. It stops with `Read` if the
+/// input fails, with `Write` if the output fails, and with `Memory` if an allocation of its own fails. If a setup line
+/// or a command fails to allocate, its reply says so, and the script goes on.
 pub fn drive<R: Read, W: Write>(
     alloc: Global,
     input: &mut R,
@@ -115,7 +115,7 @@ fn answer_lines<W: Write>(
     Ok(())
 }
 
-// Writes what waits, but where a write failed before.
+// Writes what waits, unless a write failed before.
 fn finish<W: Write>(
     outcome: Result<(), DriveFault>,
     output: &mut W,

@@ -15,13 +15,13 @@ use std::alloc::Global;
 pub(super) enum Line {
     /// Empty, or a comment.
     Nothing,
-    /// A line that may come before the first command only.
+    /// A line that may only come before the first command.
     Setup(Setup),
     /// A command of the machine.
     Command(Command),
 }
 
-/// The line that these bytes are, which have no line feed.
+/// Parses a line from bytes without a line feed.
 pub(super) fn parse(alloc: Global, line: &[u8]) -> Result<Line, LineError>
     ensures { Parses line.now result }
 {
@@ -34,7 +34,7 @@ pub(super) fn parse(alloc: Global, line: &[u8]) -> Result<Line, LineError>
     }
 }
 
-// The line that words make.
+// Parses a line from its words.
 #[tactic(auto, unfolding(crate::specs::LineReading::line_at))]
 fn of_words(alloc: Global, text: &str) -> Result<Line, LineError>
     ensures { IsShown result (line_at (parts_of 32 text.now)) }

@@ -5,10 +5,10 @@ ghost use Rattle.vm_memory.specs.Told.{Puts};
 
 use std::io::{ErrorKind, Write};
 
-// Texts of this many bytes in all wait at most.
+// At most this many bytes of texts wait.
 pub(super) const ROOM: usize = 0x2000;
 
-/// Takes a text, which waits behind those before it, or writes them. False where the output fails.
+/// Takes a text, which waits after those before it, or writes them. Returns false if the output fails.
 pub(super) fn put<W: Write>(output: &mut W, waiting: &mut Vec<u8>, text: &[u8]) -> bool
     ensures { Puts (W.contents output.old) waiting.old.items text.now result (W.contents output.new) waiting.new.items }
 {
@@ -32,14 +32,14 @@ fn put_behind<W: Write>(output: &mut W, waiting: &mut Vec<u8>, text: &[u8]) -> b
     write_all(output, text)
 }
 
-/// Writes bytes. False where the output fails; then it may have taken the first of them.
+/// Writes bytes. Returns false if the output fails; then it may have taken the first of them.
 pub(super) fn write_all<W: Write>(output: &mut W, bytes: &[u8]) -> bool
     ensures { Puts (W.contents output.old) [] bytes.now result (W.contents output.new) [] }
 {
     write_out(output, bytes) == bytes.len()
 }
 
-// Writes bytes until the output fails, and answers how many it took.
+// Writes bytes until the output fails, and returns how many it took.
 #[tactic(auto, using(crate::proofs::ToldLemmas::keeps_keeps, crate::proofs::ToldLemmas::keeps_then, crate::proofs::ToldLemmas::appends_appends))]
 fn write_out<W: Write>(output: &mut W, bytes: &[u8]) -> usize
     ensures bound { result ≤ length bytes.now }
@@ -55,7 +55,7 @@ fn write_out<W: Write>(output: &mut W, bytes: &[u8]) -> usize
     written
 }
 
-// Writes the first of these bytes, again where that is interrupted. None where the output fails.
+// Writes the first of these bytes, and tries again if it is interrupted. `None` if the output fails.
 #[tactic(auto, using(crate::proofs::ToldLemmas::keeps_keeps, crate::proofs::ToldLemmas::keeps_then, crate::proofs::ToldLemmas::appends_appends))]
 fn write_again<W: Write>(output: &mut W, bytes: &[u8]) -> Option<usize>
     ensures { MatchOption result (Keeps (W.contents output.old) (W.contents output.new))

@@ -115,7 +115,7 @@ impl fmt::Display for Translation<'_> {
     }
 }
 
-// The name of a kind that a script can meet. Every other is told as `Other`.
+// The name of a kind that a script can meet. Any other is printed as `Other`.
 fn name_of(kind: ErrorKind) -> &'static str
     ensures { result.now ≡ text_of_kind kind }
 {
@@ -186,7 +186,7 @@ impl Item for MappedRange {
     }
 }
 
-// A list with one space between any two, or a dash where there is none.
+// A list with one space between any two items, or a dash if it is empty.
 #[derive(Drop)]
 struct Spaced<'a, T>(&'a [T]);
 
@@ -218,7 +218,7 @@ impl fmt::Display for Ranges<'_> {
     }
 }
 
-// Two hexadecimal digits a byte, or a dash where there is none.
+// Two hexadecimal digits a byte, or a dash if there are no bytes.
 #[derive(Drop)]
 struct Hex<'a>(&'a [u8]);
 

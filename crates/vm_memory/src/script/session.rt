@@ -1,4 +1,4 @@
-//! A script that runs: what it made so far, and what it answers to one line.
+//! A script that runs: what it has made so far, and its reply to one line.
 ghost use Rattle.std.specs.Prelude.{◌≡◌, ◌∷◌, ◌++◌, [], IfOk, IfErr, IfSome, MatchResult};
 ghost use Rattle.vm_memory.specs.Lines.{Means};
 ghost use Rattle.vm_memory.specs.Machine.{Step};
@@ -19,7 +19,7 @@ use std::alloc::Global;
 use std::fmt;
 use std::io::Write;
 
-// Room for the text of a reply, which a longer one takes as it needs it.
+// Room for the text of a reply. A longer one allocates more as it needs it.
 const ROOM: usize = 0x1000;
 
 /// A machine, whether a command ran on it, and room for one reply and its text.
@@ -32,7 +32,7 @@ pub(super) struct Session {
 }
 
 impl Session {
-    /// A session that made nothing. Its only error is `Memory`.
+    /// A session that has made nothing. Its only error is `Memory`.
     pub(super) fn new(alloc: Global) -> Result<Session, DriveFault>
         ensures begins { IfOk result (λ s. stage_of s.commanded s.machine ≡ beginning) }
         ensures refused { IfErr result (λ e. e ≡ fault.Memory) }
@@ -47,7 +47,7 @@ impl Session {
         })
     }
 
-    /// Runs a line of this number, and puts its reply behind what waits to be written.
+    /// Runs the line with this number, and appends its reply to what waits to be written.
     pub(super) fn answer<W: Write>(
         &mut self,
         alloc: Global,
@@ -102,7 +102,7 @@ impl Session {
     }
 }
 
-// Runs one command, and answers its reply.
+// Runs one command, and returns its reply.
 fn run_one(
     machine: &mut ScriptMachine,
     command: Command,
@@ -116,7 +116,7 @@ fn run_one(
     replies.pop().ok_or(DriveFault::Memory)
 }
 
-// Puts the text of a reply behind what waits to be written.
+// Appends the text of a reply to what waits to be written.
 fn tell<W: Write, T: fmt::Display>(
     output: &mut W,
     waiting: &mut Vec<u8>,

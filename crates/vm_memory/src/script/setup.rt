@@ -1,4 +1,4 @@
-//! Lines that may come before the first command only.
+//! Lines that may only come before the first command.
 ghost use Rattle.std.specs.Option.{option_map};
 ghost use Rattle.vm_memory.specs.Reading.{Gives};
 ghost use Rattle.vm_memory.specs.Lines.{setup_fields};

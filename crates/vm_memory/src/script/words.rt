@@ -14,7 +14,7 @@ use std::marker::Model;
 use std::num::NonZeroUsize;
 use vm_memory_base::{BitmapId, GuestAddress, Permissions, SinkStep, SourceStep};
 
-/// Why there is no line.
+/// Why a line cannot be parsed.
 #[derive(Clone, Copy)]
 pub(super) enum LineError {
     /// It has none of the forms.
@@ -274,7 +274,7 @@ impl<'a> Words<'a> {
         Ok(NumberList::from_vec(indices))
     }
 
-    /// Nothing, where no word is left.
+    /// Returns an error if a word is left.
     pub(super) fn end(&mut self) -> Result<(), LineError>
         ensures { Gives (λ u. u) result self.new (end_at self.old) }
     {
@@ -285,7 +285,7 @@ impl<'a> Words<'a> {
     }
 }
 
-// One digit or more, in hexadecimal at most 16, of a value of at most 2^64 - 1.
+// One or more digits, at most 16 of them in hexadecimal, for a value of at most 2^64 - 1.
 #[tactic(auto, unfolding(crate::specs::Reading::number_of))]
 fn number(word: &str) -> Option<u64>
     ensures { result ≡ number_of word.now }
@@ -302,7 +302,7 @@ fn number_in(digits: &str, radix: u32) -> Option<u64>
     requires high { radix ≤ 36 }
     ensures { result ≡ number_in radix digits.now }
 {
-    // A plus sign, which the conversion takes, is no digit.
+    // The conversion accepts a plus sign, which is not a digit.
     if digits.starts_with('+') {
         return None;
     }
