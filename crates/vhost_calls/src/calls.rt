@@ -1,0 +1,157 @@
+//! The calls.
+ghost use Rattle.std.specs.Prelude.{◌≡◌};
+ghost use Rattle.vhost_calls.specs.Calls.{Gives, Handles, Opens, Sends, Stops, refusal_of, region_at, reply_of, vring_at, wanted_of};
+ghost use Rattle.vhost_calls.specs.Values.{connection_state};
+
+use crate::code;
+use crate::refused::{code_of_not_running, code_of_offer, code_of_refusal, code_of_step};
+use crate::values::*;
+use std::alloc::Global;
+use vhost_user::{BackendReqHandler, FrontendReq, Header, expects};
+
+const HEADER_LEN: usize = 12;
+
+const MAX_DESCRIPTORS: usize = 8;
+
+/// A connection with nothing negotiated, with this configuration of at most 256 bytes. `VHOST_OFFER` if no back end
+/// offers this, and `MEMORY` if an allocation fails.
+pub fn open(alloc: Global, offer: &VhostOffer, config: &[u8]) -> Result<BackendReqHandler, u32>
+    ensures { Opens offer.now config.now result }
+{
+    match BackendReqHandler::new(alloc, offer_of(offer), offer.queues as usize, config) {
+        Ok(backend) => Ok(backend),
+        Err(error) => Err(code_of_offer(error)),
+    }
+}
+
+/// What is still to come of a message of which these bytes came. Refused as the header is; what follows is no message
+/// then.
+pub fn wanted(start: &[u8], wanted: &mut VhostWanted) -> u32
+    ensures { Gives (wanted_of start.now) wanted.old result wanted.new }
+{
+    if start.len() < HEADER_LEN {
+        *wanted = VhostWanted {
+            bytes: HEADER_LEN - start.len(),
+            descriptors: MAX_DESCRIPTORS,
+        };
+        return code::DONE;
+    }
+    match expects(&Header::at_front(start)) {
+        Ok(expected) => {
+            *wanted = VhostWanted {
+                bytes: (HEADER_LEN + expected.payload).saturating_sub(start.len()),
+                descriptors: expected.descriptors,
+            };
+            code::DONE
+        }
+        Err(refusal) => code_of_refusal(refusal),
+    }
+}
+
+/// Takes a message, with which so many descriptors came. What it asks for is put into `request`, and is part of the
+/// connection from now on. If it is refused, nothing changes. `VHOST_HEADER` if its header is not whole.
+pub fn handle(
+    backend: &mut BackendReqHandler,
+    message: &[u8],
+    descriptors: usize,
+    request: &mut VhostRequest,
+) -> u32
+    ensures { Handles backend.old message.now descriptors request.old result request.new backend.new }
+{
+    if message.len() < HEADER_LEN {
+        return code::VHOST_HEADER;
+    }
+    let header = Header::at_front(message);
+    match backend.handle(&header, &message[HEADER_LEN..], descriptors) {
+        Ok(asked) => {
+            *request = asked_by(header.request, &asked);
+            code::DONE
+        }
+        Err(refusal) => code_of_refusal(refusal),
+    }
+}
+
+// Puts bytes to the front of an output if they fit, and says how many they are.
+fn send(bytes: &[u8], output: &mut [u8]) -> usize
+    ensures { Sends bytes.now output.old result output.new }
+{
+    if bytes.len() <= output.len() {
+        output[..bytes.len()].copy_from_slice(bytes);
+    }
+    bytes.len()
+}
+
+/// The reply to a message that was taken and done, to the front of the output, which has 280 bytes or has to be as long
+/// as the reply; otherwise it stays. Returns how many bytes the reply has: 0 if none is due.
+pub fn reply(backend: &BackendReqHandler, message: &[u8], output: &mut [u8]) -> usize
+    ensures { Sends (reply_of backend.now message.now) output.old result output.new }
+{
+    if message.len() < HEADER_LEN {
+        return 0;
+    }
+    let header = Header::at_front(message);
+    match FrontendReq::decode(&header, &message[HEADER_LEN..]) {
+        Ok(request) => send(backend.reply(&header, &request).as_slice(), output),
+        Err(_) => 0,
+    }
+}
+
+/// The reply to a message that was refused or could not be done, as `reply` gives it.
+pub fn refuse(backend: &BackendReqHandler, message: &[u8], output: &mut [u8]) -> usize
+    ensures { Sends (refusal_of backend.now message.now) output.old result output.new }
+{
+    if message.len() < HEADER_LEN {
+        return 0;
+    }
+    let header = Header::at_front(message);
+    send(backend.refuse(&header).as_slice(), output)
+}
+
+/// Says where a ring goes on that was stopped. `VHOST_INDEX` if there is no such ring, and `VHOST_STARTED` if it is
+/// started.
+pub fn stop(backend: &mut BackendReqHandler, index: u32, base: u32) -> u32
+    ensures { Stops backend.old index base result backend.new }
+{
+    code_of_step(backend.stop(index, base))
+}
+
+/// A ring as it is to be served, or why it is not: `VHOST_INDEX` if there is none, `VHOST_STOPPED`, `VHOST_DISABLED`,
+/// `VHOST_NO_SIZE`, `VHOST_NO_ADDRESS`, and `VHOST_USER_ADDRESS` if the memory does not have it.
+pub fn running(backend: &BackendReqHandler, index: u32, vring: &mut VhostVring) -> u32
+    ensures { Gives (vring_at backend.now index) vring.old result vring.new }
+{
+    match backend.running(index) {
+        Ok(found) => {
+            *vring = vring_row(&found);
+            code::DONE
+        }
+        Err(reason) => code_of_not_running(reason),
+    }
+}
+
+/// A region of the memory. `NO_SUCH` if there is none of this number.
+pub fn region(backend: &BackendReqHandler, number: usize, region: &mut VhostRegion) -> u32
+    ensures { Gives (region_at backend.now number) region.old result region.new }
+{
+    match backend.memory().regions().get(number) {
+        Some(found) => {
+            *region = region_row(found);
+            code::DONE
+        }
+        None => code::NO_SUCH,
+    }
+}
+
+/// What was negotiated, and how much there is.
+pub fn state(backend: &BackendReqHandler) -> VhostState
+    ensures { result ≡ connection_state backend.now }
+{
+    connection_state(backend)
+}
+
+/// The configuration, which a front end may have written to, as `reply` gives its bytes.
+pub fn config(backend: &BackendReqHandler, output: &mut [u8]) -> usize
+    ensures { Sends backend.now.config output.old result output.new }
+{
+    send(backend.config(), output)
+}
