@@ -1,5 +1,5 @@
 -- The calls: a code, 0 if the call was done, and what it gives then.
-use Rattle.std.specs.Prelude.{◌≡◌, ℕ, ◌+◌, ◌-◌, nat_le, nat_lt, if◌then◌else◌, MatchBool, List, [], ◌++◌, length, drop, slice_get, Option, Some, None, Result, Ok, Err}
+use Rattle.std.specs.Prelude.{◌≡◌, ℕ, ◌+◌, ◌-◌, ◌<◌, ◌≤◌, nat_le, nat_lt, if◌then◌else◌, List, [], ◌++◌, length, drop, slice_get, Option, Some, None, Result, Ok, Err}
 use Rattle.vhost_message.specs.FrontendReq.{request_of}
 use Rattle.vhost_message.specs.Header.{header_in}
 use Rattle.vhost_message.specs.Requests.{expected}
@@ -61,21 +61,29 @@ abbrev pub answer_of : ℕ → Result FrontendReq Refusal → Result VhostReques
 answer_of n (Ok request) = Ok (asked_by n request)
 answer_of n (Err e) = Err (code_of_refusal e)
 
--- a whole header and a payload are handled, and without a whole header nothing changes
+-- a header and a payload are handled
+unfoldable pub Takes : Connection → Header → List ℕ → ℕ → VhostRequest → ℕ → VhostRequest → Connection → Type 0
+Takes old h payload descriptors request code request' new =
+    (r : Result FrontendReq Refusal) × connection.Handles old h payload descriptors r new
+    × Gives (answer_of h.request r) request code request'
+
+-- a message is, and nothing changes if its header is not whole
 abbrev pub Handles : Connection → List ℕ → ℕ → VhostRequest → ℕ → VhostRequest → Connection → Type 0
-Handles old message descriptors request code request' new = MatchBool (nat_lt (length message) 12)
-    ((code ≡ 101) × (request' ≡ request) × (new ≡ old))
-    ((r : Result FrontendReq Refusal) × connection.Handles old (header_in message) (drop 12 message) descriptors r new
-    × Gives (answer_of (header_in message).request r) request code request')
+Handles old message descriptors request code request' new =
+    (length message < 12 → (code ≡ 101) × (request' ≡ request) × (new ≡ old))
+    × (12 ≤ length message → Takes old (header_in message) (drop 12 message) descriptors request code request' new)
 
 abbrev pub reply_if : Connection → Header → Result FrontendReq Refusal → List ℕ
 reply_if s h (Ok request) = reply_to s h request
 reply_if s h (Err e) = []
 
+-- the reply to what was done, by its header and its payload
+unfoldable pub payload_reply : Connection → Header → List ℕ → List ℕ
+payload_reply s h payload = reply_if s h (request_of h payload)
+
 -- the replies to a message that was done, and to one that was not
 abbrev pub reply_of : Connection → List ℕ → List ℕ
-reply_of s message = if nat_lt (length message) 12 then []
-    else reply_if s (header_in message) (request_of (header_in message) (drop 12 message))
+reply_of s message = if nat_lt (length message) 12 then [] else payload_reply s (header_in message) (drop 12 message)
 
 abbrev pub refusal_of : Connection → List ℕ → List ℕ
 refusal_of s message = if nat_lt (length message) 12 then [] else refused s (header_in message)

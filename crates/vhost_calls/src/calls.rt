@@ -1,13 +1,13 @@
 //! The calls.
 ghost use Rattle.std.specs.Prelude.{◌≡◌};
-ghost use Rattle.vhost_calls.specs.Calls.{Gives, Handles, Opens, Sends, Stops, refusal_of, region_at, reply_of, vring_at, wanted_of};
+ghost use Rattle.vhost_calls.specs.Calls.{Gives, Handles, Opens, Sends, Stops, Takes, answer_of, payload_reply, refusal_of, region_at, reply_if, reply_of, vring_at, wanted_of};
 ghost use Rattle.vhost_calls.specs.Values.{connection_state};
 
 use crate::code;
 use crate::refused::{code_of_not_running, code_of_offer, code_of_refusal, code_of_step};
 use crate::values::*;
 use std::alloc::Global;
-use vhost_user::{BackendReqHandler, FrontendReq, Header, expects};
+use vhost_user::{BackendReqHandler, FrontendReq, Header, Message, Refusal, expects};
 
 const HEADER_LEN: usize = 12;
 
@@ -48,6 +48,34 @@ pub fn wanted(start: &[u8], wanted: &mut VhostWanted) -> u32
     }
 }
 
+// Says what a message of this number asks for, or why it is refused.
+fn answer(number: u32, asked: Result<FrontendReq, Refusal>, request: &mut VhostRequest) -> u32
+    ensures { Gives (answer_of number asked) request.old result request.new }
+{
+    match asked {
+        Ok(asked) => {
+            *request = asked_by(number, &asked);
+            code::DONE
+        }
+        Err(refusal) => code_of_refusal(refusal),
+    }
+}
+
+// Takes a message, by its header and its payload.
+#[tactic(auto, unfolding(crate::specs::Calls::Takes))]
+fn take(
+    backend: &mut BackendReqHandler,
+    header: &Header,
+    payload: &[u8],
+    descriptors: usize,
+    request: &mut VhostRequest,
+) -> u32
+    ensures { Takes backend.old header.now payload.now descriptors request.old result request.new backend.new }
+{
+    let asked = backend.handle(header, payload, descriptors);
+    answer(header.request, asked, request)
+}
+
 /// Takes a message, with which so many descriptors came. What it asks for is put into `request`, and is part of the
 /// connection from now on. If it is refused, nothing changes. `VHOST_HEADER` if its header is not whole.
 pub fn handle(
@@ -62,13 +90,13 @@ pub fn handle(
         return code::VHOST_HEADER;
     }
     let header = Header::at_front(message);
-    match backend.handle(&header, &message[HEADER_LEN..], descriptors) {
-        Ok(asked) => {
-            *request = asked_by(header.request, &asked);
-            code::DONE
-        }
-        Err(refusal) => code_of_refusal(refusal),
-    }
+    take(
+        backend,
+        &header,
+        &message[HEADER_LEN..],
+        descriptors,
+        request,
+    )
 }
 
 // Puts bytes to the front of an output if they fit, and says how many they are.
@@ -81,19 +109,43 @@ fn send(bytes: &[u8], output: &mut [u8]) -> usize
     bytes.len()
 }
 
+// The reply to a message, if it asks for something.
+fn reply_if(
+    backend: &BackendReqHandler,
+    header: &Header,
+    asked: Result<FrontendReq, Refusal>,
+) -> Message
+    ensures { result ≡ reply_if backend.now header.now asked }
+{
+    match asked {
+        Ok(request) => backend.reply(header, &request),
+        Err(_) => Message::new(),
+    }
+}
+
+// The reply to a message, by its header and its payload.
+#[tactic(auto, unfolding(crate::specs::Calls::payload_reply))]
+fn payload_reply(backend: &BackendReqHandler, header: &Header, payload: &[u8]) -> Message
+    ensures { result ≡ payload_reply backend.now header.now payload.now }
+{
+    reply_if(backend, header, FrontendReq::decode(header, payload))
+}
+
+fn reply_of(backend: &BackendReqHandler, message: &[u8]) -> Message
+    ensures { result ≡ reply_of backend.now message.now }
+{
+    if message.len() < HEADER_LEN {
+        return Message::new();
+    }
+    payload_reply(backend, &Header::at_front(message), &message[HEADER_LEN..])
+}
+
 /// The reply to a message that was taken and done, to the front of the output, which has 280 bytes or has to be as long
 /// as the reply; otherwise it stays. Returns how many bytes the reply has: 0 if none is due.
 pub fn reply(backend: &BackendReqHandler, message: &[u8], output: &mut [u8]) -> usize
     ensures { Sends (reply_of backend.now message.now) output.old result output.new }
 {
-    if message.len() < HEADER_LEN {
-        return 0;
-    }
-    let header = Header::at_front(message);
-    match FrontendReq::decode(&header, &message[HEADER_LEN..]) {
-        Ok(request) => send(backend.reply(&header, &request).as_slice(), output),
-        Err(_) => 0,
-    }
+    send(reply_of(backend, message).as_slice(), output)
 }
 
 /// The reply to a message that was refused or could not be done, as `reply` gives it.
