@@ -16,17 +16,17 @@ use vhost_calls::{
 // Takes the connection of an open handle, which is closed until it is put back.
 fn take(alloc: Global, connection: &mut Backend) -> Box<BackendReqHandler>
     requires { IsSome connection.old.state }
-    ensures open { Some result.value ≡ connection.old.state }
+    ensures held { Some result.value ≡ connection.old.state }
     ensures closed { connection.new.state ≡ None }
 {
     let handle = mem::replace(connection, Backend::closed(alloc));
     handle.loosen().into_box()
 }
 
-fn put(connection: &mut Backend, open: Box<BackendReqHandler>)
-    ensures { connection.new.state ≡ Some open.value }
+fn put(connection: &mut Backend, held: Box<BackendReqHandler>)
+    ensures { connection.new.state ≡ Some held.value }
 {
-    *connection = Backend::of(Loose::of(open));
+    *connection = Backend::of(Loose::of(held));
 }
 
 /// Opens a connection with nothing negotiated, and puts its handle into `connection`, which has to be closed or new.
@@ -40,13 +40,13 @@ pub extern "C" fn vmm_vhost_open(
 ) -> u32
     ensures { OpensAt offer.now config.now connection.old.state result connection.new.state }
 {
-    let open = match vhost_calls::open(alloc, offer, config) {
-        Ok(open) => open,
+    let made = match vhost_calls::open(alloc, offer, config) {
+        Ok(made) => made,
         Err(code) => return code,
     };
-    match Box::new(alloc, open) {
-        Ok(open) => {
-            put(connection, open);
+    match Box::new(alloc, made) {
+        Ok(held) => {
+            put(connection, held);
             code::DONE
         }
         Err(_) => code::MEMORY,
@@ -75,9 +75,9 @@ pub extern "C" fn vmm_vhost_handle(
     ensures { StaysOpen connection.old.state connection.new.state
         (λ old new. Handles old message.now descriptors request.old result request.new new) }
 {
-    let mut open = take(alloc, connection);
-    let code = vhost_calls::handle(&mut open, message, descriptors, request);
-    put(connection, open);
+    let mut held = take(alloc, connection);
+    let code = vhost_calls::handle(&mut held, message, descriptors, request);
+    put(connection, held);
     code
 }
 
@@ -94,9 +94,9 @@ pub extern "C" fn vmm_vhost_reply(
     ensures { StaysOpen connection.old.state connection.new.state
         (λ old new. (new ≡ old) × Sends (reply_of old message.now) output.old result output.new) }
 {
-    let open = take(alloc, connection);
-    let count = vhost_calls::reply(&open, message, output);
-    put(connection, open);
+    let held = take(alloc, connection);
+    let count = vhost_calls::reply(&held, message, output);
+    put(connection, held);
     count
 }
 
@@ -112,9 +112,9 @@ pub extern "C" fn vmm_vhost_refuse(
     ensures { StaysOpen connection.old.state connection.new.state
         (λ old new. (new ≡ old) × Sends (refusal_of old message.now) output.old result output.new) }
 {
-    let open = take(alloc, connection);
-    let count = vhost_calls::refuse(&open, message, output);
-    put(connection, open);
+    let held = take(alloc, connection);
+    let count = vhost_calls::refuse(&held, message, output);
+    put(connection, held);
     count
 }
 
@@ -129,9 +129,9 @@ pub extern "C" fn vmm_vhost_stop(
     requires { IsSome connection.old.state }
     ensures { StaysOpen connection.old.state connection.new.state (λ old new. Stops old index base result new) }
 {
-    let mut open = take(alloc, connection);
-    let code = vhost_calls::stop(&mut open, index, base);
-    put(connection, open);
+    let mut held = take(alloc, connection);
+    let code = vhost_calls::stop(&mut held, index, base);
+    put(connection, held);
     code
 }
 
@@ -147,9 +147,9 @@ pub extern "C" fn vmm_vhost_running(
     ensures { StaysOpen connection.old.state connection.new.state
         (λ old new. (new ≡ old) × Gives (vring_at old index) vring.old result vring.new) }
 {
-    let open = take(alloc, connection);
-    let code = vhost_calls::running(&open, index, vring);
-    put(connection, open);
+    let held = take(alloc, connection);
+    let code = vhost_calls::running(&held, index, vring);
+    put(connection, held);
     code
 }
 
@@ -165,9 +165,9 @@ pub extern "C" fn vmm_vhost_region(
     ensures { StaysOpen connection.old.state connection.new.state
         (λ old new. (new ≡ old) × Gives (region_at old number) region.old result region.new) }
 {
-    let open = take(alloc, connection);
-    let code = vhost_calls::region(&open, number, region);
-    put(connection, open);
+    let held = take(alloc, connection);
+    let code = vhost_calls::region(&held, number, region);
+    put(connection, held);
     code
 }
 
@@ -178,9 +178,9 @@ pub extern "C" fn vmm_vhost_state(alloc: Global, connection: &mut Backend, state
     ensures { StaysOpen connection.old.state connection.new.state
         (λ old new. (new ≡ old) × (state.new ≡ connection_state old)) }
 {
-    let open = take(alloc, connection);
-    *state = vhost_calls::state(&open);
-    put(connection, open);
+    let held = take(alloc, connection);
+    *state = vhost_calls::state(&held);
+    put(connection, held);
 }
 
 /// Puts the configuration, which a front end may have written to, to the front of the output, as `vmm_vhost_reply`.
@@ -194,9 +194,9 @@ pub extern "C" fn vmm_vhost_config(
     ensures { StaysOpen connection.old.state connection.new.state
         (λ old new. (new ≡ old) × Sends old.config output.old result output.new) }
 {
-    let open = take(alloc, connection);
-    let count = vhost_calls::config(&open, output);
-    put(connection, open);
+    let held = take(alloc, connection);
+    let count = vhost_calls::config(&held, output);
+    put(connection, held);
     count
 }
 
