@@ -7,7 +7,7 @@
 enum { GET_FEATURES = 1, SET_FEATURES = 2, SET_MEM_TABLE = 5, SET_VRING_NUM = 8, SET_VRING_ADDR = 9, GET_VRING_BASE = 11,
        SET_VRING_KICK = 12, GET_CONFIG = 24 };
 
-/* Where the front end has its memory, of which the guest sees 64 KiB from 1 MiB on. */
+/* The address of the front end's memory. The guest sees 64 KiB of it, from 1 MiB on. */
 #define USER 0x7f0000000000u
 #define GUEST 0x100000u
 
@@ -16,7 +16,7 @@ static uint8_t message[VMM_VHOST_MOST], reply[VMM_VHOST_MOST];
 static size_t message_size;
 static vmm_vhost_request request;
 
-/* Adds a number of so many bytes to the message, the lowest first. */
+/* Adds a number to the message, of this size, the lowest byte first. */
 static void put(uint64_t number, size_t size) {
     for (size_t i = 0; i < size; i++) {
         message[message_size++] = (uint8_t)(number >> 8 * i);
@@ -35,7 +35,7 @@ static uint32_t handle(size_t descriptors) {
     return vmm_vhost_handle(&connection, message, message_size, descriptors, &request);
 }
 
-/* The last number of a reply of so many bytes, or 0 if it is another one. */
+/* The last number of a reply of this size, or 0 if the reply is another one. */
 static uint64_t replied(size_t size) {
     uint64_t number = 0;
     if (vmm_vhost_reply(&connection, message, message_size, reply, sizeof reply) != size || reply[4] != 5) {

@@ -46,9 +46,9 @@ pub struct Offer {
     pub queues: u32,
     /// How many descriptors a ring has at most: 1 to 32,768.
     pub max_queue_size: u32,
-    /// Where the bytes of the configuration begin that a driver may write.
+    /// The first byte of the configuration that a driver may write.
     pub writable_from: u32,
-    /// How many these are.
+    /// How many bytes it may write.
     pub writable_len: u32,
 }
 
@@ -66,20 +66,20 @@ pub struct Wanted {
 #[repr(C)]
 #[derive(Clone, Copy, Debug, Default, PartialEq, Eq)]
 pub struct Region {
-    /// Where it begins in guest memory.
+    /// The first of its addresses in guest memory.
     pub guest_address: u64,
     /// How many bytes it has.
     pub size: u64,
-    /// Where it begins in the front end's own memory.
+    /// The first of its addresses in the front end's own memory.
     pub user_address: u64,
-    /// Where it begins in its file, in bytes.
+    /// The place of its first byte in its file.
     pub mmap_offset: u64,
 }
 
 /// A part of the device's configuration.
 #[derive(Clone, Copy, Debug, PartialEq, Eq)]
 pub struct ConfigSpace {
-    /// Where it begins, in bytes.
+    /// The place of its first byte.
     pub offset: u32,
     /// How many bytes it has.
     pub size: u32,
@@ -427,8 +427,8 @@ fn notifier_of(number: u32) -> Notifier {
     }
 }
 
-/// What is still to come of a message of which these bytes came, or why its header is refused: then it is not known where
-/// the next message begins.
+/// What is still to come of a message that begins with these bytes, or why its header is refused. After a refusal
+/// nobody knows the beginning of the next message.
 pub fn wanted(start: &[u8]) -> Result<Wanted, Refusal> {
     vhost_wanted(start).map_err(Refusal::of)
 }
@@ -446,7 +446,7 @@ impl Backend {
         Ok(Backend { connection })
     }
 
-    /// Takes a whole message with which so many descriptors came. If it is refused, nothing changed.
+    /// Takes a whole message that came with so many descriptors. If it is refused, nothing changed.
     pub fn handle(&mut self, message: &[u8], descriptors: usize) -> Result<Request, Refusal> {
         let handled = self.connection.handle(message, descriptors);
         handled.map(|request| request_of(&request)).map_err(Refusal::of)
