@@ -1,5 +1,6 @@
 //! The calls.
-ghost use Rattle.std.specs.Prelude.{◌≡◌};
+ghost use Rattle.std.specs.Prelude.{◌≡◌, Ok};
+ghost use Rattle.vhost_message.specs.Stream.{wanted};
 ghost use Rattle.vhost_calls.specs.Calls.{Gives, Handles, Opens, Sends, Stops, Takes, answer_of, payload_reply, refusal_of, region_at, reply_if, reply_of, vring_at, wanted_of};
 ghost use Rattle.vhost_calls.specs.Values.{connection_state};
 
@@ -7,11 +8,8 @@ use crate::code;
 use crate::refused::{code_of_not_running, code_of_offer, code_of_refusal, code_of_step};
 use crate::values::*;
 use std::alloc::Global;
+use vhost_message::{HEADER_LEN, MAX_REGIONS};
 use vhost_user::{BackendReqHandler, FrontendReq, Header, Message, Refusal, expects};
-
-const HEADER_LEN: usize = 12;
-
-const MAX_DESCRIPTORS: usize = 8;
 
 /// A connection with nothing negotiated, with this configuration of at most 256 bytes. `VHOST_OFFER` if no back end
 /// offers this, and `MEMORY` if an allocation fails.
@@ -24,21 +22,22 @@ pub fn open(alloc: Global, offer: &VhostOffer, config: &[u8]) -> Result<BackendR
     }
 }
 
-/// What is still to come of a message of which these bytes came. Refused as the header is; what follows is no message
-/// then.
-pub fn wanted(start: &[u8], wanted: &mut VhostWanted) -> u32
-    ensures { Gives (wanted_of start.now) wanted.old result wanted.new }
+/// What is still to come of a message that begins with these bytes. A stream is cut by this into its messages.
+/// Refused as the header is: then nobody knows the beginning of the next message.
+pub fn wanted(start: &[u8], rest: &mut VhostWanted) -> u32
+    ensures gives { Gives (wanted_of start.now) rest.old result rest.new }
+    ensures cuts { result ≡ 0 → wanted start.now ≡ Ok rest.new.bytes }
 {
     if start.len() < HEADER_LEN {
-        *wanted = VhostWanted {
+        *rest = VhostWanted {
             bytes: HEADER_LEN - start.len(),
-            descriptors: MAX_DESCRIPTORS,
+            descriptors: MAX_REGIONS,
         };
         return code::DONE;
     }
     match expects(&Header::at_front(start)) {
         Ok(expected) => {
-            *wanted = VhostWanted {
+            *rest = VhostWanted {
                 bytes: (HEADER_LEN + expected.payload).saturating_sub(start.len()),
                 descriptors: expected.descriptors,
             };
@@ -76,7 +75,7 @@ fn take(
     answer(header.request, asked, request)
 }
 
-/// Takes a message, with which so many descriptors came. What it asks for is put into `request`, and is part of the
+/// Takes a message that came with so many descriptors. What it asks for is put into `request`, and is part of the
 /// connection from now on. If it is refused, nothing changes. `VHOST_HEADER` if its header is not whole.
 pub fn handle(
     backend: &mut BackendReqHandler,
@@ -159,7 +158,7 @@ pub fn refuse(backend: &BackendReqHandler, message: &[u8], output: &mut [u8]) ->
     send(backend.refuse(&header).as_slice(), output)
 }
 
-/// Says where a ring goes on that was stopped. `VHOST_INDEX` if there is no such ring, and `VHOST_STARTED` if it is
+/// Says the index at which a stopped ring goes on. `VHOST_INDEX` if there is no such ring, and `VHOST_STARTED` if it is
 /// started.
 pub fn stop(backend: &mut BackendReqHandler, index: u32, base: u32) -> u32
     ensures { Stops backend.old index base result backend.new }
@@ -167,7 +166,7 @@ pub fn stop(backend: &mut BackendReqHandler, index: u32, base: u32) -> u32
     code_of_step(backend.stop(index, base))
 }
 
-/// A ring as it is to be served, or why it is not: `VHOST_INDEX` if there is none, `VHOST_STOPPED`, `VHOST_DISABLED`,
+/// A ring as it is to be served, or why it is not: `VHOST_INDEX` if no ring has this number, `VHOST_STOPPED`, `VHOST_DISABLED`,
 /// `VHOST_NO_SIZE`, `VHOST_NO_ADDRESS`, and `VHOST_USER_ADDRESS` if the memory does not have it.
 pub fn running(backend: &BackendReqHandler, index: u32, vring: &mut VhostVring) -> u32
     ensures { Gives (vring_at backend.now index) vring.old result vring.new }
@@ -181,7 +180,7 @@ pub fn running(backend: &BackendReqHandler, index: u32, vring: &mut VhostVring) 
     }
 }
 
-/// A region of the memory. `NO_SUCH` if there is none of this number.
+/// A region of the memory. `NO_SUCH` if no region has this number.
 pub fn region(backend: &BackendReqHandler, number: usize, region: &mut VhostRegion) -> u32
     ensures { Gives (region_at backend.now number) region.old result region.new }
 {

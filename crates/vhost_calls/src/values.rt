@@ -18,9 +18,9 @@ pub struct VhostOffer {
     pub queues: u32,
     /// How many descriptors a ring has at most: 1 to 32,768.
     pub max_queue_size: u32,
-    /// Where the bytes of the configuration begin that a driver may write.
+    /// The first byte of the configuration that a driver may write.
     pub writable_from: u32,
-    /// How many these are.
+    /// How many bytes it may write.
     pub writable_len: u32,
 }
 
@@ -45,8 +45,8 @@ pub struct VhostRequest {
     /// Of a KICK, CALL or ERR 1 if a descriptor came, of an ENABLE 1 if the ring is enabled, and of a GET_CONFIG or
     /// SET_CONFIG 1 if it is for a migration.
     pub flag: u32,
-    /// Of a SET_VRING_NUM or SET_VRING_BASE the number, of features the bits, of a configuration or a log where the part
-    /// begins.
+    /// Of a SET_VRING_NUM or SET_VRING_BASE the number, of features the bits, of a configuration or a log the place of the
+    /// part's first byte.
     pub value: u64,
     /// How many bytes the part of the configuration or the log has.
     pub size: u64,
@@ -56,13 +56,13 @@ pub struct VhostRequest {
 #[repr(C)]
 #[derive(Clone, Copy, Debug, PartialEq, Eq)]
 pub struct VhostRegion {
-    /// Where it begins in guest memory.
+    /// The first of its addresses in guest memory.
     pub guest_address: u64,
     /// How many bytes it has.
     pub size: u64,
-    /// Where it begins in the front end's own memory.
+    /// The first of its addresses in the front end's own memory.
     pub user_address: u64,
-    /// Where it begins in its file, in bytes.
+    /// The place of its first byte in its file.
     pub mmap_offset: u64,
 }
 

@@ -1,5 +1,6 @@
 //! A back end's connection with a vhost-user front end, for C: opens one, calls it, and closes it.
-ghost use Rattle.std.specs.Prelude.{◌≡◌, Some, None, IsSome};
+ghost use Rattle.std.specs.Prelude.{◌≡◌, Some, None, IsSome, Ok};
+ghost use Rattle.vhost_message.specs.Stream.{wanted};
 ghost use Rattle.vhost_calls.specs.Calls.{Gives, Handles, Sends, Stops, refusal_of, region_at, reply_of, vring_at, wanted_of};
 ghost use Rattle.vhost_calls.specs.Values.{connection_state};
 ghost use Rattle.vm_memory_c.specs.Vhost.{OpensAt, StaysOpen};
@@ -53,15 +54,16 @@ pub extern "C" fn vmm_vhost_open(
     }
 }
 
-/// Says what is still to come of a message of which these bytes came. No connection is needed.
+/// Says what is still to come of a message that begins with these bytes. It needs no connection.
 #[unsafe(no_mangle)]
-pub extern "C" fn vmm_vhost_wanted(start: &[u8], wanted: &mut VhostWanted) -> u32
-    ensures { Gives (wanted_of start.now) wanted.old result wanted.new }
+pub extern "C" fn vmm_vhost_wanted(start: &[u8], rest: &mut VhostWanted) -> u32
+    ensures gives { Gives (wanted_of start.now) rest.old result rest.new }
+    ensures cuts { result ≡ 0 → wanted start.now ≡ Ok rest.new.bytes }
 {
-    vhost_calls::wanted(start, wanted)
+    vhost_calls::wanted(start, rest)
 }
 
-/// Takes a message, with which so many descriptors came, and says in `request` what it asks for. If it is refused,
+/// Takes a message that came with so many descriptors, and says in `request` what it asks for. If it is refused,
 /// nothing changes.
 #[unsafe(no_mangle)]
 pub extern "C" fn vmm_vhost_handle(
@@ -118,7 +120,7 @@ pub extern "C" fn vmm_vhost_refuse(
     count
 }
 
-/// Says where a ring goes on that was stopped.
+/// Says the index at which a stopped ring goes on.
 #[unsafe(no_mangle)]
 pub extern "C" fn vmm_vhost_stop(
     alloc: Global,
@@ -153,7 +155,7 @@ pub extern "C" fn vmm_vhost_running(
     code
 }
 
-/// Puts a region of the memory into `region`, or says that there is none of this number.
+/// Puts a region of the memory into `region`, or says that no region has this number.
 #[unsafe(no_mangle)]
 pub extern "C" fn vmm_vhost_region(
     alloc: Global,
