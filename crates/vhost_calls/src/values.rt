@@ -1,6 +1,6 @@
 //! What crosses to C, as plain numbers.
 ghost use Rattle.std.specs.Prelude.{◌≡◌};
-ghost use Rattle.vhost_calls.specs.Values.{asked_by, connection_state, no_request, number_of_bool, number_of_notifier, offer_of, on_config, on_ring, region_row, switched, valued, vring_row};
+ghost use Rattle.vhost_calls.specs.Values.{asked_by, connection_state, no_request, number_of_notifier, offer_of, on_config, on_ring, region_row, switched, valued, vring_row};
 
 use vhost_user::{
     BackendReqHandler, ConfigSpace, FrontendReq, MemoryRegion, Notifier, Offer, RunningVring,
