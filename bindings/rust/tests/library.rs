@@ -57,6 +57,7 @@ fn all_crates_below_are_watched() {
         names,
         [
             "vhost_iotlb",
+            "vhost_message",
             "virtio_blk",
             "virtio_queue",
             "vm_memory",

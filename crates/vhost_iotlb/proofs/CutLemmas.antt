@@ -2,11 +2,11 @@
 use Rattle.std.proofs.Common.{◌≡◌, Bool, true, false, nat_lt, ℕ, ◌+◌, ◌≤◌, List, [], ◌∷◌, ◌++◌, length, take, drop, Option, Some, None, Result, Ok, Err, arith, refl, sym, ap, subst, ◌∙◌, append_assoc}
 use Rattle.std.proofs.lemmas.Bool.{ltb-false, ltb-true}
 use Rattle.std.proofs.lemmas.List.{append-nil, drop-append-le, drop_at, length-append, nil_from_length, take-append-drop, take-append-le, take_at}
-use Rattle.vhost_iotlb.specs.Header.{header_in}
+use Rattle.vhost_message.specs.Header.{header_in}
 use Rattle.vhost_iotlb.specs.Stream.{AllLook, Given, IsCut, IsPart, IsWhole, Looks, Pending, Reads, behind, bytes_of, come, frame_in, frames_of, wanted}
 use Rattle.vhost_iotlb.specs.declared.channel.ChannelError.{ChannelError}
 use Rattle.vhost_iotlb.specs.declared.channel.Frame.{Frame}
-use Rattle.vhost_iotlb.specs.declared.header.Header.{Header}
+use Rattle.vhost_message.specs.declared.header.Header.{Header}
 use Rattle.vhost_iotlb.proofs.StreamLemmas.{come_more, come_nothing, header_grows, wanted_least, wanted_long}
 
 -- ---- one way

@@ -1,15 +1,28 @@
 -- A message that came was served.
-use Rattle.std.proofs.Common.{◌≡◌, ℕ, List, Option, Some, Result, Ok, Err, MatchResult, refl, subst}
+use Rattle.std.proofs.Common.{◌≡◌, true, ℕ, List, Option, Some, Result, Ok, Err, MatchResult, refl, subst}
 use Rattle.std.specs.Prelude.{IfOk}
 use Rattle.std.specs.Io.KnownBytes.{Appends}
-use Rattle.vhost_iotlb.specs.Handling.{Device, Handles, Serves, answer_to}
+use Rattle.vhost_message.specs.Header.{needs_reply}
+use Rattle.vhost_iotlb.specs.Handling.{Device, Handles, Serves, Settles, answer_to, reply_bytes, value_of}
 use Rattle.vhost_iotlb.specs.Stream.{Given, Looks, Pending}
 use Rattle.vhost_iotlb.specs.declared.channel.ChannelError.{ChannelError}
 use Rattle.vhost_iotlb.specs.declared.channel.Frame.{Frame}
 use Rattle.vhost_iotlb.specs.declared.device.Handled.{Handled}
-use Rattle.vhost_iotlb.specs.declared.message.IotlbMessage.{IotlbMessage}
+use Rattle.vhost_iotlb.specs.declared.device.Handled.TheVariants.{Nothing, Applied, Refused, Malformed, Other}
+use Rattle.vhost_message.specs.declared.iotlb.IotlbMessage.{IotlbMessage}
 use Rattle.vhost_iotlb.specs.declared.table.DeviceTable.{DeviceTable}
 use Rattle.vhost_iotlb.specs.declared.table.Refusal.{Refusal}
+
+-- the reply to a message that asks for one
+pub reply_is : {H : Type 0} (applies : H → DeviceTable → IotlbMessage → Result (Unit {0}) Refusal → H → Type 0)
+    (table : DeviceTable) (frame : Frame) (old new : H) (handled : Handled)
+    → Settles applies table frame old handled new → needs_reply frame.header ≡ true
+    → reply_bytes frame.header.request (value_of handled) ≡ answer_to frame handled
+reply_is applies table frame old new (Applied m) s asked = rw asked refl
+reply_is applies table frame old new (Refused e) s asked = rw asked refl
+reply_is applies table frame old new (Malformed e) s asked = rw asked refl
+reply_is applies table frame old new Nothing s asked = absurd s
+reply_is applies table frame old new (Other other) s asked = absurd s
 
 module _ {F H : Type 0} (gives : F → Given → F → Type 0) (contents : F → Option (List ℕ))
     (applies : H → DeviceTable → IotlbMessage → Result (Unit {0}) Refusal → H → Type 0)

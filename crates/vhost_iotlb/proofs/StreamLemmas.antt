@@ -3,11 +3,11 @@ use Rattle.std.proofs.Common.{◌≡◌, ℕ, zero, suc, ◌+◌, ◌-◌, ◌<�
 use Rattle.std.proofs.Math.Seq.{take-add}
 use Rattle.std.proofs.lemmas.Bool.{ltb-true, ltb-false}
 use Rattle.std.proofs.lemmas.List.{append-nil, drop-replicate, drop-take, length-append, length-drop, length-take, length-take-le, take-append-le, take-take}
-use Rattle.vhost_iotlb.specs.Header.{header_in}
+use Rattle.vhost_message.specs.Header.{header_in}
 use Rattle.vhost_iotlb.specs.Stream.{AllGaveSome, Answers, FoundNoMore, Given, IsPart, IsPending, IsWhole, Looks, Pending, Reads, ReadsOn, behind, bytes_of, come, frame_in, wanted}
 use Rattle.vhost_iotlb.specs.declared.channel.ChannelError.{ChannelError}
 use Rattle.vhost_iotlb.specs.declared.channel.Frame.{Frame}
-use Rattle.vhost_iotlb.specs.declared.header.Header.{Header}
+use Rattle.vhost_message.specs.declared.header.Header.{Header}
 
 -- ---- headers
 

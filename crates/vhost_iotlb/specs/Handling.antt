@@ -1,19 +1,17 @@
 -- What comes of a message on the front end's channel, and how it is answered.
-use Rattle.std.specs.Prelude.{◌≡◌, ◌⊎◌, ℕ, Bool, true, false, not, ◌||◌, ◌==◌, if◌then◌else◌, List, [], ◌++◌, Option, Some, None, Result, Ok, Err}
+use Rattle.std.specs.Prelude.{◌≡◌, ℕ, Bool, true, false, not, ◌||◌, ◌==◌, if◌then◌else◌, List, [], ◌++◌, Option, Some, None, Result, Ok, Err}
 use Rattle.std.specs.Int.{w64, to_le_bytes}
 use Rattle.std.specs.Io.KnownBytes.{Appends}
 use Rattle.vhost_iotlb.specs.Frames.{message_of}
-use Rattle.vhost_iotlb.specs.Header.{header_bytes, is_reply, needs_reply}
+use Rattle.vhost_message.specs.Header.{header_bytes, is_reply, needs_reply}
 use Rattle.vhost_iotlb.specs.Stream.{Given, Looks, Pending}
 use Rattle.vhost_iotlb.specs.declared.channel.ChannelError.{ChannelError}
 use Rattle.vhost_iotlb.specs.declared.channel.Frame.{Frame}
 use Rattle.vhost_iotlb.specs.declared.device.Handled.{Handled}
-use Rattle.vhost_iotlb.specs.declared.device.Handled.TheVariants.{Nothing, Applied, Refused, Other}
-use Rattle.vhost_iotlb.specs.declared.malformed.Malformed.{Malformed}
-use Rattle.vhost_iotlb.specs.declared.message.IotlbMessage.{IotlbMessage}
+use Rattle.vhost_iotlb.specs.declared.device.Handled.TheVariants.{Nothing, Applied, Refused, Malformed, Other}
+use Rattle.vhost_message.specs.declared.iotlb.IotlbMessage.{IotlbMessage}
 use Rattle.vhost_iotlb.specs.declared.table.DeviceTable.{DeviceTable}
 use Rattle.vhost_iotlb.specs.declared.table.Refusal.{Refusal}
-use Rattle.vhost_iotlb.specs.declared.table.Refusal.TheVariants as refusal
 
 -- a message that is on a device's I/O table, and no reply
 abbrev pub is_ours : Frame → Bool
@@ -22,6 +20,7 @@ is_ours frame = not (not (frame.header.request == 22) || is_reply frame.header)
 -- the value of the reply to a message: 0 where it was done
 abbrev pub value_of : Handled → ℕ
 value_of (Refused e) = 1
+value_of (Malformed e) = 1
 value_of Nothing = 0
 value_of (Applied m) = 0
 value_of (Other frame) = 0
@@ -37,14 +36,13 @@ answer_to frame handled =
 
 module _ {H : Type 0} (applies : H → DeviceTable → IotlbMessage → Result (Unit {0}) Refusal → H → Type 0)
     (table : DeviceTable) where
-  -- a message was applied, or that was refused, or it is malformed and nothing was done
+  -- a message was applied, or the table refused it, or it is malformed and nothing was done
   abbrev pub Settles : Frame → H → Handled → H → Type 0
   Settles frame old (Applied m) new =
       (message_of frame.header frame.payload ≡ Ok m) × applies old table m (Ok tt) new
   Settles frame old (Refused e) new =
-      ((m : IotlbMessage) × (message_of frame.header frame.payload ≡ Ok m) × applies old table m (Err e) new)
-      ⊎ ((fault : Malformed) × (message_of frame.header frame.payload ≡ Err fault) × (e ≡ refusal.Malformed fault)
-      × (new ≡ old))
+      (m : IotlbMessage) × (message_of frame.header frame.payload ≡ Ok m) × applies old table m (Err e) new
+  Settles frame old (Malformed e) new = (message_of frame.header frame.payload ≡ Err e) × (new ≡ old)
   Settles frame old Nothing new = ⊥
   Settles frame old (Other other) new = ⊥
 

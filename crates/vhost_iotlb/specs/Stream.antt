@@ -1,7 +1,7 @@
 -- How the bytes of a channel are cut into messages.
 use Rattle.std.specs.Prelude.{◌≡◌, ℕ, ◌+◌, ◌-◌, ◌<◌, ◌≤◌, min, nat_lt, if◌then◌else◌, Bool, List, [], ◌∷◌, ◌++◌, length, take, drop, replicate, Option, Some, None, Result, Ok, Err}
 use Rattle.std.specs.Io.KnownBytes.{Consumes, IsAtEnd, Keeps}
-use Rattle.vhost_iotlb.specs.Header.{header_in}
+use Rattle.vhost_message.specs.Header.{header_in}
 use Rattle.vhost_iotlb.specs.declared.channel.ChannelError.{ChannelError}
 use Rattle.vhost_iotlb.specs.declared.channel.ChannelError.TheVariants.{Ended}
 use Rattle.vhost_iotlb.specs.declared.channel.Frame.{Frame}

@@ -1,19 +1,17 @@
 //! Messages as they come over a channel, and go over it.
 ghost use Rattle.std.specs.Prelude.{◌≡◌, ℕ, ◌-◌, ◌<◌, ◌≤◌, List, ◌++◌, length, take, slice_range, Result, IfOk, OnOk, MatchOption};
 ghost use Rattle.std.specs.Io.KnownBytes.{Appends};
-ghost use Rattle.vhost_iotlb.specs.Header.{header_bytes, header_in};
+ghost use Rattle.vhost_message.specs.Header.{header_bytes, header_in};
 ghost use Rattle.vhost_iotlb.specs.Frames.{message_of, reply_of};
 ghost use Rattle.vhost_iotlb.specs.declared.channel.ChannelError.{ChannelError};
 ghost use Rattle.vhost_iotlb.specs.Stream.{GivenOf, IsPart, IsWhole, Looks, ReadsOn, behind, frame_in, given, nothing_yet, wanted};
 
-use crate::header::{Header, VERSION, VHOST_USER_BACKEND_IOTLB_MSG};
-use crate::malformed::Malformed;
-use crate::message::{IotlbMessage, PAYLOAD_LEN};
 use std::io::{ErrorKind, Read, Write};
 use std::marker::Model;
 use thiserror::Error;
-
-const HEADER_LEN: usize = 12;
+use vhost_message::{
+    HEADER_LEN, Header, IotlbMessage, PAYLOAD_LEN, Refusal, VERSION, VHOST_USER_BACKEND_IOTLB_MSG,
+};
 
 // The longest message that is kept whole.
 const FRAME_LEN: usize = 44;
@@ -43,17 +41,20 @@ pub struct Frame {
 
 impl Frame {
     /// The message on a device's I/O table that it is. The header is tested first: `Version`, `PayloadSize`, and then
-    /// the errors of `IotlbMessage::decode`.
-    pub fn message(&self) -> Result<IotlbMessage, Malformed>
+    /// `Iotlb` with the errors of `IotlbMessage::decode`.
+    pub fn message(&self) -> Result<IotlbMessage, Refusal>
         ensures { result ≡ message_of self.now.header self.now.payload }
     {
         if self.header.version() != VERSION {
-            return Err(Malformed::Version);
+            return Err(Refusal::Version);
         }
         if self.header.size != PAYLOAD_LEN as u32 {
-            return Err(Malformed::PayloadSize);
+            return Err(Refusal::PayloadSize);
         }
-        IotlbMessage::decode(&self.payload)
+        match IotlbMessage::decode(&self.payload) {
+            Ok(message) => Ok(message),
+            Err(malformed) => Err(Refusal::Iotlb(malformed)),
+        }
     }
 
     // The value of the reply to a message on the back end's own channel that it is, if it is one.

@@ -6,18 +6,17 @@ ghost use Rattle.vhost_iotlb.specs.Stream.{nothing_yet};
 ghost use Rattle.vhost_iotlb.specs.declared.device.Handled.{Handled};
 
 use crate::channel::{ChannelError, Frame, Incoming, Receive, send};
-use crate::header::{
-    Header, VERSION, VHOST_USER_BACKEND_IOTLB_MSG, VHOST_USER_IOTLB_MSG, VHOST_USER_NEED_REPLY,
-    VHOST_USER_REPLY,
-};
 use crate::host::SharedHost;
-use crate::message::{IotlbMessage, PAYLOAD_LEN};
 use crate::reply::encode_reply;
 use crate::request::{Outcome, Request};
 use crate::table::{DeviceTable, Refusal};
 use std::io::Write;
 use std::marker::Model;
 use thiserror::Error;
+use vhost_message::{
+    Header, IotlbMessage, PAYLOAD_LEN, Refusal as MessageRefusal, VERSION,
+    VHOST_USER_BACKEND_IOTLB_MSG, VHOST_USER_IOTLB_MSG, VHOST_USER_NEED_REPLY, VHOST_USER_REPLY,
+};
 
 // How many replies to messages of its own may wait to be read: a mapping often comes before the reply to its MISS, and
 // replies that no one reads would fill the channel.
@@ -63,8 +62,10 @@ pub enum Handled {
     Nothing,
     /// A message that was applied to the table.
     Applied(IotlbMessage),
-    /// A message that was refused, for this reason.
+    /// A message that the table refused, for this reason.
     Refused(Refusal),
+    /// A message on the table that is malformed, for this reason: nothing was done.
+    Malformed(MessageRefusal),
     /// A message of another request, which its owner serves.
     Other(Frame),
 }
@@ -117,7 +118,7 @@ fn settle<H: SharedHost>(table: &DeviceTable, host: &mut H, frame: &Frame) -> Ha
 {
     let message = match frame.message() {
         Ok(message) => message,
-        Err(error) => return Handled::Refused(Refusal::Malformed(error)),
+        Err(refusal) => return Handled::Malformed(refusal),
     };
     match host.apply(table, &message) {
         Ok(()) => Handled::Applied(message),
@@ -130,7 +131,7 @@ fn value_of(handled: Handled) -> u64
     ensures { result ≡ value_of handled }
 {
     match handled {
-        Handled::Refused(_) => 1,
+        Handled::Refused(_) | Handled::Malformed(_) => 1,
         Handled::Nothing | Handled::Applied(_) | Handled::Other(_) => 0,
     }
 }
@@ -291,7 +292,7 @@ impl<F: Receive + Write, O: Receive + Write> DeviceIotlb<F, O> {
     {
         match self.handle(host).map_err(MissError::Channel)? {
             Handled::Applied(IotlbMessage::Update { .. }) => return Ok(true),
-            Handled::Applied(_) | Handled::Refused(_) => return Ok(false),
+            Handled::Applied(_) | Handled::Refused(_) | Handled::Malformed(_) => return Ok(false),
             Handled::Other(frame) => {
                 self.other = Some(frame);
                 return Ok(false);

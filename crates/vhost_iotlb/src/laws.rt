@@ -15,13 +15,12 @@ ghost use Rattle.vm_memory_device.specs.Reach.{GoesThrough, IsLast};
 ghost use Rattle.vm_memory_device.specs.Reach.{reached_by};
 ghost use Rattle.vhost_iotlb.specs.Changes.{Handles, IsAmong};
 ghost use Rattle.vhost_iotlb.specs.Invalidation.{unmaps, updates};
-ghost use Rattle.vhost_iotlb.specs.Message.{IsMessage, Spells, fields_in, fields_of, message_in, payload_bytes};
 ghost use Rattle.vhost_iotlb.specs.Stream.{AllLook, Given, IsCut, IsPart, Pending, Reads, bytes_of, frames_of};
 ghost use Rattle.vhost_iotlb.specs.UserMemory.{guest_of};
 ghost use Rattle.vhost_iotlb.specs.declared.channel.ChannelError.{ChannelError};
 ghost use Rattle.vhost_iotlb.specs.declared.channel.Frame.{Frame};
-ghost use Rattle.vhost_iotlb.specs.declared.message.IotlbMessage.{IotlbMessage};
-ghost use Rattle.vhost_iotlb.specs.declared.message.IotlbMessage.TheVariants.{Invalidate, Update};
+ghost use Rattle.vhost_message.specs.declared.iotlb.IotlbMessage.{IotlbMessage};
+ghost use Rattle.vhost_message.specs.declared.iotlb.IotlbMessage.TheVariants.{Invalidate, Update};
 ghost use Rattle.vhost_iotlb.specs.declared.user_memory.UserRegion.{UserRegion};
 
 use crate::channel::Receive;
@@ -29,15 +28,6 @@ use vm_memory_base::laws::table::tables_keep_to_their_limits;
 use vm_memory_device::laws::tables::{
     accesses_go_through_what_calls_left, tables_say_what_calls_left,
 };
-
-/// What is encoded is decoded as it was: the payload of a message spells it, and what spells it is decoded to it.
-pub fn messages_come_back()
-    ensures spelled { (m : IotlbMessage) → IsMessage m → Spells (fields_in (payload_bytes (fields_of m))) m }
-    ensures decoded { (m : IotlbMessage) → IsMessage m
-        → message_in (fields_in (payload_bytes (fields_of m))) ≡ Ok m }
-    ensures one { (payload : List ℕ) (m n : IotlbMessage) → Spells (fields_in payload) m
-        → Spells (fields_in payload) n → m ≡ n }
-{}
 
 /// The bytes of a stream decide its messages, and what is left of it: there is one way to cut it.
 pub fn streams_are_cut_one_way()

@@ -6,11 +6,8 @@ mod access;
 mod chains;
 mod channel;
 mod device;
-mod header;
 mod host;
 pub mod laws;
-mod malformed;
-mod message;
 mod reply;
 mod request;
 mod table;
@@ -20,14 +17,12 @@ pub use access::{ReadBytes, WriteBytes, reach};
 pub use chains::{ReadChain, WriteChain};
 pub use channel::{ChannelError, Frame, Incoming, Receive, send};
 pub use device::{DeviceIotlb, Handled, Limits, MissError};
-pub use header::{
-    Header, VERSION, VHOST_USER_BACKEND_IOTLB_MSG, VHOST_USER_IOTLB_MSG, VHOST_USER_NEED_REPLY,
-    VHOST_USER_REPLY,
-};
 pub use host::{LockedHost, SharedHost};
-pub use malformed::Malformed;
-pub use message::{IotlbMessage, PAYLOAD_LEN};
 pub use reply::{decode_reply, encode_reply};
 pub use request::{Outcome, Request};
 pub use table::{DeviceTable, Refusal};
 pub use user_memory::{UserMemory, UserRegion};
+pub use vhost_message::{
+    Header, IotlbMessage, Malformed, PAYLOAD_LEN, Refusal as MessageRefusal, VERSION,
+    VHOST_USER_BACKEND_IOTLB_MSG, VHOST_USER_IOTLB_MSG, VHOST_USER_NEED_REPLY, VHOST_USER_REPLY,
+};

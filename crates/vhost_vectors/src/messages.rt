@@ -4,7 +4,8 @@ use crate::channels::{Parts, put_payload};
 use std::alloc::Global;
 use std::test::Fail;
 use test_text::expect_text;
-use vhost_iotlb::{Header, IotlbMessage, Malformed, decode_reply, encode_reply};
+use vhost_iotlb::{decode_reply, encode_reply};
+use vhost_message::{Header, IotlbMessage, Malformed};
 use vm_memory_base::Permissions;
 
 const MAX: u64 = u64::MAX;

@@ -7,7 +7,8 @@ use crate::worlds::{
 use std::alloc::Global;
 use std::test::Fail;
 use test_text::next_number;
-use vhost_iotlb::{ChannelError, Handled, Limits, Malformed, Refusal};
+use vhost_iotlb::{ChannelError, Handled, Limits, MessageRefusal, Refusal};
+use vhost_message::Malformed;
 
 // How many streams each of the four tests handles.
 const STREAMS: usize = 25_000;
@@ -193,16 +194,17 @@ fn place_of(handled: &Handled) -> Option<usize> {
         Handled::Nothing => None,
         Handled::Applied(_) => Some(0),
         Handled::Other(_) => Some(1),
-        Handled::Refused(Refusal::Malformed(malformed)) => Some(match malformed {
-            Malformed::Version => 2,
-            Malformed::PayloadSize => 3,
+        Handled::Malformed(MessageRefusal::Version) => Some(2),
+        Handled::Malformed(MessageRefusal::PayloadSize) => Some(3),
+        Handled::Malformed(MessageRefusal::Iotlb(malformed))
+        | Handled::Refused(Refusal::Malformed(malformed)) => Some(match malformed {
             Malformed::Kind => 4,
             Malformed::EmptyRange => 5,
             Malformed::Range => 6,
             Malformed::Permissions => 7,
-            Malformed::UserAddress => 8,
         }),
-        Handled::Refused(_) => Some(9),
+        Handled::Refused(Refusal::UserAddress) => Some(8),
+        Handled::Refused(_) | Handled::Malformed(_) => Some(9),
     }
 }
 

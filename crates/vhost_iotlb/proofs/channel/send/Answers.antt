@@ -1,6 +1,6 @@
 use Rattle.std.proofs.Common.{ℕ, List, subst}
 use Rattle.std.specs.Io.KnownBytes.{Appends}
-use Rattle.vhost_iotlb.specs.Header.{header_bytes}
+use Rattle.vhost_message.specs.Header.{header_bytes}
 use Rattle.vhost_iotlb.proofs.SendLemmas.{both}
 use Rattle.vhost_iotlb.proofs.channel.send.Goals as goal
 

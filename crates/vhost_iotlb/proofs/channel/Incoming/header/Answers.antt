@@ -1,5 +1,5 @@
 use Rattle.std.proofs.Common.{ap, ◌∙◌}
-use Rattle.vhost_iotlb.specs.Header.{header_in}
+use Rattle.vhost_message.specs.Header.{header_in}
 use Rattle.vhost_iotlb.proofs.StreamLemmas.{header_kept}
 use Rattle.vhost_iotlb.proofs.channel.Incoming.header.Goals as goal
 
