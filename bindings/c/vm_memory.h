@@ -389,7 +389,7 @@ static inline uint64_t vmm_number(const void *list, size_t place) {
     return number;
 }
 
-/* Split virtqueues: docs/VIRTQUEUE.md. */
+/* Split virtqueues: crates/virtio_queue/README.md. */
 
 /* A queue that nobody has set up, whose size is the greatest: a power of two, 1 to 32768. All of its chains in flight
  * have at most so many descriptors. `value` is its number. */
@@ -549,7 +549,7 @@ static inline vmm_answer vmm_disable_notification(vmm_session *s, size_t queue, 
     return vmm_asked(s, &call, NULL, 0, NULL, 0);
 }
 
-/* Requests of a block device whose disk is the caller's: docs/VIRTIO_BLK.md. */
+/* Requests of a block device whose disk is the caller's: crates/virtio_blk/README.md. */
 
 /* Says what the request of a chain in flight asks a device for, and changes nothing. The disk has so many sectors, and
  * the driver accepted these features, each as its bit: 9 is FLUSH. `value` is one of vmm_blk_request:

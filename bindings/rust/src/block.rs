@@ -1,4 +1,5 @@
-//! Requests to a virtio block device whose disk is the caller's. docs/VIRTIO_BLK.md of the repository has their rules.
+//! Requests to a virtio block device whose disk is the caller's. crates/virtio_blk/README.md of the repository has
+//! their rules.
 //!
 //! A request is a chain, and is served in two steps: [`begin_request`](DescriptorChain::begin_request) says what the
 //! device has to do, and [`finish_request`](DescriptorChain::finish_request) writes the status. A device over a disk in

@@ -1,4 +1,5 @@
-//! Split virtqueues, with the names of rust-vmm's `virtio-queue`. docs/VIRTQUEUE.md of the repository has their rules.
+//! Split virtqueues, with the names of rust-vmm's `virtio-queue`. crates/virtio_queue/README.md of the repository has
+//! their rules.
 //!
 //! ```
 //! use std::io::{Read, Write};
@@ -330,9 +331,10 @@ impl<'a> Queue<'a> {
 
     /// Pops the next chain that the driver has published, or `None` if there is none. It is in flight then.
     ///
-    /// The first thing that is wrong is the error, in the order of docs/VIRTQUEUE.md, "Popping". `InFlight` if the
-    /// chain of this head is in flight, and `TooMany` if all chains in flight would have too many descriptors. After an
-    /// error the next call meets the same chain. After one that is the driver's fault a device has to be reset.
+    /// The first thing that is wrong is the error, in the order of crates/virtio_queue/README.md, "Popping". `InFlight`
+    /// if the chain of this head is in flight, and `TooMany` if all chains in flight would have too many descriptors.
+    /// After an error the next call meets the same chain. After one that is the driver's fault a device has to be
+    /// reset.
     #[inline]
     pub fn pop_descriptor_chain(&self, mem: &GuestMemory<'_>) -> Result<Option<DescriptorChain<'a>>, QueueError> {
         let call = self.call_on(kind::POP, mem);

@@ -1,5 +1,5 @@
 //! A guest with a block device whose disk is the test's, beside a slow model. What is expected follows from the VirtIO
-//! specification (version 1.2, 5.2.6), and where that leaves a choice, from docs/VIRTIO_BLK.md.
+//! specification (version 1.2, 5.2.6), and where that leaves a choice, from crates/virtio_blk/README.md.
 #![allow(dead_code)]
 
 use crate::messages;

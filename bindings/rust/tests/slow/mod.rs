@@ -1,5 +1,5 @@
 //! A slow reading of queues: what a ring holds for a device, byte by byte, by the rules of the VirtIO specification for
-//! split virtqueues (version 1.2, 2.7) in the order of docs/VIRTQUEUE.md.
+//! split virtqueues (version 1.2, 2.7) in the order of crates/virtio_queue/README.md.
 #![allow(dead_code)]
 
 use std::collections::HashSet;
