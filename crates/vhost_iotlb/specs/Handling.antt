@@ -1,5 +1,5 @@
 -- What comes of a message on the front end's channel, and how it is answered.
-use Rattle.std.specs.Prelude.{◌≡◌, ℕ, ◌==◌, if◌then◌else◌, List, [], ◌++◌, drop, Option, Some, None, Result, Ok, Err}
+use Rattle.std.specs.Prelude.{◌≡◌, ℕ, ◌≤◌, ◌==◌, if◌then◌else◌, List, [], ◌++◌, length, drop, Option, Some, None, Result, Ok, Err}
 use Rattle.std.specs.Int.{w64, to_le_bytes}
 use Rattle.std.specs.Io.KnownBytes.{Appends}
 use Rattle.vhost_message.specs.Channel.{Given, Looks}
@@ -25,6 +25,11 @@ on_table number (Err e) = if number == 22 then Some (Err e) else None
 -- the same of a message
 abbrev pub asked : List ℕ → Option (Result IotlbMessage messages.Refusal)
 asked message = on_table (header_in message).request (request_of (header_in message) (drop 12 message))
+
+-- a message that is handed out has a header
+abbrev pub HasHeader : Handled → Type 0
+HasHeader (Other message) = 12 ≤ length message
+HasHeader handled = Unit {0}
 
 -- the value of the reply to a message: 0 if it was done
 abbrev pub value_of : Handled → ℕ

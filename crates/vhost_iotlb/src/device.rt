@@ -1,7 +1,7 @@
 //! The I/O table of a device, as its front end fills it.
-ghost use Rattle.std.specs.Prelude.{◌≡◌, ◌≤◌, [], length, None, OnOk, IfOk, MatchResult};
+ghost use Rattle.std.specs.Prelude.{◌≡◌, ◌≤◌, [], length, None, OnOk, IfOk, IfErr, IfSome, MatchResult};
 ghost use Rattle.std.specs.Io.KnownBytes.{Appends};
-ghost use Rattle.vhost_iotlb.specs.Handling.{Handles, IsApplied, Serves, answer_of, answer_to, asked, on_table, reply_bytes};
+ghost use Rattle.vhost_iotlb.specs.Handling.{Handles, HasHeader, IsApplied, Serves, answer_of, answer_to, asked, on_table, reply_bytes};
 ghost use Rattle.vhost_iotlb.specs.declared.device.Handled.{Handled};
 
 use crate::host::SharedHost;
@@ -124,7 +124,8 @@ fn answer_of(header: &Header, handled: &Handled) -> Message
 
 // Applies a message to a table of a host.
 fn applied<H: SharedHost>(table: &DeviceTable, host: &mut H, message: &IotlbMessage) -> Handled
-    ensures { IsApplied H.applies table.now message.now host.old result host.new }
+    ensures applied { IsApplied H.applies table.now message.now host.old result host.new }
+    ensures header { HasHeader result }
 {
     match host.apply(table, message) {
         Ok(()) => Handled::Applied(*message),
@@ -167,7 +168,8 @@ fn asked(message: &Message) -> Option<Result<IotlbMessage, MessageRefusal>>
 // What comes of a message.
 fn settle<H: SharedHost>(table: &DeviceTable, host: &mut H, message: Message) -> Handled
     requires { 12 ≤ length message }
-    ensures { Serves H.applies table.now message host.old result host.new }
+    ensures served { Serves H.applies table.now message host.old result host.new }
+    ensures header { HasHeader result }
 {
     let Some(request) = asked(&message) else {
         return Handled::Other(message);
@@ -192,24 +194,12 @@ fn serve<F: Write, H: SharedHost>(
         (λ e. (handled : Handled) × Serves H.applies table.now message host.old handled host.new) }
     ensures answered { IfOk result (λ handled. Appends (F.contents front.old) (F.contents front.new)
         (answer_to message handled)) }
+    ensures header { IfOk result HasHeader }
 {
     let header = message.header();
     let handled = settle(table, host, message);
     answer_of(&header, &handled).send(front)?;
     Ok(handled)
-}
-
-// What came while a mapping is missed.
-enum Came {
-    Nothing,
-    Mapping,
-    Other(Message),
-}
-
-// What ended a wait for a mapping: one, with so many looks left, or another message.
-enum Waited {
-    Mapped(u32),
-    Other(Message),
 }
 
 impl<F: Receive + Write, O: Receive + Write> DeviceIotlb<F, O> {
@@ -266,7 +256,8 @@ impl<F: Receive + Write, O: Receive + Write> DeviceIotlb<F, O> {
     ///
     /// If the reply cannot be sent, the message was applied or refused all the same.
     pub fn handle<H: SharedHost>(&mut self, host: &mut H) -> Result<Handled, ChannelError>
-        ensures { Handles F.gives F.contents H.applies self.old host.old result self.new host.new }
+        ensures handles { Handles F.gives F.contents H.applies self.old host.old result self.new host.new }
+        ensures header { IfOk result HasHeader }
     {
         match self.coming.look(&mut self.front)? {
             Some(message) => serve(&self.table, &mut self.front, host, message),
@@ -317,20 +308,17 @@ impl<F: Receive + Write, O: Receive + Write> DeviceIotlb<F, O> {
         Ok(())
     }
 
-    // Looks once at both channels while a mapping is missed.
-    fn wait<H: SharedHost>(&mut self, host: &mut H) -> Result<Came, MissError>
-        ensures { self.new.table ≡ self.old.table }
+    // Looks once at both channels while a mapping is missed. It returns what came on the front end's.
+    fn wait<H: SharedHost>(&mut self, host: &mut H) -> Result<Handled, MissError>
+        ensures table { self.new.table ≡ self.old.table }
+        ensures header { IfOk result HasHeader }
     {
-        match self.handle(host).map_err(MissError::Channel)? {
-            Handled::Applied(IotlbMessage::Update { .. }) => return Ok(Came::Mapping),
-            Handled::Applied(_) | Handled::Refused(_) | Handled::Malformed(_) => {
-                return Ok(Came::Nothing);
-            }
-            Handled::Other(message) => return Ok(Came::Other(message)),
-            Handled::Nothing => {}
-        }
+        let handled = self.handle(host).map_err(MissError::Channel)?;
+        let Handled::Nothing = handled else {
+            return Ok(handled);
+        };
         match self.look_back().map_err(MissError::Channel)? {
-            Some(0) | None => Ok(Came::Nothing),
+            Some(0) | None => Ok(Handled::Nothing),
             Some(value) => Err(MissError::Refused(value)),
         }
     }
@@ -349,26 +337,27 @@ impl<F: Receive + Write, O: Receive + Write> DeviceIotlb<F, O> {
     }
 
     // Asks for the mapping of an address, unless a request waits for it already, and waits until the front end maps
-    // something or another message comes, for so many looks at most.
+    // something, for so many looks at most. It returns how many are left, or another message that comes first.
     fn wait_for<H: SharedHost>(
         &mut self,
         host: &mut H,
         message: IotlbMessage,
         looks: u32,
-    ) -> Result<Waited, MissError>
-        ensures { self.new.table ≡ self.old.table }
+    ) -> Result<Result<u32, Message>, MissError>
+        ensures table { self.new.table ≡ self.old.table }
+        ensures header { IfOk result (λ r. IfErr r (λ other. 12 ≤ length other)) }
     {
         if self.asked.take() != Some(message) {
             self.ask(message).map_err(MissError::Channel)?;
         }
         for left in (0..looks).rev() {
             match self.wait(host)? {
-                Came::Nothing => {}
-                Came::Mapping => return Ok(Waited::Mapped(left)),
-                Came::Other(other) => {
+                Handled::Applied(IotlbMessage::Update { .. }) => return Ok(Ok(left)),
+                Handled::Other(other) => {
                     self.asked = Some(message);
-                    return Ok(Waited::Other(other));
+                    return Ok(Err(other));
                 }
+                _ => {}
             }
         }
         Err(MissError::Deadline)
@@ -391,6 +380,7 @@ impl<F: Receive + Write, O: Receive + Write> DeviceIotlb<F, O> {
     ) -> Result<Option<Message>, MissError>
         ensures done { IfOk result (λ other. other ≡ None → R.is_done request.new) }
         ensures table { self.new.table ≡ self.old.table }
+        ensures header { IfOk result (λ other. IfSome other (λ message. 12 ≤ length message)) }
     {
         let mut looks = self.limits.looks;
         for _ in 0..self.limits.tries {
@@ -399,8 +389,8 @@ impl<F: Receive + Write, O: Receive + Write> DeviceIotlb<F, O> {
                 Outcome::Missed { iova, access } => {
                     let miss = IotlbMessage::Miss { iova, access };
                     match self.wait_for(host, miss, looks)? {
-                        Waited::Mapped(left) => looks = left,
-                        Waited::Other(message) => return Ok(Some(message)),
+                        Ok(left) => looks = left,
+                        Err(message) => return Ok(Some(message)),
                     }
                 }
                 Outcome::Forbidden { iova, access } => {

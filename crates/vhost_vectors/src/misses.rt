@@ -1,4 +1,5 @@
 //! Requests that miss, and what a front end may do then.
+ghost use Rattle.std.specs.Prelude.{◌≤◌, length};
 
 use crate::channels::{Parts, byte_at, giving, number_at, put_header, put_message, put_reply};
 use crate::worlds::{
@@ -276,10 +277,9 @@ fn memory_of(alloc: Global, table: &MemoryTable) -> Result<UserMemory, Fail> {
 
 // Serves a message of another request: memory that is announced anew is meant from then on, and a payload of 16 bytes
 // replies to a request for the configuration.
-fn serve_other(alloc: Global, iotlb: &mut Iotlb, message: &Message) -> Result<u32, Fail> {
-    if message.len() < 12 {
-        return Err(Fail::new("a message has no header"));
-    }
+fn serve_other(alloc: Global, iotlb: &mut Iotlb, message: &Message) -> Result<u32, Fail>
+    requires { 12 ≤ length message.now }
+{
     let header = message.header();
     let payload = message.as_slice().get(12..).unwrap_or(&[]);
     match FrontendReq::decode(&header, payload)? {

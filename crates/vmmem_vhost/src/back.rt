@@ -1,4 +1,5 @@
 //! The back end: a block device behind a table that the front end fills.
+ghost use Rattle.std.specs.Prelude.{◌≤◌, length};
 
 use crate::world::{CALL, Host, Layout, Memory, make_host};
 use anyhow::bail;
@@ -10,7 +11,7 @@ use vhost_iotlb::{
     WriteChain, reach,
 };
 use vhost_message::{
-    ChannelError, HEADER_LEN, Header, Message, VERSION, VHOST_USER_REPLY, VHOST_USER_SET_VRING_KICK,
+    ChannelError, Header, Message, VERSION, VHOST_USER_REPLY, VHOST_USER_SET_VRING_KICK,
 };
 use virtio_blk::{BlockDevice, MemoryDisk, VIRTIO_BLK_S_IOERR};
 use virtio_queue::{Queue, QueueError};
@@ -202,20 +203,11 @@ impl Desk {
     }
 }
 
-// The header of a message, if it has one.
-fn header_of(message: &Message) -> Option<Header> {
-    if message.len() < HEADER_LEN {
-        return None;
-    }
-    Some(message.header())
-}
-
 // Whether a message says that the device is to look at the queue.
-fn is_kick(message: &Message) -> bool {
-    match header_of(message) {
-        Some(header) => header.request == VHOST_USER_SET_VRING_KICK,
-        None => false,
-    }
+fn is_kick(message: &Message) -> bool
+    requires { 12 ≤ length message.now }
+{
+    message.header().request == VHOST_USER_SET_VRING_KICK
 }
 
 // A message that calls the driver.
@@ -230,24 +222,25 @@ fn call() -> Message {
     message
 }
 
-// Answers a message of another request, if it asks for that: a kick is done, and others are refused.
+// Replies to a message of another request, if it asks for that: a kick is done, and others are refused.
 fn serve_other<F: Read + Write, O: Read + Write>(
     iotlb: &mut DeviceIotlb<F, O>,
     message: &Message,
-) -> Result<(), ChannelError> {
-    let mut reply = Message::new();
-    if let Some(asked) = header_of(message) {
-        if asked.needs_reply() {
-            let header = Header {
-                request: asked.request,
-                flags: VERSION | VHOST_USER_REPLY,
-                size: 8,
-            };
-            let value = u64::from(!is_kick(message));
-            reply.extend(&header.encode());
-            reply.extend(&value.to_le_bytes());
-        }
+) -> Result<(), ChannelError>
+    requires { 12 ≤ length message.now }
+{
+    let asked = message.header();
+    if !asked.needs_reply() {
+        return Ok(());
     }
+    let header = Header {
+        request: asked.request,
+        flags: VERSION | VHOST_USER_REPLY,
+        size: 8,
+    };
+    let mut reply = Message::new();
+    reply.extend(&header.encode());
+    reply.extend(&u64::from(!is_kick(message)).to_le_bytes());
     iotlb.reply(&reply)
 }
 
