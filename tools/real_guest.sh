@@ -4,17 +4,23 @@
 # usage: tools/real_guest.sh [--install] [--list] [--keep] [VARIANT..]
 #
 # --install installs the packages that it needs, by apt-get, --list prints the variants, and --keep keeps the files of
-# each run. Without a VARIANT it runs all. Each prints one line: its name, ok or FAILED, the seconds, and what the back
-# end served. The status is 0 if all are ok, 1 if one failed, and 3 if a package is missing, which is named. The variant
-# qemu has QEMU's own device in place of ours.
+# each run. Without a VARIANT it runs all. Each prints one line: its name, ok, FAILED or SLOW, the seconds, and what the
+# back end served. The status is 0 if all are ok, 1 if one failed, 3 if a package is missing, which is named, and 4 if
+# none failed but one was too slow. Two more variants run only if they are named: quick is a shorter default, and qemu
+# has QEMU's own device in place of ours.
 #
 # The guest is Debian's kernel with an initial RAM disk of busybox, made here: tools/real_guest_init.sh is its first
 # process. QEMU emulates the processor, so no KVM is needed.
 #
-# VHOST_USER_BLK names the program (without it cargo builds it), and REAL_GUEST_SECONDS is how long a guest may take.
+# VHOST_USER_BLK names the program (without it cargo builds it), and REAL_GUEST_SECONDS is how long a guest may take. A
+# guest that waits for what does not come fails before that, and one that is only slow does not fail.
 set -u
 TOP=$(cd "$(dirname "${BASH_SOURCE[0]}")/.." && pwd)
-SECONDS_LEFT=${REAL_GUEST_SECONDS:-240}
+LIMIT=${REAL_GUEST_SECONDS:-900}
+# A guest waits if it said nothing for so many seconds, and wanted a processor for less than a tenth of them. It runs in
+# circles if it said nothing while it had a processor for so many seconds: a boot takes 8 of one of 2.5 GHz.
+WAITING=30
+CIRCLING=45
 PACKAGES=(qemu-system-x86 linux-image-amd64 busybox-static e2fsprogs librust-libc-dev)
 # The disk has 64 MiB and 3 sectors, and its file has 100 bytes more, which are no part of it.
 SECTORS=$(((64 << 11) + 3))
@@ -25,9 +31,10 @@ HALF=$((32 << 20))
 # A variant: what the guest does, the words of the device, those of the back end, and how the back end is ended
 # meanwhile.
 variant() {
-    work=full device="" backend="" ending="" queues=1
+    work=full device="" backend="" ending="" queues=1 ops=40 files=6
     case $1 in
     default) ;;
+    quick) ops=10 files=2 ;;
     no-event-idx) device=event_idx=off ;;
     no-indirect) device=indirect_desc=off ;;
     queue-16) device=queue-size=16 ;;
@@ -112,6 +119,7 @@ start_backend() {
     # shellcheck disable=SC2086
     "$VHOST_USER_BLK" --socket "$room/socket" --image "$room/disk.img" --stats 5 $backend >> "$room/backend" 2>&1 &
     backend_pid=$!
+    echo "$backend_pid" > "$room/pid"
     starts=$((starts + 1))
     for _ in $(seq 100); do
         [ -S "$room/socket" ] && return
@@ -120,8 +128,19 @@ start_backend() {
     echo "the back end does not listen" >> "$room/why"
 }
 
+# Sends it a signal, and returns its status. One that has not ended after half a minute is killed.
+stop_backend() {
+    kill "-$1" "$backend_pid"
+    for _ in $(seq 300); do
+        kill -0 "$backend_pid" || break
+        sleep 0.1
+    done
+    kill -KILL "$backend_pid"
+    wait "$backend_pid"
+} 2> /dev/null
+
 start_qemu() {
-    local words="console=ttyS0 quiet panic=-1 mitigations=off no_timer_check disk=vda work=$work size=$SECTORS ops=$ops flush=$flush"
+    local words="console=ttyS0 quiet panic=-1 mitigations=off no_timer_check disk=vda work=$work size=$SECTORS ops=$ops files=$files flush=$flush"
     local disk=(-chardev "socket,id=disk,path=$room/socket${ending:+,reconnect=1}")
     disk+=(-device "vhost-user-blk-pci,chardev=disk,num-queues=$queues${device:+,$device}")
     if [ "$device" = qemu ]; then
@@ -129,12 +148,54 @@ start_qemu() {
         disk+=(-device "virtio-blk-pci,drive=disk,serial=disk.img")
     fi
     mkfifo "$room/in"
-    timeout -k 5 "$SECONDS_LEFT" qemu-system-x86_64 -accel tcg,thread=multi -machine q35,memory-backend=ram -smp 2 \
+    : > "$room/console"
+    qemu-system-x86_64 -accel tcg,thread=multi -machine q35,memory-backend=ram -smp 2 \
         -m 256M -object memory-backend-memfd,id=ram,size=256M,share=on -nodefaults -no-user-config -display none \
         -no-reboot -kernel "$(kernel)" -initrd "$shared/initrd" -append "$words id=disk.img" "${disk[@]}" \
         -serial stdio < "$room/in" > "$room/console" 2> "$room/qemu" &
     qemu_pid=$!
+    watch_guest &
+    watch_pid=$!
     exec 3> "$room/in"
+}
+
+# The milliseconds that QEMU had of a processor, and those and the ones for which it waited for a processor.
+qemu_worked() {
+    cat "/proc/$qemu_pid/task/"*/schedstat 2> /dev/null |
+        awk '{ had += $1; wanted += $1 + $2 } END { printf "%d %d\n", had / 1e6, wanted / 1e6 }'
+}
+
+# Whether the back end waits for this machine's own disk.
+is_writing() {
+    grep -qs '^State:[[:space:]]*D' "/proc/$(cat "$room/pid" 2> /dev/null)/status"
+}
+
+# Ends QEMU if its guest waits, or when its time is up. On a busy machine a guest gets little of a processor, but goes on
+# wanting it; one that waits for its disk does not want it. When the time is up it has failed only if it ran in circles.
+watch_guest() {
+    local said=-1 now begun=$SECONDS quiet_since had had_then wanted wanted_then
+    while sleep 1 && kill -0 "$qemu_pid" 2> /dev/null; do
+        now=$(stat -c %s "$room/console")
+        read -r had wanted < <(qemu_worked)
+        if [ "$now" != "$said" ]; then
+            said=$now had_then=$had
+            quiet_since=$SECONDS wanted_then=$wanted
+        elif [ $((wanted - wanted_then)) -gt $((WAITING * 100)) ] || is_writing; then
+            quiet_since=$SECONDS wanted_then=$wanted
+        elif [ $((SECONDS - quiet_since)) -ge "$WAITING" ] && [ -r /proc/self/schedstat ]; then
+            echo "the guest waits: it said nothing for $WAITING s, and wanted no processor" >> "$room/why"
+            break
+        fi
+        if [ $((SECONDS - begun)) -ge "$LIMIT" ]; then
+            if [ $((had - had_then)) -ge $((CIRCLING * 1000)) ]; then
+                echo "the guest runs in circles: it said nothing while it had a processor for $CIRCLING s" >> "$room/why"
+            else
+                echo "in $LIMIT s QEMU had a processor for $((had / 1000)) s" >> "$room/slow"
+            fi
+            break
+        fi
+    done
+    kill -KILL "$qemu_pid" 2> /dev/null
 }
 
 lines_of() {
@@ -155,8 +216,7 @@ wait_for_lines() {
 end_backend() {
     for _ in 1 2 3 4; do
         wait_for_lines wrote 40 || return
-        kill "-$ending" "$backend_pid"
-        wait "$backend_pid" 2> /dev/null
+        stop_backend "$ending"
         [ $((starts % 2)) = 0 ] && sleep 2
         start_backend
     done
@@ -233,8 +293,8 @@ compare_counts() {
 }
 
 run_variant() {
-    local name=$1 starts=0 backend_pid="" qemu_pid begun status
-    local work device backend ending queues flush=1 ops=40
+    local name=$1 starts=0 backend_pid="" qemu_pid="" watch_pid begun status
+    local work device backend ending queues ops files flush=1
     variant "$name"
     [ "$name" = no-flush ] && flush=0
     room=$shared/$name
@@ -247,38 +307,59 @@ run_variant() {
     [ "$device" = qemu ] || start_backend
     start_qemu
     [ -n "$ending" ] && end_backend
-    wait "$qemu_pid"
+    wait "$qemu_pid" 2> /dev/null
     status=$?
     exec 3>&-
-    [ "$status" = 0 ] || echo "QEMU ended with status $status: $(tail -n 1 "$room/qemu")" >> "$room/why"
+    wait "$watch_pid"
+    qemu_pid="" watch_pid=""
+    [ "$status" = 0 ] || [ -s "$room/why" ] || [ -s "$room/slow" ] ||
+        echo "QEMU ended with status $status: $(tail -n 1 "$room/qemu")" >> "$room/why"
     if [ -n "$backend_pid" ]; then
-        kill -TERM "$backend_pid" 2> /dev/null
-        wait "$backend_pid"
+        stop_backend TERM
         status=$?
+        backend_pid=""
         [ "$status" = 0 ] || echo "the back end ended with status $status" >> "$room/why"
     fi
     tr -d '\r' < "$room/console" > "$room/said"
+    compare
+    report
+}
+
+# Whether the guest ended as it had to, and the disk is what it has to be. If it was ended, only what it said counts.
+compare() {
+    if [ -s "$room/slow" ] || [ -s "$room/why" ]; then
+        grep -a '^guest FAILED' "$room/said" >> "$room/why"
+        return
+    fi
     grep -q '^guest ok' "$room/said" || echo "the guest did not end: $(grep -a '^guest' "$room/said" | tail -n 1)" >> "$room/why"
-    [ -z "$backend_pid" ] || compare_counts
+    [ "$starts" = 0 ] || compare_counts
     compare_raw
     [ "$work" = read ] && compare_reads || compare_files
-    local took verdict=ok
+}
+
+report() {
+    local took said verdict=ok status=0
     took=$(awk -v begun="$begun" -v now="$(date +%s.%N)" 'BEGIN { printf "%.0f", now - begun }')
-    [ -s "$room/why" ] && verdict=FAILED
-    local said
+    [ -s "$room/slow" ] && verdict=SLOW status=4
+    [ -s "$room/why" ] && verdict=FAILED status=1
     said=$(grep -a '^served' "$room/backend" 2> /dev/null | tail -n 1)
     [ "$starts" -lt 2 ] || said="$starts back ends, of which the last $said"
     printf '%-13s %-6s %4s s  %s\n' "$name" "$verdict" "$took" "$said"
-    if [ -s "$room/why" ]; then
-        sed 's/^/    /' "$room/why"
-        grep -av '^wrote \|^file \|^sha256 ' "$room/said" | tail -n 5 | sed 's/^/    console: /'
-        tail -n 5 "$room/backend" 2> /dev/null | sed 's/^/    back end: /'
-        return 1
-    fi
+    [ "$status" = 0 ] && return
+    cat "$room/slow" "$room/why" 2> /dev/null | sed 's/^/    /'
+    grep -av '^wrote \|^file \|^sha256 ' "$room/said" | tail -n 5 | sed 's/^/    console: /'
+    tail -n 5 "$room/backend" 2> /dev/null | sed 's/^/    back end: /'
+    return "$status"
+}
+
+clean_up() {
+    # shellcheck disable=SC2086
+    kill -KILL ${watch_pid:-} ${qemu_pid:-} ${backend_pid:-} 2> /dev/null
+    [ -n "$keep" ] || rm -rf "$shared"
 }
 
 main() {
-    local keep="" names=() word failed=0 name
+    local keep="" names=() word failed=0 slow=0 name
     for word in "$@"; do
         case $word in
         --install) install_packages || exit 1 ;;
@@ -300,20 +381,22 @@ main() {
     fi
     [ "${names[*]}" = qemu ] || build_backend
     shared=$(mktemp -d "${TMPDIR:-/tmp}/real_guest.XXXXXX")
-    if [ -z "$keep" ]; then
-        # shellcheck disable=SC2064
-        trap "rm -rf '$shared'" EXIT
-    else
-        echo "files: $shared"
-    fi
+    [ -z "$keep" ] || echo "files: $shared"
+    trap clean_up EXIT
     MODULES=/lib/modules/$(basename "$(kernel)" | sed 's/^vmlinuz-//')
     head -c "$PATTERN_SIZE" /dev/urandom > "$shared/pattern"
     head -c $((SIZE + 100)) /dev/urandom > "$shared/disk.img"
     build_initrd "$shared"
     for name in "${names[@]}"; do
-        run_variant "$name" || failed=1
+        run_variant "$name"
+        case $? in
+        0) ;;
+        4) slow=4 ;;
+        *) failed=1 ;;
+        esac
     done
-    exit "$failed"
+    [ "$failed" = 0 ] || exit "$failed"
+    exit "$slow"
 }
 
 main "$@"

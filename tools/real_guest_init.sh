@@ -5,7 +5,8 @@
 #   work=full    raw accesses and files, and the driver and the device are taken away and found again
 #   work=read    the disk is only read
 #   work=load    accesses and files until a line comes on the console
-#   size=N id=TEXT ops=N     the disk's sectors and its name, and how many accesses each of the four workers makes
+#   size=N id=TEXT           the disk's sectors and its name
+#   ops=N files=N            how many accesses each of the four workers makes, and how many files it writes
 #   flush=1      the disk has a cache to flush
 # Of the disk the first half is for files. In the second half each worker has AREA bytes of its own.
 /bin/busybox mkdir -p /proc /sys /tmp /mnt /usr/bin /sbin
@@ -116,7 +117,7 @@ raw() {
 # One worker writes files of pieces of the pattern, and says what each has.
 write_files() {
     mkdir -p "/mnt/$1"
-    for file in 1 2 3 4 5 6; do
+    for file in $(seq "$files"); do
         local name="$1/$2$file" said=""
         : > "/mnt/$name"
         for part in 1 2 3; do

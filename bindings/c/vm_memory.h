@@ -64,7 +64,15 @@ enum vmm_code {
     VMM_INVALID_AVAIL_RING_ALIGN = 73, VMM_INVALID_USED_RING_ALIGN = 74, VMM_QUEUE_NOT_READY = 75,
     VMM_ADDRESS_OVERFLOW = 76, VMM_INVALID_AVAIL_RING_INDEX = 77, VMM_INVALID_DESCRIPTOR_INDEX = 78,
     VMM_DESCRIPTOR_LOOP = 79, VMM_INDIRECT_WITH_NEXT = 80, VMM_NESTED_INDIRECT = 81, VMM_INVALID_INDIRECT_TABLE = 82,
-    VMM_CHAIN_ORDER = 83, VMM_CHAIN_TOO_LONG = 84, VMM_CHAIN_RANGE = 85, VMM_INVALID_USED_ENTRY = 86
+    VMM_CHAIN_ORDER = 83, VMM_CHAIN_TOO_LONG = 84, VMM_CHAIN_RANGE = 85, VMM_INVALID_USED_ENTRY = 86,
+    VMM_VHOST_OFFER = 100, VMM_VHOST_HEADER = 101, VMM_VHOST_VERSION = 102, VMM_VHOST_DIRECTION = 103,
+    VMM_VHOST_REQUEST = 104, VMM_VHOST_PAYLOAD_SIZE = 105, VMM_VHOST_DESCRIPTORS = 106,
+    VMM_VHOST_NOT_NEGOTIATED = 107, VMM_VHOST_FEATURES = 108, VMM_VHOST_INDEX = 109, VMM_VHOST_QUEUE_SIZE = 110,
+    VMM_VHOST_BASE = 111, VMM_VHOST_FLAGS = 112, VMM_VHOST_ALIGNMENT = 113, VMM_VHOST_STARTED = 114,
+    VMM_VHOST_REGION_RANGE = 115, VMM_VHOST_REGION_OVERLAP = 116, VMM_VHOST_CONFIG_RANGE = 117,
+    VMM_VHOST_CONFIG_READ_ONLY = 118,
+    VMM_VHOST_STOPPED = 120, VMM_VHOST_DISABLED = 121, VMM_VHOST_NO_SIZE = 122, VMM_VHOST_NO_ADDRESS = 123,
+    VMM_VHOST_USER_ADDRESS = 124
 };
 
 /* The parts of a queue that VMM_SET_QUEUE sets. */
@@ -581,6 +589,99 @@ static inline vmm_answer vmm_finish_request(vmm_session *s, size_t queue, size_t
     return vmm_asked(s, &call, NULL, 0, NULL, 0);
 }
 
+/* A vhost-user back end's side of the protocol: docs/VHOST_USER.md. A connection holds what was negotiated, and what the
+ * front end said of its memory and its rings. The caller receives messages, does what they ask for, and sends replies.
+ * A connection is opened before it is called, and closed once; one call at a time is made of it, from any thread. */
+
+/* The handle of a connection. One that is zero is closed. */
+typedef struct vmm_vhost {
+    unsigned char *at;
+} vmm_vhost;
+
+/* How many bytes a header has, a message at most, and a configuration; and how many descriptors a message has at most. */
+enum { VMM_VHOST_HEADER_SIZE = 12, VMM_VHOST_MOST = 280, VMM_VHOST_CONFIG_MOST = 256, VMM_VHOST_DESCRIPTORS_MOST = 8 };
+
+/* What a back end offers: features and features of the protocol, each as its bit, 1 to 256 rings of at most 1 to 32,768
+ * descriptors, and which bytes of the configuration a driver may write. */
+typedef struct vmm_vhost_offer {
+    uint64_t features, protocol_features;
+    uint32_t queues, max_queue_size, writable_from, writable_len;
+} vmm_vhost_offer;
+
+/* What is still to come of a message: so many bytes of its header, or if that is there of its payload; and at most so
+ * many descriptors come with the whole message. */
+typedef struct vmm_vhost_wanted_bytes {
+    size_t bytes, descriptors;
+} vmm_vhost_wanted_bytes;
+
+/* What a message asks for, by the number of its request. Fields that the request does not name are 0. `index` is the
+ * ring. `flag` is 1 if a descriptor came (KICK, CALL, ERR), if the ring is enabled (ENABLE), or if it is for a migration
+ * (GET_CONFIG, SET_CONFIG). `value` is the number of a SET_VRING_NUM or SET_VRING_BASE, the bits of features, or where a
+ * part of the configuration or a log begins, and `size` how many bytes that has. */
+typedef struct vmm_vhost_request {
+    uint32_t request, index, flag;
+    uint64_t value, size;
+} vmm_vhost_request;
+
+/* A region of the memory that the front end shares: where it begins in guest memory, how many bytes it has, and where it
+ * begins in the front end's own memory and in its file. */
+typedef struct vmm_vhost_region_row {
+    uint64_t guest_address, size, user_address, mmap_offset;
+} vmm_vhost_region_row;
+
+/* A ring that is to be served: how many descriptors it has, the index of the next available one from which it was
+ * started, and its addresses in guest memory, or I/O addresses if ACCESS_PLATFORM was accepted. If `is_logged` is 1, writes
+ * to the used ring are marked in the log at `log`. `kick` and `call`: 0 for none said, 1 for no descriptor, 2 for one. */
+typedef struct vmm_vhost_vring {
+    uint32_t size, base;
+    uint64_t descriptor, available, used, log;
+    uint32_t is_logged, kick, call;
+} vmm_vhost_vring;
+
+/* What was accepted, how many rings and regions there are, and whether a front end said that it owns the connection. */
+typedef struct vmm_vhost_negotiated {
+    uint64_t features, protocol_features;
+    size_t queues, regions;
+    uint32_t is_owned;
+} vmm_vhost_negotiated;
+
+/* The functions of the library. Those that answer a code give VMM_DONE, or why they did nothing. Pointers are not null.
+ *
+ * Opens a connection, with a configuration of at most 256 bytes: VMM_VHOST_OFFER if no back end offers this, and
+ * VMM_OUT_OF_MEMORY. */
+uint32_t vmm_vhost_open(vmm_vhost *connection, const vmm_vhost_offer *offer, const uint8_t *config, size_t config_size);
+
+/* What is still to come of a message of which these bytes came, or why its header is refused. */
+uint32_t vmm_vhost_wanted(const uint8_t *start, size_t start_size, vmm_vhost_wanted_bytes *wanted);
+
+/* Takes a message with which so many descriptors came. A ring that a GET_VRING_BASE names is stopped: what is in flight
+ * is finished, vmm_vhost_stop says where the ring goes on, and then the reply is sent. */
+uint32_t vmm_vhost_handle(vmm_vhost *connection, const uint8_t *message, size_t message_size, size_t descriptors,
+                          vmm_vhost_request *request);
+
+/* The reply to a message that was taken and done, and to one that was refused or could not be done. It is put into the
+ * output if it has room, and 280 bytes are enough. They answer how many bytes it has, 0 if no reply is due. */
+size_t vmm_vhost_reply(vmm_vhost *connection, const uint8_t *message, size_t message_size, uint8_t *output,
+                       size_t output_size);
+size_t vmm_vhost_refuse(vmm_vhost *connection, const uint8_t *message, size_t message_size, uint8_t *output,
+                        size_t output_size);
+
+/* Says where a ring goes on that was stopped. */
+uint32_t vmm_vhost_stop(vmm_vhost *connection, uint32_t index, uint32_t base);
+
+/* A ring as it is to be served, or why it is not: VMM_VHOST_INDEX or one from VMM_VHOST_STOPPED on. */
+uint32_t vmm_vhost_running(vmm_vhost *connection, uint32_t index, vmm_vhost_vring *vring);
+
+/* A region of the memory, from 0, or VMM_NO_SUCH. */
+uint32_t vmm_vhost_region(vmm_vhost *connection, size_t number, vmm_vhost_region_row *region);
+
+void vmm_vhost_state(vmm_vhost *connection, vmm_vhost_negotiated *state);
+
+/* The configuration, to which a front end may have written, as vmm_vhost_reply gives a reply. */
+size_t vmm_vhost_config(vmm_vhost *connection, uint8_t *output, size_t output_size);
+
+void vmm_vhost_close(vmm_vhost *connection);
+
 /* A code of an access or a layout in words, or NULL. */
 static inline const char *vmm_access_text(uint32_t code) {
     switch (code) {
@@ -625,6 +726,37 @@ static inline const char *vmm_iotlb_text(uint32_t code) {
     }
 }
 
+/* A code of a connection in words, or NULL. */
+static inline const char *vmm_vhost_text(uint32_t code) {
+    switch (code) {
+    case VMM_VHOST_OFFER: return "invalid offer";
+    case VMM_VHOST_HEADER: return "the message ends in its header";
+    case VMM_VHOST_VERSION: return "unknown version";
+    case VMM_VHOST_DIRECTION: return "a reply for a request";
+    case VMM_VHOST_REQUEST: return "unknown request";
+    case VMM_VHOST_PAYLOAD_SIZE: return "invalid size of the payload";
+    case VMM_VHOST_DESCRIPTORS: return "invalid number of descriptors";
+    case VMM_VHOST_NOT_NEGOTIATED: return "feature not negotiated";
+    case VMM_VHOST_FEATURES: return "features not offered";
+    case VMM_VHOST_INDEX: return "no such ring";
+    case VMM_VHOST_QUEUE_SIZE: return "invalid size of a ring";
+    case VMM_VHOST_BASE: return "invalid index of a ring";
+    case VMM_VHOST_FLAGS: return "invalid flags";
+    case VMM_VHOST_ALIGNMENT: return "misaligned ring";
+    case VMM_VHOST_STARTED: return "ring is started";
+    case VMM_VHOST_REGION_RANGE: return "invalid region";
+    case VMM_VHOST_REGION_OVERLAP: return "regions overlap";
+    case VMM_VHOST_CONFIG_RANGE: return "range past the configuration";
+    case VMM_VHOST_CONFIG_READ_ONLY: return "configuration is read only";
+    case VMM_VHOST_STOPPED: return "ring is stopped";
+    case VMM_VHOST_DISABLED: return "ring is disabled";
+    case VMM_VHOST_NO_SIZE: return "ring has no size";
+    case VMM_VHOST_NO_ADDRESS: return "ring has no addresses";
+    case VMM_VHOST_USER_ADDRESS: return "no region has the ring";
+    default: return NULL;
+    }
+}
+
 /* A code of a queue in words, or NULL. */
 static inline const char *vmm_queue_text(uint32_t code) {
     switch (code) {
@@ -657,6 +789,7 @@ static inline const char *vmm_queue_text(uint32_t code) {
 static inline const char *vmm_code_text(uint32_t code) {
     const char *text = vmm_access_text(code) ? vmm_access_text(code) : vmm_queue_text(code);
     text = text ? text : vmm_iotlb_text(code);
+    text = text ? text : vmm_vhost_text(code);
     switch (code) {
     case VMM_DONE: return "done";
     case VMM_NO_SUCH: return "a number names nothing";

@@ -1,11 +1,13 @@
 //! The calls of the static library and of the system. All `unsafe` of this crate lies here and in the allocator.
 
 use crate::raw::{Answer, Call, Miss};
+use crate::vhost_user::raw::{Negotiated, Request, Vring};
+use crate::vhost_user::{Offer, Region, Wanted};
 use std::cell::Cell;
 use std::ffi::{c_char, c_int, c_long, c_uint};
 use std::ptr::null_mut;
 
-// The handle of a session: where it lies.
+// The handle of a session or a connection: where it lies.
 #[repr(C)]
 #[derive(Clone, Copy)]
 struct Handle {
@@ -28,6 +30,46 @@ unsafe extern "C" {
     );
 
     fn vmm_close(session: *mut Handle);
+
+    fn vmm_vhost_open(connection: *mut Handle, offer: *const Offer, config: *const u8, config_size: usize) -> u32;
+
+    fn vmm_vhost_wanted(start: *const u8, start_size: usize, wanted: *mut Wanted) -> u32;
+
+    fn vmm_vhost_handle(
+        connection: *mut Handle,
+        message: *const u8,
+        message_size: usize,
+        descriptors: usize,
+        request: *mut Request,
+    ) -> u32;
+
+    fn vmm_vhost_reply(
+        connection: *mut Handle,
+        message: *const u8,
+        message_size: usize,
+        output: *mut u8,
+        output_size: usize,
+    ) -> usize;
+
+    fn vmm_vhost_refuse(
+        connection: *mut Handle,
+        message: *const u8,
+        message_size: usize,
+        output: *mut u8,
+        output_size: usize,
+    ) -> usize;
+
+    fn vmm_vhost_stop(connection: *mut Handle, index: u32, base: u32) -> u32;
+
+    fn vmm_vhost_running(connection: *mut Handle, index: u32, vring: *mut Vring) -> u32;
+
+    fn vmm_vhost_region(connection: *mut Handle, number: usize, region: *mut Region) -> u32;
+
+    fn vmm_vhost_state(connection: *mut Handle, state: *mut Negotiated);
+
+    fn vmm_vhost_config(connection: *mut Handle, output: *mut u8, output_size: usize) -> usize;
+
+    fn vmm_vhost_close(connection: *mut Handle);
 }
 
 // Of the C library, as Linux on x86-64 has it.
@@ -128,5 +170,108 @@ impl Drop for Session {
         // SAFETY: the declaration fits the library's function, the handle is that of an open session, and this is its last
         // use.
         unsafe { vmm_close(self.handle.get_mut()) }
+    }
+}
+
+/// What is still to come of a message that begins so, or a code.
+pub(crate) fn vhost_wanted(start: &[u8]) -> Result<Wanted, u32> {
+    let mut wanted = Wanted::default();
+    // SAFETY: the declaration fits the library's function, and the pointers and the length are those of a `&[u8]` and a
+    // `&mut Wanted`, which are borrowed for the call.
+    let code = unsafe { vmm_vhost_wanted(start.as_ptr(), start.len(), &mut wanted) };
+    done(code, wanted)
+}
+
+// What a call gave, if it was done.
+fn done<T>(code: u32, given: T) -> Result<T, u32> {
+    if code == 0 {
+        Ok(given)
+    } else {
+        Err(code)
+    }
+}
+
+/// An open connection of a back end. It is closed when it is dropped.
+///
+/// In each call the declaration fits the library's function, and the handle is that of an open connection, as each call
+/// leaves it. No other call of it runs: the connection is on this thread alone, as it is not `Sync`, and the library calls
+/// nothing back. Other pointers and lengths are those of references that are borrowed for the call.
+pub(crate) struct Connection {
+    handle: Cell<Handle>,
+}
+
+// SAFETY: the connection owns all that its handle points to, shares none of it, and is tied to no thread: the library's
+// type is `Send` too.
+unsafe impl Send for Connection {}
+
+impl Connection {
+    /// Opens a connection, or says why not by a code.
+    pub(crate) fn open(offer: &Offer, config: &[u8]) -> Result<Connection, u32> {
+        let mut handle = Handle { at: null_mut() };
+        // SAFETY: the declaration fits the library's function, a handle that is null is a closed one, as it asks, and the
+        // other pointers and the length are those of a `&Offer` and a `&[u8]`.
+        let code = unsafe { vmm_vhost_open(&mut handle, offer, config.as_ptr(), config.len()) };
+        done(code, ())?;
+        Ok(Connection {
+            handle: Cell::new(handle),
+        })
+    }
+
+    pub(crate) fn handle(&self, message: &[u8], descriptors: usize) -> Result<Request, u32> {
+        let (at, mut request) = (self.handle.as_ptr(), Request::default());
+        // SAFETY: see `Connection`.
+        let code = unsafe { vmm_vhost_handle(at, message.as_ptr(), message.len(), descriptors, &mut request) };
+        done(code, request)
+    }
+
+    pub(crate) fn reply(&self, message: &[u8], output: &mut [u8]) -> usize {
+        let at = self.handle.as_ptr();
+        // SAFETY: see `Connection`.
+        unsafe { vmm_vhost_reply(at, message.as_ptr(), message.len(), output.as_mut_ptr(), output.len()) }
+    }
+
+    pub(crate) fn refuse(&self, message: &[u8], output: &mut [u8]) -> usize {
+        let at = self.handle.as_ptr();
+        // SAFETY: see `Connection`.
+        unsafe { vmm_vhost_refuse(at, message.as_ptr(), message.len(), output.as_mut_ptr(), output.len()) }
+    }
+
+    pub(crate) fn stop(&self, index: u32, base: u32) -> Result<(), u32> {
+        // SAFETY: see `Connection`.
+        let code = unsafe { vmm_vhost_stop(self.handle.as_ptr(), index, base) };
+        done(code, ())
+    }
+
+    pub(crate) fn running(&self, index: u32) -> Result<Vring, u32> {
+        let mut vring = Vring::default();
+        // SAFETY: see `Connection`.
+        let code = unsafe { vmm_vhost_running(self.handle.as_ptr(), index, &mut vring) };
+        done(code, vring)
+    }
+
+    pub(crate) fn region(&self, number: usize) -> Result<Region, u32> {
+        let mut region = Region::default();
+        // SAFETY: see `Connection`.
+        let code = unsafe { vmm_vhost_region(self.handle.as_ptr(), number, &mut region) };
+        done(code, region)
+    }
+
+    pub(crate) fn state(&self) -> Negotiated {
+        let mut state = Negotiated::default();
+        // SAFETY: see `Connection`.
+        unsafe { vmm_vhost_state(self.handle.as_ptr(), &mut state) };
+        state
+    }
+
+    pub(crate) fn config(&self, output: &mut [u8]) -> usize {
+        // SAFETY: see `Connection`.
+        unsafe { vmm_vhost_config(self.handle.as_ptr(), output.as_mut_ptr(), output.len()) }
+    }
+}
+
+impl Drop for Connection {
+    fn drop(&mut self) {
+        // SAFETY: see `Connection`. This is the handle's last use.
+        unsafe { vmm_vhost_close(self.handle.get_mut()) }
     }
 }

@@ -56,8 +56,10 @@ fn all_crates_below_are_watched() {
     assert_eq!(
         names,
         [
+            "vhost_calls",
             "vhost_iotlb",
             "vhost_message",
+            "vhost_user",
             "virtio_blk",
             "virtio_queue",
             "vm_memory",

@@ -4,7 +4,6 @@ use crate::disk::Disk;
 use crate::features;
 use crate::memory::{Files, Memory};
 use crate::options::Options;
-use crate::protocol::{self, Backend, Refusal, Request, Vring};
 use crate::say;
 use crate::serve::{Fault, Server};
 use crate::system::{self, Epoll, Watch, Watched};
@@ -15,6 +14,7 @@ use std::os::fd::OwnedFd;
 use std::os::unix::net::UnixStream;
 use std::time::{Duration, Instant};
 use vm_memory_proved::queue::{Queue, QueueError, QueueState};
+use vm_memory_proved::vhost_user::{self, Backend, Refusal, Request, Vring, MAX_DESCRIPTORS, MAX_MESSAGE};
 use vm_memory_proved::{GuestAddress, QueueId};
 
 /// The number of the descriptor by which the program is ended, and of the socket. Rings come after them.
@@ -23,7 +23,7 @@ pub const SOCKET: u64 = 1;
 const RINGS: u64 = 2;
 
 // All chains in flight have at most so many descriptors. One chain has them: an indirect table has 65,535 at most.
-const MAX_DESCRIPTORS: usize = 65_535 + 1;
+const MAX_CHAIN: usize = 65_535 + 1;
 
 // How often a ring is looked at whose driver has no descriptor to notify by.
 const POLL: Duration = Duration::from_millis(1);
@@ -57,7 +57,7 @@ impl fmt::Display for End {
 
 // A message as it comes, with the descriptors that came with its bytes.
 struct Incoming {
-    bytes: [u8; protocol::MAX_MESSAGE],
+    bytes: [u8; MAX_MESSAGE],
     len: usize,
     descriptors: Vec<OwnedFd>,
 }
@@ -110,7 +110,7 @@ impl<'a> Connection<'a> {
             backend: Backend::new(&features::offer(options), &features::config(disk, options))?,
             said: (0, 0),
             incoming: Incoming {
-                bytes: [0; protocol::MAX_MESSAGE],
+                bytes: [0; MAX_MESSAGE],
                 len: 0,
                 descriptors: Vec::new(),
             },
@@ -189,7 +189,7 @@ impl<'a> Connection<'a> {
                 Err(error) if error.kind() == io::ErrorKind::Interrupted => (),
                 Err(error) => return Err(End::Failed("receiving", error.into())),
             }
-            if incoming.descriptors.len() > protocol::MAX_DESCRIPTORS {
+            if incoming.descriptors.len() > MAX_DESCRIPTORS {
                 return Err(self.refused(Refusal::Descriptors));
             }
         }
@@ -208,12 +208,13 @@ impl<'a> Connection<'a> {
             Ok(request) => self.perform(request, descriptors),
             Err(refusal) => Err(self.refused(refusal)),
         };
+        let mut room = [0; MAX_MESSAGE];
         let reply = match &done {
-            Ok(()) => self.backend.reply(message),
-            Err(_) => self.backend.refuse(message),
+            Ok(()) => self.backend.reply(message, &mut room),
+            Err(_) => self.backend.refuse(message, &mut room),
         };
         if !reply.is_empty() {
-            let sent = system::send(self.socket, &reply);
+            let sent = system::send(self.socket, reply);
             sent.map_err(|error| End::Failed("replying", error.into()))?;
         }
         done?;
@@ -253,7 +254,8 @@ impl<'a> Connection<'a> {
             Request::SetVringErr { index, .. } => {
                 self.rings[index as usize].err = file_of(descriptor).map_err(failed)?;
             }
-            Request::Other => (),
+            // The protocol's state has all that these ask for.
+            _ => (),
         }
         Ok(())
     }
@@ -277,7 +279,7 @@ impl<'a> Connection<'a> {
         }
         let memory = Memory::new(files).map_err(|error| End::Failed("the table of memory", error))?;
         for ring in &mut self.rings {
-            let queue = memory.machine().queue(features::MAX_QUEUE_SIZE, MAX_DESCRIPTORS);
+            let queue = memory.machine().queue(features::MAX_QUEUE_SIZE, MAX_CHAIN);
             let queue = queue.map_err(|error| End::Failed("a queue", error.into()))?;
             if let Some(state) = ring.kept.take().filter(|_| ring.is_set_up) {
                 take_state(&queue, &state).map_err(|error| End::Failed("a queue", error.into()))?;
@@ -384,11 +386,7 @@ impl<'a> Connection<'a> {
 impl Incoming {
     // How many bytes are still wanted: of the header, and then of the payload.
     fn wanted(&self) -> Result<usize, Refusal> {
-        let Some(header) = self.bytes[..self.len].first_chunk() else {
-            return Ok(protocol::HEADER_LEN - self.len);
-        };
-        let expected = protocol::expects(header)?;
-        Ok(protocol::HEADER_LEN + expected.payload - self.len)
+        Ok(vhost_user::wanted(&self.bytes[..self.len])?.bytes)
     }
 
     fn request(&self) -> u32 {

@@ -2,7 +2,7 @@
 
 use crate::disk::Disk;
 use crate::options::Options;
-use crate::protocol::Offer;
+use vm_memory_proved::vhost_user::Offer;
 
 /// The greatest size of a ring: QEMU's.
 pub const MAX_QUEUE_SIZE: u16 = 1024;
@@ -50,6 +50,9 @@ pub fn offer(options: &Options) -> Offer {
         protocol_features: all(&PROTOCOL_FEATURES),
         queues: options.queues,
         max_queue_size: MAX_QUEUE_SIZE.into(),
+        // A driver writes nothing of the configuration.
+        writable_from: 0,
+        writable_len: 0,
     }
 }
 

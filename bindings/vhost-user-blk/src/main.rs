@@ -1,7 +1,7 @@
 //! A back end of vhost-user: a front end, as QEMU, has a virtio block device whose disk is a file here.
 //!
-//! docs/VHOST_USER_BLK.md of the repository describes it. What a ring or a request means is decided by the proved
-//! library, and what a message means by `protocol`. The rest moves bytes and descriptors.
+//! docs/VHOST_USER_BLK.md of the repository describes it. What a message, a ring or a request means is decided by the
+//! proved library. The rest moves bytes and descriptors.
 #![deny(unsafe_op_in_unsafe_fn)]
 
 mod connection;
@@ -9,7 +9,6 @@ mod disk;
 mod features;
 mod memory;
 mod options;
-mod protocol;
 mod serve;
 mod stats;
 #[allow(unsafe_code)]

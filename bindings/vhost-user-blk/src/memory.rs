@@ -1,11 +1,11 @@
 //! The memory of a front end: its files are shared blocks of a machine.
 
-use crate::protocol::Region;
 use crate::system::Guarded;
 use std::fs::File;
 use std::io;
 use std::os::fd::{AsFd, OwnedFd};
 use std::os::unix::fs::MetadataExt;
+use vm_memory_proved::vhost_user::Region;
 use vm_memory_proved::{GuestAddress, GuestMemory, Machine, MemoryId};
 
 // Dirty pages are of this size. Nothing asks for them.

@@ -10,6 +10,7 @@ use std::ptr::{addr_of_mut, null_mut};
 use std::rc::Rc;
 use std::sync::atomic::{AtomicBool, AtomicUsize, Ordering::SeqCst};
 use std::time::Duration;
+use vm_memory_proved::vhost_user::MAX_DESCRIPTORS;
 
 // The result of a call that is -1 if it failed.
 fn checked(result: c_int) -> io::Result<c_int> {
@@ -22,7 +23,7 @@ fn checked(result: c_int) -> io::Result<c_int> {
 // ---- messages with descriptors
 
 // Room for the descriptors of one message, with the alignment that its header wants.
-const MOST: usize = crate::protocol::MAX_DESCRIPTORS;
+const MOST: usize = MAX_DESCRIPTORS;
 
 #[repr(C)]
 union Control {

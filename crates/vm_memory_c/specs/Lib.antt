@@ -1,2 +1,4 @@
-pub mod Handle
+pub mod Backend
 pub mod Calls
+pub mod Handle
+pub mod Vhost

@@ -1,11 +1,13 @@
-//! Sessions for C: opens one, calls it, and closes it.
+//! Sessions and back ends' connections for C: opens one, calls it, and closes it.
 #![tactic(auto)]
 
 ghost use Rattle.std.specs.Prelude.{◌≡◌, None, IsSome};
 ghost use Rattle.vm_memory_c.specs.Calls.{CallsAt, MissesAt, Opens};
 
+mod backend;
 mod handle;
 mod loose;
+mod vhost;
 
 use handle::Handle;
 use loose::Loose;

@@ -1,0 +1,519 @@
+//! A back end's side of the vhost-user protocol: docs/VHOST_USER.md of the repository.
+//!
+//! The program receives messages and descriptors, has [`Backend::handle`] say what each message asks for, does that, and
+//! sends the bytes of [`Backend::reply`] or [`Backend::refuse`]. Nothing here opens, keeps or maps anything.
+//!
+//! ```
+//! use vm_memory_proved::vhost_user::{wanted, Backend, Offer, Request, HEADER_LEN, MAX_MESSAGE};
+//!
+//! let offer = Offer { features: 1 << 32, queues: 1, max_queue_size: 1024, ..Offer::default() };
+//! let mut backend = Backend::new(&offer, &[0; 8])?;
+//! // GET_FEATURES, of the version 1 and without a payload.
+//! let message = [1, 0, 0, 0, 1, 0, 0, 0, 0, 0, 0, 0];
+//! assert_eq!(wanted(&message[..5])?.bytes, HEADER_LEN - 5);
+//! assert_eq!(wanted(&message)?.bytes, 0);
+//! assert_eq!(backend.handle(&message, 0)?, Request::GetFeatures);
+//! let mut room = [0; MAX_MESSAGE];
+//! assert_eq!(backend.reply(&message, &mut room)[12..], (1_u64 << 32).to_le_bytes());
+//! # Ok::<(), Box<dyn std::error::Error>>(())
+//! ```
+
+use crate::ffi::{vhost_wanted, Connection};
+use crate::raw::code;
+use std::{error, fmt};
+
+/// How many bytes a header has.
+pub const HEADER_LEN: usize = 12;
+
+/// How many bytes a message has at most.
+pub const MAX_MESSAGE: usize = 280;
+
+/// How many bytes of configuration there are at most.
+pub const MAX_CONFIG: usize = 256;
+
+/// How many descriptors come with a message at most.
+pub const MAX_DESCRIPTORS: usize = 8;
+
+/// What a back end offers.
+#[repr(C)]
+#[derive(Clone, Copy, Debug, Default, PartialEq, Eq)]
+pub struct Offer {
+    /// The features of the device, of its rings and of the back end, each as its bit.
+    pub features: u64,
+    /// The features of the protocol, each as its bit.
+    pub protocol_features: u64,
+    /// How many rings there are: 1 to 256.
+    pub queues: u32,
+    /// How many descriptors a ring has at most: 1 to 32,768.
+    pub max_queue_size: u32,
+    /// The first byte of the configuration that a driver may write.
+    pub writable_from: u32,
+    /// How many bytes it may write.
+    pub writable_len: u32,
+}
+
+/// What is still to come of a message.
+#[repr(C)]
+#[derive(Clone, Copy, Debug, Default, PartialEq, Eq)]
+pub struct Wanted {
+    /// How many bytes: of the header, and if that is there, of the payload. 0 if the message is whole.
+    pub bytes: usize,
+    /// How many descriptors come with the whole message at most.
+    pub descriptors: usize,
+}
+
+/// A region of the memory that the front end shares.
+#[repr(C)]
+#[derive(Clone, Copy, Debug, Default, PartialEq, Eq)]
+pub struct Region {
+    /// The first of its addresses in guest memory.
+    pub guest_address: u64,
+    /// How many bytes it has.
+    pub size: u64,
+    /// The first of its addresses in the front end's own memory.
+    pub user_address: u64,
+    /// The place of its first byte in its file.
+    pub mmap_offset: u64,
+}
+
+/// A part of the device's configuration.
+#[derive(Clone, Copy, Debug, PartialEq, Eq)]
+pub struct ConfigSpace {
+    /// The place of its first byte.
+    pub offset: u32,
+    /// How many bytes it has.
+    pub size: u32,
+    /// Whether a migration asks, and not the driver.
+    pub is_migration: bool,
+}
+
+/// What a message asks for. All of it that is part of the connection's state is there already.
+#[derive(Clone, Copy, Debug, PartialEq, Eq)]
+#[allow(missing_docs)]
+pub enum Request {
+    GetFeatures,
+    SetFeatures(u64),
+    SetOwner,
+    ResetOwner,
+    /// The memory is that of [`Backend::regions`] from now on. A descriptor of a file came for each region.
+    SetMemTable,
+    /// The log of dirty pages has `size` bytes, from `offset` on in the file whose descriptor came.
+    SetLogBase {
+        size: u64,
+        offset: u64,
+    },
+    /// The descriptor that came is signalled when the log is written.
+    SetLogFd,
+    SetVringNum {
+        index: u32,
+        num: u32,
+    },
+    SetVringAddr {
+        index: u32,
+    },
+    SetVringBase {
+        index: u32,
+        base: u32,
+    },
+    /// The ring is stopped. [`Backend::stop`] says where it goes on before the reply is sent.
+    GetVringBase {
+        index: u32,
+    },
+    /// The ring is started. `descriptor` says whether one came by which the driver notifies.
+    SetVringKick {
+        index: u32,
+        descriptor: bool,
+    },
+    SetVringCall {
+        index: u32,
+        descriptor: bool,
+    },
+    SetVringErr {
+        index: u32,
+        descriptor: bool,
+    },
+    GetProtocolFeatures,
+    SetProtocolFeatures(u64),
+    GetQueueNum,
+    SetVringEnable {
+        index: u32,
+        enable: bool,
+    },
+    /// The descriptor that came is the back end's own channel.
+    SetBackendReqFd,
+    /// The payload is an UPDATE or an INVALIDATE for the device's I/O table.
+    IotlbMsg,
+    GetConfig(ConfigSpace),
+    /// The bytes are those of the payload after the first 12.
+    SetConfig(ConfigSpace),
+}
+
+/// How one end of a ring notifies the other.
+#[derive(Clone, Copy, Debug, Default, PartialEq, Eq)]
+pub enum Notifier {
+    /// No message said so.
+    #[default]
+    Unset,
+    /// Not at all: the other end has to look by itself.
+    Polled,
+    /// By the descriptor that came last.
+    Descriptor,
+}
+
+/// A ring that is to be served. Its addresses are those of guest memory, or I/O addresses if ACCESS_PLATFORM was
+/// accepted.
+#[derive(Clone, Copy, Debug, PartialEq, Eq)]
+pub struct Vring {
+    /// How many descriptors it has.
+    pub size: u32,
+    /// The index of the next available descriptor, from which it was started.
+    pub base: u32,
+    /// The address of the descriptor table.
+    pub descriptor: u64,
+    /// The address of the available ring.
+    pub available: u64,
+    /// The address of the used ring.
+    pub used: u64,
+    /// The address in the log of the used ring, if writes to it are marked.
+    pub log: Option<u64>,
+    /// How the driver notifies the back end.
+    pub kick: Notifier,
+    /// How the back end notifies the driver.
+    pub call: Notifier,
+}
+
+/// Why a message is refused, or a ring not to be served.
+#[derive(Clone, Copy, Debug, PartialEq, Eq)]
+pub enum Refusal {
+    /// An allocation failed.
+    Memory,
+    /// No back end offers this.
+    Offer,
+    /// The message ends in its header.
+    Header,
+    /// The two lowest bits of the flags are not 1.
+    Version,
+    /// It is a reply, and a request is due.
+    Direction,
+    /// No request that a back end serves has this number.
+    Request,
+    /// The payload is not as long as the request has it.
+    PayloadSize,
+    /// The request does not come with so many descriptors.
+    Descriptors,
+    /// The feature that the request belongs to was not negotiated.
+    NotNegotiated,
+    /// Features that were not offered.
+    Features,
+    /// There is no ring of this number.
+    Index,
+    /// A ring has a descriptor, and no more of them than were offered.
+    QueueSize,
+    /// No split ring has this index.
+    Base,
+    /// A flag or a switch that means nothing.
+    Flags,
+    /// A part of a ring is not aligned.
+    Alignment,
+    /// This must not change while a ring is started.
+    Started,
+    /// A region has no bytes, or passes the last address.
+    RegionRange,
+    /// Two regions have guest addresses in common.
+    RegionOverlap,
+    /// The configuration does not have these bytes.
+    ConfigRange,
+    /// A front end must not write these bytes of the configuration.
+    ConfigReadOnly,
+    /// A message on the I/O table has another kind than UPDATE and INVALIDATE.
+    IotlbKind,
+    /// A message on the I/O table maps no address.
+    IotlbEmptyRange,
+    /// A message on the I/O table maps addresses past the last one.
+    IotlbRange,
+    /// A message on the I/O table has no permissions.
+    IotlbPermissions,
+    /// No kick came since the last GET_VRING_BASE.
+    Stopped,
+    /// The ring is not enabled.
+    Disabled,
+    /// The ring has no size.
+    NoSize,
+    /// The ring has no addresses.
+    NoAddress,
+    /// No region has the ring.
+    UserAddress,
+}
+
+// Each refusal, its code and its text.
+const REFUSALS: [(Refusal, u32, &str); 29] = [
+    (Refusal::Memory, code::MEMORY, "out of memory"),
+    (Refusal::Offer, code::VHOST_OFFER, "invalid offer"),
+    (Refusal::Header, code::VHOST_HEADER, "the message ends in its header"),
+    (Refusal::Version, code::VHOST_VERSION, "unknown version"),
+    (Refusal::Direction, code::VHOST_DIRECTION, "a reply for a request"),
+    (Refusal::Request, code::VHOST_REQUEST, "unknown request"),
+    (
+        Refusal::PayloadSize,
+        code::VHOST_PAYLOAD_SIZE,
+        "invalid size of the payload",
+    ),
+    (
+        Refusal::Descriptors,
+        code::VHOST_DESCRIPTORS,
+        "invalid number of descriptors",
+    ),
+    (
+        Refusal::NotNegotiated,
+        code::VHOST_NOT_NEGOTIATED,
+        "feature not negotiated",
+    ),
+    (Refusal::Features, code::VHOST_FEATURES, "features not offered"),
+    (Refusal::Index, code::VHOST_INDEX, "no such ring"),
+    (Refusal::QueueSize, code::VHOST_QUEUE_SIZE, "invalid size of a ring"),
+    (Refusal::Base, code::VHOST_BASE, "invalid index of a ring"),
+    (Refusal::Flags, code::VHOST_FLAGS, "invalid flags"),
+    (Refusal::Alignment, code::VHOST_ALIGNMENT, "misaligned ring"),
+    (Refusal::Started, code::VHOST_STARTED, "ring is started"),
+    (Refusal::RegionRange, code::VHOST_REGION_RANGE, "invalid region"),
+    (Refusal::RegionOverlap, code::VHOST_REGION_OVERLAP, "regions overlap"),
+    (
+        Refusal::ConfigRange,
+        code::VHOST_CONFIG_RANGE,
+        "range past the configuration",
+    ),
+    (
+        Refusal::ConfigReadOnly,
+        code::VHOST_CONFIG_READ_ONLY,
+        "configuration is read only",
+    ),
+    (
+        Refusal::IotlbKind,
+        code::MESSAGE_KIND,
+        "malformed message on the table: unknown kind of message",
+    ),
+    (
+        Refusal::IotlbEmptyRange,
+        code::MESSAGE_EMPTY_RANGE,
+        "malformed message on the table: empty range",
+    ),
+    (
+        Refusal::IotlbRange,
+        code::MESSAGE_RANGE,
+        "malformed message on the table: range past the last address",
+    ),
+    (
+        Refusal::IotlbPermissions,
+        code::MESSAGE_PERMISSIONS,
+        "malformed message on the table: no permissions",
+    ),
+    (Refusal::Stopped, code::VHOST_STOPPED, "ring is stopped"),
+    (Refusal::Disabled, code::VHOST_DISABLED, "ring is disabled"),
+    (Refusal::NoSize, code::VHOST_NO_SIZE, "ring has no size"),
+    (Refusal::NoAddress, code::VHOST_NO_ADDRESS, "ring has no addresses"),
+    (Refusal::UserAddress, code::VHOST_USER_ADDRESS, "no region has the ring"),
+];
+
+impl Refusal {
+    fn of(code: u32) -> Refusal {
+        let found = REFUSALS.iter().find(|(_, number, _)| *number == code);
+        found.expect("the library refuses by these codes alone").0
+    }
+}
+
+impl fmt::Display for Refusal {
+    fn fmt(&self, f: &mut fmt::Formatter<'_>) -> fmt::Result {
+        let found = REFUSALS.iter().find(|(refusal, ..)| refusal == self);
+        f.write_str(found.expect("each refusal has a row").2)
+    }
+}
+
+impl error::Error for Refusal {}
+
+/// What crosses to the library and back.
+pub(crate) mod raw {
+    #[repr(C)]
+    #[derive(Clone, Copy, Default)]
+    pub(crate) struct Request {
+        pub(crate) request: u32,
+        pub(crate) index: u32,
+        pub(crate) flag: u32,
+        pub(crate) value: u64,
+        pub(crate) size: u64,
+    }
+
+    #[repr(C)]
+    #[derive(Clone, Copy, Default)]
+    pub(crate) struct Vring {
+        pub(crate) size: u32,
+        pub(crate) base: u32,
+        pub(crate) descriptor: u64,
+        pub(crate) available: u64,
+        pub(crate) used: u64,
+        pub(crate) log: u64,
+        pub(crate) is_logged: u32,
+        pub(crate) kick: u32,
+        pub(crate) call: u32,
+    }
+
+    #[repr(C)]
+    #[derive(Clone, Copy, Default)]
+    pub(crate) struct Negotiated {
+        pub(crate) features: u64,
+        pub(crate) protocol_features: u64,
+        pub(crate) queues: usize,
+        pub(crate) regions: usize,
+        pub(crate) is_owned: u32,
+    }
+}
+
+fn request_of(raw: &raw::Request) -> Request {
+    let (index, is_set) = (raw.index, raw.flag == 1);
+    let space = ConfigSpace {
+        offset: raw.value as u32,
+        size: raw.size as u32,
+        is_migration: is_set,
+    };
+    match raw.request {
+        1 => Request::GetFeatures,
+        2 => Request::SetFeatures(raw.value),
+        3 => Request::SetOwner,
+        4 => Request::ResetOwner,
+        5 => Request::SetMemTable,
+        6 => Request::SetLogBase {
+            size: raw.size,
+            offset: raw.value,
+        },
+        7 => Request::SetLogFd,
+        8 => Request::SetVringNum {
+            index,
+            num: raw.value as u32,
+        },
+        9 => Request::SetVringAddr { index },
+        10 => Request::SetVringBase {
+            index,
+            base: raw.value as u32,
+        },
+        11 => Request::GetVringBase { index },
+        12 => Request::SetVringKick {
+            index,
+            descriptor: is_set,
+        },
+        13 => Request::SetVringCall {
+            index,
+            descriptor: is_set,
+        },
+        14 => Request::SetVringErr {
+            index,
+            descriptor: is_set,
+        },
+        15 => Request::GetProtocolFeatures,
+        16 => Request::SetProtocolFeatures(raw.value),
+        17 => Request::GetQueueNum,
+        18 => Request::SetVringEnable { index, enable: is_set },
+        21 => Request::SetBackendReqFd,
+        22 => Request::IotlbMsg,
+        24 => Request::GetConfig(space),
+        25 => Request::SetConfig(space),
+        number => unreachable!("the library takes no request of the number {number}"),
+    }
+}
+
+fn notifier_of(number: u32) -> Notifier {
+    match number {
+        0 => Notifier::Unset,
+        1 => Notifier::Polled,
+        _ => Notifier::Descriptor,
+    }
+}
+
+/// What is still to come of a message that begins with these bytes, or why its header is refused. After a refusal
+/// nobody knows the beginning of the next message.
+pub fn wanted(start: &[u8]) -> Result<Wanted, Refusal> {
+    vhost_wanted(start).map_err(Refusal::of)
+}
+
+/// A connection with a front end: what was negotiated, and what the front end said of its memory and its rings.
+pub struct Backend {
+    connection: Connection,
+}
+
+impl Backend {
+    /// A connection with nothing negotiated, with a configuration of at most [`MAX_CONFIG`] bytes. Refused with `Offer` if
+    /// no back end offers this, and with `Memory`.
+    pub fn new(offer: &Offer, config: &[u8]) -> Result<Backend, Refusal> {
+        let connection = Connection::open(offer, config).map_err(Refusal::of)?;
+        Ok(Backend { connection })
+    }
+
+    /// Takes a whole message that came with so many descriptors. If it is refused, nothing changed.
+    pub fn handle(&mut self, message: &[u8], descriptors: usize) -> Result<Request, Refusal> {
+        let handled = self.connection.handle(message, descriptors);
+        handled.map(|request| request_of(&request)).map_err(Refusal::of)
+    }
+
+    /// The reply to a message that was taken and done, or no bytes.
+    pub fn reply<'a>(&self, message: &[u8], room: &'a mut [u8; MAX_MESSAGE]) -> &'a [u8] {
+        let count = self.connection.reply(message, room);
+        &room[..count]
+    }
+
+    /// The reply to a message that was refused or could not be done, or no bytes.
+    pub fn refuse<'a>(&self, message: &[u8], room: &'a mut [u8; MAX_MESSAGE]) -> &'a [u8] {
+        let count = self.connection.refuse(message, room);
+        &room[..count]
+    }
+
+    /// Says where a ring goes on that was stopped. Refused with `Index` or `Started`.
+    pub fn stop(&mut self, index: u32, base: u32) -> Result<(), Refusal> {
+        self.connection.stop(index, base).map_err(Refusal::of)
+    }
+
+    /// A ring as it is to be served, or why it is not.
+    pub fn running(&self, index: u32) -> Result<Vring, Refusal> {
+        let vring = self.connection.running(index).map_err(Refusal::of)?;
+        Ok(Vring {
+            size: vring.size,
+            base: vring.base,
+            descriptor: vring.descriptor,
+            available: vring.available,
+            used: vring.used,
+            log: (vring.is_logged == 1).then_some(vring.log),
+            kick: notifier_of(vring.kick),
+            call: notifier_of(vring.call),
+        })
+    }
+
+    /// The regions of the memory, in the order in which they came.
+    pub fn regions(&self) -> Vec<Region> {
+        (0..).map_while(|number| self.connection.region(number).ok()).collect()
+    }
+
+    /// The features that the front end accepted.
+    pub fn features(&self) -> u64 {
+        self.connection.state().features
+    }
+
+    /// The features of the protocol that the front end accepted.
+    pub fn protocol_features(&self) -> u64 {
+        self.connection.state().protocol_features
+    }
+
+    /// How many rings there are.
+    pub fn queues(&self) -> usize {
+        self.connection.state().queues
+    }
+
+    /// Whether a front end said that it owns the connection.
+    pub fn is_owned(&self) -> bool {
+        self.connection.state().is_owned == 1
+    }
+
+    /// The configuration, to which a front end may have written.
+    pub fn config(&self) -> Vec<u8> {
+        let mut bytes = vec![0; MAX_CONFIG];
+        let count = self.connection.config(&mut bytes);
+        bytes.truncate(count);
+        bytes
+    }
+}

@@ -1,0 +1,12 @@
+//! A connection with a vhost-user front end as calls that have numbers and bytes alone, as they cross to C.
+//! docs/VHOST_USER.md.
+#![tactic(auto)]
+
+mod calls;
+pub mod code;
+mod refused;
+mod values;
+
+pub use calls::{config, handle, open, refuse, region, reply, running, state, stop, wanted};
+pub use values::{VhostOffer, VhostRegion, VhostRequest, VhostState, VhostVring, VhostWanted};
+pub use vhost_user::BackendReqHandler;

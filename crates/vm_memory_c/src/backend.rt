@@ -1,0 +1,58 @@
+//! The handle of a vhost-user back end's connection: where it lies.
+ghost use Rattle.std.specs.Prelude.{◌≡◌, Option, Some, None, IsSome};
+ghost use Rattle.vhost_user.specs.Connection.{Connection};
+ghost use Rattle.vm_memory_c.specs.Backend.{backend_owns};
+
+use crate::loose::Loose;
+use std::alloc::Global;
+use std::marker::Model;
+use std::ptr::null_mut;
+use vhost_calls::BackendReqHandler;
+
+/// Where a connection lies, if it is open.
+#[repr(C)]
+#[derive(Drop)]
+pub struct Backend {
+    at: *mut u8,
+    alloc: Global,
+    pub ghost state: { Option Connection },
+}
+
+impl Model for Backend {
+    ghost also_owns = { λ h. backend_owns h.at h.state };
+}
+
+impl Backend {
+    // A handle of no connection.
+    pub(crate) fn closed(alloc: Global) -> Backend
+        ensures { result.state ≡ None }
+    {
+        Backend {
+            at: null_mut(),
+            alloc,
+        }
+    }
+
+    // The handle of a connection.
+    pub(crate) fn of(connection: Loose<BackendReqHandler, Global>) -> Backend
+        ensures { result.state ≡ Some connection.value }
+    {
+        let Loose { at, alloc } = connection;
+        Backend {
+            at: at as *mut u8,
+            alloc,
+        }
+    }
+
+    // The connection of a handle.
+    pub(crate) fn loosen(self) -> Loose<BackendReqHandler, Global>
+        requires { IsSome self.state }
+        ensures { Some result.value ≡ self.state }
+    {
+        let Backend { at, alloc } = self;
+        Loose {
+            at: at as *mut BackendReqHandler,
+            alloc,
+        }
+    }
+}
