@@ -13,7 +13,7 @@ use Rattle.vm_memory.specs.Tables.{changed_table, changes}
 use Rattle.vm_memory.specs.declared.machine.command.Reply.{Reply}
 use Rattle.vm_memory.specs.declared.machine.command.Reply.TheVariants as reply
 use Rattle.vhost_iotlb.specs.Changes.{Changes, Handles}
-use Rattle.vhost_iotlb.specs.declared.message.IotlbMessage.{IotlbMessage}
+use Rattle.vhost_message.specs.declared.iotlb.IotlbMessage.{IotlbMessage}
 use Rattle.vhost_iotlb.specs.declared.user_memory.UserRegion.{UserRegion}
 use Rattle.vhost_iotlb.proofs.CallLemmas.{IsCall, MadeOf, made_of}
 use Rattle.vhost_commands.specs.Commands.{all_done, command_of, commands_of, done_by}

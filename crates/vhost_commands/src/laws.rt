@@ -7,7 +7,7 @@ ghost use Rattle.vm_memory.specs.History.{table_events};
 ghost use Rattle.vm_memory.specs.Machine.{Run};
 ghost use Rattle.vm_memory.specs.State.{State};
 ghost use Rattle.vhost_iotlb.specs.Changes.{Handles};
-ghost use Rattle.vhost_iotlb.specs.declared.message.IotlbMessage.{IotlbMessage};
+ghost use Rattle.vhost_message.specs.declared.iotlb.IotlbMessage.{IotlbMessage};
 ghost use Rattle.vhost_iotlb.specs.declared.user_memory.UserRegion.{UserRegion};
 ghost use Rattle.vhost_commands.specs.Commands.{all_done, commands_of};
 

@@ -8,21 +8,23 @@ use Rattle.vm_memory_base.specs.declared.iotlb.Permissions.{Permissions}
 use Rattle.vm_memory_guest.specs.Host.{Host}
 use Rattle.vhost_iotlb.specs.Changes.{Applies, Changes, DoneFor, Makes, MakesOfMalformed, call_of, invalidate, invalidated, set_to}
 use Rattle.vhost_iotlb.specs.UserMemory.{guest_of}
-use Rattle.vhost_iotlb.specs.declared.malformed.Malformed.{Malformed}
-use Rattle.vhost_iotlb.specs.declared.malformed.Malformed.TheVariants as malformed
-use Rattle.vhost_iotlb.specs.declared.message.IotlbMessage.{IotlbMessage}
-use Rattle.vhost_iotlb.specs.declared.message.IotlbMessage.TheVariants.{Update, Invalidate}
+use Rattle.vhost_message.specs.declared.refusal.Malformed.{Malformed}
+use Rattle.vhost_message.specs.declared.refusal.Malformed.TheVariants as malformed
+use Rattle.vhost_message.specs.declared.iotlb.IotlbMessage.{IotlbMessage}
+use Rattle.vhost_message.specs.declared.iotlb.IotlbMessage.TheVariants.{Update, Invalidate}
+use Rattle.vhost_iotlb.specs.declared.table.Refusal.{Refusal}
 use Rattle.vhost_iotlb.specs.declared.table.Refusal.TheVariants as refusal
 use Rattle.vhost_iotlb.specs.declared.user_memory.UserRegion.{UserRegion}
 
-abbrev asked_for : TableEvent → Result TableEvent Malformed
+abbrev asked_for : TableEvent → Result TableEvent Refusal
 asked_for call = Ok call
 
 -- a range whose end is an address is malformed in no other way
-in_range : (iova size : ℕ) (r : Result TableEvent Malformed) → iova + size < 2 ^ 64
-    → cond (overruns iova size) (Err malformed.Range) r ≡ r
+in_range : (iova size : ℕ) (r : Result TableEvent Refusal) → iova + size < 2 ^ 64
+    → cond (overruns iova size) (Err (refusal.Malformed malformed.Range)) r ≡ r
 in_range iova size r fits =
-    cond-false (overruns iova size) (Err malformed.Range) r (le-ltb (2 ^ 64 - 1) (iova + size) (omega arith))
+    cond-false (overruns iova size) (Err (refusal.Malformed malformed.Range)) r
+    (le-ltb (2 ^ 64 - 1) (iova + size) (omega arith))
 
 module _ {B : Type 0} (number : ℕ) (regions : List UserRegion) (m : IotlbMessage) (old new : Host B) where
   made_by : (wanted call : TableEvent) → call_of regions m ≡ asked_for wanted → DoneFor wanted call

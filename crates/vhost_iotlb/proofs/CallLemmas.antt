@@ -9,9 +9,9 @@ use Rattle.vm_memory_base.specs.declared.iotlb.Permissions.{Permissions}
 use Rattle.vm_memory_guest.specs.Host.{Host}
 use Rattle.vhost_iotlb.specs.Changes.{Applies, Changes, DoneFor, Handles, IsAmong, MakesOfMalformed, call_of, invalidate, invalidated, named, set_to}
 use Rattle.vhost_iotlb.specs.UserMemory.{guest_of}
-use Rattle.vhost_iotlb.specs.declared.malformed.Malformed.TheVariants as malformed
-use Rattle.vhost_iotlb.specs.declared.message.IotlbMessage.{IotlbMessage}
-use Rattle.vhost_iotlb.specs.declared.message.IotlbMessage.TheVariants.{Miss, Update, Invalidate, AccessFail}
+use Rattle.vhost_message.specs.declared.refusal.Malformed.TheVariants as malformed
+use Rattle.vhost_message.specs.declared.iotlb.IotlbMessage.{IotlbMessage}
+use Rattle.vhost_message.specs.declared.iotlb.IotlbMessage.TheVariants.{Miss, Update, Invalidate, AccessFail}
 use Rattle.vhost_iotlb.specs.declared.table.Refusal.{Refusal}
 use Rattle.vhost_iotlb.specs.declared.table.Refusal.TheVariants as refusal
 use Rattle.vhost_iotlb.specs.declared.user_memory.UserRegion.{UserRegion}
@@ -41,7 +41,8 @@ sets_by regions iova size user perm wanted e = over (overruns iova size) refl e
     to_there (Some to) there fits e = record { to = to; fits = fits; lies = there; is = cc }
 
     over : (b : Bool) → overruns iova size ≡ b
-        → cond b (Err malformed.Range) (set_to iova size perm (guest_of regions user size)) ≡ Ok wanted
+        → cond b (Err (refusal.Malformed malformed.Range)) (set_to iova size perm (guest_of regions user size))
+        ≡ Ok wanted
         → SetsBy regions iova size user perm wanted
     over true fits e = absurd cc
     over false fits e = to_there (guest_of regions user size) refl fits e
@@ -172,6 +173,7 @@ module _ {B : Type 0} (number : ℕ) (regions : List UserRegion) where
         set_by regions m by.wanted by.call iova to len perm by.is_asked by.done_for is;
   })
   made_of m (Err (refusal.Malformed e)) calls old new by = of_malformed m calls old new by.1
+  made_of m (Err refusal.UserAddress) calls old new by = inl by.1
   made_of m (Err refusal.Memory) calls old new by = inl by.1
   made_of m (Err refusal.NoTable) calls old new by = inl by.1
 

@@ -14,9 +14,9 @@ use Rattle.vm_memory_base.specs.declared.iotlb.Permissions.{Permissions}
 use Rattle.vm_memory_guest.specs.Host.{Host}
 use Rattle.vhost_iotlb.specs.Changes.{Applies, DoneFor, Handles, MayWant, invalidate, invalidated, named}
 use Rattle.vhost_iotlb.specs.Invalidation.{unmaps, updates}
-use Rattle.vhost_iotlb.specs.declared.malformed.Malformed.{Malformed}
-use Rattle.vhost_iotlb.specs.declared.message.IotlbMessage.{IotlbMessage}
-use Rattle.vhost_iotlb.specs.declared.message.IotlbMessage.TheVariants.{Update, Invalidate}
+use Rattle.vhost_message.specs.declared.refusal.Malformed.{Malformed}
+use Rattle.vhost_message.specs.declared.iotlb.IotlbMessage.{IotlbMessage}
+use Rattle.vhost_message.specs.declared.iotlb.IotlbMessage.TheVariants.{Update, Invalidate}
 use Rattle.vhost_iotlb.specs.declared.table.Refusal.{Refusal}
 use Rattle.vhost_iotlb.specs.declared.table.Refusal.TheVariants as refusal
 use Rattle.vhost_iotlb.specs.declared.user_memory.UserRegion.{UserRegion}
@@ -136,6 +136,10 @@ module _ (number : ℕ) (regions : List UserRegion) (x : ℕ) where
   no_want iova (Ok len) want = want
   no_want iova (Err e) want = want
 
+  no_user : (iova : ℕ) (r : Result ℕ Malformed) → invalidate iova r ≡ Err refusal.UserAddress → ⊥
+  no_user iova (Ok len) is = absurd cc
+  no_user iova (Err e) is = absurd cc
+
   taken : (iova size : ℕ) (answer : Result (Unit {0}) Refusal) (calls : List TableEvent) (old new : Host PageSet)
       (t : Table) → Applies number regions (Invalidate iova size) answer calls old new
       → slice_get old.tables number ≡ Some t → x < 2 ^ 64 - 1 → unmaps iova size x ≡ true → Unmap calls
@@ -143,6 +147,8 @@ module _ (number : ℕ) (regions : List UserRegion) (x : ℕ) where
       subst Unmap (sym by.made) (called iova size by.wanted by.call by.is_asked by.done_for fits is)
   taken iova size (Err (refusal.Malformed e)) calls old new t by there fits is =
       subst Unmap (sym by.1.0) (λ said. refl)
+  taken iova size (Err refusal.UserAddress) calls old new t by there fits is =
+      absurd (no_user iova (invalidated iova size) by.0)
   taken iova size (Err refusal.Memory) calls old new t by there fits is =
       absurd (no_want iova (invalidated iova size) by.0)
   taken iova size (Err refusal.NoTable) calls old new t by there fits is =

@@ -6,17 +6,17 @@ use Rattle.vm_memory_base.specs.declared.address.GuestAddress.{GuestAddress}
 use Rattle.vm_memory_base.specs.declared.iotlb.Permissions.{Permissions}
 use Rattle.vm_memory_guest.specs.Host.{Host, with_table_at}
 use Rattle.vhost_iotlb.specs.UserMemory.{guest_of}
-use Rattle.vhost_iotlb.specs.declared.malformed.Malformed.{Malformed}
-use Rattle.vhost_iotlb.specs.declared.malformed.Malformed.TheVariants as malformed
-use Rattle.vhost_iotlb.specs.declared.message.IotlbMessage.{IotlbMessage}
-use Rattle.vhost_iotlb.specs.declared.message.IotlbMessage.TheVariants.{Miss, Update, Invalidate, AccessFail}
+use Rattle.vhost_message.specs.declared.refusal.Malformed.{Malformed}
+use Rattle.vhost_message.specs.declared.refusal.Malformed.TheVariants as malformed
+use Rattle.vhost_message.specs.declared.iotlb.IotlbMessage.{IotlbMessage}
+use Rattle.vhost_message.specs.declared.iotlb.IotlbMessage.TheVariants.{Miss, Update, Invalidate, AccessFail}
 use Rattle.vhost_iotlb.specs.declared.table.Refusal.{Refusal}
 use Rattle.vhost_iotlb.specs.declared.table.Refusal.TheVariants as refusal
 use Rattle.vhost_iotlb.specs.declared.user_memory.UserRegion.{UserRegion}
 
 -- a range that is mapped to guest memory
-abbrev pub set_to : ℕ → ℕ → Permissions → Option GuestAddress → Result TableEvent Malformed
-set_to iova size permissions None = Err malformed.UserAddress
+abbrev pub set_to : ℕ → ℕ → Permissions → Option GuestAddress → Result TableEvent Refusal
+set_to iova size permissions None = Err refusal.UserAddress
 set_to iova size permissions (Some to) = Ok (table.Set iova to.0 size permissions)
 
 -- how many addresses an INVALIDATE names: all of them are 2 ^ 64, whose 64 lowest bits are 0
@@ -30,17 +30,18 @@ invalidated iova size = if named iova size == 0 then Err malformed.EmptyRange el
     else Ok (min (named iova size) (2 ^ 64 - 1 - iova)))
 
 -- so many addresses are invalidated
-abbrev pub invalidate : ℕ → Result ℕ Malformed → Result TableEvent Malformed
-invalidate iova (Err e) = Err e
+abbrev pub invalidate : ℕ → Result ℕ Malformed → Result TableEvent Refusal
+invalidate iova (Err e) = Err (refusal.Malformed e)
 invalidate iova (Ok len) = Ok (table.Invalidate iova len)
 
 -- the call of a table that a message of the front end asks for, or what is wrong with it
-abbrev pub call_of : List UserRegion → IotlbMessage → Result TableEvent Malformed
+abbrev pub call_of : List UserRegion → IotlbMessage → Result TableEvent Refusal
 call_of regions (Update iova size user permissions) =
-    if overruns iova size then Err malformed.Range else set_to iova size permissions (guest_of regions user size)
+    if overruns iova size then Err (refusal.Malformed malformed.Range)
+    else set_to iova size permissions (guest_of regions user size)
 call_of regions (Invalidate iova size) = invalidate iova (invalidated iova size)
-call_of regions (Miss iova access) = Err malformed.Kind
-call_of regions (AccessFail iova access) = Err malformed.Kind
+call_of regions (Miss iova access) = Err (refusal.Malformed malformed.Kind)
+call_of regions (AccessFail iova access) = Err (refusal.Malformed malformed.Kind)
 
 -- what may be done for a call: the call, but in place of taking a range back all may be taken back
 abbrev pub DoneFor : TableEvent → TableEvent → Type 0
@@ -54,7 +55,7 @@ pub record Changes {B : Type 0} (number : ℕ) (call : TableEvent) (old new : Ho
   pub left : new ≡ with_table_at old number (changed call before)
 
 -- a call was asked for, and one was made for it
-pub record Makes {B : Type 0} (number : ℕ) (asked : Result TableEvent Malformed) (calls : List TableEvent)
+pub record Makes {B : Type 0} (number : ℕ) (asked : Result TableEvent Refusal) (calls : List TableEvent)
     (old new : Host B) : Type 0 where
   pub wanted : TableEvent
   pub call : TableEvent
@@ -74,7 +75,7 @@ MakesOfMalformed number (Invalidate iova size) calls old new =
 MakesOfMalformed number m calls old new = MakesNothing calls old new
 
 -- what was asked for may be refused for want of memory: that a range is mapped
-abbrev pub MayWant : Result TableEvent Malformed → Type 0
+abbrev pub MayWant : Result TableEvent Refusal → Type 0
 MayWant (Ok (table.Set iova to len permissions)) = Unit {0}
 MayWant asked = ⊥
 
@@ -83,7 +84,9 @@ abbrev pub Applies : {B : Type 0} → ℕ → List UserRegion → IotlbMessage �
     → Host B → Host B → Type 0
 Applies number regions m (Ok done) calls old new = Makes number (call_of regions m) calls old new
 Applies number regions m (Err (refusal.Malformed e)) calls old new =
-    (call_of regions m ≡ Err e) × MakesOfMalformed number m calls old new
+    (call_of regions m ≡ Err (refusal.Malformed e)) × MakesOfMalformed number m calls old new
+Applies number regions m (Err refusal.UserAddress) calls old new =
+    (call_of regions m ≡ Err refusal.UserAddress) × MakesNothing calls old new
 Applies number regions m (Err refusal.Memory) calls old new =
     MayWant (call_of regions m) × MakesNothing calls old new
 Applies number regions m (Err refusal.NoTable) calls old new =

@@ -2,8 +2,8 @@
 use Rattle.std.specs.Prelude.{ℕ, Bool, false, ◌||◌, is_err}
 use Rattle.vm_memory_base.specs.Address.{is_within}
 use Rattle.vhost_iotlb.specs.Changes.{invalidated, named}
-use Rattle.vhost_iotlb.specs.declared.message.IotlbMessage.{IotlbMessage}
-use Rattle.vhost_iotlb.specs.declared.message.IotlbMessage.TheVariants.{Miss, Update, Invalidate, AccessFail}
+use Rattle.vhost_message.specs.declared.iotlb.IotlbMessage.{IotlbMessage}
+use Rattle.vhost_message.specs.declared.iotlb.IotlbMessage.TheVariants.{Miss, Update, Invalidate, AccessFail}
 
 -- whether an INVALIDATE unmaps an address: one that it names, or any if it is malformed
 abbrev pub unmaps : ℕ → ℕ → ℕ → Bool

@@ -1,9 +1,5 @@
 pub mod Changes
-pub mod Frames
 pub mod Handling
-pub mod Header
 pub mod Invalidation
-pub mod Message
 pub mod Reaches
-pub mod Stream
 pub mod UserMemory

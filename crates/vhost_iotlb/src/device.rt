@@ -1,23 +1,21 @@
 //! The I/O table of a device, as its front end fills it.
-ghost use Rattle.std.specs.Prelude.{◌≡◌, ◌^◌, ◌<◌, OnOk, IfOk, MatchResult};
+ghost use Rattle.std.specs.Prelude.{◌≡◌, ◌≤◌, [], length, None, OnOk, IfOk, IfErr, IfSome, MatchResult};
 ghost use Rattle.std.specs.Io.KnownBytes.{Appends};
-ghost use Rattle.vhost_iotlb.specs.Handling.{Handles, Serves, Settles, answer_to, reply_bytes, value_of};
-ghost use Rattle.vhost_iotlb.specs.Stream.{nothing_yet};
+ghost use Rattle.vhost_iotlb.specs.Handling.{Handles, HasHeader, IsApplied, Serves, answer_of, answer_to, asked, on_table, reply_bytes};
 ghost use Rattle.vhost_iotlb.specs.declared.device.Handled.{Handled};
 
-use crate::channel::{ChannelError, Frame, Incoming, Receive, send};
-use crate::header::{
-    Header, VERSION, VHOST_USER_BACKEND_IOTLB_MSG, VHOST_USER_IOTLB_MSG, VHOST_USER_NEED_REPLY,
-    VHOST_USER_REPLY,
-};
 use crate::host::SharedHost;
-use crate::message::{IotlbMessage, PAYLOAD_LEN};
-use crate::reply::encode_reply;
+use crate::replies::Replies;
 use crate::request::{Outcome, Request};
 use crate::table::{DeviceTable, Refusal};
+use crate::user_memory::UserMemory;
 use std::io::Write;
 use std::marker::Model;
 use thiserror::Error;
+use vhost_message::{
+    BackendReq, ChannelError, FrontendReq, HEADER_LEN, Header, Incoming, IotlbMessage, Message,
+    Receive, Refusal as MessageRefusal, VERSION, VHOST_USER_IOTLB_MSG, VHOST_USER_REPLY,
+};
 
 // How many replies to messages of its own may wait to be read: a mapping often comes before the reply to its MISS, and
 // replies that no one reads would fill the channel.
@@ -57,16 +55,18 @@ pub enum MissError {
 }
 
 /// What came on the front end's channel.
-#[derive(Clone, Copy, Debug)]
+#[derive(Debug, Drop)]
 pub enum Handled {
     /// Nothing, or not all of a message yet.
     Nothing,
     /// A message that was applied to the table.
     Applied(IotlbMessage),
-    /// A message that was refused, for this reason.
+    /// A message that the table refused, for this reason.
     Refused(Refusal),
+    /// A message on the table that is malformed, for this reason: nothing was done.
+    Malformed(MessageRefusal),
     /// A message of another request, which its owner serves.
-    Other(Frame),
+    Other(Message),
 }
 
 /// A table with the channels to the front end that fills it: the one on which the front end asks, and the back end's
@@ -77,11 +77,11 @@ pub struct DeviceIotlb<F, O> {
     front: F,
     coming: Incoming,
     own: O,
-    back: Incoming,
+    replies: Replies,
     // How many replies to messages of its own have not come yet.
     awaited: u64,
-    // The last message of another request that came while a request waited.
-    other: Option<Frame>,
+    // The MISS that a request waited for when another message came.
+    asked: Option<IotlbMessage>,
     limits: Limits,
 }
 
@@ -93,86 +93,128 @@ impl<F, O> Model for DeviceIotlb<F, O> {
     ghost view = { λ d. record { table = d.table; front = d.front; coming = d.coming } };
 }
 
-// The header of a reply.
-fn reply_header(request: u32) -> Header
-    ensures { result ≡ record { request = request; flags = 5; size = 8 } }
+// The reply to a request: 0 if it was done.
+fn reply_of(request: u32, value: u64) -> Message
+    ensures { result ≡ reply_bytes request value }
 {
-    Header {
+    let header = Header {
         request,
-        flags: VERSION | VHOST_USER_REPLY,
+        flags: VERSION + VHOST_USER_REPLY,
         size: 8,
+    };
+    let mut message = Message::new();
+    message.extend(&header.encode());
+    message.extend(&value.to_le_bytes());
+    message
+}
+
+// What goes back for a message of this header, if anything does.
+fn answer_of(header: &Header, handled: &Handled) -> Message
+    ensures { result ≡ answer_of header.now handled.now }
+{
+    if !header.needs_reply() {
+        return Message::new();
+    }
+    match handled {
+        Handled::Nothing | Handled::Applied(_) => reply_of(header.request, 0),
+        Handled::Refused(_) | Handled::Malformed(_) => reply_of(header.request, 1),
+        Handled::Other(_) => Message::new(),
     }
 }
 
-// Sends the reply to a request: 0 where it was done.
-fn answer<F: Write>(front: &mut F, request: u32, value: u64) -> Result<(), ChannelError>
-    ensures { OnOk result (Appends (F.contents front.old) (F.contents front.new) (reply_bytes request value)) }
+// Applies a message to a table of a host.
+fn applied<H: SharedHost>(table: &DeviceTable, host: &mut H, message: &IotlbMessage) -> Handled
+    ensures applied { IsApplied H.applies table.now message.now host.old result host.new }
+    ensures header { HasHeader result }
 {
-    send(front, reply_header(request), &encode_reply(value))
-}
-
-// Applies the message of a frame to a table of a host.
-fn settle<H: SharedHost>(table: &DeviceTable, host: &mut H, frame: &Frame) -> Handled
-    ensures { Settles H.applies table.now frame.now host.old result host.new }
-{
-    let message = match frame.message() {
-        Ok(message) => message,
-        Err(error) => return Handled::Refused(Refusal::Malformed(error)),
-    };
-    match host.apply(table, &message) {
-        Ok(()) => Handled::Applied(message),
+    match host.apply(table, message) {
+        Ok(()) => Handled::Applied(*message),
         Err(refusal) => Handled::Refused(refusal),
     }
 }
 
-// The value of the reply to a message.
-fn value_of(handled: Handled) -> u64
-    ensures { result ≡ value_of handled }
+// What is asked for on the table by the request of a number, if it is of the table.
+fn on_table(
+    number: u32,
+    request: Result<FrontendReq, MessageRefusal>,
+) -> Option<Result<IotlbMessage, MessageRefusal>>
+    ensures { result ≡ on_table number request }
 {
-    match handled {
-        Handled::Refused(_) => 1,
-        Handled::Nothing | Handled::Applied(_) | Handled::Other(_) => 0,
+    match request {
+        Ok(FrontendReq::IotlbMsg(message)) => Some(Ok(message)),
+        Ok(_) => None,
+        Err(refusal) => {
+            if number == VHOST_USER_IOTLB_MSG {
+                Some(Err(refusal))
+            } else {
+                None
+            }
+        }
     }
 }
 
-// Serves a message that came on the front end's channel, and answers it where that is asked for, by what came of it:
-// so it was applied before. It is, too, where the reply cannot be sent.
+// What a message asks for on the table, if it is of the table.
+fn asked(message: &Message) -> Option<Result<IotlbMessage, MessageRefusal>>
+    requires { 12 ≤ length message.now }
+    ensures { result ≡ asked message.now }
+{
+    let header = message.header();
+    on_table(
+        header.request,
+        FrontendReq::decode(&header, &message.as_slice()[HEADER_LEN..]),
+    )
+}
+
+// What comes of a message.
+fn settle<H: SharedHost>(table: &DeviceTable, host: &mut H, message: Message) -> Handled
+    requires { 12 ≤ length message }
+    ensures served { Serves H.applies table.now message host.old result host.new }
+    ensures header { HasHeader result }
+{
+    let Some(request) = asked(&message) else {
+        return Handled::Other(message);
+    };
+    match request {
+        Ok(iotlb) => applied(table, host, &iotlb),
+        Err(refusal) => Handled::Malformed(refusal),
+    }
+}
+
+// Serves a message that came on the front end's channel, and answers it if that is asked for, by what came of it: so it
+// was applied before. It is, too, if the reply cannot be sent.
 fn serve<F: Write, H: SharedHost>(
     table: &DeviceTable,
     front: &mut F,
     host: &mut H,
-    frame: &Frame,
+    message: Message,
 ) -> Result<Handled, ChannelError>
+    requires { 12 ≤ length message }
     ensures settled { MatchResult result
-        (λ handled. Serves H.applies table.now frame.now host.old handled host.new)
-        (λ e. (handled : Handled) × Serves H.applies table.now frame.now host.old handled host.new) }
+        (λ handled. Serves H.applies table.now message host.old handled host.new)
+        (λ e. (handled : Handled) × Serves H.applies table.now message host.old handled host.new) }
     ensures answered { IfOk result (λ handled. Appends (F.contents front.old) (F.contents front.new)
-        (answer_to frame.now handled)) }
+        (answer_to message handled)) }
+    ensures header { IfOk result HasHeader }
 {
-    let header = frame.header;
-    if header.request != VHOST_USER_IOTLB_MSG || header.is_reply() {
-        return Ok(Handled::Other(*frame));
-    }
-    let handled = settle(table, host, frame);
-    if header.needs_reply() {
-        answer(front, header.request, value_of(handled))?;
-    }
+    let header = message.header();
+    let handled = settle(table, host, message);
+    answer_of(&header, &handled).send(front)?;
     Ok(handled)
 }
 
 impl<F: Receive + Write, O: Receive + Write> DeviceIotlb<F, O> {
     /// A table of a host, the front end's channel, and the back end's own.
     pub fn new(table: DeviceTable, front: F, own: O, limits: Limits) -> DeviceIotlb<F, O>
-        ensures { result ≡ record { table = table; front = front; coming = nothing_yet } }
+        ensures { result ≡ record { table = table; front = front; coming = [] } }
     {
         DeviceIotlb {
             table,
             front,
             coming: Incoming::new(),
             own,
-            back: Incoming::new(),
+            replies: Replies::new(),
             awaited: 0,
-            other: None,
+            asked: None,
             limits,
         }
     }
@@ -199,83 +241,64 @@ impl<F: Receive + Write, O: Receive + Write> DeviceIotlb<F, O> {
         (self.table, self.front, self.own)
     }
 
-    /// The last message of another request that came while a request waited, if one did. It is given out once.
-    pub fn take_other(&mut self) -> Option<Frame>
-        ensures { self.new ≡ self.old }
+    /// From now on user addresses mean this: the front end announced its memory again, by a SET_MEM_TABLE. What was
+    /// mapped before stays as it is.
+    pub fn set_memory(&mut self, memory: UserMemory)
+        ensures { self.new ≡ record self.old { table = record self.old.table { memory = memory } } }
     {
-        self.other.take()
-    }
-
-    // Sends a message on the back end's own channel.
-    fn tell(&mut self, message: IotlbMessage, flags: u32) -> Result<(), ChannelError>
-        requires { flags < 2 ^ 16 }
-        ensures { self.new ≡ self.old }
-    {
-        let header = Header {
-            request: VHOST_USER_BACKEND_IOTLB_MSG,
-            flags: VERSION + flags,
-            size: PAYLOAD_LEN as u32,
-        };
-        send(&mut self.own, header, &message.encode())
+        self.table.memory = memory;
     }
 
     /// Looks at the front end's channel for the next message, and serves it if all of it has come: it is applied to the
-    /// table and then answered, where the front end asks for that, by 0 if it was applied and by 1 if it was refused.
-    /// It is the message that is spelled by what had come before and what the channel gives now, byte after byte.
+    /// table and then answered, if the front end asks for that, by 0 if it was applied and by 1 if it was refused. It is
+    /// the message that is spelled by what had come before and what the channel gives now, byte after byte. One of
+    /// another request is handed out whole, and not answered: `reply` does that.
     ///
-    /// Where the reply cannot be sent, the message was applied or refused all the same.
+    /// If the reply cannot be sent, the message was applied or refused all the same.
     pub fn handle<H: SharedHost>(&mut self, host: &mut H) -> Result<Handled, ChannelError>
-        ensures { Handles F.gives F.contents H.applies self.old host.old result self.new host.new }
+        ensures handles { Handles F.gives F.contents H.applies self.old host.old result self.new host.new }
+        ensures header { IfOk result HasHeader }
     {
         match self.coming.look(&mut self.front)? {
-            Some(frame) => serve(&self.table, &mut self.front, host, &frame),
+            Some(message) => serve(&self.table, &mut self.front, host, message),
             None => Ok(Handled::Nothing),
         }
     }
 
-    /// Answers a message of another request, where it asks for that: 0 where it was done.
-    pub fn reply(&mut self, frame: &Frame, value: u64) -> Result<(), ChannelError>
-        ensures { self.new ≡ record self.old { front = self.new.front } }
+    /// Sends the reply to a message of another request, whatever its payload: none if it has no bytes.
+    pub fn reply(&mut self, reply: &Message) -> Result<(), ChannelError>
+        ensures others { self.new ≡ record self.old { front = self.new.front } }
+        ensures sent { OnOk result (Appends (F.contents self.old.front) (F.contents self.new.front) reply.now) }
     {
-        if !frame.header.needs_reply() {
-            return Ok(());
-        }
-        answer(&mut self.front, frame.header.request, value)
+        reply.send(&mut self.front)
     }
 
-    /// Sends a message of another request on the back end's own channel, with no payload and no reply.
-    pub fn notify(&mut self, request: u32) -> Result<(), ChannelError>
+    /// Sends a message on the back end's own channel, to which no reply comes.
+    pub fn tell(&mut self, message: &Message) -> Result<(), ChannelError>
         ensures { self.new ≡ self.old }
     {
-        let header = Header {
-            request,
-            flags: VERSION,
-            size: 0,
-        };
-        send(&mut self.own, header, &[])
+        message.send(&mut self.own)
     }
 
-    // Looks at the back end's own channel, and answers the reply to the last message that was sent there, if it came.
+    // Looks at the back end's own channel, and returns the value of the reply to the last message that was sent there,
+    // if it came.
     fn look_back(&mut self) -> Result<Option<u64>, ChannelError>
         ensures { self.new ≡ self.old }
     {
-        let Some(frame) = self.back.look(&mut self.own)? else {
+        let Some(reply) = self.replies.look(&mut self.own)? else {
             return Ok(None);
         };
-        let Some(value) = frame.reply() else {
-            return Err(ChannelError::NoReply);
-        };
         let Some(left) = self.awaited.checked_sub(1) else {
-            return Err(ChannelError::NoReply);
+            return Err(ChannelError::Refused(MessageRefusal::Direction));
         };
         self.awaited = left;
         if left > 0 {
             return Ok(None);
         }
-        Ok(Some(value))
+        Ok(Some(reply.value))
     }
 
-    // Looks for a reply to an earlier message, where many are awaited.
+    // Looks for a reply to an earlier message, if many are awaited.
     fn catch_up(&mut self) -> Result<(), ChannelError>
         ensures { self.new ≡ self.old }
     {
@@ -285,73 +308,95 @@ impl<F: Receive + Write, O: Receive + Write> DeviceIotlb<F, O> {
         Ok(())
     }
 
-    // Looks once at both channels while a mapping is missed: it answers whether one came.
-    fn wait<H: SharedHost>(&mut self, host: &mut H) -> Result<bool, MissError>
-        ensures { self.new.table ≡ self.old.table }
+    // Looks once at both channels while a mapping is missed. It returns what came on the front end's.
+    fn wait<H: SharedHost>(&mut self, host: &mut H) -> Result<Handled, MissError>
+        ensures table { self.new.table ≡ self.old.table }
+        ensures header { IfOk result HasHeader }
     {
-        match self.handle(host).map_err(MissError::Channel)? {
-            Handled::Applied(IotlbMessage::Update { .. }) => return Ok(true),
-            Handled::Applied(_) | Handled::Refused(_) => return Ok(false),
-            Handled::Other(frame) => {
-                self.other = Some(frame);
-                return Ok(false);
-            }
-            Handled::Nothing => {}
-        }
+        let handled = self.handle(host).map_err(MissError::Channel)?;
+        let Handled::Nothing = handled else {
+            return Ok(handled);
+        };
         match self.look_back().map_err(MissError::Channel)? {
-            Some(0) | None => Ok(false),
+            Some(0) | None => Ok(Handled::Nothing),
             Some(value) => Err(MissError::Refused(value)),
         }
     }
 
-    // Asks for the mapping of an address, and waits until the front end maps something, for so many looks at most. It
-    // answers how many are left.
-    fn ask<H: SharedHost>(
+    // Asks for the mapping of an address.
+    fn ask(&mut self, message: IotlbMessage) -> Result<(), ChannelError>
+        ensures { self.new ≡ self.old }
+    {
+        // One more than comes, so that no backlog stays.
+        self.catch_up()?;
+        self.catch_up()?;
+        self.awaited = self.awaited.saturating_add(1);
+        BackendReq::IotlbMsg(message)
+            .encode(true)
+            .send(&mut self.own)
+    }
+
+    // Asks for the mapping of an address, unless a request waits for it already, and waits until the front end maps
+    // something, for so many looks at most. It returns how many are left, or another message that comes first.
+    fn wait_for<H: SharedHost>(
         &mut self,
         host: &mut H,
         message: IotlbMessage,
         looks: u32,
-    ) -> Result<u32, MissError>
-        ensures { self.new.table ≡ self.old.table }
+    ) -> Result<Result<u32, Message>, MissError>
+        ensures table { self.new.table ≡ self.old.table }
+        ensures header { IfOk result (λ r. IfErr r (λ other. 12 ≤ length other)) }
     {
-        // One more than comes, so that no backlog stays.
-        self.catch_up().map_err(MissError::Channel)?;
-        self.catch_up().map_err(MissError::Channel)?;
-        self.awaited = self.awaited.saturating_add(1);
-        self.tell(message, VHOST_USER_NEED_REPLY)
-            .map_err(MissError::Channel)?;
+        if self.asked.take() != Some(message) {
+            self.ask(message).map_err(MissError::Channel)?;
+        }
         for left in (0..looks).rev() {
-            if self.wait(host)? {
-                return Ok(left);
+            match self.wait(host)? {
+                Handled::Applied(IotlbMessage::Update { .. }) => return Ok(Ok(left)),
+                Handled::Other(other) => {
+                    self.asked = Some(message);
+                    return Ok(Err(other));
+                }
+                _ => {}
             }
         }
         Err(MissError::Deadline)
     }
 
-    /// Tries a request until it is done. Where it misses an address, a MISS asks the front end for it, and the request
-    /// is tried again once the front end mapped something. Meanwhile the host is free, and what the front end takes
-    /// back is applied and answered.
+    /// Tries a request until it is done. If it misses an address, a MISS asks the front end for it, and the request is
+    /// tried again once the front end mapped something. Meanwhile the host is free, and what the front end invalidates
+    /// is applied and answered.
     ///
-    /// `Refused` where the front end's reply to the MISS is not 0, `Deadline` and `Tries` past the limits, `Forbidden`
-    /// where a mapping forbids the access, which an ACCESS_FAIL tells, `Failed` where the request cannot be done, and
-    /// `Channel` where a channel ends or fails. Then the request may be done in part.
+    /// If a message of another request comes meanwhile, it is returned: the request is not done then. Its owner serves
+    /// the message, and calls this again with the same request, which goes on. The limits count anew.
+    ///
+    /// `Refused` if the front end's reply to the MISS is not 0, `Deadline` and `Tries` past the limits, `Forbidden` if a
+    /// mapping forbids the access, of which an ACCESS_FAIL informs the front end, `Failed` if the request cannot be
+    /// done, and `Channel` if a channel ends or fails. Then the request may be done in part.
     pub fn with_misses<H: SharedHost, R: Request>(
         &mut self,
         host: &mut H,
         request: &mut R,
-    ) -> Result<(), MissError>
-        ensures done { OnOk result (R.is_done request.new) }
+    ) -> Result<Option<Message>, MissError>
+        ensures done { IfOk result (λ other. other ≡ None → R.is_done request.new) }
         ensures table { self.new.table ≡ self.old.table }
+        ensures header { IfOk result (λ other. IfSome other (λ message. 12 ≤ length message)) }
     {
         let mut looks = self.limits.looks;
         for _ in 0..self.limits.tries {
             match host.attempt(request) {
-                Outcome::Done => return Ok(()),
+                Outcome::Done => return Ok(None),
                 Outcome::Missed { iova, access } => {
-                    looks = self.ask(host, IotlbMessage::Miss { iova, access }, looks)?;
+                    let miss = IotlbMessage::Miss { iova, access };
+                    match self.wait_for(host, miss, looks)? {
+                        Ok(left) => looks = left,
+                        Err(message) => return Ok(Some(message)),
+                    }
                 }
                 Outcome::Forbidden { iova, access } => {
-                    self.tell(IotlbMessage::AccessFail { iova, access }, 0)
+                    BackendReq::IotlbMsg(IotlbMessage::AccessFail { iova, access })
+                        .encode(false)
+                        .send(&mut self.own)
                         .map_err(MissError::Channel)?;
                     return Err(MissError::Forbidden);
                 }

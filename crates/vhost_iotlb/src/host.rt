@@ -2,14 +2,14 @@
 ghost use Rattle.std.specs.Prelude.{◌≡◌, Result, List};
 ghost use Rattle.vm_memory_base.specs.Table.{TableEvent};
 ghost use Rattle.vhost_iotlb.specs.Changes.{Applies};
-ghost use Rattle.vhost_iotlb.specs.declared.message.IotlbMessage.{IotlbMessage};
+ghost use Rattle.vhost_message.specs.declared.iotlb.IotlbMessage.{IotlbMessage};
 ghost use Rattle.vhost_iotlb.specs.declared.table.DeviceTable.{DeviceTable};
 ghost use Rattle.vhost_iotlb.specs.declared.table.Refusal.{Refusal};
 
-use crate::message::IotlbMessage;
 use crate::request::{Outcome, Request};
 use crate::table::{DeviceTable, Refusal};
 use std::sync::{Mutex, Wait};
+use vhost_message::IotlbMessage;
 use vm_memory_base::Bitmap;
 use vm_memory_guest::HostMemory;
 

@@ -1,4 +1,4 @@
-//! What holds of every stream and every list of messages: each function here is a theorem, and does nothing. It calls
+//! What holds of every list of messages: each function here is a theorem, and does nothing. It calls
 //! the theorems that it follows from.
 ghost use Rattle.std.specs.Prelude.{◌≡◌, ◌+◌, ◌-◌, ◌^◌, ◌<◌, ℕ, true, false, List, ◌∷◌, ◌++◌, All, Option, Some, None, slice_get, Result, Ok};
 ghost use Rattle.vm_memory_base.specs.Address.{step};
@@ -15,43 +15,15 @@ ghost use Rattle.vm_memory_device.specs.Reach.{GoesThrough, IsLast};
 ghost use Rattle.vm_memory_device.specs.Reach.{reached_by};
 ghost use Rattle.vhost_iotlb.specs.Changes.{Handles, IsAmong};
 ghost use Rattle.vhost_iotlb.specs.Invalidation.{unmaps, updates};
-ghost use Rattle.vhost_iotlb.specs.Message.{IsMessage, Spells, fields_in, fields_of, message_in, payload_bytes};
-ghost use Rattle.vhost_iotlb.specs.Stream.{AllLook, Given, IsCut, IsPart, Pending, Reads, bytes_of, frames_of};
 ghost use Rattle.vhost_iotlb.specs.UserMemory.{guest_of};
-ghost use Rattle.vhost_iotlb.specs.declared.channel.ChannelError.{ChannelError};
-ghost use Rattle.vhost_iotlb.specs.declared.channel.Frame.{Frame};
-ghost use Rattle.vhost_iotlb.specs.declared.message.IotlbMessage.{IotlbMessage};
-ghost use Rattle.vhost_iotlb.specs.declared.message.IotlbMessage.TheVariants.{Invalidate, Update};
+ghost use Rattle.vhost_message.specs.declared.iotlb.IotlbMessage.{IotlbMessage};
+ghost use Rattle.vhost_message.specs.declared.iotlb.IotlbMessage.TheVariants.{Invalidate, Update};
 ghost use Rattle.vhost_iotlb.specs.declared.user_memory.UserRegion.{UserRegion};
 
-use crate::channel::Receive;
 use vm_memory_base::laws::table::tables_keep_to_their_limits;
 use vm_memory_device::laws::tables::{
     accesses_go_through_what_calls_left, tables_say_what_calls_left,
 };
-
-/// What is encoded is decoded as it was: the payload of a message spells it, and what spells it is decoded to it.
-pub fn messages_come_back()
-    ensures spelled { (m : IotlbMessage) → IsMessage m → Spells (fields_in (payload_bytes (fields_of m))) m }
-    ensures decoded { (m : IotlbMessage) → IsMessage m
-        → message_in (fields_in (payload_bytes (fields_of m))) ≡ Ok m }
-    ensures one { (payload : List ℕ) (m n : IotlbMessage) → Spells (fields_in payload) m
-        → Spells (fields_in payload) n → m ≡ n }
-{}
-
-/// The bytes of a stream decide its messages, and what is left of it: there is one way to cut it.
-pub fn streams_are_cut_one_way()
-    ensures { (p q r : Pending) (fs gs : List Frame) (bytes : List ℕ) → IsCut p fs bytes q → IsCut p gs bytes r
-        → (fs ≡ gs) × (q ≡ r) }
-{}
-
-/// However many looks are made at a channel, one after the other, and whatever the pieces in which it gives its bytes:
-/// what they find are the messages of these bytes, all of them and in order, and what is kept is what is left of them.
-pub fn looks_cut_streams<R: Receive>()
-    ensures { (answers : List (Result (Option Frame) ChannelError)) (old new : Pending) (before after : R) → IsPart old
-        → AllLook R.gives old before answers new after
-        → (gave : List Given) × Reads R.gives gave before after × IsCut old (frames_of answers) (bytes_of gave) new }
-{}
 
 /// A range that messages set is one that an UPDATE among them asked for.
 pub fn ranges_are_set_for_updates()

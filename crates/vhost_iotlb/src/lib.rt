@@ -4,30 +4,22 @@
 
 mod access;
 mod chains;
-mod channel;
 mod device;
-mod header;
 mod host;
 pub mod laws;
-mod malformed;
-mod message;
-mod reply;
+mod replies;
 mod request;
 mod table;
 mod user_memory;
 
 pub use access::{ReadBytes, WriteBytes, reach};
 pub use chains::{ReadChain, WriteChain};
-pub use channel::{ChannelError, Frame, Incoming, Receive, send};
 pub use device::{DeviceIotlb, Handled, Limits, MissError};
-pub use header::{
-    Header, VERSION, VHOST_USER_BACKEND_IOTLB_MSG, VHOST_USER_IOTLB_MSG, VHOST_USER_NEED_REPLY,
-    VHOST_USER_REPLY,
-};
 pub use host::{LockedHost, SharedHost};
-pub use malformed::Malformed;
-pub use message::{IotlbMessage, PAYLOAD_LEN};
-pub use reply::{decode_reply, encode_reply};
 pub use request::{Outcome, Request};
 pub use table::{DeviceTable, Refusal};
 pub use user_memory::{UserMemory, UserRegion};
+pub use vhost_message::{
+    BackendReply, BackendReq, ChannelError, Header, Incoming, IotlbMessage, Malformed, Message,
+    Receive, Refusal as MessageRefusal,
+};

@@ -5,11 +5,10 @@ ghost use Rattle.vm_memory_base.specs.Table.{TableEvent};
 ghost use Rattle.vm_memory_guest.specs.Host.{shape_of, with_given_table};
 ghost use Rattle.vhost_iotlb.specs.Changes.{Applies, Changes, invalidated};
 
-use crate::malformed::Malformed;
-use crate::message::IotlbMessage;
 use crate::user_memory::UserMemory;
 use std::alloc::{AllocError, Global};
 use thiserror::Error;
+use vhost_message::{IotlbMessage, Malformed};
 use vm_memory_base::{GuestAddress, Iotlb, Permissions};
 use vm_memory_guest::{HostMemory, TlbId};
 
@@ -19,6 +18,9 @@ pub enum Refusal {
     /// The message is malformed.
     #[error("malformed message: {0}")]
     Malformed(Malformed),
+    /// The memory that the front end announced does not hold the range.
+    #[error("user address outside the announced memory")]
+    UserAddress,
     /// An allocation failed.
     #[error("out of memory")]
     Memory,
@@ -138,10 +140,10 @@ impl DeviceTable {
     /// INVALIDATE is never refused for memory. An UPDATE is, with `Memory`.
     ///
     /// `Malformed` with `Kind` for a message that a front end does not send, with `EmptyRange` for an INVALIDATE of no
-    /// addresses, with `Range` for an INVALIDATE past the last address and an UPDATE up to it, and with `UserAddress`
-    /// if the announced memory does not hold an UPDATE's. `NoTable` if the host has no such table. What is refused
-    /// changes nothing, but a malformed INVALIDATE invalidates everything: which of the front end's mappings still
-    /// hold is not known then.
+    /// addresses, and with `Range` for an INVALIDATE past the last address and an UPDATE up to it. `UserAddress` if the
+    /// announced memory does not hold an UPDATE's. `NoTable` if the host has no such table. What is refused changes
+    /// nothing, but a malformed INVALIDATE invalidates everything: which of the front end's mappings still hold is not
+    /// known then.
     pub fn apply<B>(&self, host: &mut HostMemory<B>, message: &IotlbMessage) -> Result<(), Refusal>
         ensures applied { (calls : List TableEvent)
             × Applies self.now.table.0 self.now.memory message.now result calls host.old host.new }
@@ -161,7 +163,7 @@ impl DeviceTable {
                     return Err(Refusal::Malformed(Malformed::Range));
                 }
                 let Some(to) = self.memory.guest_of(user_address, size) else {
-                    return Err(Refusal::Malformed(Malformed::UserAddress));
+                    return Err(Refusal::UserAddress);
                 };
                 if set_in(host, self.table, iova, to, size, permissions) {
                     Ok(())

@@ -1,3 +1,4 @@
+pub mod ChannelLemmas
 pub mod CodecLemmas
 pub mod SpellingLemmas
 pub mod StreamLemmas

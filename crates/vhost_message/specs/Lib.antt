@@ -1,4 +1,5 @@
 pub mod BackendReq
+pub mod Channel
 pub mod FrontendReq
 pub mod Header
 pub mod Iotlb

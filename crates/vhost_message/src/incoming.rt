@@ -1,8 +1,10 @@
 //! Messages as they come over a channel.
-ghost use Rattle.std.specs.Prelude.{◌≡◌, ◌+◌, ◌≤◌, [], length, IfOk};
+ghost use Rattle.std.specs.Prelude.{◌≡◌, ◌+◌, ◌≤◌, [], length, Ok, IfOk, IfSome};
+ghost use Rattle.vhost_message.specs.Channel.{Looks, ReadsOn};
 ghost use Rattle.vhost_message.specs.Stream.{Feeds, Takes, wanted};
 
-use crate::message::{HEADER_LEN, Message};
+use crate::channel::{ChannelError, Receive};
+use crate::message::{HEADER_LEN, MAX_MESSAGE, Message};
 use crate::refusal::Refusal;
 use crate::requests::expects;
 use std::marker::Model;
@@ -58,11 +60,47 @@ impl Incoming {
 
     /// The message, if it is whole. Then nothing is kept.
     pub fn take(&mut self) -> Option<Message>
-        ensures { Takes self.old result self.new }
+        ensures takes { Takes self.old result self.new }
+        ensures header { IfSome result (λ message. 12 ≤ length message) }
     {
         match self.wanted() {
             Ok(0) => Some(mem::replace(&mut self.message, Message::new())),
             _ => None,
         }
+    }
+
+    // Reads once, of a message that is not whole, as many bytes as are wanted at most. It returns whether some came.
+    fn read_on<R: Receive>(&mut self, reader: &mut R) -> Result<bool, ChannelError>
+        requires { wanted self.old ≡ Ok 0 → ⊥ }
+        ensures { ReadsOn R.gives self.old reader.old result self.new reader.new }
+    {
+        let wanted = match self.wanted() {
+            Ok(wanted) => wanted,
+            Err(refusal) => return Err(ChannelError::Refused(refusal)),
+        };
+        let mut bytes = [0; MAX_MESSAGE];
+        let count = reader.receive(&mut bytes[..wanted])?;
+        self.message.extend(&bytes[..count]);
+        Ok(count > 0)
+    }
+
+    /// The next message, if all of it has come: the one that is spelled by the bytes that are kept and those that the
+    /// channel gives now. What it gives of a message that is not whole is kept for later calls.
+    ///
+    /// It reads at most twice, no byte past the message, and waits no longer than the channel does. `Refused` with the
+    /// errors of `expects` if what came is no message: so it is at each later call, which then reads nothing.
+    pub fn look<R: Receive>(&mut self, reader: &mut R) -> Result<Option<Message>, ChannelError>
+        ensures looks { Looks R.gives self.old reader.old result self.new reader.new }
+        ensures header { IfOk result (λ o. IfSome o (λ message. 12 ≤ length message)) }
+    {
+        for _read in 0..2u32 {
+            if let Some(message) = self.take() {
+                return Ok(Some(message));
+            }
+            if !self.read_on(reader)? {
+                return Ok(None);
+            }
+        }
+        Ok(self.take())
     }
 }

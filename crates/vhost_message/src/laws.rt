@@ -1,11 +1,15 @@
 //! What holds of every message and every stream: each function here is a theorem, and does nothing.
-ghost use Rattle.std.specs.Prelude.{◌≡◌, Bool, List, ℕ, Ok};
+ghost use Rattle.std.specs.Prelude.{◌≡◌, Bool, List, [], ℕ, Option, Result, Ok};
+ghost use Rattle.vhost_message.specs.Channel.{AllLook, Given, Reads, bytes_given, found};
 ghost use Rattle.vhost_message.specs.Iotlb.{IsMessage as IsOnTable, Spells, fields_in, fields_of, message_in, payload_bytes};
 ghost use Rattle.vhost_message.specs.FrontendReq.{request_of};
 ghost use Rattle.vhost_message.specs.Spelling.{IsRequest, header_of, payload_of};
 ghost use Rattle.vhost_message.specs.declared.frontend_req.FrontendReq.{FrontendReq};
 ghost use Rattle.vhost_message.specs.Stream.{AreMessages, Call, IsRest, Runs, bytes_of, messages_of, stream_of, wanted};
+ghost use Rattle.vhost_message.specs.declared.channel.ChannelError.{ChannelError};
 ghost use Rattle.vhost_message.specs.declared.iotlb.IotlbMessage.{IotlbMessage};
+
+use crate::channel::Receive;
 
 /// What is encoded is decoded as it was: the payload of a message on the table spells it, and what spells it is
 /// decoded to it.
@@ -31,6 +35,15 @@ pub fn feeding_cuts_streams()
         → bytes_of calls ≡ stream_of (messages_of calls) kept }
     ensures messages { (calls : List Call) (kept : List ℕ) → Runs calls kept → AreMessages (messages_of calls) }
     ensures rest { (calls : List Call) (kept : List ℕ) → Runs calls kept → (wanted kept ≡ Ok 0 → ⊥) → IsRest kept }
+{}
+
+/// However many looks are made at a channel, one after the other, and whatever the pieces in which it gives its bytes:
+/// what they find are the messages of these bytes, all of them and in order, and what is kept is what is left of them.
+pub fn looks_cut_streams<R: Receive>()
+    ensures { (answers : List (Result (Option (List ℕ)) ChannelError)) (new : List ℕ) (before after : R)
+        → AllLook R.gives [] before answers new after
+        → (gave : List Given) × Reads R.gives gave before after × (bytes_given gave ≡ stream_of (found answers) new)
+        × AreMessages (found answers) × IsRest new }
 {}
 
 /// There is one way to cut bytes into messages and what is left of them.

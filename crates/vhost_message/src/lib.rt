@@ -3,6 +3,7 @@
 #![tactic(auto)]
 
 mod backend_req;
+mod channel;
 mod frontend_req;
 mod header;
 mod incoming;
@@ -17,6 +18,7 @@ mod requests;
 pub use backend_req::{
     BackendReply, BackendReq, VHOST_USER_BACKEND_CONFIG_CHANGE_MSG, VHOST_USER_BACKEND_IOTLB_MSG,
 };
+pub use channel::{ChannelError, Receive};
 pub use frontend_req::{ConfigSpace, FrontendReq, VringAddr};
 pub use header::{Header, VERSION, VHOST_USER_NEED_REPLY, VHOST_USER_REPLY};
 pub use incoming::Incoming;

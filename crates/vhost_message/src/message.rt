@@ -1,8 +1,11 @@
 //! The bytes of a message.
-ghost use Rattle.std.specs.Prelude.{◌≡◌, ◌+◌, ◌≤◌, [], ◌++◌, ◌==◌, length};
+ghost use Rattle.std.specs.Prelude.{◌≡◌, ◌+◌, ◌≤◌, [], ◌++◌, ◌==◌, length, OnOk};
+ghost use Rattle.std.specs.Io.KnownBytes.{Appends};
 ghost use Rattle.vhost_message.specs.Header.{header_in};
 
+use crate::channel::ChannelError;
 use crate::header::Header;
+use std::io::Write;
 use std::marker::Model;
 
 /// How many bytes a header has.
@@ -80,5 +83,15 @@ impl Message {
         ensures { result ≡ header_in self.now }
     {
         Header::at_front(self.as_slice())
+    }
+
+    /// Writes the bytes to a channel. `Failed` if the writer fails.
+    pub fn send<W: Write>(&self, writer: &mut W) -> Result<(), ChannelError>
+        ensures { OnOk result (Appends (W.contents writer.old) (W.contents writer.new) self.now) }
+    {
+        match writer.write_all(self.as_slice()) {
+            Ok(()) => Ok(()),
+            Err(_) => Err(ChannelError::Failed),
+        }
     }
 }

@@ -8,10 +8,10 @@ pub enum Malformed {
     /// No kind of messages has this number, or the other end is the one to send it.
     #[error("unknown kind of message")]
     Kind,
-    /// A range that is mapped has addresses.
+    /// A range that is mapped or invalidated has addresses.
     #[error("empty range")]
     EmptyRange,
-    /// A range that is mapped ends past 2^64 - 1.
+    /// A range that is mapped ends past 2^64 - 1, or one that is invalidated past 2^64.
     #[error("range past the last address")]
     Range,
     /// The permissions are none, or no permissions.

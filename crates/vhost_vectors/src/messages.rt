@@ -4,7 +4,7 @@ use crate::channels::{Parts, put_payload};
 use std::alloc::Global;
 use std::test::Fail;
 use test_text::expect_text;
-use vhost_iotlb::{Header, IotlbMessage, Malformed, decode_reply, encode_reply};
+use vhost_message::{BackendReply, Header, IotlbMessage, Malformed};
 use vm_memory_base::Permissions;
 
 const MAX: u64 = u64::MAX;
@@ -170,13 +170,12 @@ fn messages_have_these_bytes(rt: HostRuntime) -> Result<(), Fail> {
     assert_eq!(rt; Header::decode(&bytes), header);
     assert_eq!(rt; header.version(), 1);
     assert!(rt; header.needs_reply() && !header.is_reply());
-    assert_eq!(rt;
-        encode_reply(0x0201).as_slice(),
-        [1, 2, 0, 0, 0, 0, 0, 0].as_slice()
-    );
-    assert_eq!(rt;
-        decode_reply(&[0, 0, 0, 0, 0, 0, 0, 128]),
-        0x8000_0000_0000_0000
-    );
+    let header = Header {
+        request: 1,
+        flags: 5,
+        size: 8,
+    };
+    let reply = BackendReply::decode(&header, &[0, 2, 0, 0, 0, 0, 0, 128])?;
+    assert_eq!(rt; reply.value, 0x8000_0000_0000_0200);
     Ok(())
 }

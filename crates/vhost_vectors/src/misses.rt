@@ -1,14 +1,16 @@
 //! Requests that miss, and what a front end may do then.
+ghost use Rattle.std.specs.Prelude.{◌≤◌, length};
 
 use crate::channels::{Parts, byte_at, giving, number_at, put_header, put_message, put_reply};
 use crate::worlds::{
-    Host, IOVA, Iotlb, Memory, NOWHERE, PAGE, World, content_at, invalidate, make_iotlb,
+    Host, IOVA, Iotlb, Memory, NOWHERE, PAGE, PAGES, World, content_at, invalidate, make_iotlb,
     make_world, target_of, update,
 };
 use std::alloc::Global;
 use std::test::Fail;
 use test_text::expect_text;
-use vhost_iotlb::{Limits, MissError, ReadBytes, WriteBytes};
+use vhost_iotlb::{Limits, MissError, ReadBytes, Request, UserMemory, UserRegion, WriteBytes};
+use vhost_message::{FrontendReq, MemoryTable, Message};
 use vm_memory_base::GuestAddress;
 use vm_memory_guest::{Bytes, TlbId};
 
@@ -23,11 +25,12 @@ enum Ask {
 // behind the messages that they are for, or early.
 //
 // `u3` is an UPDATE of page 3, `r3` one for reads alone, `i3` an INVALIDATE; `e3` an UPDATE of nothing, `v3` one of
-// another version, `a3` one of memory that was not announced, and `k` a message of another request. Behind `!` a
-// reply is asked for. A reply is its number, `?` a message that is none.
+// another version, `a3` one of memory that was not announced. Messages of other requests are `k`, without a payload,
+// `f`, with 8 bytes, `g`, which a payload of 16 bytes replies to, and `m`, which announces other memory, in which `n3`
+// maps page 3; `x` is of no request. After `!` a reply is asked for. A reply is its number, `?` a message that is none.
 type Case = (usize, Ask, &'static str, &'static str, &'static str);
 
-static CASES: [Case; 29] = [
+static CASES: [Case; 36] = [
     // The page is there before.
     (2, NEAR, "+u0", "", "Ok;;"),
     // A miss of the first byte, and of one behind a page that is there.
@@ -84,12 +87,51 @@ static CASES: [Case; 29] = [
     ),
     (2, NEAR, "r0", "", "Ok; miss0.8r;"),
     // Malformed messages come meanwhile.
-    (2, NEAR, "!e0 !v0 !a0 e0 u0", "0", "Ok; miss0.8r; 1 1 1"),
-    // Another request comes meanwhile.
-    (2, NEAR, "k u0", "0", "Ok; miss0.8r; other"),
+    (2, NEAR, "!e0 !a0 e0 u0", "0", "Ok; miss0.8r; 1 1"),
+    // So do headers of no message.
+    (
+        2,
+        NEAR,
+        "!v0 u0",
+        "0",
+        "Channel(Refused(Version)); miss0.8r;",
+    ),
+    (
+        2,
+        NEAR,
+        "!x u0",
+        "0",
+        "Channel(Refused(Request)); miss0.8r;",
+    ),
+    // Other requests come meanwhile: each is handed out, in order, and no second MISS is sent for that.
+    (2, NEAR, "k u0", "0", "Ok; miss0.8r; other3"),
+    (
+        2,
+        NEAR,
+        "k f g k f u0",
+        "0",
+        "Ok; miss0.8r; 24.16 other3 other2 other24 other3 other2",
+    ),
+    (
+        2,
+        ACROSS,
+        "k u0 f u1",
+        "0 0",
+        "Ok; miss0.ff8r miss1.0r; other3 other2",
+    ),
+    (2, NEAR, "k f", "0 7", "Deadline; miss0.8r; other3 other2"),
+    // Other memory is announced meanwhile.
+    (2, NEAR, "!n0 m !n0", "0", "Ok; miss0.8r; 1 0 other5"),
+    (2, NEAR, "m !u0 n0", "0", "Ok; miss0.8r; 1 other5"),
     // A message that is no reply comes in place of one, and one too many.
-    (2, NEAR, "", "?", "Channel(NoReply); miss0.8r;"),
-    (2, NEAR, "", "early 0 0", "Channel(NoReply); miss0.8r;"),
+    (2, NEAR, "", "?", "Channel(Refused(Direction)); miss0.8r;"),
+    (
+        2,
+        NEAR,
+        "",
+        "early 0 0",
+        "Channel(Refused(Direction)); miss0.8r;",
+    ),
     // The front end is gone.
     (2, NEAR, "end", "", "Channel(Ended); miss0.8r;"),
     // There is no memory where the mapping leads.
@@ -107,6 +149,16 @@ const ALL: Ask = Ask::Read(0, 0x8000);
 const EACH: &str = "u0 u1 u2 u3 u4 u5 u6 u7";
 
 const EIGHT: &str = "Ok; miss0.0r miss1.0r miss2.0r miss3.0r miss4.0r miss5.0r miss6.0r miss7.0r;";
+
+// Where guest memory lies in the front end's memory once that is announced anew.
+const MOVED: u64 = 0x7ffc_0000_0000;
+
+fn put_numbers(out: &mut Vec<u8>, numbers: &[u64]) -> Result<(), Fail> {
+    for number in numbers {
+        out.extend_from_slice(&number.to_le_bytes())?;
+    }
+    Ok(())
+}
 
 // The page of a word, which is the number behind its first letter.
 fn page_of(word: &str) -> u64 {
@@ -146,7 +198,30 @@ fn put_word(out: &mut Vec<u8>, word: &str, flags: u32) -> Result<(), Fail> {
                 ..update(page, 3)
             },
         ),
-        b'k' => put_header(out, 35, flags, 0),
+        b'k' => put_header(out, 3, flags, 0),
+        b'f' => {
+            put_header(out, 2, flags, 8)?;
+            put_numbers(out, &[3])
+        }
+        b'g' => {
+            put_header(out, 24, flags, 16)?;
+            // 4 bytes of configuration from byte 8 on, and room for them.
+            put_numbers(out, &[0x4_0000_0008, 0])
+        }
+        b'm' => {
+            put_header(out, 5, flags, 40)?;
+            // One region: where it begins in guest memory, its size, its user address, and its place in the file.
+            put_numbers(out, &[1, 0, PAGES * PAGE, MOVED, 0])
+        }
+        b'n' => put_message(
+            out,
+            flags,
+            Parts {
+                user: MOVED.wrapping_add(target_of(page)),
+                ..update(page, 3)
+            },
+        ),
+        b'x' => put_header(out, 35, flags, 0),
         _ => Ok(()),
     }
 }
@@ -187,25 +262,76 @@ fn replied(alloc: Global, words: &str) -> Result<Vec<u8>, Fail> {
     Ok(out)
 }
 
-// Makes the request, tests what it moved, and answers what it came to.
-fn made(
+// The memory that a SET_MEM_TABLE announces.
+fn memory_of(alloc: Global, table: &MemoryTable) -> Result<UserMemory, Fail> {
+    let mut regions = Vec::new(alloc);
+    for region in table.regions() {
+        regions.push(UserRegion {
+            user_address: region.user_address,
+            guest_address: region.guest_address,
+            len: region.size,
+        })?;
+    }
+    Ok(UserMemory::new(regions))
+}
+
+// Serves a message of another request: memory that is announced anew is meant from then on, and a payload of 16 bytes
+// replies to a request for the configuration.
+fn serve_other(alloc: Global, iotlb: &mut Iotlb, message: &Message) -> Result<u32, Fail>
+    requires { 12 ≤ length message.now }
+{
+    let header = message.header();
+    let payload = message.as_slice().get(12..).unwrap_or(&[]);
+    match FrontendReq::decode(&header, payload)? {
+        FrontendReq::SetMemTable(table) => iotlb.set_memory(memory_of(alloc, &table)?),
+        FrontendReq::GetConfig(_) => {
+            let mut reply = Message::new();
+            reply.extend(&[24, 0, 0, 0, 5, 0, 0, 0, 16, 0, 0, 0]);
+            reply.extend(&[8, 0, 0, 0, 4, 0, 0, 0, 0, 0, 0, 0, 11, 12, 13, 14]);
+            iotlb.reply(&reply)?;
+        }
+        _ => {}
+    }
+    Ok(header.request)
+}
+
+// Makes a request, and serves the messages of others that come meanwhile. Returns the numbers of these.
+fn made<R: Request>(
+    alloc: Global,
+    host: &mut Host,
+    iotlb: &mut Iotlb,
+    request: &mut R,
+) -> Result<(Result<(), MissError>, Vec<u32>), Fail> {
+    let mut others = Vec::new(alloc);
+    for _ in 0..10 {
+        match iotlb.with_misses(host, request) {
+            Ok(None) => return Ok((Ok(()), others)),
+            Ok(Some(message)) => others.push(serve_other(alloc, iotlb, &message)?)?,
+            Err(error) => return Ok((Err(error), others)),
+        }
+    }
+    Err(Fail::new("other messages do not end"))
+}
+
+// Makes the request that is asked for, and tests what it moved.
+fn asked(
     alloc: Global,
     host: &mut Host,
     memory: &Memory,
     table: TlbId,
     iotlb: &mut Iotlb,
     ask: &Ask,
-) -> Result<Result<(), MissError>, Fail> {
+) -> Result<(Result<(), MissError>, Vec<u32>), Fail> {
     match ask {
         Ask::Read(offset, len) => {
             let address = IOVA.wrapping_add(*offset);
             let bytes = vec![in alloc; 0xeeu8; *len]?;
             let mut request = ReadBytes::new(memory, table, GuestAddress(address), bytes);
-            let answer = iotlb.with_misses(host, &mut request);
-            if answer.is_ok() {
+            let made = made(alloc, host, iotlb, &mut request)?;
+            if made.0.is_ok() {
                 expect_content(request.into_bytes().as_slice(), *offset)?;
             }
-            Ok(answer)
+            Ok(made)
         }
         Ask::Write(offset, len) => {
             let address = IOVA.wrapping_add(*offset);
@@ -216,7 +342,7 @@ fn made(
                 GuestAddress(address),
                 bytes.as_slice(),
             );
-            Ok(iotlb.with_misses(host, &mut request))
+            made(alloc, host, iotlb, &mut request)
         }
     }
 }
@@ -302,17 +428,24 @@ fn tell_number(alloc: Global, text: &mut String, number: u64) -> Result<(), Fail
     Ok(())
 }
 
-// Tells the values of the replies of the back end.
+// Tells the values of the replies of the back end, or of a reply to another request its number and its length.
 fn tell_answers(alloc: Global, text: &mut String, output: &[u8]) -> Result<(), Fail> {
-    for start in (0..output.len()).step_by(20) {
+    let mut start = 0usize;
+    for _ in 0..output.len() {
         let frame = output.get(start..).unwrap_or(&[]);
+        if frame.is_empty() {
+            break;
+        }
         let head = [22, 0, 0, 0, 5, 0, 0, 0, 8, 0, 0, 0];
-        text.push_str(if frame.get(..12) == Some(head.as_slice()) {
-            " "
+        let size = byte_at(frame, 8);
+        text.push_str(" ")?;
+        if frame.get(..12) == Some(head.as_slice()) {
+            tell_number(alloc, text, number_at(frame, 12))?;
         } else {
-            " malformed"
-        })?;
-        tell_number(alloc, text, number_at(frame, 12))?;
+            let told = format!(in alloc; "{}.{size}", byte_at(frame, 0))?;
+            text.push_str(told.as_str())?;
+        }
+        start = start.saturating_add(12).saturating_add(usize::from(size));
     }
     Ok(())
 }
@@ -324,14 +457,14 @@ fn handled_and_made(
     iotlb: &mut Iotlb,
     ask: &Ask,
     before: usize,
-) -> Result<Result<(), MissError>, Fail> {
+) -> Result<(Result<(), MissError>, Vec<u32>), Fail> {
     for _ in 0..before.saturating_mul(3) {
         if iotlb.front().at >= before {
             break;
         }
         iotlb.handle(&mut world.host)?;
     }
-    made(
+    asked(
         alloc,
         &mut world.host,
         &world.memory,
@@ -347,7 +480,7 @@ fn told(
     answer: Result<(), MissError>,
     asked: &[u8],
     answered: &[u8],
-    other: bool,
+    others: &[u32],
 ) -> Result<String, Fail> {
     let mut text = match answer {
         Ok(()) => String::from_str(alloc, "Ok;")?,
@@ -356,8 +489,9 @@ fn told(
     tell_asked(alloc, &mut text, asked)?;
     text.push_str(";")?;
     tell_answers(alloc, &mut text, answered)?;
-    if other {
-        text.push_str(" other")?;
+    for other in others {
+        let told = format!(in alloc; " other{other}")?;
+        text.push_str(told.as_str())?;
     }
     Ok(text)
 }
@@ -377,9 +511,8 @@ fn run(alloc: Global, case: &Case, piece: usize, halts: bool) -> Result<String, 
     };
     let mut world = make_world(alloc, *limit)?;
     let mut iotlb = make_iotlb(alloc, world.table, front, own, limits)?;
-    let answer = handled_and_made(alloc, &mut world, &mut iotlb, ask, before)?;
+    let (answer, others) = handled_and_made(alloc, &mut world, &mut iotlb, ask, before)?;
     expect_memory(alloc, &world, ask, answer.is_ok())?;
-    let other = iotlb.take_other().is_some();
     let (_table, front, own) = iotlb.into_parts();
     // Where replies come whole, no more than a few are left unread.
     if piece >= 44 && !halts && own.at.saturating_add(100) < own.input.len() {
@@ -390,7 +523,7 @@ fn run(alloc: Global, case: &Case, piece: usize, halts: bool) -> Result<String, 
         answer,
         own.output.as_slice(),
         front.output.as_slice(),
-        other,
+        others.as_slice(),
     )
 }
 

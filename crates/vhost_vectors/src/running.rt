@@ -2,7 +2,7 @@
 
 use crate::worlds::{Host, IOVA, Memory, PAGE, World, announced, make_world, target_of, user_of};
 use std::alloc::Global;
-use std::io::Read;
+use std::io::{Read, Write};
 use std::net::Net;
 use std::os::unix::net::UnixStream;
 use std::sync::{Mutex, Wait};
@@ -11,7 +11,7 @@ use std::thread;
 use std::thread::Threads;
 use vhost_iotlb::{
     ChannelError, DeviceIotlb, DeviceTable, Header, IotlbMessage, Limits, LockedHost, Outcome,
-    ReadBytes, SharedHost, send,
+    ReadBytes, SharedHost,
 };
 use vm_memory_base::{GuestAddress, Permissions};
 use vm_memory_guest::{Bytes, TlbId};
@@ -58,7 +58,7 @@ fn tell(stream: &mut UnixStream, turn: u64, sets: bool) -> bool {
         flags: 9,
         size: 32,
     };
-    if send(stream, header, &message.encode()).is_err() {
+    if stream.write_all(&header.encode()).is_err() || stream.write_all(&message.encode()).is_err() {
         return false;
     }
     let mut reply = [1; 20];

@@ -7,13 +7,14 @@ use crate::worlds::{
 use std::alloc::Global;
 use std::test::Fail;
 use test_text::next_number;
-use vhost_iotlb::{ChannelError, Handled, Limits, Malformed, Refusal};
+use vhost_iotlb::{ChannelError, Handled, Limits, MessageRefusal, Refusal};
+use vhost_message::Malformed;
 
 // How many streams each of the four tests handles.
 const STREAMS: usize = 25_000;
 
 // What a message comes to, by its place in a count.
-const NAMES: [&str; 10] = [
+const NAMES: [&str; 12] = [
     "applied",
     "other",
     "Version",
@@ -24,9 +25,11 @@ const NAMES: [&str; 10] = [
     "Permissions",
     "UserAddress",
     "Memory",
+    "Direction",
+    "Request",
 ];
 
-type Counts = [u32; 10];
+type Counts = [u32; 12];
 
 fn count(counts: &mut Counts, place: usize) {
     if place < counts.len() {
@@ -40,7 +43,7 @@ fn valid(alloc: Global) -> Result<Vec<u8>, Fail> {
     put_message(&mut out, 9, update(0, 3))?;
     put_message(&mut out, 1, update(1, 1))?;
     put_message(&mut out, 9, invalidate(0))?;
-    put_header(&mut out, 35, 1, 8)?;
+    put_header(&mut out, 2, 1, 8)?;
     out.extend_from_slice(&[7; 8])?;
     put_message(&mut out, 9, update(3, 2))?;
     let wide = Parts {
@@ -154,9 +157,38 @@ impl Told {
     }
 }
 
+// How long the payload of a request may be, by the tables of the protocol.
+fn lengths(request: u64) -> Option<(u64, u64)> {
+    match request {
+        1 | 3 | 4 | 7 | 15 | 17 | 21 => Some((0, 0)),
+        2 | 8 | 10..=14 | 16 | 18 => Some((8, 8)),
+        5 => Some((8, 264)),
+        6 => Some((16, 16)),
+        9 => Some((40, 40)),
+        22 => Some((32, 32)),
+        24 | 25 => Some((12, 268)),
+        _ => None,
+    }
+}
+
+// Why a header begins no message.
+fn fault(request: u64, flags: u8, size: u64) -> Option<usize> {
+    if flags % 4 != 1 {
+        return Some(2);
+    }
+    if flags / 4 % 2 == 1 {
+        return Some(10);
+    }
+    match lengths(request) {
+        Some((least, most)) if size >= least && size <= most => None,
+        Some(_) => Some(3),
+        None => Some(11),
+    }
+}
+
 fn read_plainly(alloc: Global, bytes: &[u8]) -> Result<Told, Fail> {
     let mut told = Told {
-        counts: [0; 10],
+        counts: [0; 12],
         replies: Vec::new(alloc),
         pages: [None; 8],
     };
@@ -166,24 +198,27 @@ fn read_plainly(alloc: Global, bytes: &[u8]) -> Result<Told, Fail> {
         let request = number_at(head, 0) % (1 << 32);
         let flags = byte_at(head, 4);
         let size = number_at(head, 8) % (1 << 32);
-        let kept = 12usize.saturating_add(size.min(32) as usize);
-        if head.len() < kept {
+        if head.len() < 12 {
             break;
         }
-        let place = if request != 22 || flags / 4 % 2 == 1 {
-            1
-        } else if flags % 4 != 1 {
-            2
-        } else if size != 32 {
-            3
-        } else {
+        if let Some(place) = fault(request, flags, size) {
+            count(&mut told.counts, place);
+            break;
+        }
+        let len = 12usize.saturating_add(size as usize);
+        if head.len() < len {
+            break;
+        }
+        let place = if request == 22 {
             told.payload(head.get(12..).unwrap_or(&[]))
+        } else {
+            1
         };
         count(&mut told.counts, place);
         if place != 1 && flags / 8 % 2 == 1 {
             told.replies.push(u8::from(place != 0))?;
         }
-        at = at.saturating_add(12).saturating_add(size as usize);
+        at = at.saturating_add(len);
     }
     Ok(told)
 }
@@ -193,22 +228,31 @@ fn place_of(handled: &Handled) -> Option<usize> {
         Handled::Nothing => None,
         Handled::Applied(_) => Some(0),
         Handled::Other(_) => Some(1),
-        Handled::Refused(Refusal::Malformed(malformed)) => Some(match malformed {
-            Malformed::Version => 2,
-            Malformed::PayloadSize => 3,
+        Handled::Malformed(MessageRefusal::Iotlb(malformed))
+        | Handled::Refused(Refusal::Malformed(malformed)) => Some(match malformed {
             Malformed::Kind => 4,
             Malformed::EmptyRange => 5,
             Malformed::Range => 6,
             Malformed::Permissions => 7,
-            Malformed::UserAddress => 8,
         }),
-        Handled::Refused(_) => Some(9),
+        Handled::Refused(Refusal::UserAddress) => Some(8),
+        Handled::Refused(_) | Handled::Malformed(_) => Some(9),
     }
 }
 
-// Handles all that comes, and counts it.
+fn place_of_fault(refusal: MessageRefusal) -> usize {
+    match refusal {
+        MessageRefusal::Version => 2,
+        MessageRefusal::PayloadSize => 3,
+        MessageRefusal::Direction => 10,
+        MessageRefusal::Request => 11,
+        _ => 9,
+    }
+}
+
+// Handles all that comes, up to a header that begins no message, and counts it.
 fn handle_all(host: &mut Host, iotlb: &mut Iotlb) -> Result<Counts, ChannelError> {
-    let mut counts: Counts = [0; 10];
+    let mut counts: Counts = [0; 12];
     for _ in 0..u64::MAX {
         match iotlb.handle(host) {
             Ok(handled) => {
@@ -217,6 +261,10 @@ fn handle_all(host: &mut Host, iotlb: &mut Iotlb) -> Result<Counts, ChannelError
                 }
             }
             Err(ChannelError::Ended) => return Ok(counts),
+            Err(ChannelError::Refused(refusal)) => {
+                count(&mut counts, place_of_fault(refusal));
+                return Ok(counts);
+            }
             Err(error) => return Err(error),
         }
     }
@@ -274,7 +322,7 @@ fn run(
 // Handles streams that are changed at random from this seed on, and fails where other counts come out.
 fn expect_counts(alloc: Global, seed: u64, wanted: Counts) -> Result<(), Fail> {
     let mut state = seed;
-    let mut total: Counts = [0; 10];
+    let mut total: Counts = [0; 12];
     let mut world = make_world(alloc, 1000)?;
     let stream = valid(alloc)?;
     for number in 0..STREAMS {
@@ -301,24 +349,32 @@ fn expect_counts(alloc: Global, seed: u64, wanted: Counts) -> Result<(), Fail> {
 #[test]
 fn changed_streams(rt: HostRuntime) -> Result<(), Fail> {
     // One of these messages is an INVALIDATE (0, 0).
-    let counts = [147666, 28166, 594, 1852, 1692, 303, 4, 746, 3884, 0];
+    let counts = [
+        137398, 21017, 1154, 2434, 1660, 298, 4, 730, 3667, 0, 87, 2441,
+    ];
     expect_counts(rt.alloc(), 1, counts)
 }
 
 #[test]
 fn more_changed_streams(rt: HostRuntime) -> Result<(), Fail> {
-    let counts = [147391, 28256, 578, 1890, 1645, 278, 6, 795, 3701, 0];
+    let counts = [
+        136719, 20901, 1185, 2515, 1609, 270, 6, 777, 3498, 0, 102, 2497,
+    ];
     expect_counts(rt.alloc(), 2, counts)
 }
 
 #[test]
 fn again_more_changed_streams(rt: HostRuntime) -> Result<(), Fail> {
-    let counts = [147161, 28198, 561, 1911, 1700, 312, 2, 763, 3819, 0];
+    let counts = [
+        136505, 20883, 1135, 2486, 1671, 304, 2, 739, 3615, 0, 100, 2516,
+    ];
     expect_counts(rt.alloc(), 3, counts)
 }
 
 #[test]
 fn the_last_changed_streams(rt: HostRuntime) -> Result<(), Fail> {
-    let counts = [147405, 28116, 614, 1925, 1657, 270, 5, 738, 3813, 0];
+    let counts = [
+        137061, 20924, 1138, 2531, 1626, 264, 5, 725, 3611, 0, 90, 2458,
+    ];
     expect_counts(rt.alloc(), 4, counts)
 }

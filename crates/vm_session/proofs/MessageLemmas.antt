@@ -15,9 +15,8 @@ use Rattle.vm_memory.specs.Parts.{Parts, state_of}
 use Rattle.vm_memory.specs.declared.machine.refusal.Refusal as machine_refusals
 use Rattle.vm_memory.specs.declared.machine.refusal.Refusal.TheVariants as machine_refusal
 use Rattle.vhost_iotlb.specs.Changes.{Applies, Changes, Makes, MakesOfMalformed, call_of}
-use Rattle.vhost_iotlb.specs.declared.malformed.Malformed.{Malformed}
-use Rattle.vhost_iotlb.specs.declared.message.IotlbMessage.{IotlbMessage}
-use Rattle.vhost_iotlb.specs.declared.message.IotlbMessage.TheVariants as message
+use Rattle.vhost_message.specs.declared.iotlb.IotlbMessage.{IotlbMessage}
+use Rattle.vhost_message.specs.declared.iotlb.IotlbMessage.TheVariants as message
 use Rattle.vhost_iotlb.specs.declared.table.Refusal.{Refusal}
 use Rattle.vhost_iotlb.specs.declared.table.Refusal.TheVariants as refusal
 use Rattle.vhost_iotlb.specs.declared.user_memory.UserRegion.{UserRegion}
@@ -36,7 +35,7 @@ module _ {B : Type 0} (pages : B → PageSet) where
       → Changes number call (seen old) (seen new)
   changes_seen number call old new h = record { before = h.before; there = h.there; left = ap seen h.left }
 
-  makes_seen : (number : ℕ) (asked : Result TableEvent Malformed) (calls : List TableEvent) (old new : Host B)
+  makes_seen : (number : ℕ) (asked : Result TableEvent Refusal) (calls : List TableEvent) (old new : Host B)
       → Makes number asked calls old new → Makes number asked calls (seen old) (seen new)
   makes_seen number asked calls old new h = record {
     wanted = h.wanted;
@@ -61,6 +60,7 @@ module _ {B : Type 0} (pages : B → PageSet) where
   applies_seen number regions m (Ok u) calls old new h = makes_seen number (call_of regions m) calls old new h
   applies_seen number regions m (Err (refusal.Malformed e)) calls old new h =
       (h.0, malformed_seen number m calls old new h.1)
+  applies_seen number regions m (Err refusal.UserAddress) calls old new h = (h.0, (h.1.0, ap seen h.1.1))
   applies_seen number regions m (Err refusal.Memory) calls old new h = (h.0, (h.1.0, ap seen h.1.1))
   applies_seen number regions m (Err refusal.NoTable) calls old new h = (h.0, (h.1.0, ap seen h.1.1))
 

@@ -6,7 +6,7 @@ use Rattle.vm_memory.specs.Setup.{IsMade, set_up}
 use Rattle.vm_memory.specs.State.{State}
 use Rattle.vm_memory.specs.declared.machine.setup.Setup as setups
 use Rattle.vm_memory.specs.declared.machine.setup.Setup.TheVariants as setup
-use Rattle.vhost_iotlb.specs.declared.message.IotlbMessage.{IotlbMessage}
+use Rattle.vhost_message.specs.declared.iotlb.IotlbMessage.{IotlbMessage}
 use Rattle.vhost_iotlb.specs.declared.user_memory.UserRegion.{UserRegion}
 use Rattle.vm_session.specs.Kinds.{is_access, is_message, is_table, is_work, kinds}
 use Rattle.vm_session.specs.Messages.{is_announced, regions_in}

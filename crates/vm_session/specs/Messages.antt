@@ -10,12 +10,12 @@ use Rattle.vm_memory_guest.specs.Memory.{Memory}
 use Rattle.vm_memory.specs.Memories.{table_of}
 use Rattle.vm_memory.specs.State.{State}
 use Rattle.vhost_iotlb.specs.Changes.{Applies}
-use Rattle.vhost_iotlb.specs.Message.{fields_in, message_in}
+use Rattle.vhost_message.specs.Iotlb.{fields_in, message_in}
 use Rattle.vhost_iotlb.specs.UserMemory.{guest_of}
-use Rattle.vhost_iotlb.specs.declared.malformed.Malformed.{Malformed}
-use Rattle.vhost_iotlb.specs.declared.malformed.Malformed.TheVariants as malformed
-use Rattle.vhost_iotlb.specs.declared.message.IotlbMessage.{IotlbMessage}
-use Rattle.vhost_iotlb.specs.declared.message.IotlbMessage.TheVariants as message
+use Rattle.vhost_message.specs.declared.refusal.Malformed.{Malformed}
+use Rattle.vhost_message.specs.declared.refusal.Malformed.TheVariants as malformed
+use Rattle.vhost_message.specs.declared.iotlb.IotlbMessage.{IotlbMessage}
+use Rattle.vhost_message.specs.declared.iotlb.IotlbMessage.TheVariants as message
 use Rattle.vhost_iotlb.specs.declared.table.Refusal.{Refusal}
 use Rattle.vhost_iotlb.specs.declared.table.Refusal.TheVariants as refusal
 use Rattle.vhost_iotlb.specs.declared.user_memory.UserRegion.{UserRegion}
@@ -53,13 +53,10 @@ message_of input = if is_whole input then message_if (message_in (fields_in (tak
 -- ---- the answers
 
 abbrev pub code_of_malformed : Malformed → ℕ
-code_of_malformed malformed.Version = 55
-code_of_malformed malformed.PayloadSize = 56
 code_of_malformed malformed.Kind = 57
 code_of_malformed malformed.EmptyRange = 58
 code_of_malformed malformed.Range = 59
 code_of_malformed malformed.Permissions = 60
-code_of_malformed malformed.UserAddress = 61
 
 -- a memory lies behind no table
 abbrev pub no_table : Answer
@@ -67,6 +64,7 @@ no_table = coded 54
 
 abbrev pub answer_of_refusal : Refusal → Answer
 answer_of_refusal (refusal.Malformed e) = coded (code_of_malformed e)
+answer_of_refusal refusal.UserAddress = coded 61
 answer_of_refusal refusal.Memory = no_memory
 answer_of_refusal refusal.NoTable = no_such
 

@@ -8,8 +8,8 @@ use Rattle.vm_memory.specs.Memories.{table_of}
 use Rattle.vm_memory.specs.State.{State}
 use Rattle.vm_memory.specs.declared.machine.command.Command.TheVariants as command
 use Rattle.vm_memory.specs.declared.machine.command.Reply.{Reply}
-use Rattle.vhost_iotlb.specs.declared.message.IotlbMessage.{IotlbMessage}
-use Rattle.vhost_iotlb.specs.declared.message.IotlbMessage.TheVariants as message
+use Rattle.vhost_message.specs.declared.iotlb.IotlbMessage.{IotlbMessage}
+use Rattle.vhost_message.specs.declared.iotlb.IotlbMessage.TheVariants as message
 use Rattle.vhost_iotlb.specs.declared.user_memory.UserRegion.{UserRegion}
 use Rattle.vm_session.specs.Kinds.{is_message, is_table, kinds}
 use Rattle.vm_session.specs.Messages.{is_announced, message_of, regions_in}

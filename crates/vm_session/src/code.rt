@@ -100,10 +100,6 @@ pub const NO_IOTLB: u32 = 54;
 
 /// Why a message on an I/O table is malformed. It maps nothing, and an INVALIDATE whose range is malformed invalidates
 /// everything.
-pub const MESSAGE_VERSION: u32 = 55;
-
-pub const MESSAGE_PAYLOAD_SIZE: u32 = 56;
-
 pub const MESSAGE_KIND: u32 = 57;
 
 pub const MESSAGE_EMPTY_RANGE: u32 = 58;

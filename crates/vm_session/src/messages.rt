@@ -15,9 +15,8 @@ use crate::answer::refused;
 use crate::call::{Answer, Call};
 use crate::code;
 use std::alloc::{AllocError, Global};
-use vhost_iotlb::{
-    DeviceTable, IotlbMessage, Malformed, PAYLOAD_LEN, Refusal, UserMemory, UserRegion,
-};
+use vhost_iotlb::{DeviceTable, Refusal, UserMemory, UserRegion};
+use vhost_message::{IotlbMessage, Malformed, PAYLOAD_LEN};
 use vm_memory::{Machine, ScriptMachine, Work};
 use vm_memory_base::{Bitmap, ExactBitmap, GuestAddress};
 use vm_memory_device::Iommu;
@@ -78,13 +77,10 @@ fn code_of_malformed(malformed: Malformed) -> u32
     ensures { result ≡ code_of_malformed malformed }
 {
     match malformed {
-        Malformed::Version => code::MESSAGE_VERSION,
-        Malformed::PayloadSize => code::MESSAGE_PAYLOAD_SIZE,
         Malformed::Kind => code::MESSAGE_KIND,
         Malformed::EmptyRange => code::MESSAGE_EMPTY_RANGE,
         Malformed::Range => code::MESSAGE_RANGE,
         Malformed::Permissions => code::MESSAGE_PERMISSIONS,
-        Malformed::UserAddress => code::MESSAGE_USER_ADDRESS,
     }
 }
 
@@ -95,6 +91,7 @@ fn applied(outcome: Result<(), Refusal>) -> Answer
     Answer::of_code(match outcome {
         Ok(()) => code::DONE,
         Err(Refusal::Malformed(malformed)) => code_of_malformed(malformed),
+        Err(Refusal::UserAddress) => code::MESSAGE_USER_ADDRESS,
         Err(Refusal::Memory) => code::MEMORY,
         Err(Refusal::NoTable) => code::NO_SUCH,
     })

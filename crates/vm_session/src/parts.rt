@@ -24,7 +24,7 @@ use crate::setup::set_up;
 use crate::work::work_on;
 use std::alloc::Global;
 use std::marker::Model;
-use vhost_iotlb::IotlbMessage;
+use vhost_message::IotlbMessage;
 use vm_memory::ScriptMachine;
 use vm_memory_base::Permissions;
 

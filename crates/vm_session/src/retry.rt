@@ -4,7 +4,7 @@ ghost use Rattle.vm_session.specs.Retries.{after_update, first_miss, forgotten, 
 
 use crate::call::{Answer, Call};
 use crate::code;
-use vhost_iotlb::IotlbMessage;
+use vhost_message::IotlbMessage;
 
 /// How far it has come.
 #[derive(Clone, Copy)]

@@ -14,7 +14,7 @@ use crate::retry::{Retry, forgotten, heard_by, is_due, missed};
 use crate::setup::{limit_made, no_room};
 use std::alloc::Global;
 use std::marker::Model;
-use vhost_iotlb::IotlbMessage;
+use vhost_message::IotlbMessage;
 
 /// A machine, with what is made for it at any time, and queues.
 ///

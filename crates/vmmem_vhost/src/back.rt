@@ -1,13 +1,17 @@
 //! The back end: a block device behind a table that the front end fills.
+ghost use Rattle.std.specs.Prelude.{◌≤◌, length};
 
-use crate::world::{CALL, Host, KICK, Layout, Memory, make_host};
+use crate::world::{CALL, Host, Layout, Memory, make_host};
 use anyhow::bail;
 use std::alloc::Global;
 use std::io::{Read, Write};
 use std::sync::{Mutex, Wait};
 use vhost_iotlb::{
-    ChannelError, DeviceIotlb, Frame, Handled, LockedHost, MissError, Outcome, ReadChain, Request,
-    SharedHost, WriteChain, reach,
+    DeviceIotlb, Handled, LockedHost, MissError, Outcome, ReadChain, Request, SharedHost,
+    WriteChain, reach,
+};
+use vhost_message::{
+    ChannelError, Header, Message, VERSION, VHOST_USER_REPLY, VHOST_USER_SET_VRING_KICK,
 };
 use virtio_blk::{BlockDevice, MemoryDisk, VIRTIO_BLK_S_IOERR};
 use virtio_queue::{Queue, QueueError};
@@ -199,6 +203,63 @@ impl Desk {
     }
 }
 
+// Whether a message says that the device is to look at the queue.
+fn is_kick(message: &Message) -> bool
+    requires { 12 ≤ length message.now }
+{
+    message.header().request == VHOST_USER_SET_VRING_KICK
+}
+
+// A message that calls the driver.
+fn call() -> Message {
+    let header = Header {
+        request: CALL,
+        flags: VERSION,
+        size: 0,
+    };
+    let mut message = Message::new();
+    message.extend(&header.encode());
+    message
+}
+
+// Replies to a message of another request, if it asks for that: a kick is done, and others are refused.
+fn serve_other<F: Read + Write, O: Read + Write>(
+    iotlb: &mut DeviceIotlb<F, O>,
+    message: &Message,
+) -> Result<(), ChannelError>
+    requires { 12 ≤ length message.now }
+{
+    let asked = message.header();
+    if !asked.needs_reply() {
+        return Ok(());
+    }
+    let header = Header {
+        request: asked.request,
+        flags: VERSION | VHOST_USER_REPLY,
+        size: 8,
+    };
+    let mut reply = Message::new();
+    reply.extend(&header.encode());
+    reply.extend(&u64::from(!is_kick(message)).to_le_bytes());
+    iotlb.reply(&reply)
+}
+
+// Tries a request until it is done, and serves the other messages that come meanwhile: a kick is for a chain that the
+// last look at the queue finds.
+fn finish<F: Read + Write, O: Read + Write, H: SharedHost, R: Request>(
+    iotlb: &mut DeviceIotlb<F, O>,
+    host: &mut H,
+    request: &mut R,
+) -> Result<(), MissError> {
+    for _ in 0..u64::MAX {
+        match iotlb.with_misses(host, request)? {
+            Some(message) => serve_other(iotlb, &message).map_err(MissError::Channel)?,
+            None => return Ok(()),
+        }
+    }
+    Err(MissError::Tries)
+}
+
 /// A back end.
 #[derive(Drop)]
 pub struct BackEnd<F, O> {
@@ -256,7 +317,7 @@ impl<F: Read + Write + Drop, O: Read + Write + Drop> BackEnd<F, O> {
         }
         let bytes = vec![in self.alloc; 0u8; len]?;
         let mut request = ReadChain::new(&self.turn.memory, self.turn.table, chain, bytes);
-        Ok(match self.iotlb.with_misses(host, &mut request) {
+        Ok(match finish(&mut self.iotlb, host, &mut request) {
             Ok(()) => Ok(request.into_bytes()),
             Err(error) => Err(error),
         })
@@ -272,7 +333,7 @@ impl<F: Read + Write + Drop, O: Read + Write + Drop> BackEnd<F, O> {
     ) -> Result<(), MissError> {
         let memory = &self.turn.memory;
         let mut request = WriteChain::new(memory, self.turn.table, chain, skipped, bytes);
-        self.iotlb.with_misses(host, &mut request)
+        finish(&mut self.iotlb, host, &mut request)
     }
 
     // Serves a chain, and answers how many of its writable bytes were written without a gap. One that is given up gets
@@ -311,7 +372,7 @@ impl<F: Read + Write + Drop, O: Read + Write + Drop> BackEnd<F, O> {
     // Does something with the queue, and waits for what the table misses of it.
     fn take_turn<H: SharedHost>(&mut self, host: &mut H, act: Act) -> anyhow::Result<()> {
         self.turn.act = act;
-        self.iotlb.with_misses(host, &mut self.turn)?;
+        finish(&mut self.iotlb, host, &mut self.turn)?;
         Ok(())
     }
 
@@ -344,18 +405,8 @@ impl<F: Read + Write + Drop, O: Read + Write + Drop> BackEnd<F, O> {
     // Serves what the driver published, and calls it. Answers whether there may be more.
     fn serve_and_call<H: SharedHost>(&mut self, host: &mut H) -> anyhow::Result<bool> {
         let more = self.serve_queue(host)?;
-        self.iotlb.notify(CALL)?;
-        // A kick that came meanwhile was for a chain that the last look found.
-        if let Some(frame) = self.iotlb.take_other() {
-            self.answer_other(&frame)?;
-        }
+        self.iotlb.tell(&call())?;
         Ok(more)
-    }
-
-    // Answers a message of another request: a kick is done, and others are refused.
-    fn answer_other(&mut self, frame: &Frame) -> Result<(), ChannelError> {
-        let value = if frame.header.request == KICK { 0 } else { 1 };
-        self.iotlb.reply(frame, value)
     }
 
     /// Serves messages and requests until the front end closes its channel.
@@ -364,9 +415,9 @@ impl<F: Read + Write + Drop, O: Read + Write + Drop> BackEnd<F, O> {
         let mut more = false;
         for _ in rt.forever() {
             match self.iotlb.handle(&mut host) {
-                Ok(Handled::Other(frame)) => {
-                    self.answer_other(&frame)?;
-                    more = more || frame.header.request == KICK;
+                Ok(Handled::Other(message)) => {
+                    more = more || is_kick(&message);
+                    serve_other(&mut self.iotlb, &message)?;
                 }
                 Ok(_) => {}
                 Err(ChannelError::Ended) => return Ok(self.done),

@@ -3,7 +3,7 @@ ghost use Rattle.std.specs.Prelude.{◌<◌};
 
 use crate::hostile::{MALFORMED, malformed};
 use crate::world::{
-    CALL, DATA_PAGE, FRAMES, HEADER_PAGE, Host, IOVA, KICK, Layout, Memory, PAGE, PAGES, SECTORS,
+    CALL, DATA_PAGE, FRAMES, HEADER_PAGE, Host, IOVA, Layout, Memory, PAGE, PAGES, SECTORS,
     SLOT_DESCRIPTORS, SLOT_PAGES, SLOTS, STATUS_PAGE, user_of,
 };
 use anyhow::bail;
@@ -12,9 +12,9 @@ use rand_xoshiro::Xoshiro256PlusPlus;
 use std::alloc::Global;
 use std::io::{Read, Write};
 use std::sync::{Mutex, Wait};
-use vhost_iotlb::{
-    Frame, Header, Incoming, IotlbMessage, VERSION, VHOST_USER_BACKEND_IOTLB_MSG,
-    VHOST_USER_IOTLB_MSG, VHOST_USER_NEED_REPLY, VHOST_USER_REPLY, encode_reply, send,
+use vhost_message::{
+    HEADER_LEN, Header, IotlbMessage, PAYLOAD_LEN, VERSION, VHOST_USER_BACKEND_IOTLB_MSG,
+    VHOST_USER_IOTLB_MSG, VHOST_USER_NEED_REPLY, VHOST_USER_REPLY, VHOST_USER_SET_VRING_KICK,
 };
 use virtio_blk::{VIRTIO_BLK_S_IOERR, VIRTIO_BLK_S_OK, VIRTIO_BLK_T_IN, VIRTIO_BLK_T_OUT};
 use virtio_queue::{
@@ -23,6 +23,9 @@ use virtio_queue::{
 };
 use vm_memory_base::{GuestAddress, Permissions};
 use vm_memory_guest::{Bytes, TlbId};
+
+// Ring 0, and no descriptor: the back end looks at the ring itself, each time that this comes.
+const NO_DESCRIPTOR: u64 = 0x100;
 
 /// What a front end did and saw.
 #[derive(Clone, Copy, Debug)]
@@ -59,22 +62,38 @@ pub const NOTHING: Seen = Seen {
     wrong: 0,
 };
 
+/// A message as it came: its header, and its payload with zeros after a shorter one.
+#[derive(Clone, Copy)]
+pub struct Frame {
+    header: Header,
+    payload: [u8; PAYLOAD_LEN],
+}
+
 /// One end of a channel.
 #[derive(Drop)]
 pub struct End<C> {
     pub stream: C,
-    pub coming: Incoming,
 }
 
-impl<C: Read> End<C> {
+impl<C: Read + Write> End<C> {
     // The next message.
     fn next(&mut self) -> anyhow::Result<Frame> {
-        for _ in 0..u64::MAX {
-            if let Some(frame) = self.coming.look(&mut self.stream)? {
-                return Ok(frame);
-            }
+        let mut bytes = [0; HEADER_LEN];
+        self.stream.read_exact(&mut bytes)?;
+        let header = Header::decode(&bytes);
+        let len = header.size as usize;
+        let mut payload = [0; PAYLOAD_LEN];
+        if len > PAYLOAD_LEN {
+            bail!("a payload of {len} bytes");
         }
-        bail!("nothing comes")
+        self.stream.read_exact(&mut payload[..len])?;
+        Ok(Frame { header, payload })
+    }
+
+    fn send(&mut self, header: Header, payload: &[u8]) -> anyhow::Result<()> {
+        self.stream.write_all(&header.encode())?;
+        self.stream.write_all(payload)?;
+        Ok(())
     }
 }
 
@@ -176,7 +195,7 @@ impl<C: Read + Write + Drop> FrontEnd<C> {
 
     // Sends a message, and answers the value of the reply.
     fn tell_header(&mut self, header: Header, payload: &[u8]) -> anyhow::Result<u64> {
-        send(&mut self.front.stream, header, payload)?;
+        self.front.send(header, payload)?;
         if !header.needs_reply() {
             return Ok(0);
         }
@@ -284,10 +303,13 @@ impl<C: Read + Write + Drop> FrontEnd<C> {
     // Sends a malformed message, which has to be refused.
     fn harass(&mut self) -> anyhow::Result<()> {
         let pick = self.below(MALFORMED as u64) as usize;
-        let (header, payload, invalidates) = malformed(pick, IOVA);
-        let len = (header.size as usize).min(payload.len());
-        let front = payload.get(..len).unwrap_or(&[]);
-        if self.tell_header(header, front)? == 0 {
+        let (payload, invalidates) = malformed(pick, IOVA);
+        let header = Header {
+            request: VHOST_USER_IOTLB_MSG,
+            flags: VERSION | VHOST_USER_NEED_REPLY,
+            size: PAYLOAD_LEN as u32,
+        };
+        if self.tell_header(header, &payload)? == 0 {
             bail!("malformed message {pick} was not refused");
         }
         if invalidates {
@@ -323,8 +345,7 @@ impl<C: Read + Write + Drop> FrontEnd<C> {
             flags: VERSION | VHOST_USER_REPLY,
             size: 8,
         };
-        send(&mut self.own.stream, header, &encode_reply(value))?;
-        Ok(())
+        self.own.send(header, &value.to_le_bytes())
     }
 
     // What goes wrong with a page, by the request that is under way there.
@@ -388,7 +409,10 @@ impl<C: Read + Write + Drop> FrontEnd<C> {
                 self.collect_all(rt, lock)?;
                 continue;
             }
-            match frame.message() {
+            if frame.header.request != VHOST_USER_BACKEND_IOTLB_MSG {
+                bail!("the back end sends another request");
+            }
+            match IotlbMessage::decode(&frame.payload) {
                 Ok(IotlbMessage::Miss { iova, access }) => {
                     self.answer_miss(rt, lock, iova, access)?;
                 }
@@ -598,11 +622,11 @@ impl<C: Read + Write + Drop> FrontEnd<C> {
         }
         self.seen.kicks = self.seen.kicks.saturating_add(1);
         let kick = Header {
-            request: KICK,
+            request: VHOST_USER_SET_VRING_KICK,
             flags: VERSION,
-            size: 0,
+            size: 8,
         };
-        self.tell_header(kick, &[])?;
+        self.tell_header(kick, &NO_DESCRIPTOR.to_le_bytes())?;
         Ok(())
     }
 

@@ -22,7 +22,7 @@ use std::sync::{Mutex, Wait};
 use std::thread::Threads;
 use std::time::Duration;
 use std::{env, thread};
-use vhost_iotlb::{DeviceIotlb, DeviceTable, Incoming, Limits};
+use vhost_iotlb::{DeviceIotlb, DeviceTable, Limits};
 use virtio_blk::MemoryDisk;
 use virtio_queue::DriverQueue;
 use vm_memory_guest::{SpaceId, TlbId};
@@ -196,14 +196,8 @@ fn make_ends<R: Net>(rt: &R, alloc: Global, options: Options) -> anyhow::Result<
         table,
         pages,
         driver,
-        front: End {
-            stream: front,
-            coming: Incoming::new(),
-        },
-        own: End {
-            stream: own,
-            coming: Incoming::new(),
-        },
+        front: End { stream: front },
+        own: End { stream: own },
         disk: vec![in alloc; 0u8; DISK_LEN]?,
         left: options.requests,
         sent: [None; SLOTS],

@@ -51,9 +51,7 @@ pub const QUEUE_SIZE: u16 = 16;
 /// How many sectors the disk has.
 pub const SECTORS: u64 = 256;
 
-/// The request of a front end that kicks the back end's device, and that of a back end that calls its driver.
-pub const KICK: u32 = 35;
-
+/// The request of a back end that calls its driver.
 pub const CALL: u32 = 4;
 
 // Where the two halves of guest memory lie in the front end's.

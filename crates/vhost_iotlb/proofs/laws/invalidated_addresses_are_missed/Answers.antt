@@ -1,6 +1,6 @@
 use Rattle.std.proofs.Common.{◌+◌, ◌^◌, ◌<◌, ◌∙◌, ◌∷◌, sym, arith}
 use Rattle.vm_memory_base.specs.Table.{says}
-use Rattle.vhost_iotlb.specs.declared.message.IotlbMessage.TheVariants.{Invalidate}
+use Rattle.vhost_message.specs.declared.iotlb.IotlbMessage.TheVariants.{Invalidate}
 use Rattle.vhost_iotlb.proofs.InvalidationLemmas.{none_after, parts, unsaid}
 use Rattle.vhost_iotlb.proofs.laws.invalidated_addresses_are_missed.Goals as goal
 

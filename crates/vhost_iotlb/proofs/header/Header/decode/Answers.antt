@@ -1,8 +1,0 @@
-use Rattle.std.proofs.Common.{sym, ap, ◌∙◌}
-use Rattle.vhost_iotlb.specs.Header.{header_in}
-use Rattle.vhost_iotlb.proofs.CodecLemmas.{header_again}
-use Rattle.vhost_iotlb.proofs.header.Header.decode.Goals as goal
-
-pub returns-clause-only : goal.returns-clause-only
-returns-clause-only c = λ h is spelled.
-    c.header_in.ensures.fields ∙ ap header_in (sym spelled) ∙ header_again h is
