@@ -13,7 +13,7 @@ use Rattle.live_migration.specs.Placing.{IsInside}
 use Rattle.live_migration.specs.Reading.{◌>>=◌}
 use Rattle.live_migration.specs.Receiving.{BreaksReceiving, KeepsBlocks, Receives, ReceivesAll, TakesFrame, section_in, sections_told}
 use Rattle.live_migration.specs.Replies.{replies_to, reply_after, reply_to}
-use Rattle.live_migration.specs.Stages.{in_round, stage_after, stage_behind}
+use Rattle.live_migration.specs.Stages.{in_round, stage_after, stage_after_all}
 use Rattle.live_migration.specs.declared.header.BlockEntry.{BlockEntry}
 use Rattle.live_migration.specs.declared.receiver.Stage.{Stage}
 use Rattle.live_migration.specs.declared.receiver.Stage.TheVariants as stage
@@ -79,16 +79,16 @@ received_more a b c base entries old new host mid next at are r t =
 -- ---- what stays of a receiver, the sections that came, and the replies
 
 -- the stage after one message more
-stage_more : (s t u : Stage) (ms : List Message) (m : Message) → stage_behind s ms ≡ Ok t → stage_after t m ≡ Ok u
-    → stage_behind s (ms ++ m ∷ []) ≡ Ok u
-unfolding stage_behind
+stage_more : (s t u : Stage) (ms : List Message) (m : Message) → stage_after_all s ms ≡ Ok t → stage_after t m ≡ Ok u
+    → stage_after_all s (ms ++ m ∷ []) ≡ Ok u
+unfolding stage_after_all
 stage_more s t u [] m before now =
     let same : s ≡ t = cc in
     ap (λ (r : Result Stage Refusal). r >>= (λ v. Ok v)) (ap (λ (v : Stage). stage_after v m) same ∙ now)
 stage_more s t u (x ∷ xs) m before now = go (λ v h. stage_more v t u xs m h now) (stage_after s x) before
   where
-    go : ((v : Stage) → stage_behind v xs ≡ Ok t → stage_behind v (xs ++ m ∷ []) ≡ Ok u) → (r : Result Stage Refusal)
-        → (r >>= (λ v. stage_behind v xs)) ≡ Ok t → (r >>= (λ v. stage_behind v (xs ++ m ∷ []))) ≡ Ok u
+    go : ((v : Stage) → stage_after_all v xs ≡ Ok t → stage_after_all v (xs ++ m ∷ []) ≡ Ok u) → (r : Result Stage Refusal)
+        → (r >>= (λ v. stage_after_all v xs)) ≡ Ok t → (r >>= (λ v. stage_after_all v (xs ++ m ∷ []))) ≡ Ok u
     go more (Ok v) h = more v h
     go more (Err e) h = absurd (cc)
 
@@ -128,7 +128,7 @@ if_refused (Ok x) p = tt
 if_refused (Err e) p = p
 
 pub none_kept : {B : Type 0} (a s : Option (List ℕ)) (p : Progress) (host : Host B) → Receives a p host host s s a p
-unfolding none_received stage_behind
+unfolding none_received stage_after_all
 none_kept a s p host = (
   none_received a p.base p.entries.items host,
   record {

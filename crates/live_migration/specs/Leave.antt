@@ -18,10 +18,10 @@ pub record Sends (bytes : List ℕ) (before after : Option (List ℕ)) (old new 
 abbrev pub IsInRounds : SendStage → Type 0
 IsInRounds s = (s ≡ stage.Sending) ⊎ (s ≡ stage.RoundEnded)
 
--- these bytes were not sent, since the stream failed in a round: it was given a beginning of them, and the stage says
--- so
+-- These bytes were not sent, since the stream failed in a round, or an allocation did: the stream got a beginning of
+-- them, and the stage says so
 pub record BreaksOff (bytes : List ℕ) (before after : Option (List ℕ)) (old new : SendStage) : Type 0 where
-  pub before_was : IsInRounds old
+  pub in_round : IsInRounds old
   pub failed : new ≡ stage.Failed
   pub count : ℕ
   pub written : Appends before after (take count bytes)

@@ -10,7 +10,7 @@ use Rattle.live_migration.specs.Header.{IsHeader, header_bytes}
 use Rattle.live_migration.specs.Image.{arrived}
 use Rattle.live_migration.specs.Placing.{Applies, IsInside}
 use Rattle.live_migration.specs.Replies.{replies_to}
-use Rattle.live_migration.specs.Stages.{stage_after, stage_behind}
+use Rattle.live_migration.specs.Stages.{stage_after, stage_after_all}
 use Rattle.live_migration.specs.declared.header.BlockEntry.{BlockEntry}
 use Rattle.live_migration.specs.declared.receiver.Stage.TheVariants as stage
 use Rattle.live_migration.specs.declared.refusal.Refusal.{Refusal}
@@ -114,7 +114,7 @@ pub record ReceivesAll {B : Type 0} (before after : Option (List ℕ)) (base : �
 pub record KeepsBlocks (messages : List Message) (old new : Progress) : Type 0 where
   pub base : new.base ≡ old.base
   pub entries : new.entries.items ≡ old.entries.items
-  pub stage : stage_behind old.stage messages ≡ Ok new.stage
+  pub stage : stage_after_all old.stage messages ≡ Ok new.stage
   pub sections : sections_told new ≡ sections_told old ++ flat_map section_in messages
   pub left : new.left + sum_by cost_of (flat_map section_in messages) ≡ old.left
 

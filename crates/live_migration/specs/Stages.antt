@@ -35,6 +35,6 @@ stage_after stage.Gone m = Err Order
 stage_after stage.Failed m = Err Order
 
 -- and after messages, one after the other
-unfoldable pub stage_behind : Stage → List Message → Result Stage Refusal
-stage_behind s [] = Ok s
-stage_behind s (m ∷ ms) = stage_after s m >>= (λ t. stage_behind t ms)
+unfoldable pub stage_after_all : Stage → List Message → Result Stage Refusal
+stage_after_all s [] = Ok s
+stage_after_all s (m ∷ ms) = stage_after s m >>= (λ t. stage_after_all t ms)

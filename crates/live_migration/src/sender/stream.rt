@@ -415,6 +415,8 @@ impl Sender {
     #[tactic(auto, unfolding(crate::specs::Frame::spelling))]
     pub fn go<W: Write>(&mut self, writer: &mut W) -> Result<(), SendError>
         ensures sent { OnOk result (Appends (W.contents writer.old) (W.contents writer.new) (spelling Go)) }
+        ensures unsent { OnErr result ((count : ℕ)
+            × Appends (W.contents writer.old) (W.contents writer.new) (take count (spelling Go))) }
         ensures early { self.old.stage ≢ stages.Accepted
             → IsErr result × (writer.new ≡ writer.old) × (self.new ≡ self.old) }
         ensures gone { self.old.stage ≡ stages.Accepted → self.new.stage ≡ stages.Gone }
@@ -424,7 +426,7 @@ impl Sender {
             return Err(SendError::Order);
         }
         self.stage = SendStage::Gone;
-        if writer.write_all(&head_bytes(GO, 0)).is_err() {
+        if write_bytes(writer, &head_bytes(GO, 0)).is_err() {
             return Err(SendError::Failed);
         }
         Ok(())
