@@ -99,10 +99,13 @@ module _ (all : List ℕ) (offset lowest : ℕ) where
     pub plan_not_named : (e : LoaderError) → Names (elf_named all offset h) (Err e)
         → (h.count ≡ 0 → e ≡ errors.NoLoadSegment) → Plans (ElfAllocates all lowest) (elf_plan all offset lowest) (Err e)
     plan_not_named e (inl is) none = inl (with_header ∙ is)
-    plan_not_named e (inr memory) none = inr (inl (memory, allocates (elim (cases_lt 0 h.count) [
-      | inl some ↦ some
-      | inr less ↦ let is = none (omega arith) in absurd (cc)
-    ])))
+    plan_not_named e (inr memory) none = inr (inl (
+      memory,
+      allocates (elim (cases_lt 0 h.count) [
+        | inl some ↦ some
+        | inr less ↦ let is = none (omega arith) in absurd (cc)
+      ]),
+    ))
 
     pub plan_named : (p : KernelPlan) (r : Result KernelPlan LoaderError) → 0 < h.count → Names (elf_named all offset h) (Ok p)
         → MatchResult r (λ q. (planned_of q ≡ planned_of p) × AllPairs Apart q.segments.items)
@@ -155,10 +158,13 @@ module _ (all : List ℕ) (at : Option GuestAddress) (lowest : ℕ) where
       → (length all < 0x218 → e ≡ errors.ReadBzImageHeader) → Plans (BzAllocates all) (bz_plan all at lowest) (Err e)
   bz_no_header e (inl is) short = inl (bz_from ∙ ap (λ (r : Result (List ℕ) LoaderError).
       and_then r (λ h. bz_named h (length all) at lowest)) is)
-  bz_no_header e (inr memory) short = inr (inl (memory, elim (cases_lt (length all) 0x218) [
-    | inl less ↦ let is = short less in absurd (cc)
-    | inr long ↦ let test : nat_lt (length all) 0x218 ≡ false = grind (arith, nat_tests) in rw test refl
-  ]))
+  bz_no_header e (inr memory) short = inr (inl (
+    memory,
+    elim (cases_lt (length all) 0x218) [
+      | inl less ↦ let is = short less in absurd (cc)
+      | inr long ↦ let test : nat_lt (length all) 0x218 ≡ false = grind (arith, nat_tests) in rw test refl
+    ],
+  ))
 
   module _ (h : List ℕ) (header : header_in all ≡ Ok h) where
     bz_with : bz_plan all at lowest ≡ bz_named h (length all) at lowest

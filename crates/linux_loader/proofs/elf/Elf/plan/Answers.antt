@@ -52,7 +52,7 @@ returns-clause-planned g c = λ all known.
       rw (← offset, ← lowest)
           (plan_named all c.unwrap_or-offset.result.0 c.unwrap_or-lowest.result.0 c.in_ok-header.header (h.1 sized)
           c.in_ok-plan.plan c.apart.result (elim (cases_lt 0 c.in_ok-header.header.count) [
-        | inl some ↦ some
-        | inr less ↦ let is = c.in_ok-plan.ensures.none (omega arith) in absurd (cc)
-      ]) (n.1 sized) c.apart.ensures),
+            | inl some ↦ some
+            | inr less ↦ let is = c.in_ok-plan.ensures.none (omega arith) in absurd (cc)
+          ]) (n.1 sized) c.apart.ensures),
     )
