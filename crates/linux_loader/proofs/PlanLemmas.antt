@@ -1,11 +1,12 @@
 -- What is planned of an ELF file, step by step.
-use Rattle.std.proofs.Common.{◌≡◌, ◌⊎◌, ◌∙◌, ℕ, ◌+◌, ◌-◌, ◌≤◌, List, ◌∷◌, [], arith, false, nat_lt, drop, length, length-drop, min, take, AllPairs, Option, Result, Ok, Err, MatchResult, Vec, ap, inl, inr, refl, sym}
+use Rattle.std.proofs.Common.{◌≡◌, ◌⊎◌, ◌∙◌, ℕ, ◌+◌, ◌-◌, ◌<◌, ◌≤◌, List, ◌∷◌, [], arith, false, nat_lt, drop, length, length-drop, min, take, AllPairs, Option, Result, Ok, Err, IsOkAnd, MatchResult, Vec, ap, inl, inr, refl, subst, sym}
+use Rattle.std.proofs.lemmas.Bool.{cases_lt}
 use Rattle.std.proofs.lemmas.Bool.Decides.{nat_tests}
 use Rattle.std.proofs.lemmas.List.{take_min}
 use Rattle.std.specs.declared.alloc.Global.{Global}
 use Rattle.vm_memory_base.specs.declared.address.GuestAddress.{GuestAddress}
-use Rattle.linux_loader.specs.BzImage.{bz_kernel, bz_named, bz_plan, bz_planned, header_as_loaded, header_in, planned_with}
-use Rattle.linux_loader.specs.Elf.{elf_header, elf_named, elf_plan, elf_planned, entry_at, headers_in, pvh_entry, some_segments}
+use Rattle.linux_loader.specs.BzImage.{BzAllocates, bz_kernel, bz_named, bz_plan, bz_planned, header_as_loaded, header_in, planned_with}
+use Rattle.linux_loader.specs.Elf.{ElfAllocates, elf_header, elf_named, elf_plan, elf_planned, entry_at, headers_in, program_headers, pvh_entry, segments_of, some_segments}
 use Rattle.linux_loader.specs.Error.{and_then}
 use Rattle.linux_loader.specs.Plan.{Answers, Apart, Lists, Names, Planned, Plans, planned_of}
 use Rattle.linux_loader.specs.Runtime.{runtime_area}
@@ -24,6 +25,12 @@ listed xs v h = cc
 pub not_listed : {T : Type 0} (xs : List T) (e : LoaderError) → Lists (Ok xs) (Err e) → e ≡ errors.Memory
 not_listed xs e (inl h) = absurd (cc)
 not_listed xs e (inr memory) = memory
+
+-- a header without program headers names no segment
+pub named_none : (all : List ℕ) (offset : ℕ) (h : ElfHeader) → h.count ≡ 0
+    → Names (elf_named all offset h) (Err errors.NoLoadSegment)
+unfolding elf_named program_headers segments_of
+named_none all offset h none = inl (rw none refl)
 
 module _ (all : List ℕ) (offset : ℕ) (h : ElfHeader) (size : ℕ) (headers : List ProgramHeader)
     (sized : size ≡ length all) (read : headers ≡ headers_in all h) where
@@ -76,7 +83,7 @@ module _ (all : List ℕ) (offset lowest : ℕ) where
   plan_from = refl
 
   pub plan_no_header : (e : LoaderError) → Err e ≡ elf_header all lowest
-      → Plans (elf_plan all offset lowest) (Err e)
+      → Plans (ElfAllocates all lowest) (elf_plan all offset lowest) (Err e)
   plan_no_header e is = inl (plan_from ∙ ap (λ (r : Result ElfHeader LoaderError).
       and_then r (λ h. elf_named all offset h)) (sym is))
 
@@ -85,19 +92,29 @@ module _ (all : List ℕ) (offset lowest : ℕ) where
     with_header = plan_from ∙ ap (λ (r : Result ElfHeader LoaderError). and_then r (λ h. elf_named all offset h))
         (sym header)
 
-    pub plan_not_named : (e : LoaderError) → Names (elf_named all offset h) (Err e)
-        → Plans (elf_plan all offset lowest) (Err e)
-    plan_not_named e (inl is) = inl (with_header ∙ is)
-    plan_not_named e (inr memory) = inr (inl memory)
+    allocates : 0 < h.count → ElfAllocates all lowest
+    allocates some =
+        subst (λ (r : Result ElfHeader LoaderError). IsOkAnd r (λ (x : ElfHeader). 0 < x.count)) header some
 
-    pub plan_named : (p : KernelPlan) (r : Result KernelPlan LoaderError) → Names (elf_named all offset h) (Ok p)
+    pub plan_not_named : (e : LoaderError) → Names (elf_named all offset h) (Err e)
+        → (h.count ≡ 0 → e ≡ errors.NoLoadSegment) → Plans (ElfAllocates all lowest) (elf_plan all offset lowest) (Err e)
+    plan_not_named e (inl is) none = inl (with_header ∙ is)
+    plan_not_named e (inr memory) none = inr (inl (
+      memory,
+      allocates (elim (cases_lt 0 h.count) [
+        | inl some ↦ some
+        | inr less ↦ let is = none (omega arith) in absurd (cc)
+      ]),
+    ))
+
+    pub plan_named : (p : KernelPlan) (r : Result KernelPlan LoaderError) → 0 < h.count → Names (elf_named all offset h) (Ok p)
         → MatchResult r (λ q. (planned_of q ≡ planned_of p) × AllPairs Apart q.segments.items)
         (λ e. (e ≡ errors.Memory) ⊎ ((e ≡ errors.SegmentsOverlap) × ¬ AllPairs Apart p.segments.items))
-        → Plans (elf_plan all offset lowest) r
-    plan_named p (Ok q) named (same, apart) =
+        → Plans (ElfAllocates all lowest) (elf_plan all offset lowest) r
+    plan_named p (Ok q) some named (same, apart) =
         (with_header ∙ named ∙ ap (λ (x : Planned). Ok x) (sym same), apart)
-    plan_named p (Err e) named (inl memory) = inr (inl memory)
-    plan_named p (Err e) named (inr (is, overlap)) = inr (inr (is, planned_of p, with_header ∙ named, overlap))
+    plan_named p (Err e) some named (inl memory) = inr (inl (memory, allocates some))
+    plan_named p (Err e) some named (inr (is, overlap)) = inr (inr (is, planned_of p, with_header ∙ named, overlap))
 
 -- ---- bzImages
 
@@ -137,28 +154,38 @@ module _ (all : List ℕ) (at : Option GuestAddress) (lowest : ℕ) where
   unfolding bz_plan
   bz_from = refl
 
-  pub bz_no_header : (e : LoaderError) → Lists (header_in all) (Err e) → Plans (bz_plan all at lowest) (Err e)
-  bz_no_header e (inl is) = inl (bz_from ∙ ap (λ (r : Result (List ℕ) LoaderError).
+  pub bz_no_header : (e : LoaderError) → Lists (header_in all) (Err e)
+      → (length all < 0x218 → e ≡ errors.ReadBzImageHeader) → Plans (BzAllocates all) (bz_plan all at lowest) (Err e)
+  bz_no_header e (inl is) short = inl (bz_from ∙ ap (λ (r : Result (List ℕ) LoaderError).
       and_then r (λ h. bz_named h (length all) at lowest)) is)
-  bz_no_header e (inr memory) = inr (inl memory)
+  bz_no_header e (inr memory) short = inr (inl (
+    memory,
+    elim (cases_lt (length all) 0x218) [
+      | inl less ↦ let is = short less in absurd (cc)
+      | inr long ↦ let test : nat_lt (length all) 0x218 ≡ false = grind (arith, nat_tests) in rw test refl
+    ],
+  ))
 
   module _ (h : List ℕ) (header : header_in all ≡ Ok h) where
     bz_with : bz_plan all at lowest ≡ bz_named h (length all) at lowest
     bz_with = bz_from ∙ ap (λ (r : Result (List ℕ) LoaderError). and_then r (λ h. bz_named h (length all) at lowest))
         header
 
+    bz_allocates : BzAllocates all
+    bz_allocates = rw header refl
+
     pub bz_not_named : (e : LoaderError) → Names (bz_named h (length all) at lowest) (Err e)
-        → Plans (bz_plan all at lowest) (Err e)
+        → Plans (BzAllocates all) (bz_plan all at lowest) (Err e)
     bz_not_named e (inl is) = inl (bz_with ∙ is)
-    bz_not_named e (inr memory) = inr (inl memory)
+    bz_not_named e (inr memory) = inr (inl (memory, bz_allocates))
 
     pub bz_is_named : (p : KernelPlan) (r : Result KernelPlan LoaderError)
         → Names (bz_named h (length all) at lowest) (Ok p)
         → MatchResult r (λ q. (planned_of q ≡ planned_of p) × AllPairs Apart q.segments.items)
         (λ e. (e ≡ errors.Memory) ⊎ ((e ≡ errors.SegmentsOverlap) × ¬ AllPairs Apart p.segments.items))
-        → Plans (bz_plan all at lowest) r
+        → Plans (BzAllocates all) (bz_plan all at lowest) r
     bz_is_named p (Ok q) named (same, apart) = (bz_with ∙ named ∙ ap (λ (x : Planned). Ok x) (sym same), apart)
-    bz_is_named p (Err e) named (inl memory) = inr (inl memory)
+    bz_is_named p (Err e) named (inl memory) = inr (inl (memory, bz_allocates))
     bz_is_named p (Err e) named (inr (is, overlap)) = inr (inr (is, planned_of p, bz_with ∙ named, overlap))
 
 -- ---- the header of a bzImage

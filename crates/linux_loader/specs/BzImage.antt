@@ -1,5 +1,5 @@
 -- bzImages, as a loader reads them. The setup header begins at 0x1f1, and its fields are told by their places in it.
-use Rattle.std.specs.Prelude.{ℕ, ◌+◌, ◌-◌, ◌*◌, ◌^◌, nat_lt, nat_le, Bool, not, ◌&&◌, ◌==◌, if◌then◌else◌, bit_and, List, [], ◌∷◌, ◌++◌, take, drop, slice_range, length, Option, Some, Result, Ok, Err}
+use Rattle.std.specs.Prelude.{ℕ, ◌+◌, ◌-◌, ◌*◌, ◌^◌, nat_lt, nat_le, Bool, not, ◌&&◌, ◌==◌, if◌then◌else◌, bit_and, List, [], ◌∷◌, ◌++◌, take, drop, slice_range, length, Option, Some, Result, Ok, Err, IsOk}
 use Rattle.std.specs.Int.{w32, to_le_bytes}
 use Rattle.vm_memory_base.specs.declared.address.GuestAddress.{GuestAddress}
 use Rattle.linux_loader.specs.Error.{and_then}
@@ -16,6 +16,10 @@ use Rattle.linux_loader.specs.declared.runtime.RuntimeArea.{RuntimeArea}
 -- code32_start at least
 abbrev pub header_in : List ℕ → Result (List ℕ) LoaderError
 header_in all = if nat_lt (length all) 0x218 then Err errors.ReadBzImageHeader else Ok (take 272 (drop 0x1f1 all))
+
+-- memory is asked for: for the header of an image that is long enough
+abbrev pub BzAllocates : List ℕ → Type 0
+BzAllocates all = IsOk (header_in all)
 
 -- how many bytes a header has: those up to 0x202, and as many more as the byte at 0x201 says
 abbrev pub header_size : List ℕ → ℕ

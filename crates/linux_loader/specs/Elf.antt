@@ -1,5 +1,5 @@
 -- ELF files of 64 bits for x86-64, as a loader reads them.
-use Rattle.std.specs.Prelude.{ℕ, zero, suc, ◌+◌, ◌*◌, ◌^◌, nat_lt, nat_le, Bool, not, ◌||◌, ◌==◌, if◌then◌else◌, List, [], ◌∷◌, ◌++◌, take, drop, length, Option, Some, None, Result, Ok, Err}
+use Rattle.std.specs.Prelude.{ℕ, zero, suc, ◌+◌, ◌*◌, ◌^◌, ◌<◌, nat_lt, nat_le, Bool, not, ◌||◌, ◌==◌, if◌then◌else◌, List, [], ◌∷◌, ◌++◌, take, drop, length, Option, Some, None, Result, Ok, Err, IsOkAnd}
 use Rattle.vm_memory_base.specs.declared.address.GuestAddress.{GuestAddress}
 use Rattle.linux_loader.specs.Error.{and_then}
 use Rattle.linux_loader.specs.Notes.{entry_in, note_align, or_else}
@@ -42,6 +42,10 @@ header_of size lowest h = and_then (kind_of h) (λ _. places_of size lowest h)
 abbrev pub elf_header : List ℕ → ℕ → Result ElfHeader LoaderError
 elf_header all lowest = if nat_lt (length all) 64 then Err errors.ReadElfHeader
     else header_of (length all) lowest (take 64 all)
+
+-- memory is asked for: for the program headers of a header that may be loaded, if it has some
+abbrev pub ElfAllocates : List ℕ → ℕ → Type 0
+ElfAllocates all lowest = IsOkAnd (elf_header all lowest) (λ h. 0 < h.count)
 
 -- ---- program headers
 

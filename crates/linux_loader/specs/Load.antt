@@ -95,12 +95,12 @@ module _ {S B : Type 0} (bytes : S → Option (List ℕ)) (source : S → Option
       × MatchResult found (λ _. LoadsSegments p old answer new) (λ e. (answer ≡ Err e) × (new ≡ old))
 
   -- what is planned of an image was loaded, or nothing was, and then the host is as it was. What is planned of an
-  -- image whose bytes are known is known
-  pub record LoadsImage (plan : List ℕ → Result Planned LoaderError) (old : S × Host B)
+  -- image whose bytes are known is known, and whether memory is asked for before
+  pub record LoadsImage (allocates : List ℕ → Type 0) (plan : List ℕ → Result Planned LoaderError) (old : S × Host B)
       (answer : Result KernelLoaderResult LoaderError) (new : S × Host B) : Type 0 where
     pub planned : Result KernelPlan LoaderError
     pub image : S
-    pub told : IfKnown (bytes old.0) (λ all. (bytes image ≡ Some all) × Plans (plan all) planned)
+    pub told : IfKnown (bytes old.0) (λ all. (bytes image ≡ Some all) × Plans (allocates all) (plan all) planned)
     pub apart : IfOk planned (λ p. AllPairs Apart p.segments.items)
     pub loads : MatchResult planned (λ p. LoadsPlan (planned_of p) (image, old.1) answer new)
         (λ e. (answer ≡ Err e) × (new ≡ (image, old.1)))

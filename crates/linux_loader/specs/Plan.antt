@@ -52,8 +52,8 @@ abbrev pub Names : Result Planned LoaderError → Result KernelPlan LoaderError 
 Names expected (Ok p) = expected ≡ Ok (planned_of p)
 Names expected (Err e) = (expected ≡ Err e) ⊎ (e ≡ errors.Memory)
 
--- what is planned is what is expected, where no two segments share an address. Or an allocation failed
-abbrev pub Plans : Result Planned LoaderError → Result KernelPlan LoaderError → Type 0
-Plans expected (Ok p) = (expected ≡ Ok (planned_of p)) × AllPairs Apart p.segments.items
-Plans expected (Err e) = (expected ≡ Err e) ⊎ ((e ≡ errors.Memory)
+-- what is planned is what is expected, where no two segments share an address. Or an allocation failed, if one is made
+abbrev pub Plans : Type 0 → Result Planned LoaderError → Result KernelPlan LoaderError → Type 0
+Plans allocates expected (Ok p) = (expected ≡ Ok (planned_of p)) × AllPairs Apart p.segments.items
+Plans allocates expected (Err e) = (expected ≡ Err e) ⊎ (((e ≡ errors.Memory) × allocates)
     ⊎ ((e ≡ errors.SegmentsOverlap) × (p : Planned) × (expected ≡ Ok p) × ¬ AllPairs Apart p.segments))

@@ -1,10 +1,11 @@
 //! bzImages.
-ghost use Rattle.std.specs.Prelude.{◌≡◌, ◌+◌, ◌≤◌, ◌<◌, ◌^◌, length, take, drop, All, AllPairs, IfOk, OnOk, Some, MatchResult, [], ◌∷◌};
+ghost use Rattle.std.specs.Prelude.{◌≡◌, ◌+◌, ◌≤◌, ◌<◌, ◌^◌, length, take, drop, All, AllPairs, IfOk, OnOk, Some, Err, MatchResult, [], ◌∷◌};
 ghost use Rattle.vm_memory_guest.specs.Host.{shape_of, Holds};
-ghost use Rattle.linux_loader.specs.BzImage.{bz_kernel, bz_named, bz_plan, check_header, header_as_loaded, header_in, header_size, is_header, kernel_of, kernel_start, load_address, planned_with};
+ghost use Rattle.linux_loader.specs.BzImage.{BzAllocates, bz_kernel, bz_named, bz_plan, check_header, header_as_loaded, header_in, header_size, is_header, kernel_of, kernel_start, load_address, planned_with};
 ghost use Rattle.linux_loader.specs.Image.{IfKnown};
 ghost use Rattle.linux_loader.specs.Load.{LoadsImage};
 ghost use Rattle.linux_loader.specs.Plan.{Apart, HasBytes, Lists, Names, Plans, address_or, planned_of};
+ghost use Rattle.linux_loader.specs.declared.error.LoaderError.TheVariants as errors;
 
 use crate::error::LoaderError;
 use crate::image::KernelImage;
@@ -69,6 +70,7 @@ fn read_header<F: KernelImage>(
 ) -> Result<Vec<u8>, LoaderError>
     ensures known { IfKnown (F.bytes image.old) (λ all. (F.bytes image.new ≡ Some all)
         × (size ≡ length all → Lists (header_in all) result)) }
+    ensures short { size < 0x218 → result ≡ Err errors.ReadBzImageHeader }
     ensures long { IfOk result (λ header. 39 ≤ length header.items) }
 {
     if size < HEADER_START + LEAST_HEADER as u64 {
@@ -253,7 +255,8 @@ fn plan_of(
 impl BzImage {
     /// What is to be loaded of an image, and where: the protected mode kernel, at `kernel_offset`, or else at
     /// `code32_start`, which may not lie below `highmem_start`. The first thing that is wrong is refused, in the order
-    /// of docs/LOADER.md, "bzImages". `Image` where the source fails, and `Memory` where an allocation does.
+    /// of docs/LOADER.md, "bzImages". `Image` where the source fails, and `Memory` where an allocation does: the first
+    /// is for the header of an image that is long enough.
     pub fn plan<F: KernelImage>(
         alloc: Global,
         kernel_offset: Option<GuestAddress>,
@@ -261,7 +264,7 @@ impl BzImage {
         highmem_start: Option<GuestAddress>,
     ) -> Result<KernelPlan, LoaderError>
         ensures planned { IfKnown (F.bytes image.old) (λ all. (F.bytes image.new ≡ Some all)
-            × Plans (bz_plan all kernel_offset (address_or 0 highmem_start)) result) }
+            × Plans (BzAllocates all) (bz_plan all kernel_offset (address_or 0 highmem_start)) result) }
         ensures apart { IfOk result (λ plan. AllPairs Apart plan.segments.items) }
     {
         let lowest = highmem_start.unwrap_or(GuestAddress(0)).0;
@@ -282,7 +285,7 @@ impl BzImage {
     ) -> Result<KernelLoaderResult, LoaderError>
         requires { Holds (shape_of host.old) (M.names mem.now) }
         ensures loads { LoadsImage F.bytes F.source F.reads F.known_left B.marks (M.memory mem.now)
-            (λ all. bz_plan all kernel_offset (address_or 0 highmem_start))
+            BzAllocates (λ all. bz_plan all kernel_offset (address_or 0 highmem_start))
             (image.old, host.old) result (image.new, host.new) }
         ensures shape { shape_of host.new ≡ shape_of host.old }
     {

@@ -1,11 +1,12 @@
 //! ELF images.
 
-ghost use Rattle.std.specs.Prelude.{◌≡◌, ◌+◌, ◌*◌, ◌≤◌, length, All, AllPairs, IfOk, Some, Ok};
+ghost use Rattle.std.specs.Prelude.{◌≡◌, ◌+◌, ◌*◌, ◌≤◌, length, All, AllPairs, IfOk, Some, Ok, Err};
 ghost use Rattle.vm_memory_guest.specs.Host.{shape_of, Holds};
-ghost use Rattle.linux_loader.specs.Elf.{capability, elf_header, elf_named, elf_plan, elf_planned, entry_at, headers_in, some_segments};
+ghost use Rattle.linux_loader.specs.Elf.{ElfAllocates, capability, elf_header, elf_named, elf_plan, elf_planned, entry_at, headers_in, some_segments};
 ghost use Rattle.linux_loader.specs.Load.{LoadsImage};
 ghost use Rattle.linux_loader.specs.Image.{IfKnown};
 ghost use Rattle.linux_loader.specs.Plan.{Apart, HasBytes, Lists, Names, Plans, address_or, planned_of};
+ghost use Rattle.linux_loader.specs.declared.error.LoaderError.TheVariants as errors;
 
 mod header;
 mod notes;
@@ -125,8 +126,12 @@ fn named<F: KernelImage>(
     requires { header.now.table + 56 * header.now.count ≤ size }
     ensures named { IfKnown (F.bytes image.old) (λ all. (F.bytes image.new ≡ Some all)
         × (size ≡ length all → Names (elf_named all kernel_offset header.now) result)) }
+    ensures none { header.now.count ≡ 0 → result ≡ Err errors.NoLoadSegment }
     ensures some { IfOk result (λ plan. All HasBytes plan.segments.items) }
 {
+    if header.count == 0 {
+        return Err(LoaderError::NoLoadSegment);
+    }
     let table = read_program_headers(alloc, image, header)?;
     let headers = table.as_slice();
     let segments = some_segments(alloc, headers, size, kernel_offset)?;
@@ -138,7 +143,8 @@ fn named<F: KernelImage>(
 impl Elf {
     /// What is to be loaded of an image, and where: each segment at its physical address plus `kernel_offset`. The entry
     /// may not lie below `highmem_start`. The first thing that is wrong is refused, in the order of docs/LOADER.md,
-    /// "ELF files". `Image` where the source fails, and `Memory` where an allocation does.
+    /// "ELF files". `Image` where the source fails, and `Memory` where an allocation does: the first is for the program
+    /// headers of a header that may be loaded.
     pub fn plan<F: KernelImage>(
         alloc: Global,
         kernel_offset: Option<GuestAddress>,
@@ -146,7 +152,8 @@ impl Elf {
         highmem_start: Option<GuestAddress>,
     ) -> Result<KernelPlan, LoaderError>
         ensures planned { IfKnown (F.bytes image.old) (λ all. (F.bytes image.new ≡ Some all)
-            × Plans (elf_plan all (address_or 0 kernel_offset) (address_or 0 highmem_start)) result) }
+            × Plans (ElfAllocates all (address_or 0 highmem_start))
+            (elf_plan all (address_or 0 kernel_offset) (address_or 0 highmem_start)) result) }
         ensures apart { IfOk result (λ plan. AllPairs Apart plan.segments.items) }
     {
         let offset = kernel_offset.unwrap_or(GuestAddress(0)).0;
@@ -169,6 +176,7 @@ impl Elf {
     ) -> Result<KernelLoaderResult, LoaderError>
         requires { Holds (shape_of host.old) (M.names mem.now) }
         ensures loads { LoadsImage F.bytes F.source F.reads F.known_left B.marks (M.memory mem.now)
+            (λ all. ElfAllocates all (address_or 0 highmem_start))
             (λ all. elf_plan all (address_or 0 kernel_offset) (address_or 0 highmem_start))
             (image.old, host.old) result (image.new, host.new) }
         ensures shape { shape_of host.new ≡ shape_of host.old }

@@ -1,15 +1,24 @@
 -- Frames that are taken one after the other.
-use Rattle.std.proofs.Common.{◌≡◌, ℕ, ◌+◌, ◌<◌, ◌≤◌, ◌⊎◌, List, [], ◌∷◌, ◌++◌, length, Option, Some, None, refl, sym, ap, subst, ◌∙◌, add-zero, arith}
-use Rattle.std.specs.Io.KnownBytes.{Consumes}
+use Rattle.std.proofs.Common.{◌≡◌, ℕ, ◌+◌, ◌<◌, ◌≤◌, ◌⊎◌, List, [], ◌∷◌, ◌++◌, length, take, Option, Some, None, Result, Ok, Err, OnErr, refl, sym, ap, subst, ◌∙◌, add-zero, arith}
+use Rattle.std.proofs.KnownBytes.{Appends-nil, Appends-trans}
+use Rattle.std.proofs.Math.Seq.{take-append-add, take-length}
+use Rattle.std.specs.Io.KnownBytes.{Appends, Consumes}
 use Rattle.std.specs.List.{AllByRecursion}
 use Rattle.std.specs.Prelude.{flat_map, slice_get}
 use Rattle.std.proofs.lemmas.List.{append-nil, flat_map_more}
 use Rattle.vm_memory_guest.specs.Host.{Host, block_at}
-use Rattle.live_migration.specs.Frame.{Message, IsMessage, spelling}
+use Rattle.live_migration.specs.Frame.{Message, Pages, ZeroPage, RoundEnd, Section, Done, Go, IsMessage, spelling}
 use Rattle.live_migration.specs.Image.{arrived, received}
-use Rattle.live_migration.specs.Receiving.{KeepsBlocks, ReceivesAll, TakesFrame, section_in, sections_told}
+use Rattle.live_migration.specs.Placing.{IsInside}
+use Rattle.live_migration.specs.Reading.{◌>>=◌}
+use Rattle.live_migration.specs.Receiving.{BreaksReceiving, KeepsBlocks, Receives, ReceivesAll, TakesFrame, section_in, sections_told}
+use Rattle.live_migration.specs.Replies.{replies_to, reply_after, reply_to}
+use Rattle.live_migration.specs.Stages.{in_round, stage_after, stage_after_all}
 use Rattle.live_migration.specs.declared.header.BlockEntry.{BlockEntry}
+use Rattle.live_migration.specs.declared.receiver.Stage.{Stage}
+use Rattle.live_migration.specs.declared.receiver.Stage.TheVariants as stage
 use Rattle.live_migration.specs.declared.receiver.progress.Progress.{Progress}
+use Rattle.live_migration.specs.declared.refusal.Refusal.{Refusal}
 use Rattle.live_migration.proofs.CostLemmas.{sections_cost}
 use Rattle.live_migration.proofs.ImageLemmas.{arrived-append}
 use Rattle.live_migration.proofs.StreamLemmas.{consumes_consumes}
@@ -25,16 +34,17 @@ unfolding arrived
 none_received a base entries host = record {
   messages = [];
   fit = tt;
+  inside = tt;
   consumed = consumes_none a;
   images = λ j e there. refl;
   others = λ c outside. refl;
   shape = refl;
 }
 
-fit_more : (ms : List Message) (m : Message) → AllByRecursion IsMessage ms → IsMessage m
-    → AllByRecursion IsMessage (ms ++ m ∷ [])
-fit_more [] m all is = (is, tt)
-fit_more (x ∷ xs) m all is = (all.0, fit_more xs m all.1 is)
+all_more : (P : Message → Type 0) (ms : List Message) (m : Message) → AllByRecursion P ms → P m
+    → AllByRecursion P (ms ++ m ∷ [])
+all_more P [] m all is = (is, tt)
+all_more P (x ∷ xs) m all is = (all.0, all_more P xs m all.1 is)
 
 -- one frame more
 pub received_more : {B : Type 0} (a b c : Option (List ℕ)) (base : ℕ) (entries : List BlockEntry) (old new : Progress)
@@ -47,7 +57,9 @@ received_more a b c base entries old new host mid next at are r t =
     let m = t.message in
     record {
       messages = ms ++ m ∷ [];
-      fit = fit_more ms m r.fit t.fits;
+      fit = all_more IsMessage ms m r.fit t.fits;
+      inside = all_more (IsInside entries) ms m r.inside
+          (subst (λ (es : List BlockEntry). IsInside es m) are t.inside);
       consumed = subst (λ (bytes : List ℕ). Consumes a c bytes) (flat_map_more spelling [] ms m)
           (consumes_consumes a b c (flat_map spelling ms) (spelling m) r.consumed t.consumed);
       images = λ j e there.
@@ -64,32 +76,131 @@ received_more a b c base entries old new host mid next at are r t =
       shape = t.applied.shape ∙ r.shape;
     }
 
--- ---- what stays of a receiver, and the sections that came
+-- ---- what stays of a receiver, the sections that came, and the replies
 
-pub none_kept : {B : Type 0} (a : Option (List ℕ)) (p : Progress) (host : Host B)
-    → (r : ReceivesAll a a p.base p.entries.items host host) × KeepsBlocks r.messages p p
-unfolding none_received
-none_kept a p host = (
+-- the stage after one message more
+stage_more : (s t u : Stage) (ms : List Message) (m : Message) → stage_after_all s ms ≡ Ok t → stage_after t m ≡ Ok u
+    → stage_after_all s (ms ++ m ∷ []) ≡ Ok u
+unfolding stage_after_all
+stage_more s t u [] m before now =
+    let same : s ≡ t = cc in
+    ap (λ (r : Result Stage Refusal). r >>= (λ v. Ok v)) (ap (λ (v : Stage). stage_after v m) same ∙ now)
+stage_more s t u (x ∷ xs) m before now = go (λ v h. stage_more v t u xs m h now) (stage_after s x) before
+  where
+    go : ((v : Stage) → stage_after_all v xs ≡ Ok t → stage_after_all v (xs ++ m ∷ []) ≡ Ok u) → (r : Result Stage Refusal)
+        → (r >>= (λ v. stage_after_all v xs)) ≡ Ok t → (r >>= (λ v. stage_after_all v (xs ++ m ∷ []))) ≡ Ok u
+    go more (Ok v) h = more v h
+    go more (Err e) h = absurd (cc)
+
+-- the stage that is told
+told : (t u : Stage) → t ≡ u → reply_after t ≡ reply_after u
+told t u same = ap reply_after same
+
+-- a message calls for the reply of the stage that it leads to
+in_round_is : (t : Stage) (m : Message) → in_round m ≡ Ok t → reply_to m ≡ reply_after t
+in_round_is t (Pages block first bytes) h = told stage.Round t (cc)
+in_round_is t (ZeroPage block page) h = told stage.Round t (cc)
+in_round_is t (RoundEnd round digest) h = told stage.RoundEnded t (cc)
+in_round_is t (Section name bytes) h = told stage.Round t (cc)
+in_round_is t Done h = absurd (cc)
+in_round_is t Go h = absurd (cc)
+
+reply_is : (s t : Stage) (m : Message) → stage_after s m ≡ Ok t → reply_to m ≡ reply_after t
+reply_is stage.Round t m h = in_round_is t m h
+reply_is stage.RoundEnded t (Pages block first bytes) h = in_round_is t (Pages block first bytes) h
+reply_is stage.RoundEnded t (ZeroPage block page) h = in_round_is t (ZeroPage block page) h
+reply_is stage.RoundEnded t (RoundEnd round digest) h = in_round_is t (RoundEnd round digest) h
+reply_is stage.RoundEnded t (Section name bytes) h = in_round_is t (Section name bytes) h
+reply_is stage.RoundEnded t Done h = told stage.Done t (cc)
+reply_is stage.RoundEnded t Go h = in_round_is t Go h
+reply_is stage.Done t (Pages block first bytes) h = absurd (cc)
+reply_is stage.Done t (ZeroPage block page) h = absurd (cc)
+reply_is stage.Done t (RoundEnd round digest) h = absurd (cc)
+reply_is stage.Done t (Section name bytes) h = absurd (cc)
+reply_is stage.Done t Done h = absurd (cc)
+reply_is stage.Done t Go h = told stage.Gone t (cc)
+reply_is stage.Gone t m h = absurd (cc)
+reply_is stage.Failed t m h = absurd (cc)
+
+-- what holds where a call is refused
+pub if_refused : {T E P : Type 0} (r : Result T E) → P → OnErr r P
+if_refused (Ok x) p = tt
+if_refused (Err e) p = p
+
+pub none_kept : {B : Type 0} (a s : Option (List ℕ)) (p : Progress) (host : Host B) → Receives a p host host s s a p
+unfolding none_received stage_after_all
+none_kept a s p host = (
   none_received a p.base p.entries.items host,
-  record { base = refl; entries = refl; sections = sym (append-nil (sections_told p)); left = add-zero p.left },
+  record {
+    base = refl;
+    entries = refl;
+    stage = refl;
+    sections = sym (append-nil (sections_told p));
+    left = add-zero p.left;
+  },
+  Appends-nil s,
 )
 
-pub kept_more : {B : Type 0} (a b c : Option (List ℕ)) (first old new : Progress) (host mid next : Host B)
-    (r : ReceivesAll a b first.base first.entries.items host mid) → KeepsBlocks r.messages first old
-    → TakesFrame b c old new mid next
-    → (more : ReceivesAll a c first.base first.entries.items host next) × KeepsBlocks more.messages first new
-unfolding received_more
-kept_more a b c first old new host mid next r k t = (
-  received_more a b c first.base first.entries.items old new host mid next k.base k.entries r t,
-  record {
-    base = t.base ∙ k.base;
-    entries = t.entries ∙ k.entries;
-    sections = t.sections ∙ ap (λ (xs : List (List ℕ × List ℕ)). xs ++ section_in t.message) k.sections
-        ∙ flat_map_more section_in (sections_told first) r.messages t.message;
-    left =
-        let more = sections_cost r.messages t.message in
-        let before = k.left in
-        let now = t.left in
-        omega arith;
-  },
-)
+-- no frame more
+pub breaks_here : {B : Type 0} (a b s t : Option (List ℕ)) (first old : Progress) (host next : Host B)
+    → Receives a first host next s t b old → BreaksReceiving a first host next s t
+breaks_here a b s t first old host next k =
+    let replies = replies_to k.0.messages in
+    record {
+      after = b;
+      reached = old;
+      came = k.0;
+      kept = k.1;
+      count = length replies;
+      replied = subst (λ (xs : List ℕ). Appends s t xs) (sym (take-length replies)) k.2;
+    }
+
+module _ {B : Type 0} (a b c s t u : Option (List ℕ)) (first old new : Progress) (host mid next : Host B)
+    (k : Receives a first host mid s t b old) (f : TakesFrame b c old new mid next) where
+  came : ReceivesAll a c first.base first.entries.items host next
+  came = received_more a b c first.base first.entries.items old new host mid next k.1.base k.1.entries k.0 f
+
+  kept : KeepsBlocks came.messages first new
+  unfolding received_more came
+  kept = let ms = k.0.messages in let was = k.1 in
+      record {
+        base = f.base ∙ was.base;
+        entries = f.entries ∙ was.entries;
+        stage = stage_more first.stage old.stage new.stage ms f.message was.stage f.stage;
+        sections = f.sections ∙ ap (λ (xs : List (List ℕ × List ℕ)). xs ++ section_in f.message) was.sections
+            ∙ flat_map_more section_in (sections_told first) ms f.message;
+        left =
+            let more = sections_cost ms f.message in
+            let before = was.left in
+            let now = f.left in
+            omega arith;
+      }
+
+  replies : replies_to k.0.messages ++ reply_after new.stage ≡ replies_to came.messages
+  unfolding received_more came
+  replies = ap (λ (xs : List ℕ). replies_to k.0.messages ++ xs) (sym (reply_is old.stage new.stage f.message f.stage))
+      ∙ flat_map_more reply_to [] k.0.messages f.message
+
+  -- one frame more, with its reply
+  pub kept_more : Appends t u (reply_after new.stage) → Receives a first host next s u c new
+  kept_more now = (
+    came,
+    kept,
+    subst (λ (xs : List ℕ). Appends s u xs) replies
+        (Appends-trans s t u (replies_to k.0.messages) (reply_after new.stage) k.2 now),
+  )
+
+  -- one frame more, with a beginning of its reply
+  pub breaks_after : (count : ℕ) → Appends t u (take count (reply_after new.stage))
+      → BreaksReceiving a first host next s u
+  breaks_after count now = record {
+    after = c;
+    reached = new;
+    came = came;
+    kept = kept;
+    count = length (replies_to k.0.messages) + count;
+    replied = subst (λ (xs : List ℕ). Appends s u xs)
+        (sym (take-append-add (replies_to k.0.messages) (reply_after new.stage) count)
+        ∙ ap (take (length (replies_to k.0.messages) + count)) replies)
+        (Appends-trans s t u (replies_to k.0.messages) (take count (reply_after new.stage)) k.2 now);
+  }

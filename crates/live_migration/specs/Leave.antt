@@ -1,10 +1,11 @@
 -- How a sender begins, and what it sends.
-use Rattle.std.specs.Prelude.{◌≡◌, ℕ, ◌-◌, ◌^◌, List, [], ◌++◌, map, Option}
+use Rattle.std.specs.Prelude.{◌≡◌, ◌⊎◌, ℕ, ◌-◌, ◌^◌, List, [], ◌++◌, map, take, Option}
 use Rattle.std.specs.Io.KnownBytes.{Appends}
 use Rattle.sha2.specs.Hashers.{Holds256}
 use Rattle.sha2.specs.declared.Sha256.{Sha256}
 use Rattle.live_migration.specs.Header.{IsHeader, header_bytes}
 use Rattle.live_migration.specs.declared.header.BlockEntry.{BlockEntry}
+use Rattle.live_migration.specs.declared.sender.stream.SendStage.{SendStage}
 use Rattle.live_migration.specs.declared.sender.stream.SendStage.TheVariants as stage
 use Rattle.live_migration.specs.declared.sender.stream.Sender.{Sender}
 
@@ -12,6 +13,18 @@ use Rattle.live_migration.specs.declared.sender.stream.Sender.{Sender}
 pub record Sends (bytes : List ℕ) (before after : Option (List ℕ)) (old new : Sha256) : Type 0 where
   pub written : Appends before after bytes
   pub hashed : (sent : List ℕ) → Holds256 old sent → Holds256 new (sent ++ bytes)
+
+-- rounds are sent
+abbrev pub IsInRounds : SendStage → Type 0
+IsInRounds s = (s ≡ stage.Sending) ⊎ (s ≡ stage.RoundEnded)
+
+-- These bytes were not sent, since the stream failed in a round, or an allocation did: the stream got a beginning of
+-- them, and the stage says so
+pub record BreaksOff (bytes : List ℕ) (before after : Option (List ℕ)) (old new : SendStage) : Type 0 where
+  pub in_round : IsInRounds old
+  pub failed : new ≡ stage.Failed
+  pub count : ℕ
+  pub written : Appends before after (take count bytes)
 
 -- before the first harvest, when the receiver's word that it is ready is awaited
 pub record IsFirst (s : Sender) : Type 0 where

@@ -1,9 +1,23 @@
 -- What a message leaves of the host that receives it.
-use Rattle.std.specs.Prelude.{◌≡◌, ℕ, ◌+◌, ◌<◌, ◌≤◌, ◌⊎◌, List, length, slice_get, Some}
+use Rattle.std.specs.Prelude.{◌≡◌, ℕ, ◌+◌, ◌*◌, ◌%◌, ◌<◌, ◌≤◌, ◌⊎◌, List, length, slice_get, Some}
 use Rattle.vm_memory_guest.specs.Host.{Host, block_at, shape_of}
-use Rattle.live_migration.specs.Frame.{Message}
+use Rattle.live_migration.specs.Frame.{Message, Pages, ZeroPage}
 use Rattle.live_migration.specs.Image.{placed, received}
 use Rattle.live_migration.specs.declared.header.BlockEntry.{BlockEntry}
+
+-- pages lie in a block of a header, as whole pages or up to its end
+pub record LieIn (e : BlockEntry) (first count : ℕ) : Type 0 where
+  pub some : 0 < count
+  pub within : first * e.page_size + count ≤ e.len
+  pub whole : (count % e.page_size ≡ 0) ⊎ (first * e.page_size + count ≡ e.len)
+
+-- what a message has of pages lies in its block, which is one of these
+abbrev pub IsInside : List BlockEntry → Message → Type 0
+IsInside entries (Pages block first bytes) =
+    (e : BlockEntry) × (slice_get entries block ≡ Some e) × LieIn e first (length bytes)
+IsInside entries (ZeroPage block page) =
+    (e : BlockEntry) × (slice_get entries block ≡ Some e) × (page * e.page_size < e.len)
+IsInside entries m = Unit {0}
 
 -- these bytes came into a block, from a place on, and nothing else changed but bitmaps
 pub record HasPlaced {B : Type 0} (old new : Host B) (block at : ℕ) (bytes : List ℕ) : Type 0 where

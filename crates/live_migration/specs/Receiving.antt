@@ -1,17 +1,20 @@
 -- What a receiver took from its stream.
-use Rattle.std.specs.Prelude.{◌≡◌, ℕ, ◌+◌, ◌<◌, ◌≤◌, ◌⊎◌, List, [], ◌∷◌, ◌++◌, length, map, flat_map, replicate, slice_get, sum_by, Option, Some, Ok}
+use Rattle.std.specs.Prelude.{◌≡◌, ℕ, ◌+◌, ◌<◌, ◌≤◌, ◌⊎◌, List, [], ◌∷◌, ◌++◌, length, map, flat_map, replicate, slice_get, sum_by, take, Option, Some, Ok}
 use Rattle.std.specs.List.{AllByRecursion}
-use Rattle.std.specs.Io.KnownBytes.{Consumes}
+use Rattle.std.specs.Io.KnownBytes.{Appends, Consumes}
 use Rattle.sha2.specs.Hashers.{Holds256}
 use Rattle.sha2.specs.Sha256.{sha256}
 use Rattle.vm_memory_guest.specs.Host.{Host, block_at, shape_of}
 use Rattle.live_migration.specs.Frame.{Message, RoundEnd, Section, IsMessage, spelling}
 use Rattle.live_migration.specs.Header.{IsHeader, header_bytes}
 use Rattle.live_migration.specs.Image.{arrived}
-use Rattle.live_migration.specs.Placing.{Applies}
-use Rattle.live_migration.specs.Stages.{stage_after}
+use Rattle.live_migration.specs.Placing.{Applies, IsInside}
+use Rattle.live_migration.specs.Replies.{replies_to}
+use Rattle.live_migration.specs.Stages.{stage_after, stage_after_all}
 use Rattle.live_migration.specs.declared.header.BlockEntry.{BlockEntry}
 use Rattle.live_migration.specs.declared.receiver.Stage.TheVariants as stage
+use Rattle.live_migration.specs.declared.refusal.Refusal.{Refusal}
+use Rattle.live_migration.specs.declared.refusal.Refusal.TheVariants as refusal
 use Rattle.live_migration.specs.declared.receiver.end.Guest.{Guest}
 use Rattle.live_migration.specs.declared.receiver.progress.Progress.{Progress}
 
@@ -60,6 +63,7 @@ pub record TakesFrame {B : Type 0} (before after : Option (List ℕ)) (old new :
     pub message : Message
     pub fits : IsMessage message
     pub consumed : Consumes before after (spelling message)
+    pub inside : IsInside old.entries.items message
     pub applied : Applies old.base old.entries.items message host next
     pub stage : stage_after old.stage message ≡ Ok new.stage
     pub base : new.base ≡ old.base
@@ -69,10 +73,6 @@ pub record TakesFrame {B : Type 0} (before after : Option (List ℕ)) (old new :
     pub left : new.left + sum_by cost_of (section_in message) ≡ old.left
     pub right : (sent : List ℕ) → Holds256 old.hasher sent → IsRightEnd old.round sent message
     pub hashed : (sent : List ℕ) → Holds256 old.hasher sent → Holds256 new.hasher (sent ++ spelling message)
-
--- blocks came behind those that there were
-abbrev pub Grows : List (List ℕ) → List (List ℕ) → Type 0
-Grows old new = (more : List (List ℕ)) × (new ≡ old ++ more)
 
 -- a header was read, and its blocks were made. What they do not cost of the limit is left for sections
 pub record Begins {B : Type 0} (limit : ℕ) (before after : Option (List ℕ)) (new : Progress) (host next : Host B)
@@ -87,24 +87,51 @@ pub record Begins {B : Type 0} (limit : ℕ) (before after : Option (List ℕ)) 
     pub left : new.left + memory_of new.entries.items ≡ limit
     pub hashed : Holds256 new.hasher (header_bytes new.entries.items)
 
--- Messages came, one after the other: each block is the image that they leave, no other block changed, and no block its
--- length
+-- an allocation failed after a header was read, when some of its blocks had been made
+pub record BreaksMaking (limit : ℕ) (before after : Option (List ℕ)) (error : Refusal) (old new : List (List ℕ)) : Type 0
+  where
+    pub entries : List BlockEntry
+    pub header : IsHeader limit entries
+    pub consumed : Consumes before after (header_bytes entries)
+    pub count : ℕ
+    pub made : new ≡ old ++ zeroed (take count entries)
+    pub memory : error ≡ refusal.Memory
+
+-- Messages came, one after the other, with pages inside their blocks: each block is the image that they leave, no other
+-- block changed, and no block its length
 pub record ReceivesAll {B : Type 0} (before after : Option (List ℕ)) (base : ℕ) (entries : List BlockEntry)
     (host next : Host B) : Type 0 where
   pub messages : List Message
   pub fit : AllByRecursion IsMessage messages
+  pub inside : AllByRecursion (IsInside entries) messages
   pub consumed : Consumes before after (flat_map spelling messages)
   pub images : (j : ℕ) (e : BlockEntry) → slice_get entries j ≡ Some e
       → block_at next.blocks (base + j) ≡ arrived e.page_size j messages (block_at host.blocks (base + j))
   pub others : (c : ℕ) → (c < base) ⊎ (base + length entries ≤ c) → block_at next.blocks c ≡ block_at host.blocks c
   pub shape : shape_of next ≡ shape_of host
 
--- the blocks of a receiver stay the same, and the sections of these messages came, each at its cost
+-- the blocks of a receiver stay the same, these messages came in their order, and their sections, each at its cost
 pub record KeepsBlocks (messages : List Message) (old new : Progress) : Type 0 where
   pub base : new.base ≡ old.base
   pub entries : new.entries.items ≡ old.entries.items
+  pub stage : stage_after_all old.stage messages ≡ Ok new.stage
   pub sections : sections_told new ≡ sections_told old ++ flat_map section_in messages
   pub left : new.left + sum_by cost_of (flat_map section_in messages) ≡ old.left
+
+module _ {B : Type 0} (before : Option (List ℕ)) (old : Progress) (host next : Host B) (sent now : Option (List ℕ)) where
+  -- messages came up to the end, and the replies that they call for were sent
+  abbrev pub Receives : Option (List ℕ) → Progress → Type 0
+  Receives after new = (r : ReceivesAll before after old.base old.entries.items host next)
+      × KeepsBlocks r.messages old new × Appends sent now (replies_to r.messages)
+
+  -- messages came up to one that was refused, and of the replies that they call for a beginning was sent
+  pub record BreaksReceiving : Type 0 where
+    pub after : Option (List ℕ)
+    pub reached : Progress
+    pub came : ReceivesAll before after old.base old.entries.items host next
+    pub kept : KeepsBlocks came.messages old reached
+    pub count : ℕ
+    pub replied : Appends sent now (take count (replies_to came.messages))
 
 -- what a receiver gives out
 pub record GivesOut (old : Progress) (new : Guest) : Type 0 where

@@ -1,7 +1,10 @@
 -- What goes back: the receiver is ready, it has all, or it refused.
-use Rattle.std.specs.Prelude.{◌≡◌, ◌≢◌, ℕ, ◌<◌, List, ◌++◌, length, Option, Result, Ok, Err}
+use Rattle.std.specs.Prelude.{◌≡◌, ◌≢◌, ℕ, ◌<◌, List, [], ◌++◌, length, flat_map, Option, Result, Ok, Err}
 use Rattle.std.specs.Int.{w32, to_le_bytes}
 use Rattle.std.specs.Io.KnownBytes.{Consumes}
+use Rattle.live_migration.specs.Frame.{Message, Done}
+use Rattle.live_migration.specs.declared.receiver.Stage.{Stage}
+use Rattle.live_migration.specs.declared.receiver.Stage.TheVariants as stage
 use Rattle.live_migration.specs.declared.refusal.Refusal.{Refusal}
 use Rattle.live_migration.specs.declared.refusal.Refusal.TheVariants as refusal
 use Rattle.live_migration.specs.declared.reply.Reply.{Reply}
@@ -33,6 +36,19 @@ abbrev pub reply_bytes : Reply → List ℕ
 reply_bytes Ready = to_le_bytes w32 128 ++ to_le_bytes w32 0
 reply_bytes Accepted = to_le_bytes w32 129 ++ to_le_bytes w32 0
 reply_bytes (Refused r) = to_le_bytes w32 130 ++ to_le_bytes w32 (code_of r)
+
+-- the replies that messages call for: that the receiver has all, after done
+abbrev pub reply_to : Message → List ℕ
+reply_to Done = reply_bytes Accepted
+reply_to m = []
+
+-- the reply at the stage that a message leads to
+abbrev pub reply_after : Stage → List ℕ
+reply_after stage.Done = reply_bytes Accepted
+reply_after s = []
+
+abbrev pub replies_to : List Message → List ℕ
+replies_to ms = flat_map reply_to ms
 
 -- What a sender reads that awaits a reply, and what it reports: just the bytes of this reply; those of a refusal; eight
 -- bytes that are neither; or fewer, where the stream ended or failed

@@ -1,6 +1,7 @@
 -- In which order frames come: rounds of pages and sections, each with its end, then done, and then go.
-use Rattle.std.specs.Prelude.{Result, Ok, Err}
+use Rattle.std.specs.Prelude.{List, [], ◌∷◌, Result, Ok, Err}
 use Rattle.live_migration.specs.Frame.{Message, Pages, ZeroPage, RoundEnd, Section, Done, Go}
+use Rattle.live_migration.specs.Reading.{◌>>=◌}
 use Rattle.live_migration.specs.declared.receiver.Stage.{Stage}
 use Rattle.live_migration.specs.declared.receiver.Stage.TheVariants as stage
 use Rattle.live_migration.specs.declared.refusal.Refusal.{Refusal}
@@ -32,3 +33,8 @@ stage_after stage.RoundEnded m = behind_round m
 stage_after stage.Done m = behind_done m
 stage_after stage.Gone m = Err Order
 stage_after stage.Failed m = Err Order
+
+-- and after messages, one after the other
+unfoldable pub stage_after_all : Stage → List Message → Result Stage Refusal
+stage_after_all s [] = Ok s
+stage_after_all s (m ∷ ms) = stage_after s m >>= (λ t. stage_after_all t ms)

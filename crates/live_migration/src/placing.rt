@@ -1,7 +1,7 @@
 //! Pages that come into the blocks of a host.
-ghost use Rattle.std.specs.Prelude.{◌≡◌, ◌+◌, ◌-◌, ◌*◌, ◌<◌, ◌≤◌, ◌⊎◌, ◌%◌, length, replicate, min, IsTrue, ◌↔◌, Some, IfSome, IfNone, IfOk, OnOk, OnErr, slice_get};
+ghost use Rattle.std.specs.Prelude.{◌≡◌, ◌+◌, ◌-◌, ◌*◌, ◌<◌, ◌≤◌, ◌⊎◌, ◌%◌, length, replicate, min, true, IsTrue, ◌↔◌, Some, IfSome, IfNone, IfOk, OnOk, OnErr, slice_get};
 ghost use Rattle.live_migration.specs.Image.{placed};
-ghost use Rattle.live_migration.specs.Placing.{HasPlaced, Applies};
+ghost use Rattle.live_migration.specs.Placing.{Applies, HasPlaced, IsInside, LieIn};
 ghost use Rattle.live_migration.specs.Frame.{message_of};
 ghost use Rattle.vm_memory_guest.specs.Host.{block_at};
 
@@ -50,7 +50,7 @@ fn put_pages<B: Bitmap>(
     bytes: &[u8],
 ) -> Result<(), Refusal>
     ensures ok { OnOk result (HasPlaced host.old host.new block.0 (first * entry.now.page_size) bytes.now) }
-    ensures inside { OnOk result (first * entry.now.page_size + length bytes.now ≤ entry.now.len) }
+    ensures inside { OnOk result (LieIn entry.now first (length bytes.now)) }
     ensures err { OnErr result (host.new ≡ host.old) }
 {
     let Some(start) = start_of(entry, first) else {
@@ -67,7 +67,9 @@ fn put_pages<B: Bitmap>(
 }
 
 // Whether so many bytes are whole pages of this size.
-fn is_whole(count: u64, page_size: u64) -> bool {
+fn is_whole(count: u64, page_size: u64) -> bool
+    ensures { result ≡ true → count % page_size ≡ 0 }
+{
     page_size != 0 && count % page_size == 0
 }
 
@@ -128,6 +130,7 @@ pub(crate) fn apply<B: Bitmap>(
 ) -> Result<(), Refusal>
     requires { zeros.now ≡ replicate (length zeros.now) 0 }
     ensures ok { OnOk result (Applies base entries.now (message_of frame.now) host.old host.new) }
+    ensures inside { OnOk result (IsInside entries.now (message_of frame.now)) }
     ensures err { OnErr result (host.new ≡ host.old) }
 {
     match *frame {

@@ -1,11 +1,11 @@
-//! Frames from a reader.
-ghost use Rattle.std.specs.Prelude.{◌≡◌, ℕ, ◌+◌, ◌^◌, ◌<◌, ◌≤◌, List, ◌++◌, length, IfOk, OnOk};
-ghost use Rattle.std.specs.Io.KnownBytes.{Consumes};
+//! Frames from a reader, and bytes to a writer.
+ghost use Rattle.std.specs.Prelude.{◌≡◌, ℕ, ◌+◌, ◌^◌, ◌<◌, ◌≤◌, List, ◌++◌, length, take, IfOk, OnOk, OnErr};
+ghost use Rattle.std.specs.Io.KnownBytes.{Appends, Consumes};
 ghost use Rattle.live_migration.specs.Frame.{head};
 
 use crate::frame::most_bytes;
 use crate::refusal::Refusal;
-use std::io::{ErrorKind, Read};
+use std::io::{self, ErrorKind, Read, Write};
 
 // Fills all of a buffer.
 pub(crate) fn fill<R: Read>(reader: &mut R, buf: &mut [u8]) -> Result<(), Refusal>
@@ -69,4 +69,25 @@ pub(crate) fn read_frame<R: Read>(
     }
     read_bytes(reader, payload, len as usize)?;
     Ok(kind)
+}
+
+// Writes all bytes, or a beginning of them if the stream fails.
+pub(crate) fn write_bytes<W: Write>(writer: &mut W, bytes: &[u8]) -> io::Result<()>
+    ensures all { OnOk result (Appends (W.contents writer.old) (W.contents writer.new) bytes.now) }
+    ensures some { OnErr result ((count : ℕ)
+        × Appends (W.contents writer.old) (W.contents writer.new) (take count bytes.now)) }
+{
+    let mut at = 0;
+    for _ in 0..u64::MAX {
+        if at == bytes.len() {
+            return Ok(());
+        }
+        match writer.write(&bytes[at..]) {
+            Ok(0) => return Err(io::Error::from(ErrorKind::WriteZero)),
+            Ok(count) => at += count,
+            Err(error) if error.kind() == ErrorKind::Interrupted => {}
+            Err(error) => return Err(error),
+        }
+    }
+    Err(io::Error::from(ErrorKind::Other))
 }

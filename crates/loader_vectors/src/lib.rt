@@ -4,6 +4,8 @@
 #[cfg(test)]
 mod bzimages;
 #[cfg(test)]
+mod counts;
+#[cfg(test)]
 mod elves;
 #[cfg(test)]
 mod images;

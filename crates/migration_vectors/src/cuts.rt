@@ -10,11 +10,11 @@ use std::test::Fail;
 use vm_memory_base::{ExactBitmap, GuestAddress, NewBitmap};
 use vm_memory_guest::{BlockId, HostMemory};
 
-// Takes so many bytes, and then fails.
+/// Takes so many bytes, and then fails.
 #[derive(Drop)]
-struct Cut {
-    bytes: Vec<u8>,
-    left: usize,
+pub(crate) struct Cut {
+    pub(crate) bytes: Vec<u8>,
+    pub(crate) left: usize,
 }
 
 impl Write for Cut {
@@ -50,6 +50,26 @@ fn send_all<B: ExactBitmap, W: Write>(
     sender.done(alloc, writer)
 }
 
+// Whether a sender refuses every call that writes or reads its stream, and does neither.
+fn sends_no_more(alloc: Global, sender: &mut Sender) -> bool {
+    let mut stream = Vec::new(alloc);
+    let replies = [128, 0, 0, 0, 0, 0, 0, 0, 129, 0, 0, 0, 0, 0, 0, 0];
+    let mut input = replies.as_slice();
+    let outcomes = [
+        sender.ready(&mut input),
+        sender.send_batch(&mut stream),
+        sender.send_section(alloc, &mut stream, b"q", &[5]),
+        sender.end_round(alloc, &mut stream),
+        sender.done(alloc, &mut stream),
+        sender.accepted(&mut input),
+        sender.go(&mut stream),
+    ];
+    let all = outcomes
+        .iter()
+        .all(|outcome| matches!(outcome, Err(SendError::Order)));
+    all && stream.is_empty() && input.len() == replies.len()
+}
+
 // Moves a guest to an empty host over a connection that is cut after so many bytes. Where it is cut, all pages that were
 // harvested are dirty again. Answers whether it was not cut and the blocks are equal.
 fn tried<B: ExactBitmap, C: NewBitmap + Drop>(
@@ -67,6 +87,9 @@ fn tried<B: ExactBitmap, C: NewBitmap + Drop>(
         return Ok(false);
     };
     if send_all(alloc, &mut sender, host, &mut cut).is_err() {
+        if !sends_no_more(alloc, &mut sender) {
+            return Err(Fail::new(format_args!("{left}: more is sent")));
+        }
         sender.abort(host);
         return Ok(false);
     }

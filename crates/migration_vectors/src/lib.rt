@@ -10,6 +10,8 @@ mod guests;
 #[cfg(test)]
 mod moves;
 #[cfg(test)]
+mod receiving;
+#[cfg(test)]
 mod refusals;
 #[cfg(test)]
 mod replies;

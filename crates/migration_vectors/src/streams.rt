@@ -10,11 +10,11 @@ use test_text::expect_text;
 use vm_memory_base::NewBitmap;
 use vm_memory_guest::{BlockId, HostMemory};
 
-// A stream in words: `m` is the magic word, `4,7` a number of 32 bits, `8,7` one of 64, `x,01ff` bytes, `z,3` so many
-// zeros, `e,0` the end of a round with the digest of all before it; numbers are hexadecimal. `a` is a header of a block
-// of 5 bytes in pages of 2 and one of 3 bytes in a page of 4. Then the bytes of both blocks, or why the receiver
-// refused.
-const CASES: [(&str, &str); 70] = [
+/// A stream in words: `m` is the magic word, `4,7` a number of 32 bits, `8,7` one of 64, `x,01ff` bytes, `z,3` so many
+/// zeros, `e,0` the end of a round with the digest of all before it; numbers are hexadecimal. `a` is a header of a block
+/// of 5 bytes in pages of 2 and one of 3 bytes in a page of 4. Then the bytes of both blocks, or why the receiver
+/// refused.
+pub(crate) const CASES: [(&str, &str); 70] = [
     // Pages, one after the other and alone, zeros, cut pages, rounds, sections.
     ("a e,0 4,5 4,0 4,6 4,0", "[0, 0, 0, 0, 0] [0, 0, 0]"),
     (
@@ -114,12 +114,13 @@ const CASES: [(&str, &str); 70] = [
     ("a e,0 4,5 4,0", "Ended"),
 ];
 
-// The stream of the cuts: each kind of frame, in two rounds.
-const WHOLE: &str =
+/// The stream of the cuts: each kind of frame, in two rounds.
+pub(crate) const WHOLE: &str =
     "a 4,1 4,11 4,0 8,0 x,0102030405 4,2 4,c 4,1 8,0 e,0 4,1 4,f 4,1 8,0 x,070809 4,4 4,3 x,02 x,6162 e,1 \
      4,5 4,0 4,6 4,0";
 
-const LIMIT: u64 = 0x300;
+/// What the blocks and sections of these streams may cost.
+pub(crate) const LIMIT: u64 = 0x300;
 
 // The value of a hexadecimal digit.
 fn digit_of(byte: u8) -> u64 {

@@ -1,9 +1,10 @@
 //! The beginning of a receiver: the header, and the blocks that it asks for.
-ghost use Rattle.std.specs.Prelude.{◌≡◌, ℕ, ◌+◌, ◌-◌, ◌*◌, ◌^◌, ◌<◌, ◌≤◌, List, [], ◌++◌, length, replicate, IfOk, OnOk, OnErr};
+ghost use Rattle.std.specs.Prelude.{◌≡◌, ℕ, ◌+◌, ◌-◌, ◌*◌, ◌^◌, ◌<◌, ◌≤◌, List, [], ◌++◌, ◌⊎◌, length, replicate, take, IfOk, IfErr, OnOk};
 ghost use Rattle.std.specs.Io.KnownBytes.{Consumes};
 ghost use Rattle.sha2.specs.Hashers.{Holds256};
 ghost use Rattle.live_migration.specs.declared.receiver.Stage.TheVariants as stages;
-ghost use Rattle.live_migration.specs.Receiving.{Begins, Grows, memory_of, zeroed};
+ghost use Rattle.live_migration.specs.declared.refusal.Refusal.TheVariants as refusals;
+ghost use Rattle.live_migration.specs.Receiving.{Begins, BreaksMaking, memory_of, zeroed};
 
 use super::{Progress, Receiver, Stage};
 use crate::frame::MOST_PAGE_BYTES;
@@ -39,7 +40,8 @@ fn make_blocks<B: NewBitmap + Drop>(
 ) -> Result<usize, Refusal>
     ensures ok { OnOk result (host.new.blocks ≡ host.old.blocks ++ zeroed entries.now) }
     ensures base { IfOk result (λ base. 0 < length entries.now → base ≡ length host.old.blocks) }
-    ensures err { OnErr result (Grows host.old.blocks host.new.blocks) }
+    ensures err { IfErr result (λ error. (error ≡ refusals.Memory)
+        × (count : ℕ) × (host.new.blocks ≡ host.old.blocks ++ zeroed (take count entries.now))) }
 {
     let mut base = 0;
     for (i, entry) in entries.iter().enumerate() {
@@ -124,8 +126,8 @@ fn first_progress(
 impl Receiver {
     /// Reads the header and makes its blocks in a host, of zeros, behind those that the host has. The blocks and the
     /// stream's sections may cost `limit` bytes in all, of which each section costs `SECTION_COST` beside its name and
-    /// bytes: `TooMuchMemory` if the blocks cost more, and then nothing is made. If an allocation fails, blocks that
-    /// were made stay, and no other changes.
+    /// bytes: `TooMuchMemory` if the blocks cost more. Nothing is made before the header is accepted. If an allocation
+    /// fails after that, blocks that were made stay, and no other changes.
     #[tactic(auto, using(crate::proofs::CostLemmas::blocks_cost))]
     pub fn begin<R: Read, B: NewBitmap + Drop>(
         alloc: Global,
@@ -135,7 +137,8 @@ impl Receiver {
     ) -> Result<Receiver, Refusal>
         ensures begun { IfOk result (λ r. Begins limit (R.remaining reader.old) (R.remaining reader.new) r.seen host.old
             host.new) }
-        ensures refused { OnErr result (Grows host.old.blocks host.new.blocks) }
+        ensures refused { IfErr result (λ error. (host.new ≡ host.old) ⊎ BreaksMaking limit (R.remaining reader.old)
+            (R.remaining reader.new) error host.old.blocks host.new.blocks) }
     {
         let header = read_header(alloc, reader)?;
         let entries = decode_header(alloc, limit, header.as_slice())?;

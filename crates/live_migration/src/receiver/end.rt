@@ -1,10 +1,13 @@
 //! A receiver to its end.
-ghost use Rattle.std.specs.Prelude.{◌≡◌, OnOk, MatchResult};
+ghost use Rattle.std.specs.Prelude.{◌≡◌, ℕ, take, OnOk, OnErr, MatchResult};
+ghost use Rattle.std.specs.Io.KnownBytes.{Appends};
+ghost use Rattle.live_migration.specs.Replies.{reply_after};
 
 use super::{Progress, Receiver, Section, Stage};
 use crate::header::BlockEntry;
 use crate::refusal::Refusal;
 use crate::reply::Reply;
+use crate::stream::write_bytes;
 use std::io::{Read, Write};
 use vm_memory_base::Bitmap;
 use vm_memory_guest::HostMemory;
@@ -20,12 +23,28 @@ pub struct Guest {
     pub sections: Vec<Section>,
 }
 
+// Says that all came, after done. Nothing is said at another stage.
+fn reply_after<W: Write>(stage: Stage, writer: &mut W) -> Result<(), Refusal>
+    ensures ok { OnOk result (Appends (W.contents writer.old) (W.contents writer.new) (reply_after stage)) }
+    ensures err { OnErr result ((count : ℕ)
+        × Appends (W.contents writer.old) (W.contents writer.new) (take count (reply_after stage))) }
+{
+    if stage != Stage::Done {
+        return Ok(());
+    }
+    if write_bytes(writer, &Reply::Accepted.encode()).is_err() {
+        return Err(Refusal::Failed);
+    }
+    Ok(())
+}
+
 impl Receiver {
-    ghost use Rattle.live_migration.specs.Receiving.{GivesOut, KeepsBlocks, ReceivesAll};
+    ghost use Rattle.live_migration.specs.Receiving.{BreaksReceiving, GivesOut, Receives, ReceivesAll};
     ghost use Rattle.live_migration.specs.declared.receiver.Stage.TheVariants as stage;
 
-    /// Takes all frames up to leave to run the guest. After done it says that it has all. What is refused is for the
-    /// caller to send back.
+    /// Takes all frames up to leave to run the guest. After done it says that it has all, and says nothing else: what is
+    /// refused is for the caller to send back. However it ends, blocks outside the header's stay as they were. If a
+    /// frame is refused, those before it stay in effect. `Failed` also if the reply cannot be written.
     pub fn receive<R: Read, W: Write, B: Bitmap>(
         &mut self,
         reader: &mut R,
@@ -34,19 +53,18 @@ impl Receiver {
     ) -> Result<(), Refusal>
         ensures received { OnOk result (ReceivesAll (R.remaining reader.old) (R.remaining reader.new) self.old.seen.base
             self.old.seen.entries.items host.old host.new) }
-        ensures kept { OnOk result ((r : ReceivesAll (R.remaining reader.old) (R.remaining reader.new)
-            self.old.seen.base self.old.seen.entries.items host.old host.new)
-            × KeepsBlocks r.messages self.old.seen self.new.seen) }
+        ensures kept { OnOk result (Receives (R.remaining reader.old) self.old.seen host.old host.new
+            (W.contents writer.old) (W.contents writer.new) (R.remaining reader.new) self.new.seen) }
         ensures gone { OnOk result (self.new.seen.stage ≡ stage.Gone) }
+        ensures refused { OnErr result (BreaksReceiving (R.remaining reader.old) self.old.seen host.old host.new
+            (W.contents writer.old) (W.contents writer.new)) }
     {
         for _ in 0..u64::MAX {
             let stage = self.take(reader, host)?;
             if stage == Stage::Gone {
                 return Ok(());
             }
-            if stage == Stage::Done && writer.write_all(&Reply::Accepted.encode()).is_err() {
-                return Err(Refusal::Failed);
-            }
+            reply_after(stage, writer)?;
         }
         Err(Refusal::Order)
     }

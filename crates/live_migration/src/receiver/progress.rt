@@ -62,7 +62,7 @@ impl Progress {
     ghost use Rattle.std.specs.Prelude.{⊤};
     ghost use Rattle.vm_memory_guest.specs.Host.{Host};
     ghost use Rattle.live_migration.specs.Frame.{Message, RoundEnd, message_of, head};
-    ghost use Rattle.live_migration.specs.Placing.{Applies};
+    ghost use Rattle.live_migration.specs.Placing.{Applies, IsInside};
     ghost use Rattle.live_migration.specs.Receiving.{IsRightEnd, IsSectionKept, cost_of, round_after, section_in, sections_told};
     ghost use Rattle.live_migration.specs.Stages.{stage_after};
     ghost use Rattle.live_migration.specs.declared.refusal.Refusal.TheVariants as refusals;
@@ -117,6 +117,7 @@ impl Progress {
         host: &mut HostMemory<B>,
         frame: &Frame<'_>,
     ) -> Result<(), Refusal>
+        ensures inside { OnOk result (IsInside self.old.entries.items (message_of frame.now)) }
         ensures applied { OnOk result (Applies self.old.base self.old.entries.items (message_of frame.now) host.old
             host.new) }
         ensures stage { OnOk result (stage_after self.old.stage (message_of frame.now) ≡ Ok self.new.stage) }

@@ -1,5 +1,5 @@
 //! A sender with its stream: what was copied is sent, rounds end, and the guest is given up.
-ghost use Rattle.std.specs.Prelude.{◌≡◌, ◌≢◌, true, ℕ, ◌+◌, ◌-◌, ◌^◌, ◌<◌, ◌≤◌, List, [], ◌++◌, length, map, IfOk, IsOk, IsOkUnless, OnOk, OnErr, IsErr, IsTrue, ◌↔◌, ◌⊎◌};
+ghost use Rattle.std.specs.Prelude.{◌≡◌, ◌≢◌, true, ℕ, ◌+◌, ◌-◌, ◌^◌, ◌<◌, ◌≤◌, List, [], ◌++◌, length, map, take, IfOk, IsOk, IsOkUnless, OnOk, OnErr, IsErr, IsTrue, ◌↔◌, ◌⊎◌};
 ghost use Rattle.std.specs.Io.KnownBytes.{Appends, Keeps};
 ghost use Rattle.sha2.specs.Hashers.{Holds256};
 ghost use Rattle.sha2.specs.Sha256.{sha256};
@@ -7,13 +7,14 @@ ghost use Rattle.live_migration.specs.Frame.{Done, Go, IsMessage, RoundEnd, Sect
 ghost use Rattle.live_migration.specs.Header.{IsHeader, header_bytes};
 ghost use Rattle.live_migration.specs.declared.sender.stream.SendStage.TheVariants as stages;
 ghost use Rattle.live_migration.specs.Targets.{AreTargets, IsOther, asked, place_of};
-ghost use Rattle.live_migration.specs.Leave.{Sends, IsFirst, BeginsToSend};
+ghost use Rattle.live_migration.specs.Leave.{BeginsToSend, BreaksOff, IsFirst, IsInRounds, Sends};
 
 use super::pages::{SendError, Target, target_of};
 use super::rounds::Rounds;
 use crate::frame::{Frame, GO, MOST_PAGE_BYTES, head_bytes};
 use crate::header::{BlockEntry, check_header, encode_header};
 use crate::receiver::digest_of;
+use crate::stream::write_bytes;
 use sha2::{Digest, Sha256};
 use std::alloc::{AllocError, Global};
 use std::io::Write;
@@ -49,16 +50,18 @@ pub struct Sender {
 
 // Whether rounds are sent.
 fn in_rounds(stage: SendStage) -> bool
-    ensures { IsTrue result ↔ ((stage ≡ stages.Sending) ⊎ (stage ≡ stages.RoundEnded)) }
+    ensures { IsTrue result ↔ IsInRounds stage }
 {
     matches!(&stage, SendStage::Sending | SendStage::RoundEnded)
 }
 
 // Writes bytes, and notes them for the digest.
 fn send<W: Write>(writer: &mut W, hasher: &mut Sha256, bytes: &[u8]) -> Result<(), SendError>
-    ensures { OnOk result (Sends bytes.now (W.contents writer.old) (W.contents writer.new) hasher.old hasher.new) }
+    ensures ok { OnOk result (Sends bytes.now (W.contents writer.old) (W.contents writer.new) hasher.old hasher.new) }
+    ensures err { OnErr result ((count : ℕ)
+        × Appends (W.contents writer.old) (W.contents writer.new) (take count bytes.now)) }
 {
-    if writer.write_all(bytes).is_err() {
+    if write_bytes(writer, bytes).is_err() {
         return Err(SendError::Failed);
     }
     hasher.update(bytes);
@@ -73,8 +76,10 @@ fn send_frame<W: Write>(
     frame: &Frame<'_>,
 ) -> Result<(), SendError>
     requires { IsMessage (message_of frame.now) }
-    ensures { OnOk result (Sends (spelling (message_of frame.now)) (W.contents writer.old) (W.contents writer.new)
+    ensures ok { OnOk result (Sends (spelling (message_of frame.now)) (W.contents writer.old) (W.contents writer.new)
         hasher.old hasher.new) }
+    ensures err { OnErr result ((count : ℕ)
+        × Appends (W.contents writer.old) (W.contents writer.new) (take count (spelling (message_of frame.now)))) }
 {
     let mut bytes = Vec::new(alloc);
     if frame.encode(&mut bytes).is_err() {
@@ -93,6 +98,9 @@ fn send_round_end<W: Write>(
     ensures sent { (sent : List ℕ) → Holds256 hasher.old sent
         → OnOk result (Sends (spelling (RoundEnd round (sha256 sent))) (W.contents writer.old) (W.contents writer.new)
         hasher.old hasher.new) }
+    ensures err { (sent : List ℕ) → Holds256 hasher.old sent → OnErr result ((count : ℕ)
+        × Appends (W.contents writer.old) (W.contents writer.new)
+        (take count (spelling (RoundEnd round (sha256 sent))))) }
     ensures fits { (sent : List ℕ) → Holds256 hasher.old sent → OnOk result (IsMessage (RoundEnd round (sha256 sent))) }
 {
     let Ok(digest) = digest_of(hasher) else {
@@ -268,7 +276,11 @@ impl Sender {
         ensures sent { OnOk result (Sends self.old.rounds.batch.items (W.contents writer.old) (W.contents writer.new)
             self.old.hasher self.new.hasher) }
         ensures ok { OnOk result (self.new.rounds.batch.items ≡ []) }
+        ensures stage { OnOk result (IsInRounds self.old.stage × (self.new.stage ≡ stages.Sending)) }
         ensures err { OnErr result (self.new.rounds.batch ≡ self.old.rounds.batch) }
+        ensures unsent { OnErr result (((self.new ≡ self.old) × (writer.new ≡ writer.old))
+            ⊎ BreaksOff self.old.rounds.batch.items (W.contents writer.old) (W.contents writer.new) self.old.stage
+            self.new.stage) }
         ensures same { (self.new.rounds.targets ≡ self.old.rounds.targets)
             × (self.new.rounds.round ≡ self.old.rounds.round)
             × (self.new.rounds.waiting ≡ self.old.rounds.waiting) × (self.new.rounds.next ≡ self.old.rounds.next)
@@ -292,7 +304,8 @@ impl Sender {
     }
 
     /// Sends the state of a device or a queue, in a round: its name has at most 255 bytes, and the state at most 2^20,
-    /// else `Section`. `Order` before `ready` and after the rounds, and `Memory` if an allocation fails.
+    /// else `Section`. `Order` before `ready` and after the rounds. `Memory` if an allocation fails, and `Failed` if the
+    /// stream does: then nothing more is sent.
     pub fn send_section<W: Write>(
         &mut self,
         alloc: Global,
@@ -303,6 +316,10 @@ impl Sender {
         ensures sent { OnOk result (Sends (spelling (Section name.now bytes.now)) (W.contents writer.old)
             (W.contents writer.new) self.old.hasher self.new.hasher) }
         ensures fits { OnOk result ((length name.now < 256) × (length bytes.now ≤ 2 ^ 20)) }
+        ensures stage { OnOk result (IsInRounds self.old.stage × (self.new.stage ≡ stages.Sending)) }
+        ensures unsent { OnErr result (((self.new ≡ self.old) × (writer.new ≡ writer.old))
+            ⊎ BreaksOff (spelling (Section name.now bytes.now)) (W.contents writer.old) (W.contents writer.new)
+            self.old.stage self.new.stage) }
         ensures same { self.new.rounds ≡ self.old.rounds }
     {
         if name.len() > 255 || bytes.len() > MOST_PAGE_BYTES {
@@ -325,7 +342,7 @@ impl Sender {
     }
 
     /// Ends a round, in which each block was harvested and nothing waits: else `Order`, also before `ready`. `Memory`
-    /// if an allocation fails.
+    /// if an allocation fails, and `Failed` if the stream does: then nothing more is sent.
     pub fn end_round<W: Write>(&mut self, alloc: Global, writer: &mut W) -> Result<(), SendError>
         ensures sent { (sent : List ℕ) → Holds256 self.old.hasher sent
             → OnOk result (Sends (spelling (RoundEnd self.old.rounds.round (sha256 sent)))
@@ -335,7 +352,12 @@ impl Sender {
         ensures through { OnOk result (IsIdle self.old.rounds
             × (self.old.rounds.turn ≡ length self.old.rounds.targets.items)) }
         ensures next { OnOk result ((self.new.rounds.round ≡ self.old.rounds.round + 1) × (self.new.rounds.turn ≡ 0)) }
+        ensures stage { OnOk result (IsInRounds self.old.stage × (self.new.stage ≡ stages.RoundEnded)) }
         ensures err { OnErr result (self.new.rounds ≡ self.old.rounds) }
+        ensures unsent { (sent : List ℕ) → Holds256 self.old.hasher sent
+            → OnErr result (((self.new ≡ self.old) × (writer.new ≡ writer.old))
+            ⊎ BreaksOff (spelling (RoundEnd self.old.rounds.round (sha256 sent))) (W.contents writer.old)
+            (W.contents writer.new) self.old.stage self.new.stage) }
         ensures same { (self.new.rounds.targets ≡ self.old.rounds.targets)
             × (self.new.rounds.waiting ≡ self.old.rounds.waiting) × (self.new.rounds.next ≡ self.old.rounds.next)
             × (self.new.rounds.batch ≡ self.old.rounds.batch) × (self.new.rounds.last ≡ self.old.rounds.last) }
@@ -363,12 +385,14 @@ impl Sender {
         }
     }
 
-    /// Says that all was sent, right after the end of a round: else `Order`.
+    /// Says that all was sent, right after the end of a round: else `Order`. The other errors are those of `end_round`.
     pub fn done<W: Write>(&mut self, alloc: Global, writer: &mut W) -> Result<(), SendError>
         ensures sent { OnOk result (Sends (spelling Done) (W.contents writer.old) (W.contents writer.new)
             self.old.hasher self.new.hasher) }
         ensures ok { OnOk result ((self.new.stage ≡ stages.Done) × (self.old.stage ≡ stages.RoundEnded)
             × (self.old.rounds.turn ≡ 0)) }
+        ensures unsent { OnErr result (((self.new ≡ self.old) × (writer.new ≡ writer.old))
+            ⊎ BreaksOff (spelling Done) (W.contents writer.old) (W.contents writer.new) self.old.stage self.new.stage) }
         ensures same { self.new.rounds ≡ self.old.rounds }
     {
         if self.stage != SendStage::RoundEnded || self.rounds.turn != 0 {
@@ -391,6 +415,8 @@ impl Sender {
     #[tactic(auto, unfolding(crate::specs::Frame::spelling))]
     pub fn go<W: Write>(&mut self, writer: &mut W) -> Result<(), SendError>
         ensures sent { OnOk result (Appends (W.contents writer.old) (W.contents writer.new) (spelling Go)) }
+        ensures unsent { OnErr result ((count : ℕ)
+            × Appends (W.contents writer.old) (W.contents writer.new) (take count (spelling Go))) }
         ensures early { self.old.stage ≢ stages.Accepted
             → IsErr result × (writer.new ≡ writer.old) × (self.new ≡ self.old) }
         ensures gone { self.old.stage ≡ stages.Accepted → self.new.stage ≡ stages.Gone }
@@ -400,7 +426,7 @@ impl Sender {
             return Err(SendError::Order);
         }
         self.stage = SendStage::Gone;
-        if writer.write_all(&head_bytes(GO, 0)).is_err() {
+        if write_bytes(writer, &head_bytes(GO, 0)).is_err() {
             return Err(SendError::Failed);
         }
         Ok(())

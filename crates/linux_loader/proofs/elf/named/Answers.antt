@@ -1,7 +1,11 @@
 use Rattle.std.proofs.Common.{◌∙◌, inr}
 use Rattle.std.proofs.lemmas.Result.{err_from_is_err_and}
-use Rattle.linux_loader.proofs.PlanLemmas.{listed, named_all, named_no_entry, named_no_pvh, named_no_segments, not_listed}
+use Rattle.linux_loader.proofs.PlanLemmas.{listed, named_all, named_no_entry, named_no_pvh, named_no_segments, named_none, not_listed}
 use Rattle.linux_loader.proofs.elf.named.Goals as goal
+
+pub returns-then-header-eq0-clause-named : goal.returns-then-header-eq0-clause-named
+returns-then-header-eq0-clause-named g c = λ all known.
+    (known, λ sized. named_none all c.args.kernel_offset c.args.header.now c.if-header-eq0.true)
 
 pub returns-in_err-table-clause-named : goal.returns-in_err-table-clause-named
 returns-in_err-table-clause-named g c = λ all known.

@@ -15,7 +15,8 @@ returns-in_err-header-clause-planned g c = λ all known.
     let p = err_from_is_err_and c.from_residual-in_err-header.result c.from_residual-in_err-header.ensures.1 in (
       h.0,
       rw (p.1, p.2, ← lowest)
-          (bz_no_header all c.args.kernel_offset c.unwrap_or-lowest.result.0 _ (h.1 sized)),
+          (bz_no_header all c.args.kernel_offset c.unwrap_or-lowest.result.0 _ (h.1 sized)
+          (λ less. let is = c.in_err-header.ensures.short (rw sized less) in cc)),
     )
 
 pub returns-in_err-plan-clause-planned : goal.returns-in_err-plan-clause-planned

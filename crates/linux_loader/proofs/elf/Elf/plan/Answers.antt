@@ -1,4 +1,5 @@
-use Rattle.std.proofs.Common.{◌≡◌, length, ap}
+use Rattle.std.proofs.Common.{◌≡◌, arith, length, ap, inl, inr}
+use Rattle.std.proofs.lemmas.Bool.{cases_lt}
 use Rattle.std.proofs.lemmas.Result.{err_from_is_err_and}
 use Rattle.vm_memory_base.specs.declared.address.GuestAddress.{GuestAddress}
 use Rattle.linux_loader.specs.Plan.{address_or}
@@ -34,8 +35,7 @@ returns-in_err-plan-clause-planned g c = λ all known.
       n.0,
       rw (p.1, p.2, ← offset, ← lowest)
           (plan_not_named all c.unwrap_or-offset.result.0 c.unwrap_or-lowest.result.0 c.in_ok-header.header
-          (h.1 sized) _
-          (n.1 sized)),
+          (h.1 sized) _ (n.1 sized) (λ none. let is = c.in_err-plan.ensures.none none in cc)),
     )
 
 pub returns-clause-planned : goal.returns-clause-planned
@@ -51,5 +51,8 @@ returns-clause-planned g c = λ all known.
       n.0,
       rw (← offset, ← lowest)
           (plan_named all c.unwrap_or-offset.result.0 c.unwrap_or-lowest.result.0 c.in_ok-header.header (h.1 sized)
-          c.in_ok-plan.plan c.apart.result (n.1 sized) c.apart.ensures),
+          c.in_ok-plan.plan c.apart.result (elim (cases_lt 0 c.in_ok-header.header.count) [
+            | inl some ↦ some
+            | inr less ↦ let is = c.in_ok-plan.ensures.none (omega arith) in absurd (cc)
+          ]) (n.1 sized) c.apart.ensures),
     )

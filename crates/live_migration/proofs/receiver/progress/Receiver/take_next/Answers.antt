@@ -26,6 +26,7 @@ returns-clause-taken g c =
         fits = found.0;
         consumed = subst (λ (t : List ℕ). Consumes before after t) (spelled c.in_ok-kind.kind items m found.1 payload)
             c.in_ok-kind.ensures.consumed;
+        inside = c.in_ok-accept.ensures.inside;
         applied = c.in_ok-accept.ensures.applied;
         stage = c.in_ok-accept.ensures.stage ∙ ap (λ (p : Progress). Ok p.stage) (sym same);
         base = ap (λ (p : Progress). p.base) same ∙ kept.base;

@@ -1,0 +1,42 @@
+//! ELF files of many program headers.
+
+use crate::images::{ELF, image_of, put};
+use linux_loader::{Elf, ImageBytes};
+use std::alloc::Global;
+use std::test::Fail;
+
+// A file of so many program headers. Each is of a segment of its first byte, at every 16th address from 0x1100 on.
+fn file_of(alloc: Global, count: usize) -> Result<Vec<u8>, Fail> {
+    let mut file = image_of(alloc, count.saturating_mul(56).saturating_add(64), &ELF)?;
+    put(&mut file, (56, 2, count as u64));
+    for i in 0..count {
+        let at = i.wrapping_mul(56).wrapping_add(64);
+        let address = (i as u64).wrapping_mul(16).wrapping_add(0x1100);
+        for (place, size, value) in [
+            (0, 4, 1),
+            (8, 8, 0),
+            (24, 8, address),
+            (32, 8, 1),
+            (40, 8, 1),
+        ] {
+            put(&mut file, (at.wrapping_add(place), size, value));
+        }
+    }
+    Ok(file)
+}
+
+#[test]
+fn many_program_headers(rt: HostRuntime) -> Result<(), Fail> {
+    for count in [1, 16, 17, 64, 65, 300] {
+        let file = file_of(rt.alloc(), count)?;
+        let mut image = ImageBytes::new(file.as_slice());
+        match Elf::plan(rt.alloc(), None, &mut image, None) {
+            Ok(plan) => {
+                let segments = plan.segments.len();
+                assert!(rt; segments == count, "{segments} of {count} segments");
+            }
+            Err(error) => return Err(Fail::new(format_args!("{count}: {error:?}"))),
+        }
+    }
+    Ok(())
+}
