@@ -1,7 +1,7 @@
 //! Requests in two steps, on a disk that is no `Disk` of the library, behind an IOMMU that gets its mappings later.
 
 use crate::bench::{
-    BEGIN, Bench, DATA, HEADER, NAME, PAGE, STATUS, header_of, make_bench, map_page,
+    BEGIN, Bench, DATA, HEADER, NAME, PAGE, STATUS, Scene, header_of, map_page, told_of,
 };
 use crate::own_disk::serve;
 use crate::requests::numbered;
@@ -64,19 +64,19 @@ fn tell_served<M: GuestMemory, B: Bitmap>(
 
 // The mapping of the header comes, and then that of the status.
 fn tell_waiting<M: GuestMemory, B: Bitmap>(
+    alloc: Global,
     bench: &mut Bench<M, B, MemoryDisk>,
-    disk: &mut [u8],
-    chain: &Chain,
     told: &mut String,
 ) -> Result<(), Fail> {
+    let chain = chain_of(alloc, 7, true)?;
     bench.put(HEADER, &header_of(8, 0))?;
     unmap(&mut bench.host, HEADER)?;
     unmap(&mut bench.host, STATUS)?;
     for page in [HEADER, STATUS] {
-        tell_served(bench, disk, chain, told)?;
+        tell_served(bench, &mut [], &chain, told)?;
         map_again(&mut bench.host, page)?;
     }
-    tell_served(bench, disk, chain, told)
+    tell_served(bench, &mut [], &chain, told)
 }
 
 // A part of the device's name is told, and no byte behind it changes.
@@ -91,52 +91,95 @@ fn expect_name<M: GuestMemory, B: Bitmap>(
     Ok(())
 }
 
-#[test]
-fn requests_wait_for_mappings(rt: HostRuntime) -> Result<(), Fail> {
-    let alloc = rt.alloc();
-    let chain = chain_of(alloc, 7, true)?;
-    let mut bench = make_bench(alloc, true, numbered(alloc, 4)?, false)?;
-    let mut told = String::new(alloc);
-    tell_waiting(&mut bench, &mut [], &chain, &mut told)?;
-    expect_name(alloc, &bench)?;
-    let wanted = "IOMMU failed to translate guest address: Cannot translate I/O virtual address \
-        range 0x11000+16: missing mapping; IOMMU failed to translate guest address: Cannot \
-        translate I/O virtual address range 0x12000+1: missing mapping; 8; ";
-    expect_text(0, told.as_str(), wanted)
-}
-
 // Fails unless the bytes from one place to another are 170 and all others 7, or the other way round.
 fn expect_bytes(bytes: &[u8], begin: usize, end: usize, inside: u8) -> Result<(), Fail> {
     for (place, byte) in bytes.iter().enumerate() {
         let is_inside = begin <= place && place < end;
-        if *byte != if is_inside { inside } else { 177 - inside } {
+        if (*byte == inside) != is_inside || (*byte != 7 && *byte != 170) {
             return Err(Fail::new(format_args!("byte {place}")));
         }
     }
     Ok(())
 }
 
-// A sector is written to the disk, and the one before it is read from there.
-fn tell_both<M: GuestMemory, B: Bitmap>(
+// A sector is written to the disk.
+fn tell_write<M: GuestMemory, B: Bitmap>(
     alloc: Global,
     bench: &mut Bench<M, B, MemoryDisk>,
     disk: &mut [u8],
     told: &mut String,
 ) -> Result<(), Fail> {
     bench.put(HEADER, &header_of(1, 2))?;
-    tell_served(bench, disk, &chain_of(alloc, 512, false)?, told)?;
-    expect_bytes(disk, 1024, 1536, 170)?;
+    let chain = chain_of(alloc, 512, false)?;
+    tell_served(bench, disk, &chain, told)?;
+    expect_bytes(disk, 1024, 1536, 170)
+}
+
+// A sector of 7s is read from the disk.
+fn tell_read<M: GuestMemory, B: Bitmap>(
+    alloc: Global,
+    bench: &mut Bench<M, B, MemoryDisk>,
+    disk: &mut [u8],
+    told: &mut String,
+) -> Result<(), Fail> {
     bench.put(HEADER, &header_of(0, 1))?;
-    tell_served(bench, disk, &chain_of(alloc, 512, true)?, told)?;
-    expect_bytes(bench.get(alloc, DATA, 513)?.as_slice(), 0, 512, 7)
+    let chain = chain_of(alloc, 512, true)?;
+    tell_served(bench, disk, &chain, told)?;
+    let data = bench.get(alloc, DATA, 513)?;
+    expect_bytes(data.as_slice(), 0, 512, 7)
+}
+
+// What is done with a device of two steps.
+#[derive(Clone, Copy)]
+enum Act {
+    Wait,
+    Move,
+}
+
+impl Scene<MemoryDisk> for Act {
+    fn tell<M: GuestMemory, B: Bitmap>(
+        &self,
+        alloc: Global,
+        bench: &mut Bench<M, B, MemoryDisk>,
+        told: &mut String,
+    ) -> Result<(), Fail> {
+        match *self {
+            Act::Wait => {
+                tell_waiting(alloc, bench, told)?;
+                expect_name(alloc, bench)
+            }
+            Act::Move => {
+                let mut disk = vec![in alloc; 7u8; 2048]?;
+                tell_write(alloc, bench, disk.as_mut_slice(), told)?;
+                tell_read(alloc, bench, disk.as_mut_slice(), told)
+            }
+        }
+    }
+}
+
+#[test]
+fn requests_wait_for_mappings(rt: HostRuntime) -> Result<(), Fail> {
+    let told = told_of(
+        rt.alloc(),
+        true,
+        numbered(rt.alloc(), 4)?,
+        false,
+        &Act::Wait,
+    )?;
+    let wanted = "IOMMU failed to translate guest address: Cannot translate I/O virtual address \
+        range 0x11000+16: missing mapping; IOMMU failed to translate guest address: Cannot \
+        translate I/O virtual address range 0x12000+1: missing mapping; 8; ";
+    expect_text(0, told.as_str(), wanted)
 }
 
 #[test]
 fn sectors_go_to_a_disk_of_its_own(rt: HostRuntime) -> Result<(), Fail> {
-    let alloc = rt.alloc();
-    let mut disk = vec![in alloc; 7u8; 2048]?;
-    let mut bench = make_bench(alloc, false, numbered(alloc, 4)?, false)?;
-    let mut told = String::new(alloc);
-    tell_both(alloc, &mut bench, disk.as_mut_slice(), &mut told)?;
+    let told = told_of(
+        rt.alloc(),
+        false,
+        numbered(rt.alloc(), 4)?,
+        false,
+        &Act::Move,
+    )?;
     expect_text(0, told.as_str(), "1; 513; ")
 }
