@@ -107,7 +107,7 @@ pub fn make_bench<D: Disk>(
     Ok(bench)
 }
 
-/// What is done with a guest and its device, and what is told of it.
+/// What is done with a guest and its device. What comes of it is written to `told`.
 pub trait Scene<D: Disk> {
     fn tell<M: GuestMemory, B: Bitmap>(
         &self,
@@ -117,7 +117,8 @@ pub trait Scene<D: Disk> {
     ) -> Result<(), Fail>;
 }
 
-/// What a scene tells, with a device on a disk. It alone names the types of the guest, which is dear to prove.
+/// Returns what a scene writes, with a device on a disk. A function that names the types of a guest is dear to prove, so
+/// tests call this one.
 pub fn told_of<D: Disk, S: Scene<D>>(
     alloc: Global,
     scattered: bool,

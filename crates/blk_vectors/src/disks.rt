@@ -1,7 +1,7 @@
 //! Disks that fail, and disks in files.
 ghost use Rattle.std.specs.Prelude.{◌≡◌, ℕ, List, Option, Some};
 
-use crate::bench::{Bench, DATA, HEADER, STATUS, Scene, header_of, told_of};
+use crate::bench::{Bench, DATA, HEADER, STATUS, Scene, header_of, make_bench, told_of};
 use crate::requests::numbered;
 use std::alloc::Global;
 use std::fs::{self, File};
@@ -117,31 +117,22 @@ fn tell_data<M: GuestMemory, B: Bitmap>(
     Ok(())
 }
 
-// A request to write or to read of which two pieces are moved.
-#[derive(Clone, Copy)]
-struct Failure {
-    writes: bool,
-}
-
-impl Scene<Failing> for Failure {
-    fn tell<M: GuestMemory, B: Bitmap>(
-        &self,
-        alloc: Global,
-        bench: &mut Bench<M, B, Failing>,
-        told: &mut String,
-    ) -> Result<(), Fail> {
-        tell_failure(alloc, bench, self.writes, told)?;
-        if self.writes {
-            return tell_disk(bench, told);
-        }
-        tell_data(alloc, bench, told)
+// Asks to write or to read, with a disk that fails then. Two pieces are moved.
+fn told_of_failure(alloc: Global, scattered: bool, writes: bool) -> Result<String, Fail> {
+    let mut told = String::new(alloc);
+    let mut bench = make_bench(alloc, scattered, failing(alloc)?, false)?;
+    tell_failure(alloc, &mut bench, writes, &mut told)?;
+    if writes {
+        tell_disk(&bench, &mut told)?;
+    } else {
+        tell_data(alloc, &mut bench, &mut told)?;
     }
+    Ok(told)
 }
 
 fn expect_failure(alloc: Global, writes: bool, wanted: &str) -> Result<(), Fail> {
     for scattered in [false, true] {
-        let disk = failing(alloc)?;
-        let told = told_of(alloc, scattered, disk, false, &Failure { writes })?;
+        let told = told_of_failure(alloc, scattered, writes)?;
         expect_text(0, told.as_str(), wanted)?;
     }
     Ok(())
@@ -158,7 +149,7 @@ fn failures_in_the_middle_of_reads(rt: HostRuntime) -> Result<(), Fail> {
     expect_failure(rt.alloc(), false, "131072 [1] 131072 1 [1]")
 }
 
-// Asks for a sector of 170 to be written, and for the same to be read to where 170 lay, and for a flush. Tells each
+// Asks for a sector of 170 to be written, and for the same to be read to where 170 lay, and for a flush. Writes each
 // status, and the byte that was read.
 fn tell_sector<M: GuestMemory, B: Bitmap, D: Disk>(
     alloc: Global,
@@ -182,7 +173,7 @@ fn tell_sector<M: GuestMemory, B: Bitmap, D: Disk>(
     Ok(())
 }
 
-// Tells the length and the status of a request that reads two sectors.
+// Writes the length and the status of a request that reads two sectors.
 fn tell_both<M: GuestMemory, B: Bitmap, D: Disk>(
     alloc: Global,
     bench: &mut Bench<M, B, D>,
@@ -195,7 +186,7 @@ fn tell_both<M: GuestMemory, B: Bitmap, D: Disk>(
     Ok(())
 }
 
-// The capacity is told, and then each of two sectors is asked for.
+// The capacity is written, and then each of two sectors is asked for.
 #[derive(Clone, Copy)]
 struct Whole;
 
