@@ -9,9 +9,9 @@ mod slow;
 use disk::*;
 use ring::{at, Numbers};
 use slow::{addresses, Segment};
-use vm_memory_proved::block::{Request, Terms, HEADER_LEN};
+use vm_memory_proved::block::*;
 use vm_memory_proved::queue::{DescriptorChain, QueueError};
-use vm_memory_proved::{Machine, Reason};
+use vm_memory_proved::{GuestMemory, Machine, Permissions, Reason};
 
 // ---- each access
 
@@ -105,6 +105,108 @@ fn returned_late(guest: &mut Guest<'_>, len: u32) {
     assert_eq!(returned, ((), vec![(used + 4, 8), (used + 2, 2)]));
     assert_eq!(guest.driver.take(), Some((0, len)));
     guest.compare();
+}
+
+// ---- a device that begins a request again
+
+// Does what a request asks for on a disk in memory, and returns its status and how many bytes it moved to the front of
+// the chain's writable ones.
+fn perform(disk: &mut [u8], request: Request, memory: &GuestMemory<'_>, chain: &DescriptorChain<'_>) -> (u8, usize) {
+    let (is_done, moved) = match request {
+        Request::Read { sector, len } => {
+            let data = &disk[SECTOR_LEN * sector as usize..][..len];
+            let moved = chain.write_at(memory, 0, data).unwrap_or(0);
+            (moved == len, moved)
+        }
+        Request::Write { sector, len, .. } => {
+            let data = &mut disk[SECTOR_LEN * sector as usize..][..len];
+            (chain.read_at(memory, HEADER_LEN, data).unwrap_or(0) == len, 0)
+        }
+        Request::GetId { len } => {
+            let moved = chain.write_at(memory, 0, &NAME[..len]).unwrap_or(0);
+            (moved == len, moved)
+        }
+        Request::Flush => (true, 0),
+        Request::Refused { status } => return (status, 0),
+        Request::Unserved => (false, 0),
+    };
+    (if is_done { VIRTIO_BLK_S_OK } else { VIRTIO_BLK_S_IOERR }, moved)
+}
+
+// Serves a request on a disk in memory. After an error the caller makes the call again when the mapping came.
+fn serve(disk: &mut [u8], memory: &GuestMemory<'_>, chain: &DescriptorChain<'_>) -> Result<u32, QueueError> {
+    let terms = Terms {
+        acked: 0,
+        ..terms((disk.len() / SECTOR_LEN) as u64)
+    };
+    let request = chain.begin_request(memory, terms)?;
+    let (status, moved) = perform(disk, request, memory, chain);
+    chain.finish_request(memory, status, moved)
+}
+
+// Where the status of these requests lies. Each part of a request has a page of its own.
+const STATUS: u64 = 0x3800;
+
+// The device has a request of a header, data and a status in flight.
+fn asked_for<'a>(guest: &mut Guest<'a>, head: [u8; 16], data: Segment) -> DescriptorChain<'a> {
+    guest.set(HEADER, &head);
+    guest.publish(&[read(HEADER, 16), data, written(STATUS, 1)], 3);
+    let chain = guest.queue.pop_descriptor_chain(&guest.memory);
+    chain.unwrap().unwrap()
+}
+
+// The bytes at an address, as the device has them.
+fn bytes_at(guest: &Guest<'_>, addr: u64, len: u64) -> Vec<u8> {
+    let byte = |addr| {
+        let mut byte = [0];
+        guest.plain.read_slice(&mut byte, at(guest.physical(addr))).unwrap();
+        byte[0]
+    };
+    (addr..addr + len).map(byte).collect()
+}
+
+// The data of a request for a part of the name are mapped. The header's mapping comes, and then the status's.
+#[test]
+fn a_request_begins_again_after_each_mapping() {
+    let machine = Machine::new().unwrap();
+    let guest = &mut Guest::new(&machine, Way::Behind(None));
+    guest.set(ROOM, &[170; 8]);
+    for addr in [RINGS, ROOM] {
+        guest.map(addr, Permissions::ReadWrite);
+    }
+    let chain = asked_for(guest, header(GET_ID, 0), written(ROOM, 7));
+    let disk = &mut [0; 4 * SECTOR_LEN];
+    for (addr, missed) in [(HEADER, "0x1000+16"), (STATUS, "0x3800+1")] {
+        let refused = serve(disk, &guest.memory, &chain).unwrap_err();
+        assert_eq!(
+            refused.to_string(),
+            format!(
+                "IOMMU failed to translate guest address: \
+                Cannot translate I/O virtual address range {missed}: missing mapping"
+            )
+        );
+        guest.map(addr, Permissions::ReadWrite);
+    }
+    assert_eq!(serve(disk, &guest.memory, &chain).unwrap(), 8);
+    assert_eq!(bytes_at(guest, ROOM, 8), [&NAME[..7], &[170]].concat());
+    assert_eq!(bytes_at(guest, STATUS, 1), [0]);
+}
+
+// A sector goes to a disk of 7s, and then the one before it comes from there.
+#[test]
+fn sectors_go_to_a_disk_in_memory() {
+    let machine = Machine::new().unwrap();
+    let guest = &mut Guest::new(&machine, Way::Plain);
+    guest.set(ROOM, &[170; 513]);
+    let disk = &mut [7; 4 * SECTOR_LEN];
+    let chain = asked_for(guest, header(OUT, 2), read(ROOM, 512));
+    assert_eq!(serve(disk, &guest.memory, &chain).unwrap(), 1);
+    let (before, after) = disk.split_at(1024);
+    assert_eq!((before, after), (&[7; 1024][..], &[[170; 512], [7; 512]].concat()[..]));
+    guest.queue.add_used(&guest.memory, 0, 1).unwrap();
+    let chain = asked_for(guest, header(IN, 1), written(ROOM, 512));
+    assert_eq!(serve(disk, &guest.memory, &chain).unwrap(), 513);
+    assert_eq!(bytes_at(guest, ROOM, 513), [&[7; 512][..], &[170]].concat());
 }
 
 // ---- random requests

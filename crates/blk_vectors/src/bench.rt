@@ -107,6 +107,31 @@ pub fn make_bench<D: Disk>(
     Ok(bench)
 }
 
+/// What is done with a guest and its device. What comes of it is written to `told`.
+pub trait Scene<D: Disk> {
+    fn tell<M: GuestMemory, B: Bitmap>(
+        &self,
+        alloc: Global,
+        bench: &mut Bench<M, B, D>,
+        told: &mut String,
+    ) -> Result<(), Fail>;
+}
+
+/// Returns what a scene writes, with a device on a disk. A function that names the types of a guest is dear to prove, so
+/// tests call this one.
+pub fn told_of<D: Disk, S: Scene<D>>(
+    alloc: Global,
+    scattered: bool,
+    disk: D,
+    read_only: bool,
+    scene: &S,
+) -> Result<String, Fail> {
+    let mut told = String::new(alloc);
+    let mut bench = make_bench(alloc, scattered, disk, read_only)?;
+    scene.tell(alloc, &mut bench, &mut told)?;
+    Ok(told)
+}
+
 /// The bytes of a header.
 pub fn header_of(kind: u32, sector: u64) -> [u8; 16] {
     let [a, b, c, d] = kind.to_le_bytes();

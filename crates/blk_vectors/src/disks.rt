@@ -1,7 +1,7 @@
 //! Disks that fail, and disks in files.
 ghost use Rattle.std.specs.Prelude.{◌≡◌, ℕ, List, Option, Some};
 
-use crate::bench::{Bench, DATA, HEADER, STATUS, header_of, make_bench};
+use crate::bench::{Bench, DATA, HEADER, STATUS, Scene, header_of, make_bench, told_of};
 use crate::requests::numbered;
 use std::alloc::Global;
 use std::fs::{self, File};
@@ -78,16 +78,18 @@ fn failing(alloc: Global) -> Result<Failing, Fail> {
 }
 
 // Tells the length and the status of a request to write or to read that fails at its third piece.
-fn told_of_failure<M: GuestMemory, B: Bitmap>(
+fn tell_failure<M: GuestMemory, B: Bitmap>(
     alloc: Global,
     bench: &mut Bench<M, B, Failing>,
     writes: bool,
-) -> Result<String, Fail> {
+    told: &mut String,
+) -> Result<(), Fail> {
     bench.put(DATA, vec![in alloc; 9u8; LEN as usize]?.as_slice())?;
     let parts = [(HEADER, 16, false), (DATA, LEN, !writes), (STATUS, 1, true)];
     let len = bench.ask(header_of(u32::from(writes), 0), &parts)?;
     let status = bench.get(alloc, STATUS, 1)?;
-    Ok(format!(in alloc; "{len} {:?}", status.as_slice())?)
+    write!(told, "{len} {:?}", status.as_slice())?;
+    Ok(())
 }
 
 // How many bytes of the disk are 9, and how many behind them are 7.
@@ -115,40 +117,46 @@ fn tell_data<M: GuestMemory, B: Bitmap>(
     Ok(())
 }
 
-// Two pieces were moved.
+// Asks to write or to read, with a disk that fails then. Two pieces are moved.
+fn told_of_failure(alloc: Global, scattered: bool, writes: bool) -> Result<String, Fail> {
+    let mut told = String::new(alloc);
+    let mut bench = make_bench(alloc, scattered, failing(alloc)?, false)?;
+    tell_failure(alloc, &mut bench, writes, &mut told)?;
+    if writes {
+        tell_disk(&bench, &mut told)?;
+    } else {
+        tell_data(alloc, &mut bench, &mut told)?;
+    }
+    Ok(told)
+}
+
+fn expect_failure(alloc: Global, writes: bool, wanted: &str) -> Result<(), Fail> {
+    for scattered in [false, true] {
+        let told = told_of_failure(alloc, scattered, writes)?;
+        expect_text(0, told.as_str(), wanted)?;
+    }
+    Ok(())
+}
+
 #[test]
 fn failures_in_the_middle(rt: HostRuntime) -> Result<(), Fail> {
-    let alloc = rt.alloc();
-    for scattered in [false, true] {
-        let mut bench = make_bench(alloc, scattered, failing(alloc)?, false)?;
-        let mut told = told_of_failure(alloc, &mut bench, true)?;
-        tell_disk(&bench, &mut told)?;
-        expect_text(0, told.as_str(), "1 [1] 131072 131072")?;
-    }
-    Ok(())
+    expect_failure(rt.alloc(), true, "1 [1] 131072 131072")
 }
 
-// Two pieces were moved. Then a flush fails.
+// A flush fails after that.
 #[test]
 fn failures_in_the_middle_of_reads(rt: HostRuntime) -> Result<(), Fail> {
-    let alloc = rt.alloc();
-    for scattered in [false, true] {
-        let mut bench = make_bench(alloc, scattered, failing(alloc)?, false)?;
-        let mut told = told_of_failure(alloc, &mut bench, false)?;
-        tell_data(alloc, &mut bench, &mut told)?;
-        expect_text(0, told.as_str(), "131072 [1] 131072 1 [1]")?;
-    }
-    Ok(())
+    expect_failure(rt.alloc(), false, "131072 [1] 131072 1 [1]")
 }
 
-// Asks for a sector of 170 to be written, and for the same to be read to where 170 lay, and for a flush. Tells each
+// Asks for a sector of 170 to be written, and for the same to be read to where 170 lay, and for a flush. Writes each
 // status, and the byte that was read.
-fn told<M: GuestMemory, B: Bitmap, D: Disk>(
+fn tell_sector<M: GuestMemory, B: Bitmap, D: Disk>(
     alloc: Global,
     bench: &mut Bench<M, B, D>,
     sector: u64,
-) -> Result<String, Fail> {
-    let mut told = String::new(alloc);
+    told: &mut String,
+) -> Result<(), Fail> {
     for (kind, writable, len) in [(1, false, 512), (0, true, 512), (4, true, 0)] {
         let parts = [
             (HEADER, 16, false),
@@ -161,26 +169,53 @@ fn told<M: GuestMemory, B: Bitmap, D: Disk>(
         bench.put(STATUS, &[255])?;
     }
     let data = bench.get(alloc, DATA, 1)?;
-    write!(told, "{:?}", data.as_slice())?;
-    Ok(told)
+    write!(told, "{:?}; ", data.as_slice())?;
+    Ok(())
+}
+
+// Writes the length and the status of a request that reads two sectors.
+fn tell_both<M: GuestMemory, B: Bitmap, D: Disk>(
+    alloc: Global,
+    bench: &mut Bench<M, B, D>,
+    told: &mut String,
+) -> Result<(), Fail> {
+    let parts = [(HEADER, 16, false), (DATA, 1024, true), (STATUS, 1, true)];
+    let len = bench.ask(header_of(0, 0), &parts)?;
+    let status = bench.get(alloc, STATUS, 1)?;
+    write!(told, "{len} {:?}; ", status.as_slice())?;
+    Ok(())
+}
+
+// The capacity is written, and then each of two sectors is asked for.
+#[derive(Clone, Copy)]
+struct Whole;
+
+impl<D: Disk> Scene<D> for Whole {
+    fn tell<M: GuestMemory, B: Bitmap>(
+        &self,
+        alloc: Global,
+        bench: &mut Bench<M, B, D>,
+        told: &mut String,
+    ) -> Result<(), Fail> {
+        write!(told, "{:?} ", bench.device.config())?;
+        tell_sector(alloc, bench, 1, told)?;
+        tell_sector(alloc, bench, 2, told)
+    }
+}
+
+fn open(rt: &HostRuntime, name: &str) -> Result<File, Fail> {
+    let file = File::options().read(true).write(true).open(rt, name)?;
+    Ok(file)
 }
 
 // A file of two sectors of 5 and some bytes more, which are no sector: the capacity is two.
 #[test]
 fn disks_in_files(rt: HostRuntime) -> Result<(), Fail> {
     fs::write(&rt, "blk-disk", [5u8; 1100].as_slice())?;
-    let file = File::options()
-        .read(true)
-        .write(true)
-        .open(&rt, "blk-disk")?;
-    let mut bench = make_bench(rt.alloc(), false, FileDisk::new(file)?, false)?;
-    if bench.device.config() != [2, 0, 0, 0, 0, 0, 0, 0] {
-        return Err(Fail::new("the capacity is not two"));
-    }
-    let text = told(rt.alloc(), &mut bench, 1)?;
-    expect_text(0, text.as_str(), "[0] [0] [0] [170]")?;
-    let text = told(rt.alloc(), &mut bench, 2)?;
-    expect_text(1, text.as_str(), "[1] [1] [0] [170]")?;
+    let disk = FileDisk::new(open(&rt, "blk-disk")?)?;
+    let told = told_of(rt.alloc(), false, disk, false, &Whole)?;
+    let wanted = "[2, 0, 0, 0, 0, 0, 0, 0] [0] [0] [0] [170]; [1] [1] [0] [170]; ";
+    expect_text(0, told.as_str(), wanted)?;
     let bytes = fs::read(&rt, "blk-disk")?;
     let (front, back) = (bytes.get(..512), bytes.get(1024..));
     if front != Some([5; 512].as_slice()) || back != Some([5; 76].as_slice()) {
@@ -192,42 +227,57 @@ fn disks_in_files(rt: HostRuntime) -> Result<(), Fail> {
     Ok(())
 }
 
-// Tells the length and the status of a request that reads two sectors.
-fn told_of_both<M: GuestMemory, B: Bitmap, D: Disk>(
-    alloc: Global,
-    bench: &mut Bench<M, B, D>,
-) -> Result<String, Fail> {
-    let parts = [(HEADER, 16, false), (DATA, 1024, true), (STATUS, 1, true)];
-    let len = bench.ask(header_of(0, 0), &parts)?;
-    let status = bench.get(alloc, STATUS, 1)?;
-    Ok(format!(in alloc; "{len} {:?}", status.as_slice())?)
+// A file that loses its last sector while it is served.
+#[derive(Drop)]
+struct Shrinking {
+    file: File,
 }
 
-// The last sector of a file goes missing while it is served: it is not there to be read, and can be written.
+impl<D: Disk> Scene<D> for Shrinking {
+    fn tell<M: GuestMemory, B: Bitmap>(
+        &self,
+        alloc: Global,
+        bench: &mut Bench<M, B, D>,
+        told: &mut String,
+    ) -> Result<(), Fail> {
+        self.file.set_len(700)?;
+        tell_both(alloc, bench, told)?;
+        tell_sector(alloc, bench, 1, told)
+    }
+}
+
+// The last sector is not there to be read, and can be written.
 #[test]
 fn disks_in_files_that_shrink(rt: HostRuntime) -> Result<(), Fail> {
     fs::write(&rt, "blk-short", [5u8; 1024].as_slice())?;
-    let file = File::options()
-        .read(true)
-        .write(true)
-        .open(&rt, "blk-short")?;
-    let shared = file.try_clone()?;
-    let mut bench = make_bench(rt.alloc(), false, FileDisk::new(file)?, false)?;
-    shared.set_len(700)?;
-    let text = told_of_both(rt.alloc(), &mut bench)?;
-    expect_text(0, text.as_str(), "0 [1]")?;
-    let text = told(rt.alloc(), &mut bench, 1)?;
-    expect_text(1, text.as_str(), "[0] [0] [0] [170]")
+    let file = open(&rt, "blk-short")?;
+    let disk = FileDisk::new(file.try_clone()?)?;
+    let told = told_of(rt.alloc(), false, disk, false, &Shrinking { file })?;
+    expect_text(0, told.as_str(), "0 [1]; [0] [0] [0] [170]; ")
+}
+
+// One sector is asked for.
+#[derive(Clone, Copy)]
+struct OneSector;
+
+impl<D: Disk> Scene<D> for OneSector {
+    fn tell<M: GuestMemory, B: Bitmap>(
+        &self,
+        alloc: Global,
+        bench: &mut Bench<M, B, D>,
+        told: &mut String,
+    ) -> Result<(), Fail> {
+        tell_sector(alloc, bench, 1, told)
+    }
 }
 
 // A file that was opened for reading alone.
 #[test]
 fn disks_in_files_to_be_read(rt: HostRuntime) -> Result<(), Fail> {
     fs::write(&rt, "blk-read", [5u8; 1024].as_slice())?;
-    let file = File::open(&rt, "blk-read")?;
-    let mut bench = make_bench(rt.alloc(), false, FileDisk::new(file)?, false)?;
-    let text = told(rt.alloc(), &mut bench, 1)?;
-    expect_text(0, text.as_str(), "[1] [0] [0] [5]")?;
+    let disk = FileDisk::new(File::open(&rt, "blk-read")?)?;
+    let told = told_of(rt.alloc(), false, disk, false, &OneSector)?;
+    expect_text(0, told.as_str(), "[1] [0] [0] [5]; ")?;
     let bytes = fs::read(&rt, "blk-read")?;
     if bytes.as_slice() != [5; 1024].as_slice() {
         return Err(Fail::new("the file changed"));

@@ -1,7 +1,7 @@
 //! Writes that have to be stable when their status is written, on a disk that records its calls.
 ghost use Rattle.std.specs.Prelude.{◌≡◌, ℕ, List, Option, Some};
 
-use crate::bench::{Bench, DATA, HEADER, Part, STATUS, header_of, make_bench};
+use crate::bench::{Bench, DATA, HEADER, Part, STATUS, Scene, header_of, told_of};
 use std::alloc::Global;
 use std::test::Fail;
 use test_text::expect_text;
@@ -99,28 +99,30 @@ static CASES: [Case; 16] = [
     (None, 8, 0, 20, NEVER, " 0"),
 ];
 
-fn told_of<M: GuestMemory, B: Bitmap, D: Disk>(
-    alloc: Global,
-    bench: &mut Bench<M, B, RecordingDisk<D>>,
-    case: &Case,
-) -> Result<String, Fail> {
-    let (features, kind, sector, len, _, _) = *case;
-    if let Some(features) = features {
-        if !bench.device.ack_features(features) {
-            return Err(Fail::new("the features are refused"));
+impl<D: Disk> Scene<RecordingDisk<D>> for Case {
+    fn tell<M: GuestMemory, B: Bitmap>(
+        &self,
+        alloc: Global,
+        bench: &mut Bench<M, B, RecordingDisk<D>>,
+        told: &mut String,
+    ) -> Result<(), Fail> {
+        let (features, kind, sector, len, _, _) = *self;
+        if let Some(features) = features {
+            if !bench.device.ack_features(features) {
+                return Err(Fail::new("the features are refused"));
+            }
         }
+        let data: Part = (DATA, len, kind != 1);
+        let parts = [(HEADER, 16, false), data, (STATUS, 1, true)];
+        bench.ask(header_of(kind, sector), &parts)?;
+        let status = bench.get(alloc, STATUS, 1)?;
+        let status = status.first().copied().unwrap_or(99);
+        for call in bench.device.disk().calls.iter() {
+            told.push(char::from(*call))?;
+        }
+        write!(told, " {status}")?;
+        Ok(())
     }
-    let data: Part = (DATA, len, kind != 1);
-    let parts = [(HEADER, 16, false), data, (STATUS, 1, true)];
-    bench.ask(header_of(kind, sector), &parts)?;
-    let status = bench.get(alloc, STATUS, 1)?;
-    let status = status.first().copied().unwrap_or(99);
-    let mut told = String::new(alloc);
-    for call in bench.device.disk().calls.iter() {
-        told.push(char::from(*call))?;
-    }
-    write!(told, " {status}")?;
-    Ok(told)
 }
 
 #[test]
@@ -131,8 +133,7 @@ fn writes_stay_where_drivers_cannot_flush(rt: HostRuntime) -> Result<(), Fail> {
             calls: Vec::new(rt.alloc()),
             refused: case.4,
         };
-        let mut bench = make_bench(rt.alloc(), number % 2 == 1, disk, false)?;
-        let told = told_of(rt.alloc(), &mut bench, case)?;
+        let told = told_of(rt.alloc(), number % 2 == 1, disk, false, case)?;
         expect_text(number, told.as_str(), case.5)?;
     }
     Ok(())

@@ -1,10 +1,10 @@
 //! A driver that notifies its device by the rule of the specification, and by nothing else.
 
-use crate::bench::{Bench, HEADER, SIZE, STATUS, header_of, make_bench};
+use crate::bench::{Bench, HEADER, SIZE, STATUS, Scene, header_of, told_of};
 use crate::requests::numbered;
 use std::alloc::Global;
 use std::test::Fail;
-use test_text::next_number;
+use test_text::{expect_text, next_number};
 use virtio_blk::MemoryDisk;
 use virtio_queue::QueueField;
 use vm_memory_base::Bitmap;
@@ -139,17 +139,37 @@ fn ask_all<M: GuestMemory, B: Bitmap>(
     Ok(progress)
 }
 
+// A driver that accepts these features.
+#[derive(Clone, Copy)]
+struct Driver {
+    features: u64,
+}
+
+impl Scene<MemoryDisk> for Driver {
+    fn tell<M: GuestMemory, B: Bitmap>(
+        &self,
+        alloc: Global,
+        bench: &mut Bench<M, B, MemoryDisk>,
+        told: &mut String,
+    ) -> Result<(), Fail> {
+        if !bench.device.ack_features(self.features) {
+            return Err(Fail::new("the features are refused"));
+        }
+        bench.queue.set_event_idx(bench.device.event_idx());
+        let progress = ask_all(alloc, bench)?;
+        write!(told, "{} {}", progress.published, progress.answered)?;
+        Ok(())
+    }
+}
+
 #[test]
 fn drivers_notify_by_the_rule_alone(rt: HostRuntime) -> Result<(), Fail> {
-    for features in [0x1_0000_0000, 0x1_2000_0000] {
-        let mut bench = make_bench(rt.alloc(), false, numbered(rt.alloc(), 4)?, false)?;
-        assert!(rt; bench.device.ack_features(features));
-        bench.queue.set_event_idx(bench.device.event_idx());
-        let progress = ask_all(rt.alloc(), &mut bench)?;
-        assert_eq!(rt;
-            (progress.published, progress.answered),
-            (REQUESTS, REQUESTS)
-        );
+    for (number, features) in [0x1_0000_0000, 0x1_2000_0000].iter().enumerate() {
+        let driver = Driver {
+            features: *features,
+        };
+        let told = told_of(rt.alloc(), false, numbered(rt.alloc(), 4)?, false, &driver)?;
+        expect_text(number, told.as_str(), "10000 10000")?;
     }
     Ok(())
 }

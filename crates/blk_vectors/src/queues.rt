@@ -1,7 +1,8 @@
 //! Queues of chains, interrupts, features and the configuration.
 
-use crate::bench::{Bench, DATA, HEADER, SIZE, STATUS, header_of, make_bench};
+use crate::bench::{Bench, DATA, HEADER, SIZE, STATUS, Scene, header_of, told_of};
 use crate::requests::{first_bytes, numbered};
+use std::alloc::Global;
 use std::test::Fail;
 use test_text::expect_text;
 use virtio_blk::{BlockDevice, MemoryDisk};
@@ -100,15 +101,6 @@ fn interrupts<M: GuestMemory, B: Bitmap>(
     all_return(bench)
 }
 
-#[test]
-fn interrupts_as_the_driver_wants(rt: HostRuntime) -> Result<(), Fail> {
-    let mut bench = make_bench(rt.alloc(), false, numbered(rt.alloc(), 4)?, false)?;
-    let mut told = String::new(rt.alloc());
-    interrupts(&mut bench, &mut told)?;
-    let wanted = "2 true; 0 true; 1 false; 1 false; 1 true; 1 false; ";
-    expect_text(0, told.as_str(), wanted)
-}
-
 // As many chains as the queue has entries, which one call serves.
 fn fill<M: GuestMemory, B: Bitmap>(
     bench: &mut Bench<M, B, MemoryDisk>,
@@ -118,15 +110,6 @@ fn fill<M: GuestMemory, B: Bitmap>(
         bench.publish(head, &[(STATUS, 1, true)])?;
     }
     kick_whole(bench, told)
-}
-
-#[test]
-fn calls_serve_as_many_as_the_size(rt: HostRuntime) -> Result<(), Fail> {
-    let mut bench = make_bench(rt.alloc(), false, numbered(rt.alloc(), 4)?, false)?;
-    let mut told = String::new(rt.alloc());
-    fill(&mut bench, &mut told)?;
-    let wanted = "16 false true None; ";
-    expect_text(0, told.as_str(), wanted)
 }
 
 // A request whose answer goes over the driver's index.
@@ -141,16 +124,6 @@ fn overwrite_index<M: GuestMemory, B: Bitmap>(
     let parts = [(HEADER, 16, false), (index, len, true), (STATUS, 1, true)];
     bench.publish(0, &parts)?;
     kick_whole(bench, told)
-}
-
-// The name goes over the index: "th" is 0x6874, so the index is too far ahead.
-#[test]
-fn requests_that_write_the_index(rt: HostRuntime) -> Result<(), Fail> {
-    let mut bench = make_bench(rt.alloc(), false, numbered(rt.alloc(), 4)?, false)?;
-    let mut told = String::new(rt.alloc());
-    overwrite_index(&mut bench, 8, 2, &mut told)?;
-    let wanted = "1 false true Some(InvalidAvailRingIndex); ";
-    expect_text(0, told.as_str(), wanted)
 }
 
 // A queue that is not ready; and a head that is popped and cannot be returned, since the used ring lies nowhere.
@@ -186,16 +159,6 @@ fn failures<M: GuestMemory, B: Bitmap>(
     tell_place(bench, told)
 }
 
-#[test]
-fn queues_that_fail(rt: HostRuntime) -> Result<(), Fail> {
-    let mut bench = make_bench(rt.alloc(), false, numbered(rt.alloc(), 4)?, false)?;
-    let mut told = String::new(rt.alloc());
-    failures(&mut bench, &mut told)?;
-    let wanted = "0 false false Some(QueueNotReady); 0 false true Some(InvalidUsedEntry); \
-        1 [170, 2, 3, 4]";
-    expect_text(0, told.as_str(), wanted)
-}
-
 // Accepts features: none with VERSION_1, one that is not offered, some, and none again.
 fn accept(device: &mut BlockDevice<MemoryDisk>, told: &mut String) -> Result<(), Fail> {
     write!(told, "{:#x} {:?}", device.features(), device.config())?;
@@ -211,17 +174,79 @@ fn accept(device: &mut BlockDevice<MemoryDisk>, told: &mut String) -> Result<(),
     Ok(())
 }
 
+// What is done with the queue and the device.
+#[derive(Clone, Copy)]
+enum Act {
+    Interrupts,
+    Fill,
+    OverwriteIndex,
+    Fail,
+    AcceptFeatures,
+}
+
+impl Scene<MemoryDisk> for Act {
+    fn tell<M: GuestMemory, B: Bitmap>(
+        &self,
+        _alloc: Global,
+        bench: &mut Bench<M, B, MemoryDisk>,
+        told: &mut String,
+    ) -> Result<(), Fail> {
+        match *self {
+            Act::Interrupts => interrupts(bench, told),
+            Act::Fill => fill(bench, told),
+            Act::OverwriteIndex => overwrite_index(bench, 8, 2, told),
+            Act::Fail => failures(bench, told),
+            Act::AcceptFeatures => accept(&mut bench.device, told),
+        }
+    }
+}
+
+fn expect(alloc: Global, act: Act, read_only: bool, wanted: &str) -> Result<(), Fail> {
+    let told = told_of(alloc, false, numbered(alloc, 4)?, read_only, &act)?;
+    expect_text(0, told.as_str(), wanted)
+}
+
+#[test]
+fn interrupts_as_the_driver_wants(rt: HostRuntime) -> Result<(), Fail> {
+    let wanted = "2 true; 0 true; 1 false; 1 false; 1 true; 1 false; ";
+    expect(rt.alloc(), Act::Interrupts, false, wanted)
+}
+
+#[test]
+fn calls_serve_as_many_as_the_size(rt: HostRuntime) -> Result<(), Fail> {
+    let wanted = "16 false true None; ";
+    expect(rt.alloc(), Act::Fill, false, wanted)
+}
+
+// The name goes over the index: "th" is 0x6874, so the index is too far ahead.
+#[test]
+fn requests_that_write_the_index(rt: HostRuntime) -> Result<(), Fail> {
+    let wanted = "1 false true Some(InvalidAvailRingIndex); ";
+    expect(rt.alloc(), Act::OverwriteIndex, false, wanted)
+}
+
+#[test]
+fn queues_that_fail(rt: HostRuntime) -> Result<(), Fail> {
+    let wanted = "0 false false Some(QueueNotReady); 0 false true Some(InvalidUsedEntry); \
+        1 [170, 2, 3, 4]";
+    expect(rt.alloc(), Act::Fail, false, wanted)
+}
+
 #[test]
 fn features_and_capacity(rt: HostRuntime) -> Result<(), Fail> {
-    for (read_only, offered) in [(false, "0x130000200"), (true, "0x130000220")] {
-        let mut bench = make_bench(rt.alloc(), false, numbered(rt.alloc(), 4)?, read_only)?;
-        let mut told = String::new(rt.alloc());
-        accept(&mut bench.device, &mut told)?;
-        let wanted = format!(in rt.alloc();
-            "{offered} [4, 0, 0, 0, 0, 0, 0, 0], false 0x0 false, \
-            false 0x0 false, true 0x120000000 true, false 0x120000000 true"
-        )?;
-        expect_text(0, told.as_str(), wanted.as_str())?;
+    for (read_only, wanted) in [
+        (
+            false,
+            "0x130000200 [4, 0, 0, 0, 0, 0, 0, 0], false 0x0 false, false 0x0 false, \
+                true 0x120000000 true, false 0x120000000 true",
+        ),
+        (
+            true,
+            "0x130000220 [4, 0, 0, 0, 0, 0, 0, 0], false 0x0 false, false 0x0 false, \
+                true 0x120000000 true, false 0x120000000 true",
+        ),
+    ] {
+        expect(rt.alloc(), Act::AcceptFeatures, read_only, wanted)?;
     }
     Ok(())
 }

@@ -1,6 +1,6 @@
 //! Random requests beside a plain model of a disk.
 
-use crate::bench::{Bench, DATA, HEADER, STATUS, header_of, make_bench};
+use crate::bench::{Bench, DATA, HEADER, STATUS, Scene, header_of, told_of};
 use std::alloc::Global;
 use std::test::Fail;
 use test_text::next_number;
@@ -114,13 +114,26 @@ fn all_agree<M: GuestMemory, B: Bitmap>(
     Ok(())
 }
 
+#[derive(Clone, Copy)]
+struct Random;
+
+impl Scene<MemoryDisk> for Random {
+    fn tell<M: GuestMemory, B: Bitmap>(
+        &self,
+        alloc: Global,
+        bench: &mut Bench<M, B, MemoryDisk>,
+        _told: &mut String,
+    ) -> Result<(), Fail> {
+        let mut disk = vec![in alloc; 0u8; SECTORS as usize * 512]?;
+        all_agree(alloc, bench, disk.as_mut_slice())
+    }
+}
+
 #[test]
 fn random_requests_as_a_plain_disk(rt: HostRuntime) -> Result<(), Fail> {
     for scattered in [false, true] {
-        let mut disk = vec![in rt.alloc(); 0u8; SECTORS as usize * 512]?;
-        let memory = MemoryDisk::new(disk.clone()?);
-        let mut bench = make_bench(rt.alloc(), scattered, memory, false)?;
-        all_agree(rt.alloc(), &mut bench, disk.as_mut_slice())?;
+        let disk = MemoryDisk::new(vec![in rt.alloc(); 0u8; SECTORS as usize * 512]?);
+        told_of(rt.alloc(), scattered, disk, false, &Random)?;
     }
     Ok(())
 }

@@ -1,6 +1,6 @@
 //! Single requests.
 
-use crate::bench::{BEGIN, Bench, DATA, END, HEADER, Part, STATUS, header_of, make_bench};
+use crate::bench::{BEGIN, Bench, DATA, END, HEADER, Part, STATUS, Scene, header_of, told_of};
 use std::alloc::Global;
 use std::test::Fail;
 use test_text::expect_text;
@@ -330,25 +330,28 @@ fn status_of<M: GuestMemory, B: Bitmap>(
     Ok(status.first().copied().unwrap_or(0))
 }
 
-fn told_of<M: GuestMemory, B: Bitmap>(
-    alloc: Global,
-    bench: &mut Bench<M, B, MemoryDisk>,
-    case: &Case,
-) -> Result<String, Fail> {
-    let (_, kind, sector, parts, _) = *case;
-    let header = header_of(kind, sector);
-    bench.put(HEADER, &header)?;
-    let before = bench.get(alloc, HEADER, SEEN)?;
-    let len = bench.ask(header, parts)?;
-    let changed = changed(alloc, bench, before.as_slice())?;
-    let status = status_of(alloc, bench)?;
-    let first = first_bytes(bench.device.disk());
-    Ok(format!(in alloc; "{len} {status} {first:?} {changed}")?)
+impl Scene<MemoryDisk> for Case {
+    fn tell<M: GuestMemory, B: Bitmap>(
+        &self,
+        alloc: Global,
+        bench: &mut Bench<M, B, MemoryDisk>,
+        told: &mut String,
+    ) -> Result<(), Fail> {
+        let (_, kind, sector, parts, _) = *self;
+        let header = header_of(kind, sector);
+        bench.put(HEADER, &header)?;
+        let before = bench.get(alloc, HEADER, SEEN)?;
+        let len = bench.ask(header, parts)?;
+        let changed = changed(alloc, bench, before.as_slice())?;
+        let status = status_of(alloc, bench)?;
+        let first = first_bytes(bench.device.disk());
+        write!(told, "{len} {status} {first:?} {changed}")?;
+        Ok(())
+    }
 }
 
 fn told(alloc: Global, case: &Case, scattered: bool) -> Result<String, Fail> {
-    let mut bench = make_bench(alloc, scattered, numbered(alloc, 4)?, case.0)?;
-    told_of(alloc, &mut bench, case)
+    told_of(alloc, scattered, numbered(alloc, 4)?, case.0, case)
 }
 
 #[test]
@@ -416,14 +419,12 @@ fn cut_at<M: GuestMemory, B: Bitmap>(
     Ok(())
 }
 
-#[test]
-fn data_is_cut_anywhere(rt: HostRuntime) -> Result<(), Fail> {
-    for scattered in [false, true] {
-        let disk = numbered(rt.alloc(), 4)?;
-        let mut bench = make_bench(rt.alloc(), scattered, disk, false)?;
-        for cut in 0..1025 {
-            cut_at(rt.alloc(), &mut bench, cut)?;
-        }
+fn cut_anywhere<M: GuestMemory, B: Bitmap>(
+    alloc: Global,
+    bench: &mut Bench<M, B, MemoryDisk>,
+) -> Result<(), Fail> {
+    for cut in 0..1025 {
+        cut_at(alloc, bench, cut)?;
     }
     Ok(())
 }
@@ -445,16 +446,6 @@ fn header_cut_at<M: GuestMemory, B: Bitmap>(
     wanted[(cut % 4) as usize] = 170;
     if len != 1 || first_bytes(bench.device.disk()) != wanted {
         return Err(Fail::new(format_args!("header cut at {cut}")));
-    }
-    Ok(())
-}
-
-#[test]
-fn headers_are_cut_anywhere(rt: HostRuntime) -> Result<(), Fail> {
-    for cut in 0..17 {
-        let disk = numbered(rt.alloc(), 4)?;
-        let mut bench = make_bench(rt.alloc(), false, disk, false)?;
-        header_cut_at(&mut bench, cut)?;
     }
     Ok(())
 }
@@ -483,16 +474,15 @@ fn move_long<M: GuestMemory, B: Bitmap>(
     )
 }
 
-#[test]
-fn requests_of_many_pieces(rt: HostRuntime) -> Result<(), Fail> {
-    let bytes: Vec<u8> = (0..LONG).map(|i| (i * 7 % 251) as u8).collect(rt.alloc())?;
-    for scattered in [false, true] {
-        let disk = MemoryDisk::new(vec![in rt.alloc(); 0u8; LONG + 1024]?);
-        let mut bench = make_bench(rt.alloc(), scattered, disk, false)?;
-        if !move_long(rt.alloc(), &mut bench, bytes.as_slice())? {
-            return Err(Fail::new("not all was moved, or more"));
-        }
-    }
+// Whether all was moved, and no more.
+fn tell_long<M: GuestMemory, B: Bitmap>(
+    alloc: Global,
+    bench: &mut Bench<M, B, MemoryDisk>,
+    told: &mut String,
+) -> Result<(), Fail> {
+    let bytes: Vec<u8> = (0..LONG).map(|i| (i * 7 % 251) as u8).collect(alloc)?;
+    let moved = move_long(alloc, bench, bytes.as_slice())?;
+    write!(told, "{moved}")?;
     Ok(())
 }
 
@@ -518,16 +508,68 @@ fn overwrite<M: GuestMemory, B: Bitmap>(
     Ok(())
 }
 
+// What is done with a guest, beside single requests.
+#[derive(Clone, Copy)]
+enum Act {
+    CutData,
+    CutHeader(u32),
+    MoveLong,
+    OverwriteRing,
+}
+
+impl Scene<MemoryDisk> for Act {
+    fn tell<M: GuestMemory, B: Bitmap>(
+        &self,
+        alloc: Global,
+        bench: &mut Bench<M, B, MemoryDisk>,
+        told: &mut String,
+    ) -> Result<(), Fail> {
+        match *self {
+            Act::CutData => cut_anywhere(alloc, bench),
+            Act::CutHeader(cut) => header_cut_at(bench, cut),
+            Act::MoveLong => tell_long(alloc, bench, told),
+            Act::OverwriteRing => overwrite(alloc, bench, told),
+        }
+    }
+}
+
+fn expect(alloc: Global, act: Act, scattered: bool, wanted: &str) -> Result<(), Fail> {
+    let told = told_of(alloc, scattered, numbered(alloc, 4)?, false, &act)?;
+    expect_text(0, told.as_str(), wanted)
+}
+
+#[test]
+fn data_is_cut_anywhere(rt: HostRuntime) -> Result<(), Fail> {
+    for scattered in [false, true] {
+        expect(rt.alloc(), Act::CutData, scattered, "")?;
+    }
+    Ok(())
+}
+
+#[test]
+fn headers_are_cut_anywhere(rt: HostRuntime) -> Result<(), Fail> {
+    for cut in 0..17 {
+        expect(rt.alloc(), Act::CutHeader(cut), false, "")?;
+    }
+    Ok(())
+}
+
+#[test]
+fn requests_of_many_pieces(rt: HostRuntime) -> Result<(), Fail> {
+    for scattered in [false, true] {
+        let disk = MemoryDisk::new(vec![in rt.alloc(); 0u8; LONG + 1024]?);
+        let told = told_of(rt.alloc(), scattered, disk, false, &Act::MoveLong)?;
+        expect_text(0, told.as_str(), "true")?;
+    }
+    Ok(())
+}
+
 #[test]
 fn requests_over_their_ring(rt: HostRuntime) -> Result<(), Fail> {
     for scattered in [false, true] {
-        let disk = numbered(rt.alloc(), 4)?;
-        let mut bench = make_bench(rt.alloc(), scattered, disk, false)?;
-        let mut told = String::new(rt.alloc());
-        overwrite(rt.alloc(), &mut bench, &mut told)?;
         // The driver's index is 257 then, which is more than 16 ahead.
         let wanted = "[1, 1, 1, 1] [0] 1 false Some(InvalidAvailRingIndex)";
-        expect_text(0, told.as_str(), wanted)?;
+        expect(rt.alloc(), Act::OverwriteRing, scattered, wanted)?;
     }
     Ok(())
 }

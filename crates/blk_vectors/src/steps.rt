@@ -1,7 +1,7 @@
 //! Requests in two steps, on a disk that is no `Disk` of the library, behind an IOMMU that gets its mappings later.
 
 use crate::bench::{
-    BEGIN, Bench, DATA, HEADER, Memory, NAME, PAGE, STATUS, header_of, make_bench, map_page,
+    BEGIN, Bench, DATA, HEADER, NAME, PAGE, STATUS, Scene, header_of, map_page, told_of,
 };
 use crate::own_disk::serve;
 use crate::requests::numbered;
@@ -9,11 +9,9 @@ use std::alloc::Global;
 use std::test::Fail;
 use test_text::expect_text;
 use virtio_blk::MemoryDisk;
-use vm_memory_base::{ExclusiveBitmap, GuestAddress};
+use vm_memory_base::{Bitmap, GuestAddress};
 use vm_memory_device::{Chain, Segment};
-use vm_memory_guest::TlbId;
-
-type Guest = Bench<Memory, ExclusiveBitmap, MemoryDisk>;
+use vm_memory_guest::{GuestMemory, HostMemory, TlbId};
 
 const TABLE: TlbId = TlbId(0);
 
@@ -34,95 +32,154 @@ fn chain_of(alloc: Global, len: u32, writable: bool) -> Result<Chain, Fail> {
     Ok(Chain::new(segments)?)
 }
 
-fn unmap(guest: &mut Guest, page: u64) -> Result<(), Fail> {
-    if !guest.host.shape().has_table(TABLE) || page >= DATA + PAGE {
+fn unmap<B: Bitmap>(host: &mut HostMemory<B>, page: u64) -> Result<(), Fail> {
+    if !host.shape().has_table(TABLE) || page >= DATA + PAGE {
         return Err(Fail::new("the host has no such table"));
     }
-    guest
-        .host
-        .table_mut(TABLE)
+    host.table_mut(TABLE)
         .invalidate_mapping(GuestAddress(page), PAGE as usize)?;
     Ok(())
 }
 
-fn map_again(guest: &mut Guest, page: u64) -> Result<(), Fail> {
-    map_page(&mut guest.host, TABLE, page.saturating_sub(BEGIN) / PAGE)
+fn map_again<B: Bitmap>(host: &mut HostMemory<B>, page: u64) -> Result<(), Fail> {
+    map_page(host, TABLE, page.saturating_sub(BEGIN) / PAGE)
 }
 
 // Serves a chain, and tells the length that it is returned with, or the error.
-fn own_text(
-    alloc: Global,
-    guest: &mut Guest,
+fn tell_served<M: GuestMemory, B: Bitmap>(
+    bench: &mut Bench<M, B, MemoryDisk>,
     disk: &mut [u8],
     chain: &Chain,
-) -> Result<String, Fail> {
-    if !guest.host.holds(&guest.memory) {
+    told: &mut String,
+) -> Result<(), Fail> {
+    if !bench.host.holds(&bench.memory) {
         return Err(Fail::new("the host does not hold the memory"));
     }
-    Ok(
-        match serve(disk, 0, &guest.memory, &mut guest.host, chain) {
-            Ok(len) => format!(in alloc; "{len}")?,
-            Err(error) => format!(in alloc; "{error}")?,
-        },
-    )
+    match serve(disk, 0, &bench.memory, &mut bench.host, chain) {
+        Ok(len) => write!(told, "{len}; ")?,
+        Err(error) => write!(told, "{error}; ")?,
+    }
+    Ok(())
 }
 
-// The header's mapping comes, and then the status's, and then a part of the device's name is told.
-#[test]
-fn requests_wait_for_mappings(rt: HostRuntime) -> Result<(), Fail> {
-    let alloc = rt.alloc();
-    let mut guest = make_bench(alloc, true, numbered(alloc, 4)?, false)?;
-    guest.put(HEADER, &header_of(8, 0))?;
-    let mut disk = vec![in alloc; 0u8; 2048]?;
-    unmap(&mut guest, HEADER)?;
-    unmap(&mut guest, STATUS)?;
+// The mapping of the header comes, and then that of the status.
+fn tell_waiting<M: GuestMemory, B: Bitmap>(
+    alloc: Global,
+    bench: &mut Bench<M, B, MemoryDisk>,
+    told: &mut String,
+) -> Result<(), Fail> {
     let chain = chain_of(alloc, 7, true)?;
-    let refused =
-        "IOMMU failed to translate guest address: Cannot translate I/O virtual address range ";
-    let wanted = [
-        (HEADER, "0x11000+16: missing mapping"),
-        (STATUS, "0x12000+1: missing mapping"),
-    ];
-    for (number, (page, range)) in wanted.iter().enumerate() {
-        let told = own_text(alloc, &mut guest, disk.as_mut_slice(), &chain)?;
-        let wanted = format!(in alloc; "{refused}{range}")?;
-        expect_text(number, told.as_str(), wanted.as_str())?;
-        map_again(&mut guest, *page)?;
+    bench.put(HEADER, &header_of(8, 0))?;
+    unmap(&mut bench.host, HEADER)?;
+    unmap(&mut bench.host, STATUS)?;
+    for page in [HEADER, STATUS] {
+        tell_served(bench, &mut [], &chain, told)?;
+        map_again(&mut bench.host, page)?;
     }
-    let told = own_text(alloc, &mut guest, disk.as_mut_slice(), &chain)?;
-    expect_text(2, told.as_str(), "8")?;
-    let data = guest.get(alloc, DATA, 8)?;
+    tell_served(bench, &mut [], &chain, told)
+}
+
+// A part of the device's name is told, and no byte behind it changes.
+fn expect_name<M: GuestMemory, B: Bitmap>(
+    alloc: Global,
+    bench: &Bench<M, B, MemoryDisk>,
+) -> Result<(), Fail> {
+    let data = bench.get(alloc, DATA, 8)?;
     if data.get(..7) != NAME.get(..7) || data.get(7) != Some(&170) {
         return Err(Fail::new("the name is not cut"));
     }
     Ok(())
 }
 
-// A sector is written to the disk, and the one before it is read from there.
-#[test]
-fn sectors_go_to_a_disk_of_its_own(rt: HostRuntime) -> Result<(), Fail> {
-    let alloc = rt.alloc();
-    let mut guest = make_bench(alloc, false, numbered(alloc, 4)?, false)?;
-    let mut disk = vec![in alloc; 7u8; 2048]?;
-    guest.put(HEADER, &header_of(1, 2))?;
-    let chain = chain_of(alloc, 512, false)?;
-    let told = own_text(alloc, &mut guest, disk.as_mut_slice(), &chain)?;
-    expect_text(0, told.as_str(), "1")?;
-    for (place, byte) in disk.iter().enumerate() {
-        let written = (1024..1536).contains(&place);
-        if *byte != if written { 170 } else { 7 } {
-            return Err(Fail::new(format_args!("byte {place} of the disk")));
-        }
-    }
-    guest.put(HEADER, &header_of(0, 1))?;
-    let chain = chain_of(alloc, 512, true)?;
-    let told = own_text(alloc, &mut guest, disk.as_mut_slice(), &chain)?;
-    expect_text(1, told.as_str(), "513")?;
-    let data = guest.get(alloc, DATA, 513)?;
-    for (place, byte) in data.iter().enumerate() {
-        if *byte != if place < 512 { 7 } else { 170 } {
-            return Err(Fail::new(format_args!("byte {place} of the data")));
+// Fails unless the bytes from one place to another are 170 and all others 7, or the other way round.
+fn expect_bytes(bytes: &[u8], begin: usize, end: usize, inside: u8) -> Result<(), Fail> {
+    for (place, byte) in bytes.iter().enumerate() {
+        let is_inside = begin <= place && place < end;
+        if (*byte == inside) != is_inside || (*byte != 7 && *byte != 170) {
+            return Err(Fail::new(format_args!("byte {place}")));
         }
     }
     Ok(())
+}
+
+// A sector is written to the disk.
+fn tell_write<M: GuestMemory, B: Bitmap>(
+    alloc: Global,
+    bench: &mut Bench<M, B, MemoryDisk>,
+    disk: &mut [u8],
+    told: &mut String,
+) -> Result<(), Fail> {
+    bench.put(HEADER, &header_of(1, 2))?;
+    let chain = chain_of(alloc, 512, false)?;
+    tell_served(bench, disk, &chain, told)?;
+    expect_bytes(disk, 1024, 1536, 170)
+}
+
+// A sector of 7s is read from the disk.
+fn tell_read<M: GuestMemory, B: Bitmap>(
+    alloc: Global,
+    bench: &mut Bench<M, B, MemoryDisk>,
+    disk: &mut [u8],
+    told: &mut String,
+) -> Result<(), Fail> {
+    bench.put(HEADER, &header_of(0, 1))?;
+    let chain = chain_of(alloc, 512, true)?;
+    tell_served(bench, disk, &chain, told)?;
+    let data = bench.get(alloc, DATA, 513)?;
+    expect_bytes(data.as_slice(), 0, 512, 7)
+}
+
+// What is done with a device of two steps.
+#[derive(Clone, Copy)]
+enum Act {
+    Wait,
+    Move,
+}
+
+impl Scene<MemoryDisk> for Act {
+    fn tell<M: GuestMemory, B: Bitmap>(
+        &self,
+        alloc: Global,
+        bench: &mut Bench<M, B, MemoryDisk>,
+        told: &mut String,
+    ) -> Result<(), Fail> {
+        match *self {
+            Act::Wait => {
+                tell_waiting(alloc, bench, told)?;
+                expect_name(alloc, bench)
+            }
+            Act::Move => {
+                let mut disk = vec![in alloc; 7u8; 2048]?;
+                tell_write(alloc, bench, disk.as_mut_slice(), told)?;
+                tell_read(alloc, bench, disk.as_mut_slice(), told)
+            }
+        }
+    }
+}
+
+#[test]
+fn requests_wait_for_mappings(rt: HostRuntime) -> Result<(), Fail> {
+    let told = told_of(
+        rt.alloc(),
+        true,
+        numbered(rt.alloc(), 4)?,
+        false,
+        &Act::Wait,
+    )?;
+    let wanted = "IOMMU failed to translate guest address: Cannot translate I/O virtual address \
+        range 0x11000+16: missing mapping; IOMMU failed to translate guest address: Cannot \
+        translate I/O virtual address range 0x12000+1: missing mapping; 8; ";
+    expect_text(0, told.as_str(), wanted)
+}
+
+#[test]
+fn sectors_go_to_a_disk_of_its_own(rt: HostRuntime) -> Result<(), Fail> {
+    let told = told_of(
+        rt.alloc(),
+        false,
+        numbered(rt.alloc(), 4)?,
+        false,
+        &Act::Move,
+    )?;
+    expect_text(0, told.as_str(), "1; 513; ")
 }
