@@ -46,14 +46,14 @@ variant() {
     sigterm) work=load ending=TERM ;;
     sigkill) work=load ending=KILL ;;
     qemu) device=qemu ;;
-    qemu-lazy) device=qemu iommu=lazy ops=20 files=3 ;;
-    qemu-move) device=qemu work=move moving="" ;;
-    strict-8 | lazy-8) iommu=${1%-8} backend="--iotlb-limit 8" ops=20 files=3 ;;
-    strict-64 | lazy-64) iommu=${1%-64} backend="--iotlb-limit 64" ops=20 files=3 ;;
-    strict | lazy) iommu=$1 ops=20 files=3 ;;
-    move | move-file) work=move moving=${1#move} ;;
-    strict-move | strict-move-file) work=move moving=${1#strict-move} iommu=strict backend="--iotlb-limit 64" ;;
-    lazy-move | lazy-move-file) work=move moving=${1#lazy-move} iommu=lazy backend="--iotlb-limit 64" ;;
+    qemu-lazy) device=qemu iommu=lazy ops=10 files=2 ;;
+    qemu-move) device=qemu work=move moving="" ops=4 ;;
+    strict-8 | lazy-8) iommu=${1%-8} backend="--iotlb-limit 8" ops=10 files=2 ;;
+    strict-64 | lazy-64) iommu=${1%-64} backend="--iotlb-limit 64" ops=10 files=2 ;;
+    strict | lazy) iommu=$1 ops=10 files=2 ;;
+    move | move-file) work=move moving=${1#move} ops=4 ;;
+    strict-move | strict-move-file) work=move moving=${1#strict-move} iommu=strict backend="--iotlb-limit 64" ops=4 ;;
+    lazy-move | lazy-move-file) work=move moving=${1#lazy-move} iommu=lazy backend="--iotlb-limit 64" ops=4 ;;
     *) return 1 ;;
     esac
 }

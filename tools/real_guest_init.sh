@@ -21,7 +21,7 @@ mount -t tmpfs tmp /tmp
 WORKERS="0 1 2 3"
 AREA=$((4 << 20))
 HALF=$((32 << 20))
-PART=$((12 << 20))
+PART=$((8 << 20))
 PATTERN=$(stat -c %s /pattern)
 
 fail() {
@@ -241,7 +241,7 @@ load() {
 # the pages and not from the disk: so is memory that was read while the guest moved, and that nothing else wrote.
 read_part() {
     echo 3 > /proc/sys/vm/drop_caches
-    dd if=/dev/zero of=/tmp/fill bs=1M count=24 status=none
+    dd if=/dev/zero of=/tmp/fill bs=1M count=16 status=none
     rm /tmp/fill
     head -c "$PART" "/dev/$disk" > /dev/null
     # Time for the guest to move.
@@ -252,6 +252,7 @@ read_part() {
 
 # Load while the guest moves: it ends after a line on the console.
 move_away() {
+    AREA=$((1 << 20))
     check_disk 0
     take_areas
     head -c "$PART" "/dev/$disk" > /tmp/part
@@ -261,12 +262,6 @@ move_away() {
         while [ ! -e /tmp/is_over ]; do
             round=$((round + 1))
             raw "$round"
-            for worker in $WORKERS; do
-                dd if="/dev/$disk" of="/tmp/area.$worker" bs=256k count=$((AREA >> 18)) iflag=skip_bytes,direct \
-                    skip=$((HALF + worker * AREA)) status=none
-                same "/tmp/area.$worker" "/tmp/shadow.$worker" "round $round: the area of worker $worker has other bytes"
-                rm "/tmp/area.$worker"
-            done
         done
     ) &
     local load=$! round=0
