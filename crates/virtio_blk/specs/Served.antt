@@ -25,7 +25,7 @@ abbrev pub SameDisk : {D : Type 0} → (D → Option (List ℕ)) → (D → ℕ)
 SameDisk bytes sectors old new = (bytes new ≡ bytes old) × (sectors new ≡ sectors old)
 
 -- the bytes of a text went to a disk, from a sector on, in pieces that it took: all N, or whole pieces, up to
--- one that the disk did not take or if a byte could not be read
+-- one that the disk did not take, or that has a byte that could not be read
 pub record Stores {B D : Type 0} (bytes : D → Option (List ℕ)) (sectors : D → ℕ)
     (calls : D → Call → Bool → D → Type 0) (m : Memory) (host : Host B) (es : List Entry) (sector len : ℕ) (old : D)
     (status : ℕ) (new : D) : Type 0 where
