@@ -589,9 +589,10 @@ static inline vmm_answer vmm_finish_request(vmm_session *s, size_t queue, size_t
     return vmm_asked(s, &call, NULL, 0, NULL, 0);
 }
 
-/* A vhost-user back end's side of the protocol: docs/VHOST_USER.md. A connection holds what was negotiated, and what the
- * front end said of its memory and its rings. The caller receives messages, does what they ask for, and sends replies.
- * A connection is opened before it is called, and closed once; one call at a time is made of it, from any thread. */
+/* A vhost-user back end's side of the protocol: crates/vhost_user/README.md. A connection holds what was negotiated, and
+ * what the front end said of its memory and its rings. The caller receives messages, does what they ask for, and sends
+ * replies. A connection is opened before it is called, and closed once; one call at a time is made of it, from any
+ * thread. */
 
 /* The handle of a connection. One that is zero is closed. */
 typedef struct vmm_vhost {
