@@ -24,19 +24,18 @@ typedef struct vmm_session {
     unsigned char *at;
 } vmm_session;
 
-/* What is called, in the order of the lines of a script, and then what no script has a line for. */
+/* What is called, in the order of the lines of a script, and then what no script has a line for. These are the rows of
+ * bindings/commands.txt. */
 enum vmm_kind {
-    VMM_BLOCK, VMM_SPACE, VMM_TABLE, VMM_LIMITED_TABLE, VMM_REGION, VMM_TRANSLATOR,
-    VMM_LAYOUT, VMM_INSERT, VMM_REMOVE, VMM_PLAIN, VMM_MEMORY, VMM_REPLACE, VMM_ENABLE,
-    VMM_READ, VMM_WRITE, VMM_READX, VMM_WRITEX, VMM_STORE, VMM_LOAD,
-    VMM_FROM, VMM_FROMX, VMM_TO, VMM_TOX, VMM_CHECK, VMM_COPY,
-    VMM_SET, VMM_INVALIDATE, VMM_CLEAR, VMM_LOOKUP,
-    VMM_DIRTY_BLOCK, VMM_DIRTY_SPACE, VMM_HARVEST_BLOCK, VMM_HARVEST_SPACE,
-    VMM_MARK_BLOCK, VMM_MARK_REACHED,
-    VMM_QUEUE, VMM_SET_QUEUE, VMM_RESET_QUEUE, VMM_QUEUE_STATE, VMM_FORGET,
-    VMM_QUEUE_IS_VALID, VMM_AVAIL_IDX, VMM_USED_IDX, VMM_POP, VMM_READ_CHAIN, VMM_WRITE_CHAIN, VMM_ADD_USED,
-    VMM_NEEDS_NOTIFICATION, VMM_ENABLE_NOTIFICATION, VMM_DISABLE_NOTIFICATION,
-    VMM_BEGIN_REQUEST, VMM_FINISH_REQUEST, VMM_IOTLB_MESSAGE
+    VMM_BLOCK, VMM_SPACE, VMM_TABLE, VMM_LIMITED_TABLE, VMM_REGION, VMM_TRANSLATOR, VMM_LAYOUT,
+    VMM_INSERT, VMM_REMOVE, VMM_PLAIN, VMM_MEMORY, VMM_REPLACE, VMM_ENABLE, VMM_READ, VMM_WRITE,
+    VMM_READX, VMM_WRITEX, VMM_STORE, VMM_LOAD, VMM_FROM, VMM_FROMX, VMM_TO, VMM_TOX, VMM_CHECK,
+    VMM_COPY, VMM_SET, VMM_INVALIDATE, VMM_CLEAR, VMM_LOOKUP, VMM_DIRTY_BLOCK, VMM_DIRTY_SPACE,
+    VMM_HARVEST_BLOCK, VMM_HARVEST_SPACE, VMM_MARK_BLOCK, VMM_MARK_REACHED, VMM_QUEUE,
+    VMM_SET_QUEUE, VMM_RESET_QUEUE, VMM_QUEUE_STATE, VMM_FORGET, VMM_QUEUE_IS_VALID, VMM_AVAIL_IDX,
+    VMM_USED_IDX, VMM_POP, VMM_READ_CHAIN, VMM_WRITE_CHAIN, VMM_ADD_USED, VMM_NEEDS_NOTIFICATION,
+    VMM_ENABLE_NOTIFICATION, VMM_DISABLE_NOTIFICATION, VMM_BEGIN_REQUEST, VMM_FINISH_REQUEST,
+    VMM_IOTLB_MESSAGE
 };
 
 /* An access. */
@@ -57,8 +56,8 @@ enum vmm_code {
     VMM_IOMMU_MEMORY = 49,
     VMM_NO_MEMORY_REGION = 50, VMM_MEMORY_REGION_OVERLAP = 51, VMM_UNSORTED_MEMORY_REGIONS = 52,
     VMM_IOTLB_TOO_SMALL = 53, VMM_NO_IOTLB = 54,
-    VMM_MESSAGE_VERSION = 55, VMM_MESSAGE_PAYLOAD_SIZE = 56, VMM_MESSAGE_KIND = 57, VMM_MESSAGE_EMPTY_RANGE = 58,
-    VMM_MESSAGE_RANGE = 59, VMM_MESSAGE_PERMISSIONS = 60, VMM_MESSAGE_USER_ADDRESS = 61,
+    VMM_MESSAGE_KIND = 57, VMM_MESSAGE_EMPTY_RANGE = 58, VMM_MESSAGE_RANGE = 59, VMM_MESSAGE_PERMISSIONS = 60,
+    VMM_MESSAGE_USER_ADDRESS = 61,
     VMM_NOT_PAGED = 64, VMM_NO_FILE = 65, VMM_FILE_SHORT = 66, VMM_NOT_MAPPED = 67, VMM_NOT_SHARED = 68,
     VMM_INVALID_MAX_SIZE = 70, VMM_INVALID_QUEUE_SIZE = 71, VMM_INVALID_DESC_TABLE_ALIGN = 72,
     VMM_INVALID_AVAIL_RING_ALIGN = 73, VMM_INVALID_USED_RING_ALIGN = 74, VMM_QUEUE_NOT_READY = 75,
@@ -589,9 +588,10 @@ static inline vmm_answer vmm_finish_request(vmm_session *s, size_t queue, size_t
     return vmm_asked(s, &call, NULL, 0, NULL, 0);
 }
 
-/* A vhost-user back end's side of the protocol: docs/VHOST_USER.md. A connection holds what was negotiated, and what the
- * front end said of its memory and its rings. The caller receives messages, does what they ask for, and sends replies.
- * A connection is opened before it is called, and closed once; one call at a time is made of it, from any thread. */
+/* A vhost-user back end's side of the protocol: crates/vhost_user/README.md. A connection holds what was negotiated, and
+ * what the front end said of its memory and its rings. The caller receives messages, does what they ask for, and sends
+ * replies. A connection is opened before it is called, and closed once; one call at a time is made of it, from any
+ * thread. */
 
 /* The handle of a connection. One that is zero is closed. */
 typedef struct vmm_vhost {
@@ -715,8 +715,6 @@ static inline const char *vmm_iotlb_text(uint32_t code) {
     switch (code) {
     case VMM_IOTLB_TOO_SMALL: return "cannot translate: the call needs more ranges than the I/O table keeps";
     case VMM_NO_IOTLB: return "the memory lies behind no I/O table";
-    case VMM_MESSAGE_VERSION: return "malformed message: unknown version";
-    case VMM_MESSAGE_PAYLOAD_SIZE: return "malformed message: invalid size of the payload";
     case VMM_MESSAGE_KIND: return "malformed message: unknown kind of message";
     case VMM_MESSAGE_EMPTY_RANGE: return "malformed message: empty range";
     case VMM_MESSAGE_RANGE: return "malformed message: range past the last address";

@@ -29,7 +29,7 @@ invalidated iova size = if named iova size == 0 then Err malformed.EmptyRange el
     if nat_lt (2 ^ 64) (iova + named iova size) then Err malformed.Range
     else Ok (min (named iova size) (2 ^ 64 - 1 - iova)))
 
--- so many addresses are invalidated
+-- N addresses are invalidated
 abbrev pub invalidate : ℕ → Result ℕ Malformed → Result TableEvent Refusal
 invalidate iova (Err e) = Err (refusal.Malformed e)
 invalidate iova (Ok len) = Ok (table.Invalidate iova len)
@@ -43,7 +43,7 @@ call_of regions (Invalidate iova size) = invalidate iova (invalidated iova size)
 call_of regions (Miss iova access) = Err (refusal.Malformed malformed.Kind)
 call_of regions (AccessFail iova access) = Err (refusal.Malformed malformed.Kind)
 
--- what may be done for a call: the call, but in place of taking a range back all may be taken back
+-- what may be done for a call: the call, but instead of a range all may be unmapped
 abbrev pub DoneFor : TableEvent → TableEvent → Type 0
 DoneFor (table.Invalidate iova len) call = (call ≡ table.Invalidate iova len) ⊎ (call ≡ table.InvalidateAll)
 DoneFor asked call = call ≡ asked
@@ -74,7 +74,7 @@ MakesOfMalformed number (Invalidate iova size) calls old new =
     (calls ≡ table.InvalidateAll ∷ []) × Changes number table.InvalidateAll old new
 MakesOfMalformed number m calls old new = MakesNothing calls old new
 
--- what was asked for may be refused for want of memory: that a range is mapped
+-- what was asked for may be refused because an allocation fails: that a range is mapped
 abbrev pub MayWant : Result TableEvent Refusal → Type 0
 MayWant (Ok (table.Set iova to len permissions)) = Unit {0}
 MayWant asked = ⊥

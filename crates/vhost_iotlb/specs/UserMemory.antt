@@ -4,7 +4,7 @@ use Rattle.vm_memory_base.specs.Address.{step}
 use Rattle.vm_memory_base.specs.declared.address.GuestAddress.{GuestAddress}
 use Rattle.vhost_iotlb.specs.declared.user_memory.UserRegion.{UserRegion}
 
--- whether a part has so many bytes of the front end's memory from an address on
+-- whether a part has N bytes of the front end's memory from an address on
 abbrev pub has_range : ℕ → ℕ → UserRegion → Bool
 has_range user size r = nat_le r.user_address user && nat_le (user + size) (r.user_address + r.len)
 

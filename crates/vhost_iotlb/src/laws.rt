@@ -35,7 +35,7 @@ pub fn ranges_are_set_for_updates()
 {}
 
 /// After any list of messages a table says of each address what the call or eviction that covers it last made of it: an
-/// UPDATE that was applied mapped it, or an INVALIDATE or an eviction took the mapping back. Where none covers it, it
+/// UPDATE that was applied mapped it, or an INVALIDATE or an eviction unmapped it. If none covers it, it
 /// says what it said before.
 pub fn tables_say_what_was_updated_last()
     ensures all { (number x : ℕ) (regions : List UserRegion) (ms : List IotlbMessage) (calls : List TableEvent)
@@ -53,7 +53,7 @@ pub fn tables_say_what_was_updated_last()
 }
 
 /// After any list of messages an access behind the table reaches each byte through the mapping that an UPDATE set last
-/// for its address, and never through one that an INVALIDATE or an eviction took back.
+/// for its address, and never through one that an INVALIDATE or an eviction unmapped.
 pub fn accesses_go_through_what_was_updated_last()
     ensures all { (regions : List UserRegion) (ms : List IotlbMessage) (calls : List TableEvent)
         (old new : Host PageSet) (m : Memory) (b : Translation) (t : Table) (a n i : ℕ) (access : Permissions)
@@ -78,8 +78,8 @@ pub fn accesses_go_through_what_was_updated_last()
 }
 
 /// After an INVALIDATE that names an address, and no UPDATE of that address since, the table misses it, and no access
-/// behind the table reaches a byte there, whatever came before and since. After a malformed one that holds of each
-/// address that no UPDATE had since. The last address, 2^64 - 1, is none that an access can have.
+/// behind the table reaches a byte there, whatever came before and since. After a malformed one that holds for each
+/// address that no UPDATE had since. No access can have the last address, 2^64 - 1.
 pub fn invalidated_addresses_are_missed()
     ensures missed { (number x iova size : ℕ) (regions : List UserRegion) (earlier later : List IotlbMessage)
         (calls : List TableEvent) (old new : Host PageSet) (t : Table)

@@ -1,5 +1,5 @@
 //! A vhost back end's part of a device's I/O table: its messages, a bounded table that they fill, and requests that
-//! wait for what the table misses. docs/VHOST.md.
+//! wait for what the table misses. The crate's README.md has the rules.
 #![tactic(auto)]
 
 mod access;

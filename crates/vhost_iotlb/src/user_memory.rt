@@ -60,7 +60,7 @@ impl UserMemory {
         UserMemory { regions }
     }
 
-    /// Where a range of the front end's memory lies in guest memory. `None` where no part has all of it.
+    /// Where a range of the front end's memory lies in guest memory. `None` if no part has all of it.
     pub fn guest_of(&self, user_address: u64, size: u64) -> Option<GuestAddress>
         ensures { result ≡ guest_of self.now user_address size }
     {

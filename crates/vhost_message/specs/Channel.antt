@@ -57,7 +57,7 @@ RefusedFor (Refused e) kept = wanted kept ≡ Err e
 RefusedFor Ended kept = ⊥
 RefusedFor Failed kept = ⊥
 
--- one read of what is no message yet: it gave bytes, which are kept, and maybe none; or it failed, or it was not made,
+-- one read of what is not yet a message: it gave bytes, which are kept, or maybe none; or it failed or was not made,
 -- since what is kept begins no message
 abbrev pub ReadsOn : {R : Type 0} → (R → Given → R → Type 0) → List ℕ → R → Result Bool ChannelError → List ℕ → R
     → Type 0
@@ -92,7 +92,7 @@ pub record Looks {R : Type 0} (gives : R → Given → R → Type 0) (old : List
   pub are_kept : AreKept gave old kept
   pub finds : Finds kept gave answer new
 
--- looks were made one after the other, with these answers
+-- looks were made one after the other, with these results
 abbrev pub AllLook : {R : Type 0} → (R → Given → R → Type 0) → List ℕ → R
     → List (Result (Option (List ℕ)) ChannelError) → List ℕ → R → Type 0
 AllLook gives old before [] new after = (new ≡ old) × (after ≡ before)

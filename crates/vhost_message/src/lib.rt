@@ -1,5 +1,5 @@
 //! The messages of the vhost-user protocol, as bytes: headers, payloads, what a front end asks for by them, and what a
-//! back end sends on its own channel. docs/VHOST_USER.md.
+//! back end sends on its own channel. The crate's README.md has the rules.
 #![tactic(auto)]
 
 mod backend_req;

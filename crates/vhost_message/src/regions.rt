@@ -159,7 +159,7 @@ impl MemoryTable {
         }
     }
 
-    /// The table that is the payload of a SET_MEM_TABLE: `PayloadSize` if it does not have just the regions that it
+    /// The table that is the payload of a SET_MEM_TABLE: `PayloadSize` if it does not have exactly the regions that it
     /// counts.
     #[tactic(auto, unfolding(crate::specs::Regions::table_in))]
     pub fn decode(payload: &[u8]) -> Result<MemoryTable, Refusal>

@@ -91,7 +91,7 @@ pub fn announced(alloc: Global) -> Result<UserMemory, Fail> {
     Ok(UserMemory::new(regions))
 }
 
-/// A host, its guest memory behind a table of so many ranges, and the number of the table.
+/// A host, its guest memory behind a table of this many ranges, and the number of the table.
 #[derive(Drop)]
 pub struct World {
     pub host: Host,

@@ -10,7 +10,7 @@ use Rattle.vm_memory_base.specs.declared.bitmap.tracked.Marker.{Marker}
 use Rattle.vm_memory_base.specs.declared.bitmap.tracked.TrackedBitmap.{TrackedBitmap}
 use Rattle.vm_memory_base.specs.declared.bitmap.tracked.view.View.{View}
 
--- how many bytes it tracks, in pages of which size
+-- how many bytes it tracks, and the size of its pages
 abbrev pub paging_of : TrackedBitmap → Paging
 paging_of b = b.paging
 

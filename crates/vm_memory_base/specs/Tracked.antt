@@ -1,4 +1,4 @@
--- The rule of a bitmap that several threads mark while one harvests, and what each step tells.
+-- The rule of a bitmap that several threads mark while one harvests, and what each step reveals.
 -- The low half of a word has 32 pages as bits, and its high half the number of its harvests, its round.
 use Rattle.std.specs.Prelude.{ℕ, zero, suc, ◌+◌, ◌-◌, ◌*◌, ◌/◌, ◌%◌, ◌^◌, ◌<◌, ◌≤◌, ◌≡◌, ◌≢◌, ◌⊎◌, List, [], ◌∷◌, ◌++◌, All, map, length, slice_index, max, Bool, false, ◌==◌}
 use Rattle.std.specs.Int.{bit_at, div_ceil}
@@ -43,7 +43,7 @@ after_deals markers v = record v { dealt = v.dealt + markers }
 abbrev pub seen_of : ℕ → View → ℕ
 seen_of word v = greatest_of word v.rounds
 
--- the number of words for so many pages. One there is always
+-- the number of words for N pages, at least 1
 abbrev pub words_for : ℕ → ℕ
 words_for count = max 1 (div_ceil count 32)
 
@@ -77,7 +77,7 @@ abbrev pub HasHarvests : ℕ → List View → List Note → Type 0
 HasHarvests count views harvests =
     (v : View) × (get_elem? views 0 ≡ some v) × (v.harvests ≡ harvests) × (v.count ≡ count)
 
--- The rule of so many pages. The first seat is the harvester's, and it alone harvests. A word's round is the number
+-- The rule of N pages. The first seat is the harvester's, and only it harvests. A word's round is the number
 -- of its harvests, one in each round before it. What was marked or seen is in the harvest of its round or still set,
 -- each page that was harvested or is set was marked in its round, and no page is set past the last
 pub record IsRuled (count : ℕ) (words : List ℕ) (views : List View) : Type 0 where
@@ -141,7 +141,7 @@ Harvests s me found after =
     (length (rounds_of s.word me.0.harvests) ≡ round_of found) × IsWordBelow me.0.count s.word (set_pages found)
     × (after ≡ (after_harvest s.word (round_of found) (set_pages found) me.0, me.1))
 
--- what a note of the rounds that were seen tells, and no more
+-- what a note of the rounds that were seen says, and no more
 abbrev pub note_of : View → View
 note_of v = record (newcomer 0) { rounds = v.rounds }
 
@@ -160,7 +160,7 @@ abbrev pub MarksPage : ℕ → View → View → Type 0
 MarksPage page v w =
     (round : ℕ) × (seen_of (page / 32) v ≤ round) × (w ≡ after_mark (page / 32) round (2 ^ (page % 32)) v)
 
--- a mark of so many pages from the first on, ascending
+-- a mark of N pages from the first on, ascending
 abbrev pub MarksPages : ℕ → ℕ → View → View → Type 0
 MarksPages zero first v w = w ≡ v
 MarksPages (suc n) first v w = (u : View) × MarksPages n first v u × MarksPage (first + n) u w
@@ -177,11 +177,11 @@ after_harvests round words v =
       rounds = gathered 0 (round + 1) (map (λ _. 0) words) v.rounds;
     }
 
--- each of so many words was harvested so many times
+-- each of N words was harvested M times
 abbrev pub AreHarvested : ℕ → ℕ → List Note → Type 0
 AreHarvested words round harvests = (word : ℕ) → word < words → length (rounds_of word harvests) ≡ round
 
--- of each of so many words, this round was seen
+-- of each of N words, this round was seen
 abbrev pub AreSeen : ℕ → ℕ → View → Type 0
 AreSeen words round v = (word : ℕ) → word < words → round ≤ seen_of word v
 
@@ -190,14 +190,14 @@ abbrev pub Counts : Step (Unit {0}) → Me (Unit {0}) View → ℕ → Me (Unit 
 Counts s me found after =
     ((word : ℕ) → seen_of word me.0 ≤ length (rounds_of word me.0.harvests)) × (after ≡ me)
 
--- the same but for the rounds that were seen
+-- the same except for the rounds that were seen
 abbrev pub HasSameRecords : View → View → Type 0
 HasSameRecords v w =
     (w.marks ≡ v.marks) × (w.sightings ≡ v.sightings) × (w.harvests ≡ v.harvests)
     × (w.markers ≡ v.markers) × (w.dealt ≡ v.dealt)
 
 -- A look at a page: some round of its word is seen, no earlier than the last that was seen, with the pages that are
--- then set. Where the page is told to be clean, it was not marked and not seen set in that round
+-- then set. If the page is reported clean, it was not marked and not seen set in that round
 abbrev pub Sees : ℕ → View → View → Bool → Type 0
 Sees page v w told =
     (found : ℕ) × (seen_of (page / 32) v ≤ round_of found) × (w ≡ after_look (page / 32) found v)

@@ -93,7 +93,7 @@ IsApplied table regions m old a new =
     (r : Result (Unit {0}) Refusal) × (calls : List TableEvent) × (host : Host PageSet)
     × Applies table regions m r calls old.host host × (a ≡ answer_of_applied r) × (new ≡ record old { host = host })
 
--- the table takes a message: it is malformed, or it is applied. For the rows of an UPDATE memory may be wanting, and
+-- the table takes a message: it is malformed, or it is applied. The allocation for the rows of an UPDATE may fail, and
 -- then nothing changes
 abbrev pub Takes : ℕ → List UserRegion → Result IotlbMessage Malformed → State → Answer → State → Type 0
 Takes table regions (Err e) old a new = (a ≡ coded (code_of_malformed e)) × (new ≡ old)

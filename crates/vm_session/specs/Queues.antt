@@ -33,7 +33,7 @@ use Rattle.vm_session.specs.declared.call.QueuePart.TheVariants as part
 
 -- ---- setup
 
--- a queue of so many entries that nobody has set up, with nothing in flight
+-- a queue of N entries that nobody has set up, with nothing in flight
 abbrev pub unused : ℕ → ℕ → DeviceQueue
 unused size most = record { queue = new_queue size; most = most; flight = replicate size None }
 
@@ -50,7 +50,7 @@ MakesQueue old call a new =
 abbrev pub word : ℕ → Option ℕ
 word n = if nat_lt n (2 ^ 16) then Some n else None
 
--- a part of a queue is set to a number, where it can be one
+-- a part of a queue is set to a number, if it can be one
 abbrev pub set_part : QueuePart → ℕ → Virtqueue → Option (Result (Unit {0}) QueueError × Virtqueue)
 set_part part.Size n q = option_map (λ size. set_if (is_size size && nat_le size q.state.max_size)
     errors.InvalidSize q (record q.state { size = size })) (word n)
@@ -182,7 +182,7 @@ BeginsRequest m host q head (Some terms) a = MatchOption (chain_of q head) (a �
     × Begins m host terms (text (readable chain)) (text (writable chain)) r × (a ≡ answer_of_begun r))
 
 module _ {B : Type 0} (marks : B → ℕ → ℕ → B → Type 0) (m : Memory) where
-  -- the request of a chain in flight is finished, with a status, where so many bytes were written before
+  -- the request of a chain in flight is finished, with a status, if N bytes were written before
   abbrev pub FinishesRequest : DeviceQueue → ℕ → ℕ → ℕ → Host B → Answer → Host B → Type 0
   FinishesRequest q head status moved old a new = MatchOption (chain_of q head)
       ((a ≡ not_in_flight) × (new ≡ old))

@@ -146,7 +146,7 @@ abbrev pub is_due : Option Retry → ℕ → Bool
 is_due None table = false
 is_due (Some r) table = r.table == table && is_again r.stage
 
--- all mappings of a table are taken back
+-- all addresses of a table are unmapped
 abbrev pub Clears : ℕ → SessionState → SessionState → Type 0
 Clears table old new = (r : Reply) × Step old.machine (command.InvalidateAll table) r new.machine
     × (new.queues ≡ old.queues)

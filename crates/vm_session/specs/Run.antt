@@ -108,7 +108,7 @@ Does old e (worked kind) new = (slice_get kinds e.call.kind ≡ Some kind) × Is
     × OnBoth kind old e.call e.input e.before e.answer new e.after
 Does old e (wrote blocks) new = ⊥
 
--- a call is answered so, or in place of a miss that its table is too small
+-- a call is answered so, or instead of a miss that its table is too small
 abbrev pub IsToldAs : Answer → Answer → Type 0
 IsToldAs told a = (a ≡ told) ⊎ ((told.code ≡ 42) × (a ≡ record told { code = 53 }))
 

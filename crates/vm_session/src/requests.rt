@@ -1,5 +1,5 @@
 //! The calls on a queue and a memory that a device makes for each request. Each is work of its own, with no more than it
-//! needs, and puts its answer where it is wanted, so that it is not copied.
+//! needs, and puts its answer into `answer`, so that it is not copied.
 ghost use Rattle.std.specs.Prelude.{◌≡◌, List, ℕ};
 ghost use Rattle.vm_memory_guest.specs.Host.{shape_of, Holds};
 ghost use Rattle.vm_memory.specs.Parts.{state_of};

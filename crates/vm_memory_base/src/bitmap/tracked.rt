@@ -46,13 +46,13 @@ pub struct Harvester {
         × tracked.AreSeen seat.table_id.words round seat.me.0 },
 }
 
-/// Why no page was harvested.
+/// Why no pages were harvested.
 #[derive(Clone, Copy, Debug, PartialEq, Eq, Error)]
 pub enum HarvestError {
     /// The allocation of the pages failed.
     #[error("out of memory")]
     Memory,
-    /// Each word was harvested 2^32 - 1 times, and has no room for the number of another round.
+    /// Each word was harvested 2^32 - 1 times, and the number of its round has no next one.
     #[error("rounds spent")]
     RoundsSpent,
 }
@@ -71,7 +71,7 @@ impl TrackedBitmap {
     ghost use Rattle.vm_memory_base.specs.declared.bitmap.tracked.HarvestError.TheVariants.{RoundsSpent};
 
     /// A bitmap for `byte_size` bytes in pages of `page_size` bytes, the last of which may be cut. No page is set.
-    /// With it come its harvester and as many markers as are asked for. `AllocError` where an allocation fails.
+    /// Its harvester and the requested number of markers come with it. `AllocError` if an allocation fails.
     pub fn new(
         alloc: Global,
         byte_size: usize,
@@ -114,7 +114,7 @@ impl TrackedBitmap {
             .fetch_or::<Marks>(&mut marker.seat, page / 32, 1 << (page % 32));
     }
 
-    /// Marks the pages of `len` bytes from `addr` on, ascending, each by one step: none, where `len` is 0. A range
+    /// Marks the pages of `len` bytes from `addr` on, ascending, each by one step, and none if `len` is 0. A range
     /// that passes 2^64 - 1 ends there, and what lies past the last page is left out. The marker has to be one of
     /// this bitmap's.
     pub fn mark(&self, marker: &mut Marker, addr: usize, len: usize)
@@ -129,7 +129,7 @@ impl TrackedBitmap {
         }
     }
 
-    /// Whether the page of the byte at `addr` is seen set, by one step. Past the last page none is. The marker has to
+    /// Whether the page of the byte at `addr` is seen set, by one step. False past the last page. The marker has to
     /// be one of this bitmap's.
     pub fn is_addr_set(&self, marker: &mut Marker, addr: usize) -> bool
         requires own { marker_table marker.old ≡ table_of self.now }
@@ -158,8 +158,8 @@ impl TrackedBitmap {
         (set_pages(found) >> (page % 32)) & 1 == 1
     }
 
-    /// Whether the page of the byte at `addr` was set at some moment. It takes no marker, and promises only that past
-    /// the last page none is.
+    /// Whether the page of the byte at `addr` was set at some moment. It takes no marker, and promises only that it is
+    /// false past the last page.
     pub fn glance(&self, addr: usize) -> bool
         ensures { count_of (paging_of self.now) ≤ addr / page_size_of (paging_of self.now) → result ≡ false }
     {
@@ -188,8 +188,8 @@ impl TrackedBitmap {
     }
 
     /// Takes the pages of every word, in order: page `n` is bit `n % 32` of number `n / 32`. One step takes a word
-    /// and opens its next round. `RoundsSpent` where there is a word that was harvested 2^32 - 1 times, `Memory`
-    /// where the allocation of the answer fails, and then nothing changes. The harvester has to be this bitmap's.
+    /// and opens its next round. `RoundsSpent` if there is a word that was harvested 2^32 - 1 times, `Memory`
+    /// if the allocation of the result fails, and then nothing changes. The harvester has to be this bitmap's.
     pub fn get_and_reset(
         &self,
         harvester: &mut Harvester,
@@ -253,7 +253,7 @@ impl TrackedBitmap {
             .join_seat::<Both>(&mut harvester.seat, seat);
     }
 
-    /// Lets a marker meet the harvester. From then on the marker has seen each round at which the harvester stands.
+    /// Lets a marker meet the harvester. From then on the marker has seen each round that the harvester has reached.
     /// Both have to be this bitmap's.
     pub fn meet(&self, marker: &mut Marker, harvester: &mut Harvester)
         requires own { (marker_table marker.old ≡ table_of self.now)
@@ -286,7 +286,7 @@ impl TrackedBitmap {
     }
 
     /// Ends the bitmap, and returns the pages that are set, as `get_and_reset` does. If each marker was joined before,
-    /// these are pages that markers marked, and no others. If the allocation of the answer fails, bitmap and harvester
+    /// these are pages that markers marked, and no others. If the allocation of the result fails, bitmap and harvester
     /// come back. The harvester has to be this bitmap's.
     pub fn close(
         self,
