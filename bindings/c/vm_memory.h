@@ -35,7 +35,7 @@ enum vmm_kind {
     VMM_SET_QUEUE, VMM_RESET_QUEUE, VMM_QUEUE_STATE, VMM_FORGET, VMM_QUEUE_IS_VALID, VMM_AVAIL_IDX,
     VMM_USED_IDX, VMM_POP, VMM_READ_CHAIN, VMM_WRITE_CHAIN, VMM_ADD_USED, VMM_NEEDS_NOTIFICATION,
     VMM_ENABLE_NOTIFICATION, VMM_DISABLE_NOTIFICATION, VMM_BEGIN_REQUEST, VMM_FINISH_REQUEST,
-    VMM_IOTLB_MESSAGE
+    VMM_IOTLB_MESSAGE, VMM_COMPLETE_CHAIN
 };
 
 /* An access. */
@@ -531,6 +531,16 @@ static inline vmm_answer vmm_add_used(vmm_session *s, size_t queue, size_t memor
     vmm_request call = vmm_on(VMM_ADD_USED, queue, memory, head);
     call.value = written;
     return vmm_asked(s, &call, NULL, 0, NULL, 0);
+}
+
+/* vmm_write_chain and then vmm_add_used, in one call. If the chain does not take all `size` bytes, it stays in flight, and
+ * the code is that of the write, or VMM_PARTIAL_BUFFER: `count` is how many it took, and `value` is `size`. */
+static inline vmm_answer vmm_complete_chain(vmm_session *s, size_t queue, size_t memory, size_t head, uint64_t offset,
+                                            const void *bytes, size_t size, uint32_t written) {
+    vmm_request call = vmm_on(VMM_COMPLETE_CHAIN, queue, memory, head);
+    call.address = offset;
+    call.value = written;
+    return vmm_asked(s, &call, bytes, size, NULL, 0);
 }
 
 /* Drops a chain in flight, and returns nothing to the driver. */
