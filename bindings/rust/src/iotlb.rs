@@ -89,7 +89,7 @@ impl error::Error for Malformed {}
 pub enum IotlbError {
     /// The message is malformed.
     Malformed(Malformed),
-    /// The memory lies behind no I/O table, or its IOMMU is off.
+    /// The memory does not lie behind an I/O table, or its IOMMU is off.
     NoTable,
     /// The machine has no such memory, or an allocation failed. No INVALIDATE is refused for the latter.
     Machine(MachineError),

@@ -112,7 +112,7 @@ pub mod part {
     pub const NEXT_USED: usize = 7;
 }
 
-/// What `BEGIN_REQUEST` answers: what a request asks a block device for.
+/// What `BEGIN_REQUEST` returns: what a request asks a block device for.
 #[allow(missing_docs)]
 pub mod request {
     pub const READ: u64 = 0;
