@@ -5,14 +5,14 @@ use Rattle.vm_memory_base.specs.Table.{Table, TableEvent, changed, overruns}
 use Rattle.vm_memory_base.specs.declared.address.GuestAddress.{GuestAddress}
 use Rattle.vm_memory_base.specs.declared.iotlb.Permissions.{Permissions}
 use Rattle.vm_memory_guest.specs.Host.{Host, with_table_at}
-use Rattle.vhost_iotlb.specs.UserMemory.{guest_of}
+use Rattle.vhost_message.specs.Regions.{guest_of}
 use Rattle.vhost_message.specs.declared.refusal.Malformed.{Malformed}
 use Rattle.vhost_message.specs.declared.refusal.Malformed.TheVariants as malformed
 use Rattle.vhost_message.specs.declared.iotlb.IotlbMessage.{IotlbMessage}
 use Rattle.vhost_message.specs.declared.iotlb.IotlbMessage.TheVariants.{Miss, Update, Invalidate, AccessFail}
 use Rattle.vhost_iotlb.specs.declared.table.Refusal.{Refusal}
 use Rattle.vhost_iotlb.specs.declared.table.Refusal.TheVariants as refusal
-use Rattle.vhost_iotlb.specs.declared.user_memory.UserRegion.{UserRegion}
+use Rattle.vhost_message.specs.declared.regions.MemoryRegion.{MemoryRegion}
 
 -- a range that is mapped to guest memory
 abbrev pub set_to : ℕ → ℕ → Permissions → Option GuestAddress → Result TableEvent Refusal
@@ -35,7 +35,7 @@ invalidate iova (Err e) = Err (refusal.Malformed e)
 invalidate iova (Ok len) = Ok (table.Invalidate iova len)
 
 -- the call of a table that a message of the front end asks for, or what is wrong with it
-abbrev pub call_of : List UserRegion → IotlbMessage → Result TableEvent Refusal
+abbrev pub call_of : List MemoryRegion → IotlbMessage → Result TableEvent Refusal
 call_of regions (Update iova size user permissions) =
     if overruns iova size then Err (refusal.Malformed malformed.Range)
     else set_to iova size permissions (guest_of regions user size)
@@ -80,7 +80,7 @@ MayWant (Ok (table.Set iova to len permissions)) = Unit {0}
 MayWant asked = ⊥
 
 -- a message to the table of this number: the calls that it made of it, one or none
-abbrev pub Applies : {B : Type 0} → ℕ → List UserRegion → IotlbMessage → Result (Unit {0}) Refusal → List TableEvent
+abbrev pub Applies : {B : Type 0} → ℕ → List MemoryRegion → IotlbMessage → Result (Unit {0}) Refusal → List TableEvent
     → Host B → Host B → Type 0
 Applies number regions m (Ok done) calls old new = Makes number (call_of regions m) calls old new
 Applies number regions m (Err (refusal.Malformed e)) calls old new =
@@ -93,7 +93,7 @@ Applies number regions m (Err refusal.NoTable) calls old new =
     (length old.tables ≤ number) × MakesNothing calls old new
 
 -- messages came one after the other: these calls are what they made of the table
-abbrev pub Handles : {B : Type 0} → ℕ → List UserRegion → List IotlbMessage → List TableEvent → Host B → Host B
+abbrev pub Handles : {B : Type 0} → ℕ → List MemoryRegion → List IotlbMessage → List TableEvent → Host B → Host B
     → Type 0
 Handles number regions [] calls old new = (calls ≡ []) × (new ≡ old)
 Handles {B} number regions (m ∷ ms) calls old new =

@@ -8,13 +8,13 @@ use crate::host::SharedHost;
 use crate::replies::Replies;
 use crate::request::{Outcome, Request};
 use crate::table::{DeviceTable, Refusal};
-use crate::user_memory::UserMemory;
 use std::io::Write;
 use std::marker::Model;
 use thiserror::Error;
 use vhost_message::{
-    BackendReq, ChannelError, FrontendReq, HEADER_LEN, Header, Incoming, IotlbMessage, Message,
-    Receive, Refusal as MessageRefusal, VERSION, VHOST_USER_IOTLB_MSG, VHOST_USER_REPLY,
+    BackendReq, ChannelError, FrontendReq, HEADER_LEN, Header, Incoming, IotlbMessage,
+    MemoryRegions, Message, Receive, Refusal as MessageRefusal, VERSION, VHOST_USER_IOTLB_MSG,
+    VHOST_USER_REPLY,
 };
 
 // How many replies to messages of its own may wait to be read: a mapping often comes before the reply to its MISS, and
@@ -243,7 +243,7 @@ impl<F: Receive + Write, O: Receive + Write> DeviceIotlb<F, O> {
 
     /// From now on user addresses mean this: the front end announced its memory again, with a SET_MEM_TABLE. What was
     /// mapped before stays as it is.
-    pub fn set_memory(&mut self, memory: UserMemory)
+    pub fn set_memory(&mut self, memory: MemoryRegions)
         ensures { self.new ≡ record self.old { table = record self.old.table { memory = memory } } }
     {
         self.table.memory = memory;

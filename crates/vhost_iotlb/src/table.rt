@@ -5,10 +5,9 @@ ghost use Rattle.vm_memory_base.specs.Table.{TableEvent};
 ghost use Rattle.vm_memory_guest.specs.Host.{shape_of, with_given_table};
 ghost use Rattle.vhost_iotlb.specs.Changes.{Applies, Changes, invalidated};
 
-use crate::user_memory::UserMemory;
 use std::alloc::{AllocError, Global};
 use thiserror::Error;
-use vhost_message::{IotlbMessage, Malformed};
+use vhost_message::{IotlbMessage, Malformed, MemoryRegions};
 use vm_memory_base::{GuestAddress, Iotlb, Permissions};
 use vm_memory_guest::{HostMemory, TlbId};
 
@@ -35,7 +34,7 @@ pub struct DeviceTable {
     /// The number of the table.
     pub table: TlbId,
     /// What user addresses mean.
-    pub memory: UserMemory,
+    pub memory: MemoryRegions,
 }
 
 // Maps a range of a table of a host.
@@ -122,7 +121,7 @@ impl DeviceTable {
         alloc: Global,
         host: &mut HostMemory<B>,
         limit: usize,
-        memory: UserMemory,
+        memory: MemoryRegions,
     ) -> Result<DeviceTable, AllocError>
         requires { 0 < limit }
         ensures number { IfOk result (λ d. d.table.0 ≡ length host.old.tables) }

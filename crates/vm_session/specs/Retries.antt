@@ -10,7 +10,7 @@ use Rattle.vm_memory.specs.declared.machine.command.Command.TheVariants as comma
 use Rattle.vm_memory.specs.declared.machine.command.Reply.{Reply}
 use Rattle.vhost_message.specs.declared.iotlb.IotlbMessage.{IotlbMessage}
 use Rattle.vhost_message.specs.declared.iotlb.IotlbMessage.TheVariants as message
-use Rattle.vhost_iotlb.specs.declared.user_memory.UserRegion.{UserRegion}
+use Rattle.vhost_message.specs.declared.regions.MemoryRegion.{MemoryRegion}
 use Rattle.vm_session.specs.Kinds.{is_message, is_table, kinds}
 use Rattle.vm_session.specs.Messages.{is_announced, message_of, regions_in}
 use Rattle.vm_session.specs.Misses.{memory_of}
@@ -152,7 +152,7 @@ Clears table old new = (r : Reply) × Step old.machine (command.InvalidateAll ta
     × (new.queues ≡ old.queues)
 
 -- it is emptied before it takes an UPDATE that maps announced memory
-abbrev pub Readies : Option Retry → List UserRegion → Option (ℕ × IotlbMessage) → SessionState → SessionState → Type 0
+abbrev pub Readies : Option Retry → List MemoryRegion → Option (ℕ × IotlbMessage) → SessionState → SessionState → Type 0
 Readies retry regions None old new = new ≡ old
 Readies retry regions (Some p) old new =
     MatchBool (is_due retry p.0 && is_announced regions p.1) (Clears p.0 old new) (new ≡ old)
