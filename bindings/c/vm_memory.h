@@ -2,12 +2,12 @@
  * The proved machine, for C11 and C++17.
  *
  * A session is a machine. Each function below is one call of it. If a script has a line for it (docs/SCRIPT.md), the name
- * and the order are those of the line, but what a script makes before its first command alone is made at any time. A
- * script has no queues. docs/BINDINGS.md has the rules.
+ * and the order are those of the line, but what a script can only make before its first command can be made at any
+ * time. A script has no queues. docs/BINDINGS.md has the rules.
  *
  * The caller opens a session before it calls it, and closes it once. It makes one call at a time of a session, from any
- * thread, keeps no pointer into it but those that vmm_shared_block gives, copies its handle nowhere, and gives lengths
- * that are true. A program is built with vm_memory_heap.c, which has the allocator that the static library wants.
+ * thread, keeps no pointer into it except those that vmm_shared_block gives, does not copy its handle, and gives true
+ * lengths. Build a program with vm_memory_heap.c, which has the allocator that the static library calls.
  */
 #ifndef VM_MEMORY_H
 #define VM_MEMORY_H
@@ -24,25 +24,24 @@ typedef struct vmm_session {
     unsigned char *at;
 } vmm_session;
 
-/* What is called, in the order of the lines of a script, and then what no script has a line for. */
+/* What is called, in the order of the lines of a script, and then what no script has a line for. These are the rows of
+ * bindings/commands.txt. */
 enum vmm_kind {
-    VMM_BLOCK, VMM_SPACE, VMM_TABLE, VMM_LIMITED_TABLE, VMM_REGION, VMM_TRANSLATOR,
-    VMM_LAYOUT, VMM_INSERT, VMM_REMOVE, VMM_PLAIN, VMM_MEMORY, VMM_REPLACE, VMM_ENABLE,
-    VMM_READ, VMM_WRITE, VMM_READX, VMM_WRITEX, VMM_STORE, VMM_LOAD,
-    VMM_FROM, VMM_FROMX, VMM_TO, VMM_TOX, VMM_CHECK, VMM_COPY,
-    VMM_SET, VMM_INVALIDATE, VMM_CLEAR, VMM_LOOKUP,
-    VMM_DIRTY_BLOCK, VMM_DIRTY_SPACE, VMM_HARVEST_BLOCK, VMM_HARVEST_SPACE,
-    VMM_MARK_BLOCK, VMM_MARK_REACHED,
-    VMM_QUEUE, VMM_SET_QUEUE, VMM_RESET_QUEUE, VMM_QUEUE_STATE, VMM_FORGET,
-    VMM_QUEUE_IS_VALID, VMM_AVAIL_IDX, VMM_USED_IDX, VMM_POP, VMM_READ_CHAIN, VMM_WRITE_CHAIN, VMM_ADD_USED,
-    VMM_NEEDS_NOTIFICATION, VMM_ENABLE_NOTIFICATION, VMM_DISABLE_NOTIFICATION,
-    VMM_BEGIN_REQUEST, VMM_FINISH_REQUEST, VMM_IOTLB_MESSAGE
+    VMM_BLOCK, VMM_SPACE, VMM_TABLE, VMM_LIMITED_TABLE, VMM_REGION, VMM_TRANSLATOR, VMM_LAYOUT,
+    VMM_INSERT, VMM_REMOVE, VMM_PLAIN, VMM_MEMORY, VMM_REPLACE, VMM_ENABLE, VMM_READ, VMM_WRITE,
+    VMM_READX, VMM_WRITEX, VMM_STORE, VMM_LOAD, VMM_FROM, VMM_FROMX, VMM_TO, VMM_TOX, VMM_CHECK,
+    VMM_COPY, VMM_SET, VMM_INVALIDATE, VMM_CLEAR, VMM_LOOKUP, VMM_DIRTY_BLOCK, VMM_DIRTY_SPACE,
+    VMM_HARVEST_BLOCK, VMM_HARVEST_SPACE, VMM_MARK_BLOCK, VMM_MARK_REACHED, VMM_QUEUE,
+    VMM_SET_QUEUE, VMM_RESET_QUEUE, VMM_QUEUE_STATE, VMM_FORGET, VMM_QUEUE_IS_VALID, VMM_AVAIL_IDX,
+    VMM_USED_IDX, VMM_POP, VMM_READ_CHAIN, VMM_WRITE_CHAIN, VMM_ADD_USED, VMM_NEEDS_NOTIFICATION,
+    VMM_ENABLE_NOTIFICATION, VMM_DISABLE_NOTIFICATION, VMM_BEGIN_REQUEST, VMM_FINISH_REQUEST,
+    VMM_IOTLB_MESSAGE, VMM_COMPLETE_CHAIN
 };
 
 /* An access. */
 enum vmm_access { VMM_NO, VMM_R, VMM_W, VMM_RW };
 
-/* Why a call was refused, or 0. docs/BINDINGS.md says what the other fields of an answer tell of each. */
+/* Why a call was refused, or 0. docs/BINDINGS.md says what the other fields of an answer mean for each. */
 enum vmm_code {
     VMM_DONE = 0, VMM_NO_SUCH = 1, VMM_BAD_RANGE = 2, VMM_OUT_OF_MEMORY = 3, VMM_FAILS = 4,
     VMM_INVALID_SIZE = 5, VMM_INVALID_REGION = 6,
@@ -57,8 +56,8 @@ enum vmm_code {
     VMM_IOMMU_MEMORY = 49,
     VMM_NO_MEMORY_REGION = 50, VMM_MEMORY_REGION_OVERLAP = 51, VMM_UNSORTED_MEMORY_REGIONS = 52,
     VMM_IOTLB_TOO_SMALL = 53, VMM_NO_IOTLB = 54,
-    VMM_MESSAGE_VERSION = 55, VMM_MESSAGE_PAYLOAD_SIZE = 56, VMM_MESSAGE_KIND = 57, VMM_MESSAGE_EMPTY_RANGE = 58,
-    VMM_MESSAGE_RANGE = 59, VMM_MESSAGE_PERMISSIONS = 60, VMM_MESSAGE_USER_ADDRESS = 61,
+    VMM_MESSAGE_KIND = 57, VMM_MESSAGE_EMPTY_RANGE = 58, VMM_MESSAGE_RANGE = 59, VMM_MESSAGE_PERMISSIONS = 60,
+    VMM_MESSAGE_USER_ADDRESS = 61,
     VMM_NOT_PAGED = 64, VMM_NO_FILE = 65, VMM_FILE_SHORT = 66, VMM_NOT_MAPPED = 67, VMM_NOT_SHARED = 68,
     VMM_INVALID_MAX_SIZE = 70, VMM_INVALID_QUEUE_SIZE = 71, VMM_INVALID_DESC_TABLE_ALIGN = 72,
     VMM_INVALID_AVAIL_RING_ALIGN = 73, VMM_INVALID_USED_RING_ALIGN = 74, VMM_QUEUE_NOT_READY = 75,
@@ -80,7 +79,7 @@ enum vmm_part {
     VMM_SIZE, VMM_DESC_TABLE, VMM_AVAIL_RING, VMM_USED_RING, VMM_READY, VMM_EVENT_IDX, VMM_NEXT_AVAIL, VMM_NEXT_USED
 };
 
-/* What VMM_BEGIN_REQUEST answers: what a request asks a block device for. */
+/* What VMM_BEGIN_REQUEST returns: what a request asks a block device for. */
 enum vmm_blk_request {
     VMM_BLK_READ = 0, VMM_BLK_WRITE = 1, VMM_BLK_WRITE_STABLE = 2, VMM_BLK_FLUSH = 4, VMM_BLK_GET_ID = 8,
     VMM_BLK_REFUSED = 16, VMM_BLK_UNSERVED = 17
@@ -89,8 +88,8 @@ enum vmm_blk_request {
 /* The status of a request: it was done, it failed, or the device does not know its kind. */
 enum vmm_blk_status { VMM_BLK_S_OK, VMM_BLK_S_IOERR, VMM_BLK_S_UNSUPP };
 
-/* The numbers that close a step of a source, behind the numbers of its bytes, and those of the steps of a sink:
- * behind VMM_TAKES stands how many bytes it takes at most. */
+/* The numbers that close a step of a source, after the numbers of its bytes, and the numbers of the steps of a sink:
+ * after VMM_TAKES stands how many bytes it takes at most. */
 enum vmm_step {
     VMM_TAKES = 0, VMM_SINK_INTERRUPTED = 1, VMM_SINK_FAILS = 2,
     VMM_GIVES = 256, VMM_INTERRUPTED = 257, VMM_SOURCE_FAILS = 258
@@ -121,7 +120,7 @@ typedef struct vmm_answer {
     vmm_miss miss;
 } vmm_answer;
 
-/* The three functions of the library. `vmm_open` answers VMM_DONE or VMM_OUT_OF_MEMORY. `vmm_call` writes the first four
+/* The three functions of the library. `vmm_open` returns VMM_DONE or VMM_OUT_OF_MEMORY. `vmm_call` writes the first four
  * members of `answer`, and `miss` if a table refused the call. */
 uint32_t vmm_open(vmm_session *session);
 void vmm_call(vmm_session *session, const vmm_request *call, const uint8_t *input, size_t input_size,
@@ -152,7 +151,7 @@ static inline vmm_request vmm_at(enum vmm_kind kind, size_t first, uint64_t addr
     return call;
 }
 
-/* Setup: each answers the number of what was made in `value`. */
+/* Setup: each returns the number of what was made in `value`. */
 
 static inline vmm_answer vmm_block(vmm_session *s, size_t size, size_t page) {
     vmm_request call = vmm_at(VMM_BLOCK, 0, 0, size);
@@ -294,7 +293,7 @@ static inline vmm_answer vmm_tox(vmm_session *s, size_t memory, uint64_t address
     return vmm_asked(s, &call, steps, steps_size, taken, size);
 }
 
-/* `value` is 1 where all bytes may be accessed so, else 0. */
+/* `value` is 1 if all bytes may be accessed so, and otherwise 0. */
 static inline vmm_answer vmm_check(vmm_session *s, size_t memory, uint64_t address, size_t size,
                                    enum vmm_access access) {
     vmm_request call = vmm_at(VMM_CHECK, memory, address, size);
@@ -337,9 +336,9 @@ typedef struct vmm_user_region {
 
 /* Applies a message of a front end to the I/O table of a memory, whose IOMMU is on. The input has the 32 bytes of the
  * message, and then a vmm_user_region for each part of the announced memory. An INVALIDATE needs none, and is never
- * refused for want of memory. A malformed message is refused with VMM_MESSAGE_KIND and so on, and maps nothing; if it is
- * an INVALIDATE, all mappings are taken back. A call that was refused with VMM_IOMMU_MISSING is made again after its
- * UPDATE was applied so, until it is not. It ends then: if the table has a limit, the call is refused with
+ * refused because an allocation fails. A malformed message is refused with VMM_MESSAGE_KIND and so on, and maps nothing;
+ * if it is an INVALIDATE, all addresses are unmapped. A call that was refused with VMM_IOMMU_MISSING is made again after
+ * its UPDATE was applied so, until it is not. It ends then: if the table has a limit, the call is refused with
  * VMM_IOTLB_TOO_SMALL if it needs more ranges than that (docs/BINDINGS.md). */
 static inline vmm_answer vmm_iotlb_message(vmm_session *s, size_t memory, const void *input, size_t input_size) {
     vmm_request call = vmm_at(VMM_IOTLB_MESSAGE, memory, 0, 0);
@@ -399,8 +398,8 @@ static inline uint64_t vmm_number(const void *list, size_t place) {
 
 /* Split virtqueues: crates/virtio_queue/README.md. */
 
-/* A queue that nobody has set up, whose size is the greatest: a power of two, 1 to 32768. All of its chains in flight
- * have at most so many descriptors. `value` is its number. */
+/* A queue in its reset state, with the maximum size: a power of two, 1 to 32768. All of its chains in flight have at
+ * most `descriptors` descriptors. `value` is its number. */
 static inline vmm_answer vmm_queue(vmm_session *s, size_t max_size, size_t descriptors) {
     vmm_request call = vmm_at(VMM_QUEUE, 0, 0, max_size);
     call.other_length = descriptors;
@@ -527,11 +526,21 @@ static inline vmm_answer vmm_write_chain(vmm_session *s, size_t queue, size_t me
     return vmm_asked(s, &call, bytes, size, NULL, 0);
 }
 
-/* Returns a chain in flight, to which so many bytes were written. */
+/* Returns a chain in flight, to which this many bytes were written. */
 static inline vmm_answer vmm_add_used(vmm_session *s, size_t queue, size_t memory, size_t head, uint32_t written) {
     vmm_request call = vmm_on(VMM_ADD_USED, queue, memory, head);
     call.value = written;
     return vmm_asked(s, &call, NULL, 0, NULL, 0);
+}
+
+/* vmm_write_chain and then vmm_add_used, in one call. If the chain does not take all `size` bytes, it stays in flight, and
+ * the code is that of the write, or VMM_PARTIAL_BUFFER: `count` is how many it took, and `value` is `size`. */
+static inline vmm_answer vmm_complete_chain(vmm_session *s, size_t queue, size_t memory, size_t head, uint64_t offset,
+                                            const void *bytes, size_t size, uint32_t written) {
+    vmm_request call = vmm_on(VMM_COMPLETE_CHAIN, queue, memory, head);
+    call.address = offset;
+    call.value = written;
+    return vmm_asked(s, &call, bytes, size, NULL, 0);
 }
 
 /* Drops a chain in flight, and returns nothing to the driver. */
@@ -559,7 +568,7 @@ static inline vmm_answer vmm_disable_notification(vmm_session *s, size_t queue, 
 
 /* Requests of a block device whose disk is the caller's: crates/virtio_blk/README.md. */
 
-/* Says what the request of a chain in flight asks a device for, and changes nothing. The disk has so many sectors, and
+/* Says what the request of a chain in flight asks a device for, and changes nothing. The disk has `sectors` sectors, and
  * the driver accepted these features, each as its bit: 9 is FLUSH. `value` is one of vmm_blk_request:
  * - VMM_BLK_READ: `count` bytes of the disk, from the sector `address` on, go to the front of the writable bytes.
  * - VMM_BLK_WRITE: the `count` readable bytes from the offset 16 on go to the disk, from the sector `address` on.
@@ -589,9 +598,10 @@ static inline vmm_answer vmm_finish_request(vmm_session *s, size_t queue, size_t
     return vmm_asked(s, &call, NULL, 0, NULL, 0);
 }
 
-/* A vhost-user back end's side of the protocol: docs/VHOST_USER.md. A connection holds what was negotiated, and what the
- * front end said of its memory and its rings. The caller receives messages, does what they ask for, and sends replies.
- * A connection is opened before it is called, and closed once; one call at a time is made of it, from any thread. */
+/* A vhost-user back end's side of the protocol: crates/vhost_user/README.md. A connection holds what was negotiated, and
+ * what the front end said of its memory and its rings. The caller receives messages, does what they ask for, and sends
+ * replies. A connection is opened before it is called, and closed once; one call at a time is made of it, from any
+ * thread. */
 
 /* The handle of a connection. One that is zero is closed. */
 typedef struct vmm_vhost {
@@ -608,8 +618,8 @@ typedef struct vmm_vhost_offer {
     uint32_t queues, max_queue_size, writable_from, writable_len;
 } vmm_vhost_offer;
 
-/* What is still to come of a message: so many bytes of its header, or if that is there of its payload; and at most so
- * many descriptors come with the whole message. */
+/* What is still to come of a message: how many bytes of its header, or if that is there of its payload, and how many
+ * descriptors come with the whole message at most. */
 typedef struct vmm_vhost_wanted_bytes {
     size_t bytes, descriptors;
 } vmm_vhost_wanted_bytes;
@@ -631,8 +641,8 @@ typedef struct vmm_vhost_region_row {
 
 /* A ring that is to be served: how many descriptors it has, the index of the next available one from which it was
  * started, and its addresses in guest memory, or I/O addresses if ACCESS_PLATFORM was accepted. The used ring has
- * `used_size` bytes. If `is_logged` is 1, writes to it are marked in the log at the address `log`. `kick` and `call`: 0 for
- * none said, 1 for no descriptor, 2 for one. */
+ * `used_size` bytes. If `is_logged` is 1, writes to it are marked in the log at `log`. `kick` and `call`: 0 if no message
+ * said so, 1 for no descriptor, 2 for one. */
 typedef struct vmm_vhost_vring {
     uint32_t size, base;
     uint64_t descriptor, available, used, used_size, log;
@@ -652,7 +662,7 @@ typedef struct vmm_vhost_negotiated {
     uint32_t is_owned;
 } vmm_vhost_negotiated;
 
-/* The functions of the library. Those that answer a code give VMM_DONE, or why they did nothing. Pointers are not null.
+/* The functions of the library. A code is VMM_DONE, or why the call did nothing. Pointers are not null.
  *
  * Opens a connection, with a configuration of at most 256 bytes: VMM_VHOST_OFFER if no back end offers this, and
  * VMM_OUT_OF_MEMORY. */
@@ -661,19 +671,19 @@ uint32_t vmm_vhost_open(vmm_vhost *connection, const vmm_vhost_offer *offer, con
 /* What is still to come of a message of which these bytes came, or why its header is refused. */
 uint32_t vmm_vhost_wanted(const uint8_t *start, size_t start_size, vmm_vhost_wanted_bytes *wanted);
 
-/* Takes a message with which so many descriptors came. A ring that a GET_VRING_BASE names is stopped: what is in flight
- * is finished, vmm_vhost_stop says where the ring goes on, and then the reply is sent. */
+/* Takes a message, and how many descriptors came with it. A ring that a GET_VRING_BASE names is stopped: finish what is
+ * in flight, set by vmm_vhost_stop where the ring goes on, and then send the reply. */
 uint32_t vmm_vhost_handle(vmm_vhost *connection, const uint8_t *message, size_t message_size, size_t descriptors,
                           vmm_vhost_request *request);
 
 /* The reply to a message that was taken and done, and to one that was refused or could not be done. It is put into the
- * output if it has room, and 280 bytes are enough. They answer how many bytes it has, 0 if no reply is due. */
+ * output if it has room, and 280 bytes are enough. They return how many bytes it has, 0 if no reply is due. */
 size_t vmm_vhost_reply(vmm_vhost *connection, const uint8_t *message, size_t message_size, uint8_t *output,
                        size_t output_size);
 size_t vmm_vhost_refuse(vmm_vhost *connection, const uint8_t *message, size_t message_size, uint8_t *output,
                         size_t output_size);
 
-/* Says where a ring goes on that was stopped. */
+/* Sets where a stopped ring goes on. */
 uint32_t vmm_vhost_stop(vmm_vhost *connection, uint32_t index, uint32_t base);
 
 /* A ring as it is to be served, or why it is not: VMM_VHOST_INDEX or one from VMM_VHOST_STOPPED on. */
@@ -737,8 +747,6 @@ static inline const char *vmm_iotlb_text(uint32_t code) {
     switch (code) {
     case VMM_IOTLB_TOO_SMALL: return "cannot translate: the call needs more ranges than the I/O table keeps";
     case VMM_NO_IOTLB: return "the memory lies behind no I/O table";
-    case VMM_MESSAGE_VERSION: return "malformed message: unknown version";
-    case VMM_MESSAGE_PAYLOAD_SIZE: return "malformed message: invalid size of the payload";
     case VMM_MESSAGE_KIND: return "malformed message: unknown kind of message";
     case VMM_MESSAGE_EMPTY_RANGE: return "malformed message: empty range";
     case VMM_MESSAGE_RANGE: return "malformed message: range past the last address";

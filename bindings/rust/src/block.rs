@@ -133,8 +133,8 @@ impl Request {
 impl DescriptorChain<'_> {
     /// Reads the header of a request and says what the device has to do. Nothing changes.
     ///
-    /// A request that is wrong is no error, but [`Request::Refused`]. If an IOMMU refuses an access to the header, or
-    /// an allocation fails, nothing is decided. A device whose mappings come later makes the call again then.
+    /// A wrong request is not an error, but [`Request::Refused`]. If an IOMMU refuses an access to the header, or an
+    /// allocation fails, nothing is decided. A device whose mappings come later makes the call again then.
     #[inline]
     pub fn begin_request(&self, mem: &GuestMemory<'_>, terms: Terms) -> Result<Request, QueueError> {
         let access = if terms.read_only {

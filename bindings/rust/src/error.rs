@@ -23,7 +23,7 @@ pub enum GuestMemoryError {
     InvalidBackendAddress,
     /// The region has no host bytes.
     HostAddressNotAvailable,
-    /// A callback answered more than was left. No call of this crate takes one.
+    /// A callback returned more than was left. No call of this crate takes one.
     CallbackOutOfRange,
     /// A callback went past the greatest address. No call of this crate takes one.
     GuestAddressOverflow,
@@ -153,7 +153,7 @@ impl error::Error for IommuError {}
 /// Why regions make no layout.
 #[derive(Clone, Copy, Debug, PartialEq, Eq)]
 pub enum GuestRegionCollectionError {
-    /// There is no region, or no such one to remove.
+    /// There is no region, or none like the one to remove.
     NoMemoryRegion,
     /// Two regions overlap.
     MemoryRegionOverlap,
@@ -188,7 +188,7 @@ pub enum MachineError {
     InvalidRegion,
     /// A page or a limit is 0, or a call of plain numbers means nothing.
     BadCall,
-    /// An output of a call of plain numbers is too short: it has to have so many bytes.
+    /// An output of a call of plain numbers is too short: it has to have this many bytes.
     Short(usize),
     /// The regions make no layout.
     Layout(GuestRegionCollectionError),
@@ -228,7 +228,7 @@ fn io_error(kind: io::ErrorKind) -> GuestMemoryError {
     GuestMemoryError::IOError(io::Error::from(kind))
 }
 
-/// The error of an answer, unless it is none.
+/// The error of an answer, if it is one.
 pub(crate) fn error_of(answer: &Answer) -> Option<MachineError> {
     let iova_range = IovaRange {
         base: GuestAddress(answer.address),

@@ -134,7 +134,7 @@ pub(crate) struct Session {
 unsafe impl Send for Session {}
 
 impl Session {
-    /// Opens a session, or `None` where there is no memory for it.
+    /// Opens a session, or returns `None` if its allocation fails.
     pub(crate) fn open() -> Option<Session> {
         let mut handle = Handle { at: null_mut() };
         // SAFETY: the declaration fits the library's function, and a handle that is null is a closed one, as it asks.
@@ -224,7 +224,7 @@ fn done<T>(code: u32, given: T) -> Result<T, u32> {
 /// An open connection of a back end. It is closed when it is dropped.
 ///
 /// In each call the declaration fits the library's function, and the handle is that of an open connection, as each call
-/// leaves it. No other call of it runs: the connection is on this thread alone, as it is not `Sync`, and the library calls
+/// leaves it. No other call of it runs: only this thread has the connection, as it is not `Sync`, and the library calls
 /// nothing back. Other pointers and lengths are those of references that are borrowed for the call.
 pub(crate) struct Connection {
     handle: Cell<Handle>,

@@ -1,4 +1,4 @@
-//! The allocator that the static library wants, and blocks whose bytes are a mapping of the caller's.
+//! The allocator that the static library calls, and blocks whose bytes are a mapping of the caller's.
 //!
 //! Requests of 2 MiB and more have mappings of their own, and so has the one that a shared block announces on its
 //! thread. All others go to `malloc`. A table knows the mappings: `malloc` gives page-aligned memory, too.
@@ -36,7 +36,7 @@ pub(crate) fn system_page() -> usize {
     usize::try_from(size).unwrap_or(LEAST_PAGE)
 }
 
-/// A file of memory alone, all zero. It cannot shrink.
+/// A file in memory, all zero. It cannot shrink.
 pub(crate) fn memfd(size: u64) -> io::Result<OwnedFd> {
     // SAFETY: the declaration fits the function, and the name is a text that ends with 0.
     let fd = unsafe { ffi::memfd_create(c"vm_memory".as_ptr(), system::MFD_CLOEXEC | system::MFD_ALLOW_SEALING) };

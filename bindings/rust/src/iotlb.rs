@@ -1,5 +1,6 @@
-//! Messages of a vhost front end on a device's I/O table, with the names of the crate `vhost_iotlb`. docs/VHOST.md of the
-//! repository has their rules, and docs/BINDINGS.md how a call that misses a mapping is made again.
+//! Messages of a vhost front end on a device's I/O table, with the names of the crate `vhost_iotlb`.
+//! crates/vhost_iotlb/README.md of the repository has their rules, and docs/BINDINGS.md how a call that misses a mapping
+//! is made again.
 //!
 //! ```
 //! use vm_memory_proved::iotlb::UserRegion;
@@ -88,7 +89,7 @@ impl error::Error for Malformed {}
 pub enum IotlbError {
     /// The message is malformed.
     Malformed(Malformed),
-    /// The memory lies behind no I/O table, or its IOMMU is off.
+    /// The memory does not lie behind an I/O table, or its IOMMU is off.
     NoTable,
     /// The machine has no such memory, or an allocation failed. No INVALIDATE is refused for the latter.
     Machine(MachineError),

@@ -54,7 +54,7 @@ pub struct IovaRange {
 /// What a call that a table refused has to have first: addresses for an access.
 #[derive(Clone, Copy, Debug, PartialEq, Eq)]
 pub struct Miss {
-    /// The first of those that the call wants and that the table misses or forbids.
+    /// The first of the call's addresses that the table misses or forbids.
     pub iova_range: IovaRange,
     /// How the call accesses them.
     pub access: Permissions,
@@ -93,7 +93,7 @@ impl fmt::Debug for Machine {
 }
 
 impl Machine {
-    /// A machine with nothing made yet. `Memory` where an allocation fails.
+    /// A machine with nothing made yet. `Memory` if an allocation fails.
     pub fn new() -> Result<Machine, MachineError> {
         match Session::open() {
             Some(session) => Ok(Machine { session }),
@@ -428,7 +428,7 @@ impl Machine {
     }
 
     /// Marks the pages of `len` bytes of a block from `offset` on as dirty, as a write of these bytes would. It reads and
-    /// writes none of them: it is for bytes of a shared block that a guest wrote by itself. `NoSuch` if there is no such
+    /// writes none of them: it is for bytes of a shared block that a guest wrote. `NoSuch` if there is no such
     /// block, `BadRange` if the range passes its end.
     pub fn mark_block(&self, block: BlockId, offset: usize, len: usize) -> Result<(), MachineError> {
         let call = Call {

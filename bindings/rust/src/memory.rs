@@ -62,7 +62,7 @@ impl<'a> GuestMemory<'a> {
         }
     }
 
-    /// Writes the beginning of the buffer that fits, and answers how many bytes that is.
+    /// Writes the beginning of the buffer that fits, and returns how many bytes that is.
     #[inline]
     pub fn write(&self, buf: &[u8], addr: GuestAddress) -> Result<usize, GuestMemoryError> {
         let mut answer = Answer::default();
@@ -71,15 +71,15 @@ impl<'a> GuestMemory<'a> {
     }
 
     /// Marks the pages that a write of `count` bytes at an address would reach, and returns the number of these bytes. It
-    /// reads and writes none of them. It marks the blocks themselves, also behind an IOMMU, where a write marks its space
-    /// alone.
+    /// reads and writes none of them. It marks the blocks themselves, also behind an IOMMU, where a write marks only its
+    /// space.
     pub fn mark_reached(&self, addr: GuestAddress, count: usize) -> Result<usize, GuestMemoryError> {
         let mut answer = Answer::default();
         self.access(&self.at(kind::MARK_REACHED, addr, count), &[], &mut [], &mut answer)?;
         Ok(answer.count)
     }
 
-    /// Reads into the beginning of the buffer, and answers how many bytes that is.
+    /// Reads into the beginning of the buffer, and returns how many bytes that is.
     #[inline]
     pub fn read(&self, buf: &mut [u8], addr: GuestAddress) -> Result<usize, GuestMemoryError> {
         let mut answer = Answer::default();
@@ -87,7 +87,7 @@ impl<'a> GuestMemory<'a> {
         Ok(answer.count)
     }
 
-    /// Writes the whole buffer. Where only its beginning fits, it writes that, and the error says how long it is.
+    /// Writes the whole buffer. If only its beginning fits, it writes that, and the error says how long it is.
     #[inline]
     pub fn write_slice(&self, buf: &[u8], addr: GuestAddress) -> Result<(), GuestMemoryError> {
         self.access(
@@ -98,7 +98,7 @@ impl<'a> GuestMemory<'a> {
         )
     }
 
-    /// Fills the whole buffer. Where only its beginning can be filled, it fills that, and the error says how long it is.
+    /// Fills the whole buffer. If only its beginning can be filled, it fills that, and the error says how long it is.
     #[inline]
     pub fn read_slice(&self, buf: &mut [u8], addr: GuestAddress) -> Result<(), GuestMemoryError> {
         self.access(

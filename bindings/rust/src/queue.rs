@@ -67,7 +67,7 @@ use error::refusal_of;
 use std::iter::FusedIterator;
 use std::ptr;
 
-/// All that a queue keeps beside what lies in guest memory and its chains in flight.
+/// Everything that a queue keeps, except what lies in guest memory and its chains in flight.
 #[derive(Clone, Copy, Debug, PartialEq, Eq)]
 pub struct QueueState {
     /// The greatest size that the device allows.
@@ -100,7 +100,7 @@ pub struct Queue<'a> {
 }
 
 impl Machine {
-    /// Makes a queue that nobody has set up, whose size is the greatest. `InvalidMaxSize` if that is no power of two
+    /// Makes a queue in its reset state, with the maximum size. `InvalidMaxSize` if that is not a power of two
     /// from 1 to 32768. All chains that are in flight together have at most `max_descriptors` descriptors, those of
     /// indirect tables too.
     pub fn queue(&self, max_size: u16, max_descriptors: usize) -> Result<Queue<'_>, QueueError> {
@@ -225,7 +225,7 @@ impl<'a> Queue<'a> {
         self.state().size
     }
 
-    /// Sets the size. `InvalidSize` if it is no power of two from 1 to the greatest size.
+    /// Sets the size. `InvalidSize` if it is not a power of two from 1 to the greatest size.
     pub fn set_size(&self, size: u16) -> Result<(), QueueError> {
         self.set(part::SIZE, size.into())
     }
@@ -245,7 +245,7 @@ impl<'a> Queue<'a> {
         self.state().desc_table
     }
 
-    /// Sets the address of the table of descriptors. `InvalidDescTableAlign` if it is no multiple of 16.
+    /// Sets the address of the table of descriptors. `InvalidDescTableAlign` if it is not a multiple of 16.
     pub fn try_set_desc_table_address(&self, desc_table: GuestAddress) -> Result<(), QueueError> {
         self.set(part::DESC_TABLE, desc_table.0)
     }
@@ -255,7 +255,7 @@ impl<'a> Queue<'a> {
         self.state().avail_ring
     }
 
-    /// Sets the address of the available ring. `InvalidAvailRingAlign` if it is no multiple of 2.
+    /// Sets the address of the available ring. `InvalidAvailRingAlign` if it is not a multiple of 2.
     pub fn try_set_avail_ring_address(&self, avail_ring: GuestAddress) -> Result<(), QueueError> {
         self.set(part::AVAIL_RING, avail_ring.0)
     }
@@ -265,7 +265,7 @@ impl<'a> Queue<'a> {
         self.state().used_ring
     }
 
-    /// Sets the address of the used ring. `InvalidUsedRingAlign` if it is no multiple of 4.
+    /// Sets the address of the used ring. `InvalidUsedRingAlign` if it is not a multiple of 4.
     pub fn try_set_used_ring_address(&self, used_ring: GuestAddress) -> Result<(), QueueError> {
         self.set(part::USED_RING, used_ring.0)
     }

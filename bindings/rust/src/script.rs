@@ -11,16 +11,16 @@ use crate::raw::{kind, Call};
 pub enum SourceStep {
     /// Gives these bytes, over as many tries as they take.
     Give(Vec<u8>),
-    /// Leaves these bytes behind, and is interrupted.
+    /// Leaves these bytes in the buffer, and is interrupted.
     Interrupted(Vec<u8>),
-    /// Leaves these bytes behind, and fails.
+    /// Leaves these bytes in the buffer, and fails.
     Fail(Vec<u8>),
 }
 
 /// What a sink does at its next tries. One with no step left takes everything.
 #[derive(Clone, Copy, Debug, PartialEq, Eq)]
 pub enum SinkStep {
-    /// Takes at most so many bytes.
+    /// Takes at most this many bytes.
     Take(usize),
     /// Is interrupted.
     Interrupted,

@@ -37,12 +37,12 @@ impl SharedBlock {
     }
 }
 
-/// Why there is no shared block. All but `NotShared` changed nothing.
+/// Why a shared block was not made. Each except `NotShared` changed nothing.
 #[derive(Debug)]
 pub enum SharedBlockError {
-    /// The size or the offset is no multiple of the system's page.
+    /// The size or the offset is not a multiple of the system's page.
     NotPaged,
-    /// The descriptor is none of a regular file, and how many bytes it has is not known.
+    /// The descriptor is not one of a regular file, so how many bytes it has is not known.
     NoFile,
     /// The file ends before the block.
     FileShort,
@@ -80,7 +80,7 @@ impl fmt::Display for SharedBlockError {
 
 impl error::Error for SharedBlockError {}
 
-/// A file of memory alone, all zero, which cannot shrink. A guest in another process gets its descriptor.
+/// A file in memory, all zero, which cannot shrink. A guest in another process gets its descriptor.
 pub fn memfd(size: u64) -> io::Result<OwnedFd> {
     heap::memfd(size)
 }

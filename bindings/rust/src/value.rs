@@ -1,6 +1,6 @@
 //! Values that memories store: objects of bytes, and integers that are loaded and stored as one.
 
-/// A value that is so many bytes, any of which it may be.
+/// A value of a fixed number of bytes, which may be any bytes.
 pub trait ByteValued: Copy {
     /// Its bytes.
     type Bytes: AsRef<[u8]> + AsMut<[u8]>;

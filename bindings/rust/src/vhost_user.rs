@@ -1,4 +1,4 @@
-//! A back end's side of the vhost-user protocol: docs/VHOST_USER.md of the repository.
+//! A back end's side of the vhost-user protocol: crates/vhost_user/README.md of the repository.
 //!
 //! The program receives messages and descriptors, has [`Backend::handle`] say what each message asks for, does that, and
 //! sends the bytes of [`Backend::reply`] or [`Backend::refuse`]. Nothing here opens, keeps or maps anything.
@@ -130,7 +130,7 @@ pub enum Request {
         index: u32,
         base: u32,
     },
-    /// The ring is stopped. [`Backend::stop`] says where it goes on before the reply is sent.
+    /// The ring is stopped. [`Backend::stop`] sets where it goes on, before the reply is sent.
     GetVringBase {
         index: u32,
     },
@@ -216,7 +216,7 @@ pub enum Refusal {
     Request,
     /// The payload is not as long as the request has it.
     PayloadSize,
-    /// The request does not come with so many descriptors.
+    /// The request does not come with this number of descriptors.
     Descriptors,
     /// The feature that the request belongs to was not negotiated.
     NotNegotiated,
@@ -486,7 +486,7 @@ impl Backend {
         Ok(Backend { connection })
     }
 
-    /// Takes a whole message that came with so many descriptors. If it is refused, nothing changed.
+    /// Takes a whole message, and how many descriptors came with it. If it is refused, nothing changed.
     pub fn handle(&mut self, message: &[u8], descriptors: usize) -> Result<Request, Refusal> {
         let handled = self.connection.handle(message, descriptors);
         handled.map(|request| request_of(&request)).map_err(Refusal::of)
@@ -504,7 +504,7 @@ impl Backend {
         &room[..count]
     }
 
-    /// Says where a ring goes on that was stopped. Refused with `Index` or `Started`.
+    /// Sets where a stopped ring goes on. Refused with `Index` or `Started`.
     pub fn stop(&mut self, index: u32, base: u32) -> Result<(), Refusal> {
         self.connection.stop(index, base).map_err(Refusal::of)
     }

@@ -19,7 +19,7 @@ pub struct Disk {
 }
 
 impl Disk {
-    /// Opens the image. Bytes after its last whole sector are no part of the disk.
+    /// Opens the image. Bytes after its last whole sector are not part of the disk.
     pub fn open(path: &Path, read_only: bool) -> io::Result<Disk> {
         let mut file = OpenOptions::new().read(true).write(!read_only).open(path)?;
         // A block device has its length here alone.

@@ -22,7 +22,7 @@ const TURN: usize = 64;
 /// Why a queue is served no more.
 #[derive(Debug)]
 pub enum Fault {
-    /// The driver broke the rules, its ring cannot be reached, or there is no memory.
+    /// The driver broke the rules, its ring cannot be reached, or an allocation failed.
     Queue(QueueError),
     /// Guest memory went away.
     Lost,

@@ -31,7 +31,8 @@ union Control {
     bytes: [u8; 128],
 }
 
-/// Reads at most so many bytes, and takes the descriptors that came with them. Waits for none. 0 bytes are the end.
+/// Reads at most `bytes.len()` bytes, and takes the descriptors that came with them, without waiting. 0 bytes are the
+/// end.
 pub fn receive(socket: &UnixStream, bytes: &mut [u8], descriptors: &mut Vec<OwnedFd>) -> io::Result<usize> {
     let mut part = libc::iovec {
         iov_base: bytes.as_mut_ptr().cast(),

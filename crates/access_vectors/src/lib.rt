@@ -1,4 +1,4 @@
-//! Tests of what guest memory answers to questions about ranges, and of accesses by a callback.
+//! Tests of what guest memory says of ranges, and of accesses by a callback.
 #![tactic(auto)]
 
 #[cfg(test)]

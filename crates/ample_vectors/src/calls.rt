@@ -1,4 +1,4 @@
-//! A machine that threads share is called a thousand times: each command is answered as an equal machine answers it.
+//! A machine that threads share is called a thousand times: each command gets the reply of an equal machine.
 ghost use Rattle.std.specs.Prelude.{IfOk};
 ghost use Rattle.vm_memory_guest.specs.Collection.{regions_of};
 ghost use Rattle.vm_memory.specs.Parts.{HoldsRegions};

@@ -1,4 +1,4 @@
-//! The calls of a machine beside their commands: those of the rounds, at edges, and that name nothing.
+//! The calls of a machine that are not commands: those of the rounds, at edges, and that name nothing.
 
 use crate::calls::{ROUNDS, SIZE, bare_machine, round_of};
 use crate::typed::{expect_all, expect_same};

@@ -1,4 +1,4 @@
-//! Tests of sizes well past small ones, where memory is ample: none of these calls wants any.
+//! Tests of sizes well past small ones, where memory is ample: none of these calls fails to allocate.
 #![tactic(auto)]
 
 #[cfg(test)]

@@ -1,4 +1,4 @@
-//! The calls of a machine, each told as the reply of its command.
+//! The calls of a machine, each as the reply of its command.
 
 use std::alloc::Global;
 use std::slice;
@@ -347,7 +347,7 @@ fn reply_of<R: GuestMemoryRegion, I: Iommu, B: ExactBitmap>(
     }
 }
 
-/// Runs a command on one machine, and makes its call on the other. Fails where the answers differ.
+/// Runs a command on one machine, and makes its call on the other. Fails if the results differ.
 pub fn expect_same<R: GuestMemoryRegion, I: Iommu, B: ExactBitmap>(
     alloc: Global,
     machine: &mut Machine<R, I, B>,

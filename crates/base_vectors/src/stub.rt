@@ -1,9 +1,9 @@
-//! A reader and writer that answers what it is told to, and notes what it was asked.
+//! A reader and writer that returns what it is set to, and notes what it was asked.
 
 use std::io::{self, ErrorKind, Read, Write};
 use vm_memory_base::{SystemSink, SystemSource};
 
-/// Moves at most `most` bytes at a call. Once it moved `left` of them it answers the error, and then goes on. What it
+/// Moves at most `most` bytes at a call. Once it moved `left` of them it returns the error, and then goes on. What it
 /// gives are bytes of 7. It notes how often it was called, and the length of the last buffer.
 #[derive(Clone, Copy, Drop)]
 pub struct Stub {

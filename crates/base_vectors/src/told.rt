@@ -1,4 +1,4 @@
-//! What sources and sinks tell of few bytes.
+//! What sources and sinks say of few bytes.
 
 use std::fmt::{Debug, Write};
 use std::test::Fail;
@@ -35,7 +35,7 @@ pub fn fills<S: ReadVolatile>(source: &mut S, out: &mut String) -> Result<(), Fa
     Ok(())
 }
 
-/// What a sink answers to four bytes, and to all four.
+/// What a sink returns for four bytes, and for all four.
 pub fn writes<W: WriteVolatile>(sink: &mut W, out: &mut String) -> Result<(), Fail> {
     let bytes = [1u8, 2, 3, 4];
     tell(&sink.write_volatile(&bytes), out)?;
@@ -45,7 +45,7 @@ pub fn writes<W: WriteVolatile>(sink: &mut W, out: &mut String) -> Result<(), Fa
     Ok(())
 }
 
-/// Fails where what a sink was given is not what a source gives back.
+/// Fails if what a sink was given is not what a source gives back.
 pub fn expect_passed<W: WriteVolatile, S: ReadVolatile>(
     case: u8,
     sink: &mut W,

@@ -35,7 +35,7 @@ pub const PAGE: u64 = 0x1000;
 
 const PAGES: u64 = (END - BEGIN) / PAGE;
 
-/// A name of 20 bytes, of which none is 0 or 170.
+/// A name of 20 bytes, none of them 0 or 170.
 pub const NAME: [u8; 20] = *b"the disk under tests";
 
 /// A segment: its address, its length, and whether the device writes it.
@@ -194,7 +194,7 @@ impl<M: GuestMemory, B: Bitmap, D: Disk> Bench<M, B, D> {
         Ok(())
     }
 
-    /// Lets the device serve what was published, at most so many chains.
+    /// Lets the device serve what was published, at most this many chains.
     pub fn kick_at_most(&mut self, most: u32) -> Result<Served, Fail> {
         if !self.host.holds(&self.memory) {
             return Err(Fail::new("the host does not hold the memory"));
@@ -221,7 +221,7 @@ impl<M: GuestMemory, B: Bitmap, D: Disk> Bench<M, B, D> {
         }
     }
 
-    /// Has a request served whose header this is, and tells the length of its answer.
+    /// Has a request served whose header this is, and writes the length of its result.
     pub fn ask(&mut self, header: [u8; 16], parts: &[Part]) -> Result<u32, Fail> {
         self.put(HEADER, &header)?;
         self.publish(0, parts)?;

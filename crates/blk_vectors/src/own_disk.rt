@@ -1,4 +1,4 @@
-//! A disk that is no `Disk` of the library: bytes in memory.
+//! A disk that is not a `Disk` of the library: bytes in memory.
 ghost use Rattle.std.specs.Prelude.{◌≡◌, ◌/◌, length};
 ghost use Rattle.virtio_blk.specs.Steps.{FitsOn};
 ghost use Rattle.vm_memory_guest.specs.Host.{shape_of, Holds};

@@ -1,4 +1,4 @@
-//! Random requests beside a plain model of a disk.
+//! Random requests, compared with a plain model of a disk.
 
 use crate::bench::{Bench, DATA, HEADER, STATUS, Scene, header_of, told_of};
 use std::alloc::Global;

@@ -21,7 +21,7 @@ const SEEN: usize = 0x3000;
 
 const MORE: u64 = DATA + 0x800;
 
-/// Whether the device only reads, the kind, the sector, the chain, and what is told: the length of the answer, the
+/// Whether the device only reads, the kind, the sector, the chain, and what is written: the length of the result, the
 /// status, the first byte of each sector of the disk afterwards, and how many bytes of guest memory changed besides
 /// those of the ring.
 type Case = (bool, u32, u64, &'static [Part], &'static str);
@@ -282,7 +282,7 @@ static CASES: [Case; 44] = [
     ),
 ];
 
-/// A disk of so many sectors, each of its number and one.
+/// A disk of this many sectors, each of its number and one.
 pub fn numbered(alloc: Global, sectors: u8) -> Result<MemoryDisk, Fail> {
     let mut bytes = Vec::new(alloc);
     for sector in 0..sectors {

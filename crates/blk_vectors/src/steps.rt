@@ -1,4 +1,4 @@
-//! Requests in two steps, on a disk that is no `Disk` of the library, behind an IOMMU that gets its mappings later.
+//! Requests in two steps, on a disk that is not a `Disk` of the library, behind an IOMMU that gets its mappings later.
 
 use crate::bench::{
     BEGIN, Bench, DATA, HEADER, NAME, PAGE, STATUS, Scene, header_of, map_page, told_of,

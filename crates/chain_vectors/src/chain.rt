@@ -17,7 +17,7 @@ pub type Memory = MachineMemory<GuestRegionMmap, TableIommu>;
 /// An address, a length in bytes, and whether the device writes there.
 pub type Part = (u64, u32, bool);
 
-/// Memory of these regions, behind an IOMMU where so many addresses from 0 on lead to themselves, or behind none.
+/// Memory of these regions, behind an IOMMU where this many addresses from 0 on lead to themselves, or behind none.
 pub fn memory_of(
     alloc: Global,
     host: &mut Host,

@@ -6,8 +6,8 @@ use virtio_blk::{BlockDevice, Disk};
 use virtio_queue::{Queue, QueueError};
 use vm_memory::{Bitmap, GuestMemory, HostMemory};
 
-/// Serves what a driver has published, where the driver notified the device. `interrupt` is set if the driver is to be
-/// interrupted. If the answer is true, there may be more: the VMM looks after its other devices, and then calls this
+/// Serves what a driver has published, if the driver notified the device. `interrupt` is set if the driver is to be
+/// interrupted. If it returns true, there may be more: the VMM serves its other devices, and then calls this
 /// once more without a notification. After an error the device has to be reset.
 pub fn kicked<D: Disk, M: GuestMemory, B: Bitmap>(
     device: &mut BlockDevice<D>,

@@ -7,7 +7,7 @@ use vm_memory::{
     Permissions, TableIommu,
 };
 
-/// A device reads through a mapping that permits reads alone.
+/// A device reads through a mapping that permits only reads.
 pub fn behind_an_iommu(rt: &impl Print, alloc: Global) -> anyhow::Result<()> {
     let mut host = HostMemory::<ExclusiveBitmap>::new(alloc);
     let ranges = [(GuestAddress(0), 0x1000)];

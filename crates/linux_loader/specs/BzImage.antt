@@ -1,4 +1,4 @@
--- bzImages, as a loader reads them. The setup header begins at 0x1f1, and its fields are told by their places in it.
+-- bzImages, as a loader reads them. The setup header begins at 0x1f1, and its fields are named by their offsets in it.
 use Rattle.std.specs.Prelude.{ℕ, ◌+◌, ◌-◌, ◌*◌, ◌^◌, nat_lt, nat_le, Bool, not, ◌&&◌, ◌==◌, if◌then◌else◌, bit_and, List, [], ◌∷◌, ◌++◌, take, drop, slice_range, length, Option, Some, Result, Ok, Err, IsOk}
 use Rattle.std.specs.Int.{w32, to_le_bytes}
 use Rattle.vm_memory_base.specs.declared.address.GuestAddress.{GuestAddress}
@@ -35,20 +35,20 @@ check_header h = if not (is_header h) then Err errors.InvalidBzImage
     else if nat_lt (length h) (header_size h) then Err errors.ReadBzImageHeader
     else Ok tt
 
--- the kernel begins behind the boot sector and so many sectors of setup code, which are 4 where that is 0
+-- the kernel begins after the boot sector and N sectors of setup code, and N = 0 stands for 4
 abbrev pub sectors : ℕ → ℕ
 sectors n = if n == 0 then 4 else n
 
 abbrev pub kernel_start : List ℕ → ℕ
 kernel_start h = (sectors (field 1 0 h) + 1) * 512
 
--- where the kernel is loaded: where it is told, or at code32_start, which no address below `lowest` may be
+-- where the kernel is loaded: where the caller says, or at code32_start, which no address below `lowest` may be
 abbrev pub load_address : List ℕ → Option GuestAddress → ℕ → Result ℕ LoaderError
 load_address h offset lowest = if nat_lt (field 4 0x23 h) lowest then Err errors.InvalidKernelStartAddress
     else if nat_lt (address_or (field 4 0x23 h) offset) (2 ^ 32) then Ok (address_or (field 4 0x23 h) offset)
     else Err errors.InvalidKernelStartAddress
 
--- the kernel of an image of so many bytes: all that is behind the setup code
+-- the kernel of an image of n bytes: all that follows the setup code
 abbrev pub kernel_of : List ℕ → ℕ → ℕ → Result Segment LoaderError
 kernel_of h size addr = if nat_le size (kernel_start h) then Err errors.ReadBzImageCompressedKernel
     else if nat_le (2 ^ 64) (addr + (size - kernel_start h)) then Err errors.MemoryOverflow
@@ -80,7 +80,7 @@ abbrev pub bz_planned : List ℕ → Segment → Result Planned LoaderError
 bz_planned h kernel = let header = header_as_loaded h kernel.addr.0 in
     and_then (runtime_area header kernel.addr.0) (λ area. Ok (planned_with (kernel ∷ []) kernel header area))
 
--- the kernel of an image with this header, of so many bytes
+-- the kernel of an image with this header, of N bytes
 abbrev pub bz_kernel : List ℕ → ℕ → Option GuestAddress → ℕ → Result Segment LoaderError
 bz_kernel h size offset lowest = and_then (check_header h) (λ _.
     and_then (load_address h offset lowest) (λ addr. kernel_of h size addr))

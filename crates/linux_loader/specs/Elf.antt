@@ -34,7 +34,7 @@ places_of size lowest h = if not (field 2 54 h == 56) then Err errors.InvalidPro
     else if nat_lt size (field 8 32 h + 56 * field 2 56 h) then Err errors.ReadProgramHeader
     else Ok (record { entry = field 8 24 h; table = field 8 32 h; count = field 2 56 h })
 
--- what a header tells of a file of so many bytes
+-- what a header says of a file of N bytes
 abbrev pub header_of : ℕ → ℕ → List ℕ → Result ElfHeader LoaderError
 header_of size lowest h = and_then (kind_of h) (λ _. places_of size lowest h)
 
@@ -60,7 +60,7 @@ program_header p = record {
   align = field 8 48 p;
 }
 
--- so many, one behind the other
+-- n of them, one after the other
 unfoldable pub program_headers : ℕ → List ℕ → List ProgramHeader
 program_headers zero table = []
 program_headers (suc n) table = program_headers n table ++ program_header (drop (56 * n) table) ∷ []
@@ -69,7 +69,7 @@ program_headers (suc n) table = program_headers n table ++ program_header (drop 
 abbrev pub headers_in : List ℕ → ElfHeader → List ProgramHeader
 headers_in all h = program_headers h.count (take (56 * h.count) (drop h.table all))
 
--- whether what a program header names lies in a file of so many bytes. None of no bytes lies anywhere
+-- whether what a program header names lies in a file of N bytes. An empty one lies in none
 abbrev pub lies_in : ℕ → ProgramHeader → Bool
 lies_in size p = p.file_size == 0 || nat_le (p.file_offset + p.file_size) size
 
@@ -146,7 +146,7 @@ elf_planned segments entry pvh = record {
 abbrev pub some_segments : ℕ → ℕ → List ProgramHeader → Result (List Segment) LoaderError
 some_segments size offset headers = and_then (segments_of size offset headers) some_segment
 
--- what is to be loaded of a file with this header, at so many addresses above where it says
+-- what is to be loaded of a file with this header, at N addresses above where it says
 unfoldable pub elf_named : List ℕ → ℕ → ElfHeader → Result Planned LoaderError
 elf_named all offset h = let headers = headers_in all h in
     and_then (some_segments (length all) offset headers) (λ segments.

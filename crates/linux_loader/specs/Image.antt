@@ -1,8 +1,8 @@
--- Images: what their calls answer where their bytes are known.
+-- Images: what their calls return if their bytes are known.
 use Rattle.std.specs.Prelude.{◌≡◌, ℕ, ◌+◌, ◌≤◌, List, [], length, take, drop, Option, Some, IfSome, Result, Ok}
 use Rattle.vm_memory_base.specs.Transfer.{Next, giving}
 
--- an image whose bytes are known answers this of them, and keeps them
+-- an image whose bytes are known returns this of them, and keeps them
 abbrev pub Tells : {S T E : Type 0} → (S → Option (List ℕ)) → S → (List ℕ → T) → Result T E → S → Type 0
 Tells bytes old f answer new = IfSome (bytes old) (λ all. (bytes new ≡ Some all) × (answer ≡ Ok (f all)))
 
@@ -12,12 +12,12 @@ abbrev pub StandsAt : {S E : Type 0} → (S → Option (List ℕ)) → (S → Op
 StandsAt bytes source old offset answer new = IfSome (bytes old) (λ all.
     (bytes new ≡ Some all) × (answer ≡ Ok tt) × (source new ≡ Some (giving (drop offset all) [])))
 
--- an image whose bytes are known gave the n bytes at an offset, where it has them
+-- an image whose bytes are known gave the n bytes at an offset, if it has them
 abbrev pub ReadsFrom : {S E : Type 0} → (S → Option (List ℕ)) → S → ℕ → ℕ → Result (Unit {0}) E → List ℕ → S
     → Type 0
 ReadsFrom bytes old offset n answer buffer new = IfSome (bytes old) (λ all. (bytes new ≡ Some all)
     × (offset + n ≤ length all → (answer ≡ Ok tt) × (buffer ≡ take n (drop offset all))))
 
--- this holds of the bytes of an image, where they are known
+-- this holds of the bytes of an image, if they are known
 abbrev pub IfKnown : Option (List ℕ) → (List ℕ → Type 0) → Type 0
 IfKnown bytes P = (all : List ℕ) → bytes ≡ Some all → P all

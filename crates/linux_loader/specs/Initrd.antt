@@ -23,7 +23,7 @@ greatest limit (Some h) = min limit (unwrap_or (field_since h 0x203 0x3b) 0x37ff
 abbrev pub page_of : ℕ → ℕ
 page_of a = a - a % 4096
 
--- the highest page at which so many bytes pass no address, if it lies at or after an end
+-- the highest page at which N bytes pass no address, if it lies at or after an end
 abbrev pub highest_page : ℕ → ℕ → ℕ → Result GuestAddress LoaderError
 highest_page end most size = if size == 0 then Err errors.EmptyInitrd
     else if nat_lt most (size - 1) then Err errors.NoRoomForInitrd

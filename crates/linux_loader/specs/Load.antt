@@ -32,22 +32,22 @@ module _ {S B : Type 0} (source : S → Option (List Next)) (reads : S → List 
       (told error_of (reached m old.1.tables a count permissions.Write))
       (Fills source reads known marks UntilWhole) (all_of access.PartialBuffer count) old answer new
 
-  -- the same, as a loader answers it
+  -- the same, as a loader returns it
   abbrev pub Lends : ℕ → ℕ → S × Host B → Result (Unit {0}) LoaderError → S × Host B → Type 0
   Lends a count old answer new =
       (r : Result (Unit {0}) GuestMemoryError) × Receives a count old r new × (answer ≡ error.told r)
 
--- a source that has so many zeros left
+-- a source that has N zeros left
 abbrev pub zeros : ℕ → Option (List Next)
 zeros left = Some (giving (replicate left 0) [])
 
 module _ {B : Type 0} (marks : B → ℕ → ℕ → B → Type 0) (m : Memory) where
-  -- so many zeros were lent to an address
+  -- N zeros were lent to an address
   abbrev pub Clears : ℕ → ℕ → Host B → Result (Unit {0}) LoaderError → Host B → Type 0
   Clears a count old answer new = (left : ℕ)
       × Lends zeros (λ s lent answer after t. ⊤) (λ s. None) marks m a count (count, old) answer (left, new)
 
-  -- the rest of a segment, behind the bytes of the image, was made zero
+  -- the rest of a segment, after the bytes of the image, was made zero
   abbrev pub ClearsRest : Segment → Host B → Result (Unit {0}) LoaderError → Host B → Type 0
   ClearsRest s old answer new = let rest = s.size - s.file_size in let a = s.addr.0 + s.file_size in
       MatchBool (rest == 0) ((answer ≡ Ok tt) × (new ≡ old))
@@ -69,7 +69,7 @@ module _ {S B : Type 0} (bytes : S → Option (List ℕ)) (source : S → Option
   FillsFront s old answer new =
       MatchBool (s.file_size == 0) ((answer ≡ Ok tt) × (new ≡ old)) (FillsFrom s old answer new)
 
-  -- a segment was loaded: its beginning was filled from the image, and behind it the rest was made zero
+  -- a segment was loaded: its beginning was filled from the image, and after it the rest was made zero
   abbrev pub LoadsSegment : Segment → S × Host B → Result (Unit {0}) LoaderError → S × Host B → Type 0
   LoadsSegment s old answer new = (filled : Result (Unit {0}) LoaderError) × (mid : S × Host B)
       × FillsFront s old filled mid
@@ -83,7 +83,7 @@ module _ {S B : Type 0} (bytes : S → Option (List ℕ)) (source : S → Option
       × LoadsSegment s old loaded mid
       × MatchResult loaded (λ _. LoadsAll ss mid answer new) (λ e. (answer ≡ Err e) × (new ≡ mid))
 
-  -- the segments of a plan were loaded. Then a loader answers so
+  -- the segments of a plan were loaded. Then a loader returns so
   abbrev pub LoadsSegments : Planned → S × Host B → Result KernelLoaderResult LoaderError → S × Host B → Type 0
   LoadsSegments p old answer new = (loaded : Result (Unit {0}) LoaderError) × LoadsAll p.segments old loaded new
       × (answer ≡ and_then loaded (λ _. Ok p.result))

@@ -39,7 +39,7 @@ pub record IsDirtySegment {B : Type 0} (m : Memory) (host : Host B) (s : Segment
   pub front : AreDirty (front_windows m host s) pages
   pub rest : AreDirty (rest_windows m host s) pages
 
--- the bytes of blocks after a segment of an image of these bytes was loaded: those of the image, and zeros behind them
+-- the bytes of blocks after a segment of an image of these bytes was loaded: those of the image, and zeros after them
 abbrev pub with_segment : {B : Type 0} → Memory → Host B → List ℕ → Segment → List (List ℕ) → List (List ℕ)
 with_segment m host all s blocks =
     written (cells (rest_windows m host s)) (replicate (s.size - s.file_size) 0)

@@ -1,4 +1,4 @@
--- The notes of an ELF file, and Xen's among them, which tells the PVH entry.
+-- The notes of an ELF file, and Xen's among them, which gives the PVH entry.
 use Rattle.std.specs.Prelude.{ℕ, zero, suc, ◌+◌, ◌-◌, ◌*◌, ◌/◌, nat_lt, Bool, not, ◌&&◌, ◌||◌, ◌==◌, if◌then◌else◌, List, drop, length, Option, Some, None, Result, Ok, Err}
 use Rattle.linux_loader.specs.Error.{and_then}
 use Rattle.linux_loader.specs.Numbers.{field}
@@ -21,7 +21,7 @@ note_size align note = padded (descriptor_place align note + field 4 4 note) ali
 abbrev pub is_pvh : List ℕ → Bool
 is_pvh note = field 4 8 note == 18 && field 4 0 note == 4 && field 4 12 note == 0x006e6558
 
--- the number in a descriptor of so many bytes at a place
+-- the number in a descriptor of N bytes at a place
 abbrev pub number_in : ℕ → ℕ → List ℕ → Result ℕ LoaderError
 number_in size at note = if size == 4 then Ok (field 4 at note)
     else if size == 8 then Ok (field 8 at note)
@@ -42,14 +42,14 @@ abbrev pub or_else : Option ℕ → Result (Option ℕ) LoaderError → Result (
 or_else None more = more
 or_else (Some e) more = Ok (Some e)
 
--- the entry among at most so many notes. They end where less is left than 12 bytes
+-- the entry among at most N notes. They end when fewer than 12 bytes are left
 unfoldable pub entry_in : ℕ → ℕ → List ℕ → Result (Option ℕ) LoaderError
 entry_in zero align notes = Ok None
 entry_in (suc most) align notes = if nat_lt (length notes) 12 then Ok None
     else and_then (note_of align notes) (λ note.
     or_else note.entry (entry_in most align (drop note.size notes)))
 
--- the alignment that a program header tells: 0 and 1 are 4
+-- the alignment that a program header gives: 0 and 1 are 4
 abbrev pub note_align : ℕ → Result ℕ LoaderError
 note_align align = if align == 0 || align == 1 || align == 4 then Ok 4
     else if align == 8 then Ok 8 else Err errors.InvalidNoteAlign

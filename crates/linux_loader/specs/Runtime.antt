@@ -29,7 +29,7 @@ runtime_start h load = if field 1 0x43 h == 0 then Ok (field 8 0x67 h)
     else if not (is_power_of_two (field 4 0x3f h)) then Err errors.InvalidKernelAlignment
     else within_64 (next_multiple_of (max load (field 8 0x67 h)) (field 4 0x3f h))
 
--- the area of so many bytes from an address on
+-- the area of N bytes from an address on
 abbrev pub area_at : ℕ → ℕ → Result (Option RuntimeArea) LoaderError
 area_at start size = and_then (within_64 (start + size)) (λ end.
     Ok (Some (record { start = record { 0 = start }; end = end })))
@@ -66,7 +66,7 @@ module _ (m : Memory) (tables : List Table) where
   FindsBytes a n answer = (answer ≡ (if is_in_memory a n then Ok tt else Err errors.RuntimeAreaNotInMemory))
       ⊎ ((answer ≡ Err errors.Memory) × NeedsPieces m tables a n permissions.ReadWrite)
 
-  -- the same of an area. Where there is none, nothing is refused
+  -- the same of an area. If there is none, nothing is refused
   abbrev pub FindsArea : Option RuntimeArea → Result (Unit {0}) LoaderError → Type 0
   FindsArea None answer = answer ≡ Ok tt
   FindsArea (Some area) answer = FindsBytes area.start.0 (area.end - area.start.0) answer

@@ -42,7 +42,7 @@ const LEAST_HEADER: usize = 0x27;
 
 const SECTOR: u64 = 512;
 
-/// Kernels of Linux with a boot sector, setup code and, behind it, the protected mode kernel.
+/// Kernels of Linux with a boot sector, setup code and, after it, the protected mode kernel.
 pub struct BzImage;
 
 // So many bytes of an image, from a place on.
@@ -255,7 +255,7 @@ fn plan_of(
 impl BzImage {
     /// What is to be loaded of an image, and where: the protected mode kernel, at `kernel_offset`, or else at
     /// `code32_start`, which may not lie below `highmem_start`. The first thing that is wrong is refused, in the order
-    /// of docs/LOADER.md, "bzImages". `Image` where the source fails, and `Memory` where an allocation does: the first
+    /// of README.md, "bzImages". `Image` if the source fails, and `Memory` if an allocation does: the first
     /// is for the header of an image that is long enough.
     pub fn plan<F: KernelImage>(
         alloc: Global,

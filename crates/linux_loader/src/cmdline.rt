@@ -16,7 +16,7 @@ use vm_memory_guest::{Bytes, GuestMemory, HostMemory};
 /// Why a command line is as it was.
 #[derive(Clone, Copy, Debug, PartialEq, Eq, Error)]
 pub enum CmdlineError {
-    /// A character is none of the 95 of ASCII from the space on.
+    /// A character is not one of the 95 printable ones of ASCII.
     #[error("character is not printable ASCII")]
     InvalidAscii,
     /// A key or a value has a space.
@@ -131,8 +131,8 @@ fn line_of(alloc: Global, text: &[u8], more: &[u8]) -> Result<Vec<u8>, AllocErro
 }
 
 impl Cmdline {
-    /// An empty line that has room for so many bytes, of which the last is the terminating zero. `InvalidCapacity`
-    /// where that is 0, and `Memory` where the allocation fails.
+    /// An empty line that has room for `capacity` bytes, the last of them the terminating zero. `InvalidCapacity`
+    /// if that is 0, and `Memory` if the allocation fails.
     pub fn new(alloc: Global, capacity: usize) -> Result<Cmdline, CmdlineError>
         ensures { MatchResult result
             (λ line. (line ≡ record { bytes = 0 ∷ []; capacity = capacity }) × (0 < capacity))
@@ -211,7 +211,7 @@ impl Cmdline {
 
 /// Writes a command line for a kernel, with its terminating zero, to an address. `CommandLineOverflow` if it passes the
 /// greatest address, or `RuntimeAreaOverlap` if it shares a byte with the kernel's run time area: then nothing changes.
-/// Otherwise it is written as far as there is memory, and `GuestMemory` says why no further.
+/// Otherwise it is written as far as there is memory, and `GuestMemory` says why it ends there.
 pub fn load_cmdline<M: GuestMemory, B: Bitmap>(
     mem: &M,
     host: &mut HostMemory<B>,

@@ -142,8 +142,8 @@ fn named<F: KernelImage>(
 
 impl Elf {
     /// What is to be loaded of an image, and where: each segment at its physical address plus `kernel_offset`. The entry
-    /// may not lie below `highmem_start`. The first thing that is wrong is refused, in the order of docs/LOADER.md,
-    /// "ELF files". `Image` where the source fails, and `Memory` where an allocation does: the first is for the program
+    /// may not lie below `highmem_start`. The first thing that is wrong is refused, in the order of README.md,
+    /// "ELF files". `Image` if the source fails, and `Memory` if an allocation does: the first is for the program
     /// headers of a header that may be loaded.
     pub fn plan<F: KernelImage>(
         alloc: Global,
@@ -164,7 +164,7 @@ impl Elf {
         apart(alloc, plan)
     }
 
-    /// Loads an image as `plan` says. Where there is no plan, memory is as it was. Otherwise segment after segment is
+    /// Loads an image as `plan` says. If there is no plan, memory is as it was. Otherwise segment after segment is
     /// loaded, up to the first that is refused, as `KernelPlan::load` says.
     pub fn load<M: GuestMemory, F: KernelImage, B: Bitmap>(
         alloc: Global,

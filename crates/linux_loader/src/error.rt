@@ -14,7 +14,7 @@ pub enum LoaderError {
     /// The image does not begin with the four bytes of every ELF file.
     #[error("invalid ELF magic number")]
     InvalidElfMagicNumber,
-    /// The class is not that of 64 bits.
+    /// The class is not 64 bits.
     #[error("ELF file is not of 64 bits")]
     InvalidElfClass,
     /// The lowest byte of numbers does not come first.
@@ -26,7 +26,7 @@ pub enum LoaderError {
     /// The machine is not x86-64.
     #[error("ELF file is not for x86-64")]
     InvalidElfMachine,
-    /// A program header has not the size of one of 64 bits, 56 bytes.
+    /// The program headers do not have 56 bytes each, as those of 64 bits do.
     #[error("invalid size of program headers")]
     InvalidProgramHeaderSize,
     /// The number of program headers is 65,535, which says that it stands elsewhere.
@@ -47,19 +47,19 @@ pub enum LoaderError {
     /// The image ends before the end of a segment.
     #[error("image ends before the end of a segment")]
     ReadKernelImage,
-    /// The address of a segment, with the offset of the kernel, is no 64-bit number.
+    /// The address of a segment, with the offset of the kernel, is not a 64-bit number.
     #[error("address of a segment would overflow")]
     InvalidProgramHeaderAddress,
-    /// The end of a segment in memory is no 64-bit number.
+    /// The end of a segment in memory is not a 64-bit number.
     #[error("end of a segment would overflow")]
     MemoryOverflow,
     /// No segment with a byte is to be loaded.
     #[error("image has no segment to load")]
     NoLoadSegment,
-    /// The entry, with the offset of the kernel, is no 64-bit number.
+    /// The entry, with the offset of the kernel, is not a 64-bit number.
     #[error("entry would overflow")]
     EntryOverflow,
-    /// The alignment of notes is none of 0, 1, 4 and 8.
+    /// The alignment of notes is not one of 0, 1, 4 and 8.
     #[error("invalid alignment of notes")]
     InvalidNoteAlign,
     /// The notes of one segment have more than 65,536 bytes.
@@ -86,16 +86,16 @@ pub enum LoaderError {
     /// The setup header ends before its field `code32_start` does.
     #[error("invalid size of the setup header")]
     InvalidSetupHeaderSize,
-    /// The image has no byte behind its setup sectors.
+    /// The image has no byte after its setup sectors.
     #[error("image ends before its protected mode kernel")]
     ReadBzImageCompressedKernel,
-    /// The kernel lies below high memory, or is to be loaded at an address that is no 32-bit number.
+    /// The kernel lies below high memory, or is to be loaded at an address that is not a 32-bit number.
     #[error("invalid start address of the kernel")]
     InvalidKernelStartAddress,
-    /// A relocatable kernel is to be aligned to a number that is no power of two.
+    /// A relocatable kernel is to be aligned to a number that is not a power of two.
     #[error("alignment of the kernel is no power of two")]
     InvalidKernelAlignment,
-    /// The kernel's run time area, or its end, is no 64-bit number.
+    /// The kernel's run time area, or its end, is not a 64-bit number.
     #[error("run time area of the kernel would overflow")]
     RuntimeAreaOverflow,
     /// Memory does not have each address of the kernel's run time area.

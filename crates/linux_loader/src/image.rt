@@ -1,4 +1,4 @@
-//! Images of kernels: sources of bytes that are read from any place on.
+//! Images of kernels: sources of bytes that can be read from any offset on.
 ghost use Rattle.std.specs.Prelude.{◌≡◌, ◌+◌, ◌≤◌, ℕ, List, length, take, drop, None, Some, Ok, Option, refl};
 ghost use Rattle.vm_memory_base.specs.InMemory.{giving_from};
 ghost use Rattle.vm_memory_base.specs.Transfer.{Answer};
@@ -8,26 +8,26 @@ use std::fs::File;
 use std::io::{self, Cursor, ErrorKind, Seek, SeekFrom};
 use vm_memory_base::{IoError, ReadVolatile, VolatileMemoryError, VolatileMemoryResult};
 
-/// An image of a kernel: bytes that can be read from any place on. Its size and its bytes are those of one moment:
-/// an image that changes while it is loaded may give bytes of before and of after.
+/// An image of a kernel: bytes that can be read from any offset on. Its size and its bytes are those of one moment:
+/// an image that changes while it is loaded may give a mix of old and new bytes.
 ///
 /// ```text
 /// let mut file = File::open(&rt, "vmlinux")?;
 /// let loaded = Elf::load(alloc, &memory, &mut host, None, &mut file, None)?;
 /// ```
 pub trait KernelImage: ReadVolatile {
-    /// All its bytes, where they are known.
+    /// All its bytes, if they are known.
     ghost bytes: { Self → Option (List ℕ) };
 
     /// How many bytes it has.
     fn size(&mut self) -> VolatileMemoryResult<u64>
         ensures { Tells bytes self.old (λ all. length all) result self.new };
 
-    /// Makes the byte so many behind the first the one that is read next.
+    /// Makes the byte at this offset the one that is read next.
     fn seek_to(&mut self, offset: u64) -> VolatileMemoryResult<()>
         ensures { StandsAt bytes Self.source self.old offset result self.new };
 
-    /// Fills a buffer with the bytes from a place on. An error leaves the buffer as it may be.
+    /// Fills a buffer with the bytes from an offset on. After an error the buffer may hold anything.
     fn read_at(&mut self, offset: u64, buf: &mut [u8]) -> VolatileMemoryResult<()>
         ensures { ReadsFrom bytes self.old offset (length buf.old) result buf.new self.new };
 

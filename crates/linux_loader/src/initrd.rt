@@ -34,7 +34,7 @@ fn most_of(kernel: &KernelLoaderResult, limit: u64) -> u64
     }
 }
 
-/// Where an initrd of so many bytes lies: at the highest page that keeps its last byte at or below the limit, above all
+/// Where an initrd of `size` bytes lies: at the highest page that keeps its last byte at or below the limit, above all
 /// segments of the kernel and above its run time area. The limit is the greatest address that the initrd may have; for
 /// a bzImage `initrd_addr_max` is a limit, too. `EmptyInitrd` if it has no byte, or `NoRoomForInitrd` if there is no
 /// such page.
@@ -69,7 +69,7 @@ fn highest_page(end: u64, most: u64, size: u64) -> Result<GuestAddress, LoaderEr
     Ok(GuestAddress(start))
 }
 
-/// Loads an initrd to where `initrd_address` says, and returns that as a segment. Its errors are those of
+/// Loads an initrd at the address that `initrd_address` gives, and returns its segment. Its errors are those of
 /// `initrd_address` and of the load of a segment.
 pub fn load_initrd<M: GuestMemory, F: KernelImage, B: Bitmap>(
     mem: &M,

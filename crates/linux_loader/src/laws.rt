@@ -20,7 +20,7 @@ pub fn loads_keep_what_no_segment_names<F: KernelImage, B: Bitmap>()
         → ((s : Segment) → Contains segments s → IsUnnamed m old c s) → Keeps c old new }
 {}
 
-/// After a load that succeeds each byte of each segment is dirty, where the bitmaps are exact.
+/// After a successful load each byte of each segment is dirty, if the bitmaps are exact.
 pub fn loaded_segments_are_dirty<F: KernelImage, B: ExactBitmap>()
     ensures { (m : Memory) (segments : List Segment) (image after : F) (old new : Host B)
         → LoadsAll F.bytes F.source F.reads F.known_left B.marks m segments (image, old) (Ok tt) (after, new)
@@ -31,8 +31,8 @@ pub fn loaded_segments_are_dirty<F: KernelImage, B: ExactBitmap>()
     marked_bytes_are_dirty();
 }
 
-/// After a load that succeeds of an image whose bytes are known, and which has those of each segment, memory has them:
-/// of each segment, one after the other, those of the image, and zeros behind them. No other byte has changed.
+/// After a successful load of an image whose bytes are known, and which has those of each segment, memory has them:
+/// for each segment, one after the other, those of the image, and zeros after them. No other byte has changed.
 pub fn loaded_bytes_are_the_images<F: KernelImage, B: Bitmap>()
     ensures { (m : Memory) (segments : List Segment) (all : List ℕ) (image after : F) (old new : Host B)
         → LoadsAll F.bytes F.source F.reads F.known_left B.marks m segments (image, old) (Ok tt) (after, new)

@@ -21,16 +21,16 @@ use vm_memory_guest::{Bytes, GuestMemory, HostMemory};
 pub enum PvhBootCapability {
     /// The entry, as it stands in the image.
     PvhEntryPresent(GuestAddress),
-    /// The image tells none.
+    /// The image names none.
     PvhEntryNotPresent,
 }
 
-/// What a loader answers.
+/// What a loader returns.
 #[derive(Debug, Drop)]
 pub struct KernelLoaderResult {
-    /// Where the kernel is entered: of an ELF file its entry, of a bzImage its first byte.
+    /// Where the kernel is entered: the entry of an ELF file, or the first byte of a bzImage.
     pub kernel_load: GuestAddress,
-    /// The address behind the last byte of the highest segment.
+    /// The address after the last byte of the highest segment.
     pub kernel_end: GuestUsize,
     /// Where the kernel of a bzImage of protocol 2.10 or later runs.
     pub runtime_area: Option<RuntimeArea>,
@@ -44,7 +44,7 @@ impl KernelLoaderResult {
     ghost use Rattle.std.specs.Prelude.{◌≡◌};
     ghost use Rattle.linux_loader.specs.Runtime.{check_outside};
 
-    /// Refuses so many bytes at an address that share one with the kernel's run time area, with `RuntimeAreaOverlap`.
+    /// Refuses a range of bytes that shares one with the kernel's run time area, with `RuntimeAreaOverlap`.
     /// Whoever places boot parameters asks this first.
     pub fn check_outside(&self, addr: GuestAddress, size: u64) -> Result<(), LoaderError>
         ensures { result ≡ check_outside addr.0 size self.now.runtime_area }
@@ -71,7 +71,7 @@ impl Model for SetupHeader {
 impl SetupHeader {
     ghost use Rattle.std.specs.Prelude.{◌≡◌};
 
-    /// Its bytes, of which the first lies at 0x1f1 of the image.
+    /// Its bytes. The first lies at 0x1f1 of the image.
     pub fn as_slice(&self) -> &[u8]
         ensures { result.now ≡ self.now }
     {
@@ -79,12 +79,12 @@ impl SetupHeader {
     }
 }
 
-/// What is to be loaded of an image, and what a loader answers then.
+/// What is to be loaded of an image, and what a loader then returns.
 #[derive(Debug, Drop)]
 pub struct KernelPlan {
     /// The segments, in the order of the image. They lie apart.
     pub segments: Vec<Segment>,
-    /// What a loader answers.
+    /// What a loader returns.
     pub result: KernelLoaderResult,
 }
 
@@ -188,8 +188,8 @@ pub(crate) fn load_segment<M: GuestMemory, F: KernelImage, B: Bitmap>(
 impl KernelPlan {
     /// Loads each segment, one after the other, up to the first that is refused: its bytes from the image, and zeros
     /// after them. `RuntimeAreaNotInMemory` if memory does not have each address of the run time area: then nothing is
-    /// loaded. `Image` if the image cannot be read from a place on, `GuestMemory` if an access is refused or the image
-    /// fails in it, and `Memory` if an allocation fails. What was loaded before stays.
+    /// loaded. `Image` if the image cannot be read from an offset on, `GuestMemory` if an access is refused or the
+    /// image fails in it, and `Memory` if an allocation fails. What was loaded before stays.
     pub fn load<M: GuestMemory, F: KernelImage, B: Bitmap>(
         self,
         mem: &M,

@@ -11,6 +11,6 @@ pub struct Segment {
     pub addr: GuestAddress,
     /// How many bytes come from the image.
     pub file_size: u64,
-    /// How many bytes it has in memory. Those behind the image's are zero.
+    /// How many bytes it has in memory. Those after the image's are zero.
     pub size: u64,
 }

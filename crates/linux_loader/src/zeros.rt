@@ -1,4 +1,4 @@
-//! So many zeros as a source.
+//! A source of a number of zeros.
 
 use std::marker::Model;
 use vm_memory_base::{ReadVolatile, VolatileMemoryResult};

@@ -35,7 +35,7 @@ abbrev pub IsQuiet : Call → Type 0
 IsQuiet WriteGuest = ⊥
 IsQuiet c = Unit {0}
 
--- a sender, its host, and what its stream was given, where that is known
+-- a sender, its host, and what its stream was given, if that is known
 pub record Moment (B : Type 0) : Type 0 where
   pub sender : Sender
   pub host : Host B
@@ -97,7 +97,7 @@ module _ {B : Type 0} (old new : Moment B) where
     pub host : new.host ≡ old.host
 
 module _ {B : Type 0} (pages_of : B → PageSet) where
-  -- what each call says of itself where it succeeds
+  -- what each call says of itself if it succeeds
   abbrev pub Does : Call → Moment B → Moment B → Type 0
   Does WriteGuest old new = WritesGuest pages_of old new
   Does Ready old new = HearsReady old new
@@ -118,7 +118,7 @@ module _ {B : Type 0} (pages_of : B → PageSet) where
     pub begun : BeginsToSend (Some []) m.stream m.sender
     pub targets : AreTargets pages_of m.host m.sender.rounds.targets.items
 
-  -- A guest is paused where a round begins. This round is gone through to its end, and nothing is written from the
+  -- A guest is paused as a round begins. This round is gone through to its end, and nothing is written from the
   -- pause on
   pub record EndsPaused (first last : Moment B) : Type 0 where
     pub before : List Call

@@ -21,7 +21,7 @@ pub record FitsFields (e : BlockEntry) : Type 0 where
   pub page_size : e.page_size < 2 ^ 64
   pub address : e.address < 2 ^ 64
 
--- a block that begins no earlier than this address, where so many bytes are left of what is allowed
+-- a block that begins no earlier than this address, if N bytes are left of what is allowed
 pub record IsEntry (from left : ℕ) (e : BlockEntry) : Type 0 where
   pub some : 0 < e.len
   pub short : e.len < 2 ^ 63
@@ -35,7 +35,7 @@ abbrev pub AreEntries : ℕ → ℕ → List BlockEntry → Type 0
 AreEntries from left [] = Unit {0}
 AreEntries from left (e ∷ es) = IsEntry from left e × AreEntries (e.address + e.len) (left - e.len) es
 
--- a header whose blocks have at most so many bytes in all
+-- a header whose blocks have at most N bytes in all
 abbrev pub IsHeader : ℕ → List BlockEntry → Type 0
 IsHeader limit es = (length es ≤ 256) × AreEntries 0 limit es
 

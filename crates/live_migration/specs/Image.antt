@@ -9,7 +9,7 @@ use Rattle.live_migration.specs.Frame.{Message, Pages, ZeroPage}
 abbrev pub page_bytes : ℕ → ℕ → List ℕ → List ℕ
 page_bytes size page bytes = take size (drop (page * size) bytes)
 
--- an image with these bytes from a place on, in place of its own, as far as it goes
+-- an image with these bytes from a place on instead of its own, as far as it goes
 unfoldable pub placed : ℕ → List ℕ → List ℕ → List ℕ
 placed at bytes image =
     map (λ k. if is_within at (length bytes) k then slice_index bytes (k - at) else slice_index image k)
@@ -34,7 +34,7 @@ module _ (size block : ℕ) where
   carries page (ZeroPage b p) = b == block && p == page
   carries page m = false
 
-  -- what is sent of a page of the block: its bytes, or its number where all of them are zero. A page past the end has
+  -- what is sent of a page of the block: its bytes, or its number if all of them are zero. A page past the end has
   -- no bytes, and nothing is sent of it
   unfoldable pub copied : List ℕ → ℕ → List Message
   copied bytes page = if nat_lt (page * size) (length bytes)

@@ -51,7 +51,7 @@ abbrev pub replies_to : List Message → List ℕ
 replies_to ms = flat_map reply_to ms
 
 -- What a sender reads that awaits a reply, and what it reports: just the bytes of this reply; those of a refusal; eight
--- bytes that are neither; or fewer, where the stream ended or failed
+-- bytes that are neither; or fewer, if the stream ended or failed
 abbrev pub Awaits : {X : Type 0} → Reply → Option (List ℕ) → Option (List ℕ) → Result X SendError → Type 0
 Awaits wanted before after (Ok x) = Consumes before after (reply_bytes wanted)
 Awaits wanted before after (Err (error.Refused r)) = Consumes before after (reply_bytes (Refused r))

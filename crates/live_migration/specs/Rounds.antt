@@ -13,7 +13,7 @@ pub record Source : Type 0 where
   pub pages : Pages
 
 -- What the two ends have. Of each block, by its number, the sender has a source and the receiver an image. In this
--- round so many blocks were harvested. Pages of the last of them wait to be copied, and what was copied waits to be
+-- round N blocks were harvested. Pages of the last of them wait to be copied, and what was copied waits to be
 -- sent
 pub record Ends : Type 0 where
   pub count : ℕ

@@ -57,7 +57,7 @@ pub record HarvestsNext {B : Type 0} (pages_of : B → PageSet) (old new : Round
   pub last : new.last ≡ old.turn
   pub same : (new.targets ≡ old.targets) × (new.round ≡ old.round) × (new.batch ≡ old.batch)
 
--- so many pages that waited were copied behind what waits to be sent. They have at most 2^20 bytes
+-- a number of pages that waited were copied after what waits to be sent. They have at most 2^20 bytes
 pub record CopiesPages {B : Type 0} (count : ℕ) (old new : Rounds) (host : Host B) : Type 0 where
   pub target : Target
   pub there : slice_get old.targets.items old.last ≡ Some target

@@ -15,7 +15,7 @@ pages_in e = div_ceil e.len e.page_size
 abbrev pub is_set : List ℕ → ℕ → Bool
 is_set words page = bit_at (slice_index words (page / 32)) (page % 32) == 1
 
--- those of so many pages whose bits are set
+-- those of N pages whose bits are set
 abbrev pub pages_set : ℕ → List ℕ → List ℕ
 pages_set count words = filter (is_set words) (numbers 0 count)
 

@@ -10,6 +10,6 @@ pub record MarksItsBlock (w : Window) : Type 0 where
   pub bitmap : w.bitmap ≡ record { id = Block w.block.0; base = w.offset }
   pub fits : w.offset + w.size ≤ 2 ^ 64
 
--- so many blocks, from the first on, are written to be these
+-- N blocks, from the first on, are written to be these
 abbrev pub all_written : (ℕ → Source) → ℕ → List Event
 all_written sources count = map (λ j. Write j (sources j)) (numbers 0 count)

@@ -62,7 +62,7 @@ pub enum Frame<'a> {
         name: &'a [u8],
         bytes: &'a [u8],
     },
-    /// All was sent.
+    /// Everything was sent.
     Done,
     /// The receiver may run the guest.
     Go,
@@ -191,8 +191,8 @@ fn put_section(out: &mut Vec<u8>, name: &[u8], bytes: &[u8]) -> Result<(), Alloc
 }
 
 impl<'a> Frame<'a> {
-    /// The frame of this kind whose payload these bytes are: no other frame has it. `FrameKind` where no kind has this
-    /// number, and `FrameLength` where the payload is longer or shorter than the kind lets it be.
+    /// The frame of this kind whose payload these bytes are: no other frame has it. `FrameKind` if no kind has this
+    /// number, and `FrameLength` if the payload is longer or shorter than the kind lets it be.
     pub fn decode(kind: u32, payload: &'a [u8]) -> Result<Frame<'a>, Refusal>
         // What is read is spelled so.
         ensures found { IfOk result (λ f. IsMessage (message_of f) × (kind ≡ kind_of (message_of f))
@@ -255,7 +255,7 @@ impl<'a> Frame<'a> {
         Ok(())
     }
 
-    /// Puts the frame behind other bytes, as it goes over the stream. `AllocError` where there is no room for it, and
+    /// Appends the frame to other bytes, as it goes over the stream. `AllocError` if its allocation fails, and
     /// then nothing changes. Its fields have to fit: at most 2^20 bytes, a digest of 32, and a name of at most 255.
     pub fn encode(&self, out: &mut Vec<u8>) -> Result<(), AllocError>
         requires { IsMessage (message_of self.now) }

@@ -16,7 +16,7 @@ const VERSION: u32 = 1;
 /// The greatest number of blocks.
 pub const MOST_BLOCKS: u32 = 256;
 
-/// The number of bytes in front of the blocks.
+/// The number of bytes before the blocks.
 pub(crate) const FRONT: usize = 16;
 
 /// The number of bytes of a block in the header.
@@ -33,7 +33,7 @@ pub struct BlockEntry {
     pub len: u64,
     /// The number of bytes of a page: 1 to 2^20. The last page may be cut.
     pub page_size: u64,
-    /// Where it lies in guest memory. The first address behind it is no address past 2^64 - 1.
+    /// Where it lies in guest memory. The first address after it is at most 2^64 - 1.
     pub address: u64,
 }
 
@@ -132,8 +132,8 @@ fn header_in(alloc: Global, limit: u64, bytes: &[u8]) -> Result<Vec<BlockEntry>,
 }
 
 /// The blocks of the header that these bytes are, all of them: no other blocks have this header. The first fault from
-/// the left decides which error it is. `TooMuchMemory` where the blocks have more than `limit` bytes in all, and
-/// `Memory` where the allocation of the list fails.
+/// the left decides which error it is. `TooMuchMemory` if the blocks have more than `limit` bytes in all, and
+/// `Memory` if the allocation of the list fails.
 pub fn decode_header(alloc: Global, limit: u64, bytes: &[u8]) -> Result<Vec<BlockEntry>, Refusal>
     // What is read is spelled so.
     ensures found { IfOk result (λ v. IsHeader limit v.items × (bytes.now ≡ header_bytes v.items)) }
@@ -188,7 +188,7 @@ fn front_bytes(count: u32) -> [u8; FRONT]
     [a, b, c, d, e, f, g, h, i, j, k, l, m, n, o, p]
 }
 
-/// The header of these blocks, as it goes over the stream. `AllocError` where its allocation fails.
+/// The header of these blocks, as it goes over the stream. `AllocError` if its allocation fails.
 #[tactic(auto, unfolding(crate::specs::Header::header_bytes))]
 pub fn encode_header(alloc: Global, entries: &[BlockEntry]) -> Result<Vec<u8>, AllocError>
     requires { length entries.now ≤ 256 }

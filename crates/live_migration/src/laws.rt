@@ -53,7 +53,7 @@ pub fn no_page_is_lost()
     dirty_pages_are_listed();
 }
 
-/// A round that is gone through while no block is written leaves each block equal at both ends: the last round of a
+/// A round during which no block is written leaves each block equal at both ends: the last round of a
 /// machine that does not run.
 pub fn still_rounds_end_equal()
     ensures { (events last : List Event) (s : Ends) → IsBeginning s → AllMay events s
@@ -72,16 +72,16 @@ pub fn streams_mean_one_thing()
         → header_bytes es ≡ header_bytes fs → es ≡ fs }
 {}
 
-/// What is sent of pages of a block leaves its image patched with these pages, as `Machine::sync` patches one: a page
+/// What is sent for pages of a block patches its image with these pages, as `Machine::sync` does: a page
 /// of zeros, and the last one, which may be cut, too.
 pub fn copied_pages_patch_an_image()
     ensures { (size block : ℕ) (bytes pages image : List ℕ) → 0 < size → length image ≡ length bytes
         → arrived size block (flat_map (copied size block bytes) pages) image ≡ patched size pages bytes image }
 {}
 
-/// A sender that has just begun has what a state before the first round says. One that has what a state of the rounds
-/// says has what the next state says after a harvest, a copy, a send and the end of a round, and what the same state
-/// says after a call that was refused. So its calls are the events of the theorems above.
+/// A sender that has just begun is in a state before the first round. One that is in a state of the rounds
+/// is in the next state after a harvest, a copy, a send or the end of a round, and in the same state
+/// after a call that was refused. So its calls are the events of the theorems above.
 pub fn senders_do_as_the_rounds_say<B: ExactBitmap>()
     ensures begin { (sender : Sender) (host : Host B) (s : Ends) → IsFirst sender
         → AreTargets B.pages host sender.rounds.targets.items → IsBeginning s → s.last ≡ sender.rounds.last
@@ -103,7 +103,7 @@ pub fn senders_do_as_the_rounds_say<B: ExactBitmap>()
 {}
 
 /// A write of a host with exact bitmaps marks what it changes: what `Bytes::write` and its kin write, and what a window
-/// of a host gets. Windows that are reached where addresses are physical mark their own block, as do those of a block,
+/// of a host gets. Windows that physical addresses reach mark their own block, as do those of a block,
 /// and their parts. Behind an IOMMU that is on they mark a space, and leave the block's bitmap as it is.
 pub fn writes_mark_what_they_change<B: ExactBitmap>()
     ensures changes { (ws : List Window) (bytes : List ℕ) (old new : Host B) → Writes B.marks ws bytes old new
@@ -133,10 +133,10 @@ pub fn marked_writes_may_come<B: ExactBitmap>()
         × Follows B.pages r new (story (all_written sources s.count) s) }
 {}
 
-/// What a sender sends, its receiver has. A sender begins over a stream that had nothing. Then come any calls that
+/// What a sender sends, its receiver has. A sender begins on an empty stream. Then come any calls that
 /// succeed, and any writes that mark what they change. There are events that may come by which the sender does as the
 /// rounds say, and once go is sent, a receiver that reads the whole stream has of each block the image of the rounds.
-/// Where the guest was paused for a last round, both ends have the same blocks.
+/// If the guest was paused for a last round, both ends have the same blocks.
 pub fn receivers_have_what_was_sent<B: ExactBitmap, C: Bitmap>()
     ensures rounds { (calls : List Call) (first last : Moment B) → HasBegun B.pages first
         → DoAll B.pages calls first last
@@ -168,7 +168,7 @@ pub fn calls_and_frames_add_up<B: ExactBitmap, C: Bitmap>()
         → ReceivesAll before after base entries host next }
 {}
 
-/// What `abort` leaves: each byte of each block of which pages were harvested is dirty, if the host still has the block
+/// What `abort` leaves: each byte of each block whose pages were harvested is dirty, if the host still has the block
 /// as it was. No byte changed, and no page is clean that was dirty. So a migration that failed loses no page.
 pub fn aborted_rounds_lose_no_page<B: ExactBitmap>()
     ensures { (ts : List Target) (old new : Host B) → AreMarkedAgain B.pages ts old new
@@ -183,7 +183,7 @@ pub fn aborted_rounds_lose_no_page<B: ExactBitmap>()
 }
 
 /// A page that the harvester of a `TrackedBitmap` knows to be marked or seen set was harvested in its round, and waits
-/// to be copied where the words of this harvest are taken. Or it is among those that `close` leaves, for the last
+/// to be copied, if the words of this harvest are taken. Or it is among those that `close` leaves, for the last
 /// round. A harvest adds its words to those that are known, and no other call does.
 pub fn marks_are_harvested_or_left()
     ensures kept { (harvester : Harvester) (harvests : List (ℕ × List ℕ)) (left : List ℕ) (count word round page : ℕ)

@@ -20,7 +20,7 @@ pub enum Stage {
     Round,
     /// The next frame of another round, or done.
     RoundEnded,
-    /// Leave to run the guest.
+    /// Permission to run the guest.
     Done,
     /// Nothing: it may run the guest.
     Gone,

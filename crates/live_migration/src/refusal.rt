@@ -2,13 +2,13 @@
 
 use thiserror::Error;
 
-/// Why a receiver refused what came. It goes back to the sender as a number of 32 bits, the place in this list from 1.
+/// Why a receiver refused what came. The sender gets it as a number of 32 bits, the place in this list from 1.
 #[derive(Clone, Copy, Debug, PartialEq, Eq, Error)]
 pub enum Refusal {
     /// The stream does not begin with the magic word.
     #[error("no migration stream")]
     Magic,
-    /// The version is another.
+    /// The version is not supported.
     #[error("unknown version")]
     Version,
     /// There are more blocks than a header may list.
@@ -38,10 +38,10 @@ pub enum Refusal {
     /// A page lies past the end of its block.
     #[error("no such page")]
     Page,
-    /// The bytes of a frame are no whole pages, and do not end where their block does.
+    /// The bytes of a frame are not whole pages, and do not end where their block does.
     #[error("cut page")]
     CutPage,
-    /// The frame does not come here.
+    /// The frame is out of order.
     #[error("frame out of order")]
     Order,
     /// The digest is not that of the stream so far.

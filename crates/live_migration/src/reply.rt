@@ -1,4 +1,4 @@
-//! What goes back to a sender.
+//! What a receiver sends back.
 ghost use Rattle.std.specs.Prelude.{◌≡◌, IfSome, Some};
 ghost use Rattle.live_migration.specs.Replies.{code_of, reply_bytes};
 ghost use Rattle.live_migration.specs.declared.reply.Reply.{Reply};
@@ -11,7 +11,7 @@ use crate::refusal::Refusal;
 pub enum Reply {
     /// The header was accepted, and frames may come.
     Ready,
-    /// All came, and the guest waits for leave to run.
+    /// Everything came, and the guest waits for permission to run.
     Accepted,
     /// Something was refused, and the receiver gave up.
     Refused(Refusal),
@@ -74,7 +74,7 @@ fn refusal_of(code: u8) -> Option<Refusal>
 }
 
 impl Reply {
-    /// The reply as it goes back.
+    /// The reply as bytes.
     pub fn encode(self) -> [u8; 8]
         ensures { result ≡ reply_bytes self }
     {

@@ -254,7 +254,7 @@ fn wanted(alloc: Global, slow: &Slow) -> Result<String, Fail> {
     }
 }
 
-/// Fails where an answer is not what a slow loader tells, or a byte of memory is not what it leaves. Where a load was
+/// Fails if an answer is not what a slow loader says, or a byte of memory is not what it leaves. If a load was
 /// refused, only the bytes that no segment names have to be as they were.
 pub fn expect_slow(
     alloc: Global,

@@ -18,7 +18,7 @@ pub const END: u64 = 0x1400;
 /// What stands in each byte of memory before a load.
 pub const BEFORE: u8 = 0xaa;
 
-/// An edit: so many bytes from a place on become those of a number, the lowest first.
+/// An edit: this many bytes from a place on become those of a number, the lowest first.
 pub type Edit = (usize, usize, u64);
 
 /// Puts the lowest bytes of a number at a place.
@@ -32,7 +32,7 @@ pub fn put(bytes: &mut Vec<u8>, (at, count, value): Edit) {
     }
 }
 
-/// So many bytes that tell their place, with edits.
+/// This many bytes that depend on their place, with edits.
 pub fn image_of(alloc: Global, len: usize, edits: &[Edit]) -> Result<Vec<u8>, AllocError> {
     let mut bytes = Vec::new(alloc);
     for i in 0..len {
@@ -140,7 +140,7 @@ pub fn bytes_of<M: GuestMemory, B: Bitmap>(
     Ok(bytes)
 }
 
-/// What a loader answers, as text.
+/// What a loader returns, as text.
 pub fn told(
     alloc: Global,
     answer: &Result<KernelLoaderResult, LoaderError>,

@@ -10,7 +10,7 @@ use std::test::Fail;
 use vm_memory_base::{ExactBitmap, GuestAddress, NewBitmap};
 use vm_memory_guest::{BlockId, HostMemory};
 
-/// Takes so many bytes, and then fails.
+/// Takes this many bytes, and then fails.
 #[derive(Drop)]
 pub(crate) struct Cut {
     pub(crate) bytes: Vec<u8>,

@@ -1,4 +1,4 @@
-//! Streams that are written by hand, and what a receiver answers.
+//! Streams that are written by hand, and what a receiver replies.
 
 use crate::guests::{bytes_of, guest_of};
 use live_migration::{Receiver, Refusal, Stage};
@@ -10,7 +10,7 @@ use test_text::expect_text;
 use vm_memory_base::NewBitmap;
 use vm_memory_guest::{BlockId, HostMemory};
 
-/// A stream in words: `m` is the magic word, `4,7` a number of 32 bits, `8,7` one of 64, `x,01ff` bytes, `z,3` so many
+/// A stream in words: `m` is the magic word, `4,7` a number of 32 bits, `8,7` one of 64, `x,01ff` bytes, `z,3` N
 /// zeros, `e,0` the end of a round with the digest of all before it; numbers are hexadecimal. `a` is a header of a block
 /// of 5 bytes in pages of 2 and one of 3 bytes in a page of 4. Then the bytes of both blocks, or why the receiver
 /// refused.
@@ -195,7 +195,7 @@ fn taken<B: NewBitmap + Drop>(
     Ok(())
 }
 
-/// Takes a stream, and tells what came of it.
+/// Takes a stream, and writes what came of it.
 pub(crate) fn told(alloc: Global, stream: &[u8]) -> Result<String, Fail> {
     let (mut host, _) = guest_of(alloc, &[(4, 1)])?;
     told_in(alloc, stream, &mut host)

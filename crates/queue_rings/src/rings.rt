@@ -28,7 +28,7 @@ impl Numbers {
         Numbers { state: seed }
     }
 
-    /// A number below another, or 0 where that is 0.
+    /// A number below another, or 0 if that is 0.
     pub fn below(&mut self, limit: u64) -> u64
         ensures { (result < limit) ⊎ (result ≡ 0) }
     {
@@ -51,7 +51,7 @@ pub struct Image {
 }
 
 impl Image {
-    /// Bytes that tell their place.
+    /// Bytes that depend on their place.
     pub fn new(alloc: Global) -> Result<Image, AllocError> {
         let bytes: Vec<u8> = (0..SIZE).map(|i| (i * 7 % 251) as u8).collect(alloc)?;
         Ok(Image { bytes })
@@ -61,7 +61,7 @@ impl Image {
         self.bytes.as_slice()
     }
 
-    /// The byte at an address, where there is one.
+    /// The byte at an address, if there is one.
     pub fn byte(&self, addr: u64) -> Option<u8> {
         let offset = addr.checked_sub(BEGIN)?;
         self.bytes.get(offset as usize).copied()

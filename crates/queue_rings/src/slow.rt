@@ -205,7 +205,7 @@ pub fn popped(alloc: Global, image: &Image, setup: &Setup) -> Result<Outcome, Al
     }
 }
 
-/// Puts the first bytes that can be read of segments into a buffer, up to the first that is not there. It answers how
+/// Puts the first bytes that can be read of segments into a buffer, up to the first that is not there. It returns how
 /// many these are, and whether any was wanted.
 pub fn readable_bytes(image: &Image, segments: &[Segment], buffer: &mut [u8; 64]) -> (usize, bool) {
     let mut count = 0usize;

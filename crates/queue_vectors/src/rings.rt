@@ -174,7 +174,7 @@ fn act(
     }
 }
 
-/// A device's half over a ring that a line tells of. Its words are `q` (the size, and where the indices begin), `t`
+/// A device's half over a ring that a line describes. Its words are `q` (the size, and where the indices begin), `t`
 /// and `i` (the index in the table or the address of a descriptor, and its address, length, flags and next), `h` (a
 /// head that is published), `a` (how far the index is ahead of these).
 pub fn queue_of(host: &mut Host, memory: &Memory, base: u64, line: &str) -> Result<Queue, Fail> {

@@ -58,9 +58,9 @@ fn a_bad_line_ends_a_script_after_its_replies(rt: HostRuntime) -> Result<(), Fai
 // What fails, once.
 #[derive(Clone, Copy)]
 enum Failing {
-    /// A read, behind so many bytes.
+    /// A read, after this many bytes.
     Read(usize, io::ErrorKind),
-    /// A write, where as many bytes were taken.
+    /// A write, after this many bytes were taken.
     Write(usize),
     /// Each flush.
     Flush,

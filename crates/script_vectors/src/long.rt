@@ -46,7 +46,7 @@ fn text_of(alloc: Global, rows: Rows) -> Result<String, AllocError> {
     Ok(text)
 }
 
-/// Fails where a script has other replies than the text that belongs to it.
+/// Fails if a script has other replies than the text that belongs to it.
 pub fn expect_long(alloc: Global, scripts: &[(Rows, Rows)]) -> Result<(), Fail> {
     for (case, (script, wanted)) in scripts.iter().enumerate() {
         let script = text_of(alloc, script)?;

@@ -509,7 +509,7 @@ const SCRIPTS: [(&[u8], &str); 59] = [
     ),
 ];
 
-/// What a script tells.
+/// What a script prints.
 pub fn told(alloc: Global, script: &[u8]) -> Result<String, Fail> {
     let mut input = script;
     let mut output = Vec::new(alloc);

@@ -1,4 +1,4 @@
-//! Tests of sessions: what each kind of call is answered, by numbers.
+//! Tests of sessions: the answer to each kind of call, by numbers.
 #![tactic(auto)]
 
 #[cfg(test)]

@@ -1,4 +1,4 @@
-//! Tests of the I/O table: its ranges, what it finds, and what its calls answer.
+//! Tests of the I/O table: its ranges, what it finds, and what its calls return.
 #![tactic(auto)]
 
 #[cfg(test)]

@@ -1,4 +1,4 @@
-//! What a look-up of an I/O table tells, as text.
+//! What a look-up of an I/O table returns, as text.
 ghost use Rattle.std.specs.Prelude.{◌<◌};
 
 use std::alloc::Global;
@@ -47,7 +47,7 @@ fn write_refusal(
     Ok(())
 }
 
-/// Fails where a look-up tells something else, or an access of the range gets other pieces or another error.
+/// Fails if a look-up returns something else, or an access of the range gets other pieces or another error.
 pub fn expect_look_up(
     alloc: Global,
     case: usize,

@@ -1,4 +1,4 @@
-//! I/O tables: calls, and what they tell.
+//! I/O tables: calls, and what they return.
 
 use crate::lookups::expect_look_up;
 use std::alloc::Global;

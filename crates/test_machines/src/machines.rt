@@ -40,7 +40,7 @@ pub fn machine_of(alloc: Global, places: &[Place]) -> Result<TestMachine, Fail> 
     Ok(Machine::new(alloc, host, regions, Vec::new(alloc)))
 }
 
-/// Runs commands, and adds their replies. It tells its caller less than `run`, and so makes the proof there short.
+/// Runs commands, and adds their replies. It promises its caller less than `run`, and so keeps the proof there short.
 pub fn run_on(
     machine: &mut TestMachine,
     commands: &[Command],

@@ -13,18 +13,18 @@ use vm_memory_guest::{
 /// A region of a test.
 #[derive(Clone, Copy)]
 pub enum Place {
-    /// A new block of so many bytes, at an address.
+    /// A new block of this many bytes, at an address.
     Block(u64, usize),
     /// The block before it, at another address.
     Again(u64),
-    /// So many addresses without host bytes, from an address on.
+    /// This many addresses without host bytes, from an address on.
     Bare(u64, u64),
 }
 
 /// Two regions with a hole between them.
 pub const AROUND_A_HOLE: [Place; 2] = [Place::Block(0, 0x400), Place::Block(0x1000, 0x400)];
 
-/// A region with bytes, and right behind it one without.
+/// A region with bytes, and right after it one without.
 pub const BEFORE_A_BARE_REGION: [Place; 2] = [Place::Block(0, 0x1000), Place::Bare(0x1000, 0x1000)];
 
 /// The regions, and new blocks in the host for them.

@@ -3,7 +3,7 @@
 
 use std::test::Fail;
 
-/// Fails where a text is not the wanted one, and says in which case.
+/// Fails if a text is not the wanted one, and says in which case.
 pub fn expect_text(case: usize, told: &str, wanted: &str) -> Result<(), Fail> {
     if told != wanted {
         return Err(Fail::new(format_args!("case {case}: {told}, not {wanted}")));

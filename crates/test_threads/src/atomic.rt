@@ -72,7 +72,7 @@ fn harvested(alloc: Global, bitmap: &AtomicBitmap, mut tally: Tally, gate: &Atom
     tally
 }
 
-/// How many harvests took pages while threads marked. Fails where an `AtomicBitmap`, marked by four threads while one
+/// How many harvests took pages while threads marked. Fails if an `AtomicBitmap`, marked by four threads while one
 /// harvests, loses or invents a page, or gives one too often.
 pub fn expect_atomic<R: Sync + Threads>(
     rt: &R,
@@ -96,8 +96,8 @@ pub fn expect_atomic<R: Sync + Threads>(
     Ok(tally.taken)
 }
 
-/// Fails where an `AtomicBitmap`, of which two threads clear pages while two set others, loses or invents a page. All
-/// pages that neither sets are set before, also those right before and behind the cleared ones.
+/// Fails if an `AtomicBitmap`, of which two threads clear pages while two set others, loses or invents a page. All
+/// pages that neither sets are set before, also those right before and after the cleared ones.
 pub fn expect_cleared<R: Sync + Threads>(rt: &R, alloc: Global, marks: &Marks) -> Result<(), Fail> {
     let bitmap = AtomicBitmap::new(alloc, marks.pages, NonZeroUsize::MIN)?;
     for page in 0..marks.pages {

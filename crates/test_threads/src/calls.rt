@@ -139,7 +139,7 @@ fn answers_of_four<R: Sync + Threads + Wait>(
     [a, b, c, d]
 }
 
-/// A machine with a memory of one region of so many bytes.
+/// A machine with a memory of one region of this many bytes.
 pub fn set_up(alloc: Global, size: usize) -> Result<TestMachine, Fail> {
     let mut machine = machine_of(alloc, &[Place::Block(0, size)])?;
     let commands = vec![in alloc; layout_of(alloc, &[0])?, Command::Plain(0)]?;
@@ -147,7 +147,7 @@ pub fn set_up(alloc: Global, size: usize) -> Result<TestMachine, Fail> {
     Ok(machine)
 }
 
-/// Fails where what four threads are answered by one machine is not what its journal has, all of it, or where the
+/// Fails if the replies of one machine to four threads are not those of its journal, all of them, or if the
 /// commands of the journal, run again, have other replies.
 pub fn expect_calls<R: Sync + Threads + Wait>(rt: &R, alloc: Global) -> Result<(), Fail> {
     let machine = SharedMachine::new(Journal::new(set_up(alloc, 0x20)?));

@@ -156,7 +156,7 @@ fn expect_seen<R: Sync + Threads + Wait>(
     expect_regions(rt, alloc, &space, 2)
 }
 
-/// Fails where a layout that is replaced is seen in part, is never seen, or changes in a snapshot.
+/// Fails if a layout that is replaced is seen in part, is never seen, or changes in a snapshot.
 pub fn expect_layouts<R: Sync + Threads + Wait>(rt: &R, alloc: Global) -> Result<(), Fail> {
     let mut host: HostMemory<()> = HostMemory::new(alloc);
     let (two, five) = two_and_five(alloc, &mut host)?;
@@ -308,7 +308,7 @@ fn expect_last<R: Wait>(rt: &R, reader: &mut Reader, number: u64) -> Result<(), 
     Ok(())
 }
 
-/// Fails where one of three readers lends a layout in part or an older one after a newer one, or misses one of so many
+/// Fails if one of three readers lends a layout in part or an older one after a newer one, or misses one of this many
 /// replacements that was made before its call.
 pub fn expect_readers<R: Sync + Threads + Wait>(
     rt: &R,
@@ -361,7 +361,7 @@ fn pages_from(
     Ok(pages)
 }
 
-/// Fails where a region that one of two threads adds is lost.
+/// Fails if a region that one of two threads adds is lost.
 pub fn expect_added<R: Sync + Threads + Wait>(rt: &R, alloc: Global) -> Result<(), Fail> {
     let mut host: HostMemory<()> = HostMemory::new(alloc);
     let space = GuestMemoryAtomic::new(

@@ -1,5 +1,5 @@
 //! What threads do at once: they mark and harvest a bitmap, read a layout that is replaced by snapshots and by readers,
-//! add regions to one in turn, and call one machine. Each function fails where a page, a region or a reply is lost,
+//! add regions to one in turn, and call one machine. Each function fails if a page, a region or a reply is lost,
 //! invented or wrong.
 #![tactic(auto)]
 

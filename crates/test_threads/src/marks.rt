@@ -8,7 +8,7 @@ use std::thread;
 /// Pages that up to four threads change, by lots: of 13 lots in a row thread `k` has `width`, from the lot `2k` on.
 ///
 /// With a width of 1 no two threads have a page in common, and between two threads' lots lies one that none has. With
-/// 3 neighbours share a lot, and with 4 two. Where a lot is short, all threads share each word. As 13 is odd, runs of
+/// 3 neighbours share a lot, and with 4 two. If a lot is short, all threads share each word. As 13 is odd, runs of
 /// lots with an odd number of pages begin at each place in a word, and end at each.
 #[derive(Clone, Copy)]
 pub struct Marks {
@@ -68,12 +68,12 @@ pub struct Work {
 /// Four threads and a harvester meet.
 pub const MET: usize = 5;
 
-/// The harvester goes on until the four have come to the gate again, or so many times.
+/// The harvester goes on until the four have come to the gate again, or this many times.
 pub const DONE: usize = 9;
 
 pub const HARVESTS: usize = 10_000;
 
-/// Comes to a gate and waits until so many have come, but not for one that does not come in so many turns.
+/// Comes to a gate and waits until this many have come, but not for one that does not come in this many turns.
 pub fn meet(gate: &AtomicUsize, count: usize) {
     gate.fetch_add(1, Ordering::SeqCst);
     for _ in 0..100_000 {
@@ -95,7 +95,7 @@ pub struct Tally {
 }
 
 impl Tally {
-    /// A tally of so many pages, none of which was harvested. It has places behind them for those that are none.
+    /// A tally of this many pages, none of which was harvested. It has places after them for those that are not pages.
     pub fn new(alloc: Global, pages: usize) -> Result<Tally, AllocError> {
         Ok(Tally {
             counts: vec![in alloc; 0usize; pages.saturating_add(0x40)]?,
@@ -104,7 +104,7 @@ impl Tally {
         })
     }
 
-    /// Counts the pages of a harvest, so many a word, which ended while threads marked or not.
+    /// Counts the pages of a harvest, this many a word, which ended while threads marked or not.
     pub fn add(&mut self, width: u32, words: &[u64], while_marked: bool) {
         let last = self.counts.len().saturating_sub(1);
         let mut some = false;
@@ -137,8 +137,8 @@ impl Tally {
         }
     }
 
-    /// Fails where a harvest failed, or a page was lost, invented or harvested too often, where each thread changes its
-    /// pages once. A page that two mark is taken once or twice. Where the first two threads clear theirs, one that
+    /// Fails if a harvest failed, or a page was lost, invented or harvested too often, if each thread changes its
+    /// pages once. A page that two mark is taken once or twice. If the first two threads clear theirs, one that
     /// another sets too may stay either way.
     pub fn expect(&self, marks: &Marks, clears: bool) -> Result<(), Fail> {
         if self.failed {

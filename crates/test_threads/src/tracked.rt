@@ -179,7 +179,7 @@ fn expect_joined<R: Sync + Threads>(
     Ok(tally.taken)
 }
 
-/// How many harvests took pages while threads marked. Fails where a `TrackedBitmap`, marked by four threads while one
+/// How many harvests took pages while threads marked. Fails if a `TrackedBitmap`, marked by four threads while one
 /// harvests, loses or invents a page, or gives one too often.
 pub fn expect_tracked<R: Sync + Threads>(
     rt: &R,

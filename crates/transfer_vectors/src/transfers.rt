@@ -17,7 +17,7 @@ use vm_memory_guest::{Bytes, GuestMemoryBackend, GuestMemoryMmap, HostMemory};
 /// What a transfer reaches, by an address in it.
 #[derive(Clone, Copy)]
 pub enum Place {
-    /// Two regions of four bytes, the second right behind the first.
+    /// Two regions of four bytes, the second right after the first.
     Memory(u64),
     /// The second region.
     Region(u64),
@@ -30,9 +30,9 @@ use Place::{Memory, Region, Window};
 /// How many bytes a transfer moves.
 #[derive(Clone, Copy)]
 pub enum Amount {
-    /// Up to so many.
+    /// Up to this many.
     UpTo(usize),
-    /// All of so many.
+    /// All of this many.
     All(usize),
 }
 
@@ -67,7 +67,7 @@ where
     }
 }
 
-/// What a transfer from a source answers, and the bytes that the regions, which have zeros, have then.
+/// What a transfer from a source returns, and the bytes that the regions, which have zeros, have then.
 pub fn comes_in<S: ReadVolatile>(
     alloc: Global,
     place: Place,
@@ -129,7 +129,7 @@ where
     }
 }
 
-/// What a transfer to a sink of the regions, which have 1 to 8, answers.
+/// What a transfer to a sink of the regions, which have 1 to 8, returns.
 pub fn goes_out<W: WriteVolatile>(
     alloc: Global,
     place: Place,

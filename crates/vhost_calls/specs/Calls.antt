@@ -31,7 +31,7 @@ abbrev pub Gives : {A : Type 0} → Result A ℕ → A → ℕ → A → Type 0
 Gives (Ok x) old code new = (code ≡ 0) × (new ≡ x)
 Gives (Err e) old code new = (code ≡ e) × (new ≡ old)
 
--- bytes go to the front of an output if they fit, and it is told how many they are
+-- bytes go to the front of an output if they fit, and how many they are is returned
 abbrev pub Sends : List ℕ → List ℕ → ℕ → List ℕ → Type 0
 Sends bytes out count out' = (count ≡ length bytes) × (out' ≡ (if nat_le (length bytes) (length out)
     then bytes ++ drop (length bytes) out else out))

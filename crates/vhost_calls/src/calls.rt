@@ -23,7 +23,7 @@ pub fn open(alloc: Global, offer: &VhostOffer, config: &[u8]) -> Result<BackendR
 }
 
 /// What is still to come of a message that begins with these bytes. A stream is cut by this into its messages.
-/// Refused as the header is: then nobody knows the beginning of the next message.
+/// Refused as the header is: then where the next message begins is not known.
 pub fn wanted(start: &[u8], rest: &mut VhostWanted) -> u32
     ensures gives { Gives (wanted_of start.now) rest.old result rest.new }
     ensures cuts { result ≡ 0 → wanted start.now ≡ Ok rest.new.bytes }
@@ -75,7 +75,7 @@ fn take(
     answer(header.request, asked, request)
 }
 
-/// Takes a message that came with so many descriptors. What it asks for is put into `request`, and is part of the
+/// Takes a message, and how many descriptors came with it. What it asks for is put into `request`, and is part of the
 /// connection from now on. If it is refused, nothing changes. `VHOST_HEADER` if its header is not whole.
 pub fn handle(
     backend: &mut BackendReqHandler,
@@ -158,7 +158,7 @@ pub fn refuse(backend: &BackendReqHandler, message: &[u8], output: &mut [u8]) ->
     send(backend.refuse(&header).as_slice(), output)
 }
 
-/// Says the index at which a stopped ring goes on. `VHOST_INDEX` if there is no such ring, and `VHOST_STARTED` if it is
+/// Sets the index at which a stopped ring goes on. `VHOST_INDEX` if there is no such ring, and `VHOST_STARTED` if it is
 /// started.
 pub fn stop(backend: &mut BackendReqHandler, index: u32, base: u32) -> u32
     ensures { Stops backend.old index base result backend.new }

@@ -1,5 +1,5 @@
-//! A connection with a vhost-user front end as calls that have numbers and bytes alone, as they cross to C.
-//! docs/VHOST_USER.md.
+//! A connection with a vhost-user front end as calls of plain numbers and bytes, as they cross to C.
+//! The crate's README.md has the rules.
 #![tactic(auto)]
 
 mod calls;

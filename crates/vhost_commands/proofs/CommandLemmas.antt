@@ -14,7 +14,7 @@ use Rattle.vm_memory.specs.declared.machine.command.Reply.{Reply}
 use Rattle.vm_memory.specs.declared.machine.command.Reply.TheVariants as reply
 use Rattle.vhost_iotlb.specs.Changes.{Changes, Handles}
 use Rattle.vhost_message.specs.declared.iotlb.IotlbMessage.{IotlbMessage}
-use Rattle.vhost_iotlb.specs.declared.user_memory.UserRegion.{UserRegion}
+use Rattle.vhost_message.specs.declared.regions.MemoryRegion.{MemoryRegion}
 use Rattle.vhost_iotlb.proofs.CallLemmas.{IsCall, MadeOf, made_of}
 use Rattle.vhost_commands.specs.Commands.{all_done, command_of, commands_of, done_by}
 
@@ -46,7 +46,7 @@ abbrev RunsBy : ℕ → State → List TableEvent → Host PageSet → Host Page
 RunsBy number s calls old new =
     Run (record s { host = old }) (commands_of number calls) (all_done calls) (record s { host = new })
 
-module _ (number : ℕ) (regions : List UserRegion) (s : State) where
+module _ (number : ℕ) (regions : List MemoryRegion) (s : State) where
   pub run_of : (ms : List IotlbMessage) (calls : List TableEvent) (old new : Host PageSet)
       → Handles number regions ms calls old new → RunsBy number s calls old new
   run_of [] calls old new h =
@@ -87,7 +87,7 @@ call_again number table.InvalidateAll is =
     cond-true (eqb number number) (table.InvalidateAll ∷ []) [] (own_number number)
 call_again number (table.Evict iova len) is = absurd is
 
-module _ (number : ℕ) (regions : List UserRegion) where
+module _ (number : ℕ) (regions : List MemoryRegion) where
   calls_are : (ms : List IotlbMessage) (calls : List TableEvent) (old new : Host PageSet)
       → Handles number regions ms calls old new → calls_again number calls ≡ calls
   calls_are [] calls old new h =

@@ -7,7 +7,7 @@ use Rattle.vm_memory.specs.declared.machine.command.Command.TheVariants as comma
 use Rattle.vm_memory.specs.declared.machine.command.Reply.{Reply}
 use Rattle.vm_memory.specs.declared.machine.command.Reply.TheVariants as reply
 
--- the command that makes a call of the table of this number; evictions are no calls, they follow from calls
+-- the command that makes a call of the table of this number; evictions are not calls, they follow from calls
 abbrev pub command_of : ℕ → TableEvent → Command
 command_of number (table.Set iova to len perm) =
     command.Set number (record { 0 = iova }) (record { 0 = to }) len perm

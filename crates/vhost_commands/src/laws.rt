@@ -8,16 +8,16 @@ ghost use Rattle.vm_memory.specs.Machine.{Run};
 ghost use Rattle.vm_memory.specs.State.{State};
 ghost use Rattle.vhost_iotlb.specs.Changes.{Handles};
 ghost use Rattle.vhost_message.specs.declared.iotlb.IotlbMessage.{IotlbMessage};
-ghost use Rattle.vhost_iotlb.specs.declared.user_memory.UserRegion.{UserRegion};
+ghost use Rattle.vhost_message.specs.declared.regions.MemoryRegion.{MemoryRegion};
 ghost use Rattle.vhost_commands.specs.Commands.{all_done, commands_of};
 
 /// What messages make of a table of a host are commands of a machine, each of which is done. So what holds of every
 /// run of a machine holds of every list of messages.
 pub fn messages_are_commands()
-    ensures run { (number : ℕ) (regions : List UserRegion) (ms : List IotlbMessage) (calls : List TableEvent)
+    ensures run { (number : ℕ) (regions : List MemoryRegion) (ms : List IotlbMessage) (calls : List TableEvent)
         (old new : Host PageSet) (s : State) → Handles number regions ms calls old new
         → Run (record s { host = old }) (commands_of number calls) (all_done calls) (record s { host = new }) }
-    ensures events { (number : ℕ) (regions : List UserRegion) (ms : List IotlbMessage) (calls : List TableEvent)
+    ensures events { (number : ℕ) (regions : List MemoryRegion) (ms : List IotlbMessage) (calls : List TableEvent)
         (old new : Host PageSet) (t : Table) → Handles number regions ms calls old new
         → table_events number t (commands_of number calls) (all_done calls) ≡ events_of calls t }
 {}

@@ -7,14 +7,14 @@ use Rattle.vm_memory_base.specs.declared.address.GuestAddress.{GuestAddress}
 use Rattle.vm_memory_base.specs.declared.iotlb.Permissions.{Permissions}
 use Rattle.vm_memory_guest.specs.Host.{Host}
 use Rattle.vhost_iotlb.specs.Changes.{Applies, Changes, DoneFor, Makes, MakesOfMalformed, call_of, invalidate, invalidated, set_to}
-use Rattle.vhost_iotlb.specs.UserMemory.{guest_of}
+use Rattle.vhost_message.specs.Regions.{guest_of}
 use Rattle.vhost_message.specs.declared.refusal.Malformed.{Malformed}
 use Rattle.vhost_message.specs.declared.refusal.Malformed.TheVariants as malformed
 use Rattle.vhost_message.specs.declared.iotlb.IotlbMessage.{IotlbMessage}
 use Rattle.vhost_message.specs.declared.iotlb.IotlbMessage.TheVariants.{Update, Invalidate}
 use Rattle.vhost_iotlb.specs.declared.table.Refusal.{Refusal}
 use Rattle.vhost_iotlb.specs.declared.table.Refusal.TheVariants as refusal
-use Rattle.vhost_iotlb.specs.declared.user_memory.UserRegion.{UserRegion}
+use Rattle.vhost_message.specs.declared.regions.MemoryRegion.{MemoryRegion}
 
 abbrev asked_for : TableEvent → Result TableEvent Refusal
 asked_for call = Ok call
@@ -26,7 +26,7 @@ in_range iova size r fits =
     cond-false (overruns iova size) (Err (refusal.Malformed malformed.Range)) r
     (le-ltb (2 ^ 64 - 1) (iova + size) (omega arith))
 
-module _ {B : Type 0} (number : ℕ) (regions : List UserRegion) (m : IotlbMessage) (old new : Host B) where
+module _ {B : Type 0} (number : ℕ) (regions : List MemoryRegion) (m : IotlbMessage) (old new : Host B) where
   made_by : (wanted call : TableEvent) → call_of regions m ≡ asked_for wanted → DoneFor wanted call
       → Changes number call old new
       → (calls : List TableEvent) × Makes number (call_of regions m) calls old new

@@ -8,13 +8,13 @@ use Rattle.vm_memory_base.specs.declared.address.GuestAddress.{GuestAddress}
 use Rattle.vm_memory_base.specs.declared.iotlb.Permissions.{Permissions}
 use Rattle.vm_memory_guest.specs.Host.{Host}
 use Rattle.vhost_iotlb.specs.Changes.{Applies, Changes, DoneFor, Handles, IsAmong, MakesOfMalformed, call_of, invalidate, invalidated, named, set_to}
-use Rattle.vhost_iotlb.specs.UserMemory.{guest_of}
+use Rattle.vhost_message.specs.Regions.{guest_of}
 use Rattle.vhost_message.specs.declared.refusal.Malformed.TheVariants as malformed
 use Rattle.vhost_message.specs.declared.iotlb.IotlbMessage.{IotlbMessage}
 use Rattle.vhost_message.specs.declared.iotlb.IotlbMessage.TheVariants.{Miss, Update, Invalidate, AccessFail}
 use Rattle.vhost_iotlb.specs.declared.table.Refusal.{Refusal}
 use Rattle.vhost_iotlb.specs.declared.table.Refusal.TheVariants as refusal
-use Rattle.vhost_iotlb.specs.declared.user_memory.UserRegion.{UserRegion}
+use Rattle.vhost_message.specs.declared.regions.MemoryRegion.{MemoryRegion}
 use Rattle.vm_memory_device.proofs.TableLemmas.{AreLeftBy, changed_own, one_after_the_other, same}
 
 -- a call that a message can lead to
@@ -25,13 +25,13 @@ IsCall table.InvalidateAll = Unit {0}
 IsCall (table.Evict iova len) = ⊥
 
 -- what an UPDATE asks for
-record SetsBy (regions : List UserRegion) (iova size user : ℕ) (perm : Permissions) (wanted : TableEvent) : Type 0 where
+record SetsBy (regions : List MemoryRegion) (iova size user : ℕ) (perm : Permissions) (wanted : TableEvent) : Type 0 where
   to : GuestAddress
   fits : overruns iova size ≡ false
   lies : guest_of regions user size ≡ Some to
   is : wanted ≡ table.Set iova to.0 size perm
 
-sets_by : (regions : List UserRegion) (iova size user : ℕ) (perm : Permissions) (wanted : TableEvent)
+sets_by : (regions : List MemoryRegion) (iova size user : ℕ) (perm : Permissions) (wanted : TableEvent)
     → call_of regions (Update iova size user perm) ≡ Ok wanted → SetsBy regions iova size user perm wanted
 sets_by regions iova size user perm wanted e = over (overruns iova size) refl e
   where
@@ -87,7 +87,7 @@ takes_by iova size wanted e = some (eqb (named iova size) 0) refl e
     some true none e = absurd cc
     some false none e = near (ltb (2 ^ 64) (iova + named iova size)) refl none e
 
-is_call : (regions : List UserRegion) (m : IotlbMessage) (wanted call : TableEvent) → call_of regions m ≡ Ok wanted
+is_call : (regions : List MemoryRegion) (m : IotlbMessage) (wanted call : TableEvent) → call_of regions m ≡ Ok wanted
     → DoneFor wanted call → IsCall call
 is_call regions (Update iova size user perm) wanted call e done =
     let s = sets_by regions iova size user perm wanted e in
@@ -103,11 +103,11 @@ is_call regions (Miss iova access) wanted call e done = absurd cc
 is_call regions (AccessFail iova access) wanted call e done = absurd cc
 
 -- a call that sets a range was made for an UPDATE of it
-abbrev pub IsUpdate : List UserRegion → IotlbMessage → ℕ → ℕ → ℕ → Permissions → Type 0
+abbrev pub IsUpdate : List MemoryRegion → IotlbMessage → ℕ → ℕ → ℕ → Permissions → Type 0
 IsUpdate regions m iova to len perm =
     (user : ℕ) × (m ≡ Update iova len user perm) × (guest_of regions user len ≡ Some (record { 0 = to }))
 
-set_by : (regions : List UserRegion) (m : IotlbMessage) (wanted call : TableEvent) (iova to len : ℕ) (perm : Permissions)
+set_by : (regions : List MemoryRegion) (m : IotlbMessage) (wanted call : TableEvent) (iova to len : ℕ) (perm : Permissions)
     → call_of regions m ≡ Ok wanted → DoneFor wanted call → call ≡ table.Set iova to len perm
     → IsUpdate regions m iova to len perm
 set_by regions (Update i size user p) wanted call iova to len perm e done is =
@@ -135,7 +135,7 @@ set_by regions (AccessFail i access) wanted call iova to len perm e done is = ab
 
 -- ---- what was made of one message: nothing, or one call
 
-pub record MadeOne {B : Type 0} (number : ℕ) (regions : List UserRegion) (m : IotlbMessage) (calls : List TableEvent)
+pub record MadeOne {B : Type 0} (number : ℕ) (regions : List MemoryRegion) (m : IotlbMessage) (calls : List TableEvent)
     (old new : Host B) : Type 0 where
   pub call : TableEvent
   pub made : calls ≡ call ∷ []
@@ -144,11 +144,11 @@ pub record MadeOne {B : Type 0} (number : ℕ) (regions : List UserRegion) (m : 
   pub set_by : (iova to len : ℕ) (perm : Permissions) → call ≡ table.Set iova to len perm
       → IsUpdate regions m iova to len perm
 
-abbrev pub MadeOf : {B : Type 0} → ℕ → List UserRegion → IotlbMessage → List TableEvent → Host B → Host B → Type 0
+abbrev pub MadeOf : {B : Type 0} → ℕ → List MemoryRegion → IotlbMessage → List TableEvent → Host B → Host B → Type 0
 MadeOf number regions m calls old new =
     ((calls ≡ []) × (new ≡ old)) ⊎ MadeOne number regions m calls old new
 
-module _ {B : Type 0} (number : ℕ) (regions : List UserRegion) where
+module _ {B : Type 0} (number : ℕ) (regions : List MemoryRegion) where
   of_malformed : (m : IotlbMessage) (calls : List TableEvent) (old new : Host B)
       → MakesOfMalformed number m calls old new → MadeOf number regions m calls old new
   of_malformed (Update iova size user perm) calls old new by = inl by
@@ -179,7 +179,7 @@ module _ {B : Type 0} (number : ℕ) (regions : List UserRegion) where
 
 -- ---- the table that they leave
 
-module _ {B : Type 0} (number : ℕ) (regions : List UserRegion) where
+module _ {B : Type 0} (number : ℕ) (regions : List MemoryRegion) where
   one_leaves : (m : IotlbMessage) (made : List TableEvent) (old new : Host B)
       → MadeOf number regions m made old new → AreLeftBy number made old.tables new.tables
   one_leaves m made old new by = elim by [
@@ -203,11 +203,11 @@ module _ {B : Type 0} (number : ℕ) (regions : List UserRegion) where
 
 -- ---- which messages set what
 
-abbrev Updated : List UserRegion → List IotlbMessage → ℕ → ℕ → ℕ → Permissions → Type 0
+abbrev Updated : List MemoryRegion → List IotlbMessage → ℕ → ℕ → ℕ → Permissions → Type 0
 Updated regions ms iova to len perm = (user : ℕ) × IsAmong (Update iova len user perm) ms
     × (guest_of regions user len ≡ Some (record { 0 = to }))
 
-module _ {B : Type 0} (number : ℕ) (regions : List UserRegion) where
+module _ {B : Type 0} (number : ℕ) (regions : List MemoryRegion) where
   pub updates_are : (ms : List IotlbMessage) (calls : List TableEvent) (old new : Host B)
       (iova to len : ℕ) (perm : Permissions) → Handles number regions ms calls old new
       → IsAmong (table.Set iova to len perm) calls → Updated regions ms iova to len perm

@@ -19,7 +19,7 @@ use Rattle.vhost_message.specs.declared.iotlb.IotlbMessage.{IotlbMessage}
 use Rattle.vhost_message.specs.declared.iotlb.IotlbMessage.TheVariants.{Update, Invalidate}
 use Rattle.vhost_iotlb.specs.declared.table.Refusal.{Refusal}
 use Rattle.vhost_iotlb.specs.declared.table.Refusal.TheVariants as refusal
-use Rattle.vhost_iotlb.specs.declared.user_memory.UserRegion.{UserRegion}
+use Rattle.vhost_message.specs.declared.regions.MemoryRegion.{MemoryRegion}
 use Rattle.vhost_iotlb.proofs.CallLemmas.{IsCall, MadeOf, made_of, takes_by}
 
 -- ---- events that leave an address without a mapping
@@ -69,7 +69,7 @@ after_calls (call ∷ calls) t x spare =
 
 -- ---- messages that do
 
-module _ (number : ℕ) (regions : List UserRegion) (x : ℕ) where
+module _ (number : ℕ) (regions : List MemoryRegion) (x : ℕ) where
   spares : (m : IotlbMessage) (call : TableEvent) → IsCall call → updates x m ≡ false
       → ((iova to len : ℕ) (perm : Permissions) → call ≡ table.Set iova to len perm
       → (user : ℕ) × (m ≡ Update iova len user perm))
@@ -187,7 +187,7 @@ module _ (number : ℕ) (regions : List UserRegion) (x : ℕ) where
 
 -- ---- messages in two parts
 
-pub record Parts (number : ℕ) (regions : List UserRegion) (ms ns : List IotlbMessage) (old new : Host PageSet) : Type 0
+pub record Parts (number : ℕ) (regions : List MemoryRegion) (ms ns : List IotlbMessage) (old new : Host PageSet) : Type 0
   where
     pub mid : Host PageSet
     pub first : List TableEvent
@@ -195,7 +195,7 @@ pub record Parts (number : ℕ) (regions : List UserRegion) (ms ns : List IotlbM
     pub before : Handles number regions ms first old mid
     pub after : Handles number regions ns rest mid new
 
-pub parts : (number : ℕ) (regions : List UserRegion) (ms ns : List IotlbMessage) (calls : List TableEvent)
+pub parts : (number : ℕ) (regions : List MemoryRegion) (ms ns : List IotlbMessage) (calls : List TableEvent)
     (old new : Host PageSet) → Handles number regions (ms ++ ns) calls old new → Parts number regions ms ns old new
 parts number regions [] ns calls old new h =
     record { mid = old; first = []; rest = calls; before = (refl, refl); after = h }

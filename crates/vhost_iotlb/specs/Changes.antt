@@ -5,14 +5,14 @@ use Rattle.vm_memory_base.specs.Table.{Table, TableEvent, changed, overruns}
 use Rattle.vm_memory_base.specs.declared.address.GuestAddress.{GuestAddress}
 use Rattle.vm_memory_base.specs.declared.iotlb.Permissions.{Permissions}
 use Rattle.vm_memory_guest.specs.Host.{Host, with_table_at}
-use Rattle.vhost_iotlb.specs.UserMemory.{guest_of}
+use Rattle.vhost_message.specs.Regions.{guest_of}
 use Rattle.vhost_message.specs.declared.refusal.Malformed.{Malformed}
 use Rattle.vhost_message.specs.declared.refusal.Malformed.TheVariants as malformed
 use Rattle.vhost_message.specs.declared.iotlb.IotlbMessage.{IotlbMessage}
 use Rattle.vhost_message.specs.declared.iotlb.IotlbMessage.TheVariants.{Miss, Update, Invalidate, AccessFail}
 use Rattle.vhost_iotlb.specs.declared.table.Refusal.{Refusal}
 use Rattle.vhost_iotlb.specs.declared.table.Refusal.TheVariants as refusal
-use Rattle.vhost_iotlb.specs.declared.user_memory.UserRegion.{UserRegion}
+use Rattle.vhost_message.specs.declared.regions.MemoryRegion.{MemoryRegion}
 
 -- a range that is mapped to guest memory
 abbrev pub set_to : ℕ → ℕ → Permissions → Option GuestAddress → Result TableEvent Refusal
@@ -29,13 +29,13 @@ invalidated iova size = if named iova size == 0 then Err malformed.EmptyRange el
     if nat_lt (2 ^ 64) (iova + named iova size) then Err malformed.Range
     else Ok (min (named iova size) (2 ^ 64 - 1 - iova)))
 
--- so many addresses are invalidated
+-- N addresses are invalidated
 abbrev pub invalidate : ℕ → Result ℕ Malformed → Result TableEvent Refusal
 invalidate iova (Err e) = Err (refusal.Malformed e)
 invalidate iova (Ok len) = Ok (table.Invalidate iova len)
 
 -- the call of a table that a message of the front end asks for, or what is wrong with it
-abbrev pub call_of : List UserRegion → IotlbMessage → Result TableEvent Refusal
+abbrev pub call_of : List MemoryRegion → IotlbMessage → Result TableEvent Refusal
 call_of regions (Update iova size user permissions) =
     if overruns iova size then Err (refusal.Malformed malformed.Range)
     else set_to iova size permissions (guest_of regions user size)
@@ -43,7 +43,7 @@ call_of regions (Invalidate iova size) = invalidate iova (invalidated iova size)
 call_of regions (Miss iova access) = Err (refusal.Malformed malformed.Kind)
 call_of regions (AccessFail iova access) = Err (refusal.Malformed malformed.Kind)
 
--- what may be done for a call: the call, but in place of taking a range back all may be taken back
+-- what may be done for a call: the call, but instead of a range all may be unmapped
 abbrev pub DoneFor : TableEvent → TableEvent → Type 0
 DoneFor (table.Invalidate iova len) call = (call ≡ table.Invalidate iova len) ⊎ (call ≡ table.InvalidateAll)
 DoneFor asked call = call ≡ asked
@@ -74,13 +74,13 @@ MakesOfMalformed number (Invalidate iova size) calls old new =
     (calls ≡ table.InvalidateAll ∷ []) × Changes number table.InvalidateAll old new
 MakesOfMalformed number m calls old new = MakesNothing calls old new
 
--- what was asked for may be refused for want of memory: that a range is mapped
+-- what was asked for may be refused because an allocation fails: that a range is mapped
 abbrev pub MayWant : Result TableEvent Refusal → Type 0
 MayWant (Ok (table.Set iova to len permissions)) = Unit {0}
 MayWant asked = ⊥
 
 -- a message to the table of this number: the calls that it made of it, one or none
-abbrev pub Applies : {B : Type 0} → ℕ → List UserRegion → IotlbMessage → Result (Unit {0}) Refusal → List TableEvent
+abbrev pub Applies : {B : Type 0} → ℕ → List MemoryRegion → IotlbMessage → Result (Unit {0}) Refusal → List TableEvent
     → Host B → Host B → Type 0
 Applies number regions m (Ok done) calls old new = Makes number (call_of regions m) calls old new
 Applies number regions m (Err (refusal.Malformed e)) calls old new =
@@ -93,7 +93,7 @@ Applies number regions m (Err refusal.NoTable) calls old new =
     (length old.tables ≤ number) × MakesNothing calls old new
 
 -- messages came one after the other: these calls are what they made of the table
-abbrev pub Handles : {B : Type 0} → ℕ → List UserRegion → List IotlbMessage → List TableEvent → Host B → Host B
+abbrev pub Handles : {B : Type 0} → ℕ → List MemoryRegion → List IotlbMessage → List TableEvent → Host B → Host B
     → Type 0
 Handles number regions [] calls old new = (calls ≡ []) × (new ≡ old)
 Handles {B} number regions (m ∷ ms) calls old new =

@@ -2,4 +2,3 @@ pub mod Changes
 pub mod Handling
 pub mod Invalidation
 pub mod Reaches
-pub mod UserMemory

@@ -17,7 +17,7 @@ stopped_at (Some m) None access = Missed m access
 stopped_at None (Some f) access = Forbidden f access
 stopped_at (Some m) (Some f) access = if nat_lt f m then Forbidden f access else Missed m access
 
--- how many of so many bytes from an address on lie in front of where it stopped
+-- how many of N bytes from an address on lie in front of where it stopped
 abbrev pub front_of : ℕ → ℕ → Outcome → ℕ
 front_of iova len (Missed m access) = min (m - iova) len
 front_of iova len (Forbidden f access) = min (f - iova) len
@@ -29,7 +29,7 @@ pub record Stops (f : Says) (iova len : ℕ) (access : Permissions) (count : ℕ
   pub where_it_is : outcome ≡ stopped_at (first_of (misses f iova len)) (first_of (failures f iova len access)) access
   pub front : count ≡ front_of iova len outcome
 
--- one that is allowed gets as far as it asks for, and another one stops; it fails where memory is short
+-- one that is allowed gets as far as it asks for, and another one stops; it fails if an allocation does
 abbrev pub Reaches : Says → ℕ → ℕ → Permissions → ℕ → Outcome → Type 0
 Reaches f iova len access count Done = (is_allowed f iova len access ≡ true) × (count ≡ len)
 Reaches f iova len access count Failed = count ≡ 0

@@ -12,7 +12,7 @@ use vm_memory_guest::{Bytes, GuestMemory, GuestMemoryError, HostMemory, TlbId};
 
 /// How many bytes of an access from an address on a table allows, up to the first that it misses or forbids, and what
 /// the access comes to: it misses the first address that has no mapping, or is forbidden by the first mapping that does
-/// not permit it, whichever comes first. `Failed`, with no bytes, where an allocation fails.
+/// not permit it, whichever comes first. `Failed`, with no bytes, if an allocation fails.
 pub fn reach(table: &Iotlb, iova: u64, len: usize, access: Permissions) -> (usize, Outcome)
     ensures reaches { Reaches (says table.now) iova len access result.0 result.1 }
     ensures most { result.0 ≤ len }
@@ -94,7 +94,7 @@ pub struct ReadBytes<'a, M> {
 }
 
 impl<'a, M: GuestMemory> ReadBytes<'a, M> {
-    /// A read of as many bytes as there are, from an address on, in place of them, through the table of this number.
+    /// A read into these bytes, from an address on, through the table of this number. It fills them all.
     pub fn new(
         memory: &'a M,
         table: TlbId,
@@ -110,7 +110,7 @@ impl<'a, M: GuestMemory> ReadBytes<'a, M> {
         }
     }
 
-    /// The bytes, of which those in front were read.
+    /// The bytes. Those that were read stand in front.
     pub fn into_bytes(self) -> Vec<u8> {
         self.bytes
     }

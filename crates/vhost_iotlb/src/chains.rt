@@ -113,7 +113,7 @@ pub struct ReadChain<'a, M> {
 }
 
 impl<'a, M: GuestMemory> ReadChain<'a, M> {
-    /// A read of as many bytes as there are, in place of them, through the table of this number.
+    /// A read into these bytes, which fills them all, through the table of this number.
     pub fn new(memory: &'a M, table: TlbId, chain: &'a Chain, bytes: Vec<u8>) -> ReadChain<'a, M> {
         ReadChain {
             memory,
@@ -124,7 +124,7 @@ impl<'a, M: GuestMemory> ReadChain<'a, M> {
         }
     }
 
-    /// The bytes, of which those in front were read.
+    /// The bytes. Those that were read stand in front.
     pub fn into_bytes(self) -> Vec<u8> {
         self.bytes
     }
@@ -165,8 +165,8 @@ pub struct WriteChain<'a, M> {
 }
 
 impl<'a, M: GuestMemory> WriteChain<'a, M> {
-    /// A write of these bytes to what a chain has room for, behind so many of its writable bytes, through the table of
-    /// this number.
+    /// A write of these bytes to what a chain has room for, after its first `skipped` writable bytes, through the table
+    /// of this number.
     pub fn new(
         memory: &'a M,
         table: TlbId,

@@ -8,13 +8,13 @@ use crate::host::SharedHost;
 use crate::replies::Replies;
 use crate::request::{Outcome, Request};
 use crate::table::{DeviceTable, Refusal};
-use crate::user_memory::UserMemory;
 use std::io::Write;
 use std::marker::Model;
 use thiserror::Error;
 use vhost_message::{
-    BackendReq, ChannelError, FrontendReq, HEADER_LEN, Header, Incoming, IotlbMessage, Message,
-    Receive, Refusal as MessageRefusal, VERSION, VHOST_USER_IOTLB_MSG, VHOST_USER_REPLY,
+    BackendReq, ChannelError, FrontendReq, HEADER_LEN, Header, Incoming, IotlbMessage,
+    MemoryRegions, Message, Receive, Refusal as MessageRefusal, VERSION, VHOST_USER_IOTLB_MSG,
+    VHOST_USER_REPLY,
 };
 
 // How many replies to messages of its own may wait to be read: a mapping often comes before the reply to its MISS, and
@@ -31,7 +31,7 @@ pub struct Limits {
     pub looks: u32,
 }
 
-/// Why a request was given up. The device tells its driver that it failed.
+/// Why a request was given up. The device reports to its driver that it failed.
 #[derive(Clone, Copy, Debug, PartialEq, Eq, Error)]
 pub enum MissError {
     /// The front end refused to map an address that was missed: its reply is not 0.
@@ -43,7 +43,7 @@ pub enum MissError {
     /// It was tried as often as it may be, and missed an address each time.
     #[error("too many misses")]
     Tries,
-    /// A mapping forbids an access, which the front end was told.
+    /// A mapping forbids an access, and the front end was informed.
     #[error("a mapping forbids the access")]
     Forbidden,
     /// It cannot be done, whatever is mapped.
@@ -70,7 +70,7 @@ pub enum Handled {
 }
 
 /// A table with the channels to the front end that fills it: the one on which the front end asks, and the back end's
-/// own. docs/VHOST.md.
+/// own. The crate's README.md has the rules.
 #[derive(Drop)]
 pub struct DeviceIotlb<F, O> {
     table: DeviceTable,
@@ -233,7 +233,7 @@ impl<F: Receive + Write, O: Receive + Write> DeviceIotlb<F, O> {
         &self.front
     }
 
-    /// The table, the front end's channel and the back end's own, of one that is done with.
+    /// The table, the front end's channel and the back end's own, of a table that is no longer needed.
     pub fn into_parts(self) -> (DeviceTable, F, O)
         ensures table { result.0 ≡ self.table }
         ensures front { result.1 ≡ self.front }
@@ -241,18 +241,18 @@ impl<F: Receive + Write, O: Receive + Write> DeviceIotlb<F, O> {
         (self.table, self.front, self.own)
     }
 
-    /// From now on user addresses mean this: the front end announced its memory again, by a SET_MEM_TABLE. What was
+    /// From now on user addresses mean this: the front end announced its memory again, with a SET_MEM_TABLE. What was
     /// mapped before stays as it is.
-    pub fn set_memory(&mut self, memory: UserMemory)
+    pub fn set_memory(&mut self, memory: MemoryRegions)
         ensures { self.new ≡ record self.old { table = record self.old.table { memory = memory } } }
     {
         self.table.memory = memory;
     }
 
     /// Looks at the front end's channel for the next message, and serves it if all of it has come: it is applied to the
-    /// table and then answered, if the front end asks for that, by 0 if it was applied and by 1 if it was refused. It is
-    /// the message that is spelled by what had come before and what the channel gives now, byte after byte. One of
-    /// another request is handed out whole, and not answered: `reply` does that.
+    /// table and then answered, if the front end asks for that, with 0 if it was applied and 1 if it was refused. It is
+    /// the message spelled by what had come before and what the channel gives now, byte after byte. One of
+    /// another request is returned whole, and not answered: `reply` does that.
     ///
     /// If the reply cannot be sent, the message was applied or refused all the same.
     pub fn handle<H: SharedHost>(&mut self, host: &mut H) -> Result<Handled, ChannelError>

@@ -16,10 +16,10 @@ use vm_memory_guest::HostMemory;
 /// A host that is lent for one step at a time, as a lock lends it: when a call returns the host is free, whatever the
 /// caller then waits for.
 pub trait SharedHost {
-    /// What is known of a message that was applied to a table, and of its answer.
+    /// What is known of a message that was applied to a table, and of its reply.
     ghost applies: { Self → DeviceTable → IotlbMessage → Result (Unit {0}) Refusal → Self → Type 0 };
 
-    /// Applies a message to a table of the host: `DeviceTable::apply`. While it runs nothing else is done with the
+    /// Applies a message to a table of the host: `DeviceTable::apply`. While it runs, nothing else is done with the
     /// host, so no access is on its way through a mapping that it unmaps.
     fn apply(&mut self, table: &DeviceTable, message: &IotlbMessage) -> Result<(), Refusal>
         ensures { applies self.old table.now message.now result self.new };
@@ -43,7 +43,7 @@ impl<B: Bitmap> SharedHost for HostMemory<B> {
     }
 }
 
-/// A host under a lock, which each step takes and gives back.
+/// A host under a lock, which each step takes and releases.
 #[derive(Drop)]
 pub struct LockedHost<'a, W: Wait, B> {
     pub rt: &'a W,

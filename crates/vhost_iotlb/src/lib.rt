@@ -1,5 +1,5 @@
 //! A vhost back end's part of a device's I/O table: its messages, a bounded table that they fill, and requests that
-//! wait for what the table misses. docs/VHOST.md.
+//! wait for what the table misses. The crate's README.md has the rules.
 #![tactic(auto)]
 
 mod access;
@@ -10,7 +10,6 @@ pub mod laws;
 mod replies;
 mod request;
 mod table;
-mod user_memory;
 
 pub use access::{ReadBytes, WriteBytes, reach};
 pub use chains::{ReadChain, WriteChain};
@@ -18,8 +17,7 @@ pub use device::{DeviceIotlb, Handled, Limits, MissError};
 pub use host::{LockedHost, SharedHost};
 pub use request::{Outcome, Request};
 pub use table::{DeviceTable, Refusal};
-pub use user_memory::{UserMemory, UserRegion};
 pub use vhost_message::{
-    BackendReply, BackendReq, ChannelError, Header, Incoming, IotlbMessage, Malformed, Message,
-    Receive, Refusal as MessageRefusal,
+    BackendReply, BackendReq, ChannelError, Header, Incoming, IotlbMessage, Malformed,
+    MemoryRegion, MemoryRegions, Message, Receive, Refusal as MessageRefusal,
 };

@@ -9,7 +9,7 @@ use vm_memory_guest::HostMemory;
 pub enum Outcome {
     /// It is done.
     Done,
-    /// The table has no mapping of an address that it has to access so: the first of those that it lacks.
+    /// The table has no mapping for this access of an address: the first one that is missing.
     Missed { iova: u64, access: Permissions },
     /// The mapping of an address forbids an access that it has to make.
     Forbidden { iova: u64, access: Permissions },
@@ -17,12 +17,12 @@ pub enum Outcome {
     Failed,
 }
 
-/// An access, or a whole request of a device, that can be tried again: docs/VHOST.md.
+/// An access, or a whole request of a device, that can be tried again: the crate's README.md.
 pub trait Request {
     /// Whether it is done.
     ghost is_done: { Self → Type 0 };
 
-    /// Tries it on the memory of a host. A try that is not `Done` may have done a part, with which the next goes on.
+    /// Tries it on the memory of a host. A try that is not `Done` may have done a part, from which the next goes on.
     fn attempt<B: Bitmap>(&mut self, host: &mut HostMemory<B>) -> Outcome
         ensures { result ≡ Outcome.Done → is_done self.new };
 }

@@ -5,14 +5,13 @@ ghost use Rattle.vm_memory_base.specs.Table.{TableEvent};
 ghost use Rattle.vm_memory_guest.specs.Host.{shape_of, with_given_table};
 ghost use Rattle.vhost_iotlb.specs.Changes.{Applies, Changes, invalidated};
 
-use crate::user_memory::UserMemory;
 use std::alloc::{AllocError, Global};
 use thiserror::Error;
-use vhost_message::{IotlbMessage, Malformed};
+use vhost_message::{IotlbMessage, Malformed, MemoryRegions};
 use vm_memory_base::{GuestAddress, Iotlb, Permissions};
 use vm_memory_guest::{HostMemory, TlbId};
 
-/// Why a message was not applied. Then nothing changed, but a malformed INVALIDATE invalidated everything.
+/// Why a message was not applied. Then nothing changed, except that a malformed INVALIDATE invalidated everything.
 #[derive(Clone, Copy, Debug, PartialEq, Eq, Error)]
 pub enum Refusal {
     /// The message is malformed.
@@ -35,7 +34,7 @@ pub struct DeviceTable {
     /// The number of the table.
     pub table: TlbId,
     /// What user addresses mean.
-    pub memory: UserMemory,
+    pub memory: MemoryRegions,
 }
 
 // Maps a range of a table of a host.
@@ -117,12 +116,12 @@ fn take_back_in<B>(host: &mut HostMemory<B>, table: TlbId, iova: u64, size: u64)
 
 impl DeviceTable {
     /// Makes a table of a host that keeps at most `limit` ranges, which has to be 1 or more, for a front end that
-    /// announced this memory. `AllocError` where there is no room for it, and then nothing changes.
+    /// announced this memory. `AllocError` if its allocation fails, and then nothing changes.
     pub fn new<B>(
         alloc: Global,
         host: &mut HostMemory<B>,
         limit: usize,
-        memory: UserMemory,
+        memory: MemoryRegions,
     ) -> Result<DeviceTable, AllocError>
         requires { 0 < limit }
         ensures number { IfOk result (λ d. d.table.0 ≡ length host.old.tables) }
@@ -135,15 +134,15 @@ impl DeviceTable {
     }
 
     /// Applies a message of the front end to the table: an UPDATE maps its range to the guest memory that its user
-    /// address is, and an INVALIDATE invalidates its range, which may end at the last address; (0, 0) are all
-    /// addresses. If memory is too short for that, it invalidates everything, which the table then misses: an
-    /// INVALIDATE is never refused for memory. An UPDATE is, with `Memory`.
+    /// address is, and an INVALIDATE invalidates its range, which may end at the last address; (0, 0) stands for all
+    /// addresses. If an allocation fails for that, it invalidates everything, which the table then misses: an
+    /// INVALIDATE is never refused for that reason. An UPDATE is, with `Memory`.
     ///
     /// `Malformed` with `Kind` for a message that a front end does not send, with `EmptyRange` for an INVALIDATE of no
     /// addresses, and with `Range` for an INVALIDATE past the last address and an UPDATE up to it. `UserAddress` if the
     /// announced memory does not hold an UPDATE's. `NoTable` if the host has no such table. What is refused changes
-    /// nothing, but a malformed INVALIDATE invalidates everything: which of the front end's mappings still hold is not
-    /// known then.
+    /// nothing, except that a malformed INVALIDATE invalidates everything: which of the front end's mappings still hold
+    /// is not known then.
     pub fn apply<B>(&self, host: &mut HostMemory<B>, message: &IotlbMessage) -> Result<(), Refusal>
         ensures applied { (calls : List TableEvent)
             × Applies self.now.table.0 self.now.memory message.now result calls host.old host.new }

@@ -1,6 +1,6 @@
--- Looks for messages at a channel, and what its reads give.
+-- Looks for messages at a channel, what its reads give, and what is sent.
 use Rattle.std.specs.Prelude.{◌≡◌, ◌⊎◌, ℕ, ◌<◌, ◌≤◌, nat_lt, Bool, List, [], ◌∷◌, ◌++◌, length, take, Option, Some, None, Result, Ok, Err}
-use Rattle.std.specs.Io.KnownBytes.{Consumes, IsAtEnd, Keeps}
+use Rattle.std.specs.Io.KnownBytes.{Appends, Consumes, IsAtEnd, Keeps}
 use Rattle.vhost_message.specs.Stream.{Feeds, Takes, wanted}
 use Rattle.vhost_message.specs.declared.channel.ChannelError.{ChannelError}
 use Rattle.vhost_message.specs.declared.channel.ChannelError.TheVariants.{Ended, Failed, Refused}
@@ -21,6 +21,13 @@ abbrev pub GivenOf : Option (List ℕ) → Given → Option (List ℕ) → Type 
 GivenOf left (Ok bytes) new = Consumes left new bytes
 GivenOf left (Err Ended) new = Keeps left new × IsAtEnd new
 GivenOf left (Err e) new = Keeps left new
+
+-- bytes were sent: a writer has all of them, or if it failed a beginning. It fails only if there are some
+abbrev pub Sends : {W : Type 0} → (W → Option (List ℕ)) → List ℕ → W → Result (Unit {0}) ChannelError → W → Type 0
+Sends contents bytes old (Ok done) new = Appends (contents old) (contents new) bytes
+Sends contents bytes old (Err Failed) new =
+    (bytes ≡ [] → ⊥) × (count : ℕ) × Appends (contents old) (contents new) (take count bytes)
+Sends contents bytes old (Err e) new = ⊥
 
 -- some bytes were given
 abbrev pub GaveSome : Given → Type 0
@@ -57,7 +64,7 @@ RefusedFor (Refused e) kept = wanted kept ≡ Err e
 RefusedFor Ended kept = ⊥
 RefusedFor Failed kept = ⊥
 
--- one read of what is no message yet: it gave bytes, which are kept, and maybe none; or it failed, or it was not made,
+-- one read of what is not yet a message: it gave bytes, which are kept, or maybe none; or it failed or was not made,
 -- since what is kept begins no message
 abbrev pub ReadsOn : {R : Type 0} → (R → Given → R → Type 0) → List ℕ → R → Result Bool ChannelError → List ℕ → R
     → Type 0
@@ -92,7 +99,7 @@ pub record Looks {R : Type 0} (gives : R → Given → R → Type 0) (old : List
   pub are_kept : AreKept gave old kept
   pub finds : Finds kept gave answer new
 
--- looks were made one after the other, with these answers
+-- looks were made one after the other, with these results
 abbrev pub AllLook : {R : Type 0} → (R → Given → R → Type 0) → List ℕ → R
     → List (Result (Option (List ℕ)) ChannelError) → List ℕ → R → Type 0
 AllLook gives old before [] new after = (new ≡ old) × (after ≡ before)

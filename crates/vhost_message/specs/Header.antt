@@ -20,7 +20,7 @@ pub record IsHeader (h : Header) : Type 0 where
   pub flags : h.flags < 2 ^ 32
   pub size : h.size < 2 ^ 32
 
--- the version is in the two lowest bits of the flags, and behind it each bit is a flag
+-- the version is in the two lowest bits of the flags, and above it each bit is a flag
 abbrev pub version_of : Header → ℕ
 version_of h = h.flags % 4
 

@@ -56,7 +56,7 @@ IsMessage (Update iova size user permissions) =
 IsMessage (Invalidate iova size) = (iova < 2 ^ 64) × (size < 2 ^ 64)
 IsMessage (AccessFail iova access) = (iova < 2 ^ 64) × (0 < number_of access)
 
--- the fields of a message, with 0 where a field means nothing
+-- the fields of a message, with 0 if a field means nothing
 abbrev pub fields_of : IotlbMessage → Fields
 fields_of (Miss iova access) =
     record { iova = iova; size = 0; user_address = 0; permissions = number_of access; kind = 1 }

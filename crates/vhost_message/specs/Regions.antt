@@ -62,7 +62,7 @@ tested t = if not (are_whole t) then Err RegionRange else (
 
 -- ---- where the front end's own addresses lie
 
--- whether a region has so many bytes of the front end's memory from an address on
+-- whether a region has N bytes of the front end's memory from an address on
 abbrev pub has_range : ℕ → ℕ → MemoryRegion → Bool
 has_range user size r = nat_le r.user_address user && nat_le (user + size) (r.user_address + r.size)
 

@@ -11,7 +11,7 @@ abbrev pub is_among : ℕ → List ℕ → Bool
 is_among n [] = false
 is_among n (m ∷ ms) = n == m || is_among n ms
 
--- a payload of so many bytes at least and at most, and so many descriptors at most
+-- a payload of at least N and at most M bytes, and at most D descriptors
 abbrev pub sized : ℕ → ℕ → ℕ → Option Shape
 sized least most descriptors = Some (record { least = least; most = most; descriptors = descriptors })
 

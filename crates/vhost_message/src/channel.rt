@@ -16,7 +16,7 @@ pub enum ChannelError {
     /// Reading or writing failed.
     #[error("channel failed")]
     Failed,
-    /// What came begins no message that is due, for this reason. So it is not known where the next one begins.
+    /// What came does not begin a message that is due, for this reason. So where the next one begins is not known.
     #[error("{0}")]
     Refused(Refusal),
 }

@@ -55,9 +55,9 @@ pub enum FrontendReq {
     SetVringNum { index: u32, num: u32 },
     SetVringAddr(VringAddr),
     SetVringBase { index: u32, base: u32 },
-    /// The ring stops. Its base is answered.
+    /// The ring stops. Its base is the reply.
     GetVringBase { index: u32 },
-    /// The ring starts. Without a descriptor the back end has to look by itself for what is available.
+    /// The ring starts. Without a descriptor the back end has to poll for what is available.
     SetVringKick { index: u32, descriptor: bool },
     SetVringCall { index: u32, descriptor: bool },
     SetVringErr { index: u32, descriptor: bool },
@@ -224,8 +224,8 @@ fn request_in(request: u32, payload: &[u8]) -> Result<FrontendReq, Refusal>
 
 impl FrontendReq {
     /// What a message asks for: its header, and its whole payload. The errors of `expects`, `PayloadSize` if the
-    /// payload is not as long as the header has it, or does not have as many regions or bytes as it counts itself,
-    /// `Flags` for a switch or flags that mean nothing, and `Iotlb`.
+    /// payload is not as long as the header has it, or does not have the number of regions or bytes that it says,
+    /// `Flags` for a switch or flags without a meaning, and `Iotlb`.
     pub fn decode(header: &Header, payload: &[u8]) -> Result<FrontendReq, Refusal>
         ensures { result ≡ request_of header.now payload.now }
     {

@@ -11,15 +11,15 @@ pub const VERSION: u32 = 1;
 /// The flag of a reply.
 pub const VHOST_USER_REPLY: u32 = 4;
 
-/// The flag of a message that wants a reply.
+/// The flag of a message that asks for a reply.
 pub const VHOST_USER_NEED_REPLY: u32 = 8;
 
-/// The header of a message, of 12 bytes: any three numbers are one.
+/// The header of a message, of 12 bytes: any three numbers are a header.
 #[derive(Clone, Copy, Debug, PartialEq, Eq)]
 pub struct Header {
     /// What the message is.
     pub request: u32,
-    /// The version, and whether it is a reply or wants one. Other bits mean nothing.
+    /// The version, and whether it is a reply or asks for one. Other bits mean nothing.
     pub flags: u32,
     /// How many bytes follow.
     pub size: u32,
@@ -47,7 +47,7 @@ impl Header {
         [a, b, c, d, e, f, g, h, i, j, k, l]
     }
 
-    /// The header that these bytes are: no other one is spelled so.
+    /// The header that these bytes are: each header has its own bytes.
     pub fn decode(bytes: &[u8; 12]) -> Header
         ensures spelled { header_bytes result ≡ bytes.now }
         ensures only { (h : Header) → IsHeader h → header_bytes h ≡ bytes.now → result ≡ h }
@@ -68,7 +68,7 @@ impl Header {
         }
     }
 
-    /// The version: a message of another one than `VERSION` is malformed.
+    /// The version: a message of a version other than `VERSION` is malformed.
     pub fn version(&self) -> u32
         ensures { result ≡ version_of self.now }
     {

@@ -34,8 +34,8 @@ impl Incoming {
         }
     }
 
-    /// How many bytes are still wanted: of the header, and if that is there, of the payload. 0 if the message is whole.
-    /// The errors are those of `expects`: what follows is no message.
+    /// How many bytes are still needed: of the header, and if that is there, of the payload. 0 if the message is whole.
+    /// The errors are those of `expects`: what follows is not a message.
     pub fn wanted(&self) -> Result<usize, Refusal>
         ensures exact { result ≡ wanted self.now }
         ensures room { IfOk result (λ count. length self.now + count ≤ 280) }
@@ -48,7 +48,7 @@ impl Incoming {
         Ok((HEADER_LEN + expected.payload).saturating_sub(len))
     }
 
-    /// Takes as many bytes as are wanted, from the front of those that came, and answers how many. It is called again
+    /// Takes the bytes that are still needed, from the front of what came, and returns how many. It is called again
     /// with the others: of the header first, and then of the payload.
     pub fn feed(&mut self, bytes: &[u8]) -> Result<usize, Refusal>
         ensures { Feeds self.old bytes.now result self.new }
@@ -88,7 +88,7 @@ impl Incoming {
     /// channel gives now. What it gives of a message that is not whole is kept for later calls.
     ///
     /// It reads at most twice, no byte past the message, and waits no longer than the channel does. `Refused` with the
-    /// errors of `expects` if what came is no message: so it is at each later call, which then reads nothing.
+    /// errors of `expects` if what came is not a message: so it is at each later call, which then reads nothing.
     pub fn look<R: Receive>(&mut self, reader: &mut R) -> Result<Option<Message>, ChannelError>
         ensures looks { Looks R.gives self.old reader.old result self.new reader.new }
         ensures header { IfOk result (λ o. IfSome o (λ message. 12 ≤ length message)) }

@@ -22,7 +22,7 @@ const ACCESS_FAIL: u8 = 4;
 /// A message on a device's I/O table.
 #[derive(Clone, Copy, Debug, PartialEq, Eq)]
 pub enum IotlbMessage {
-    /// The back end has no mapping of an address that it wants to access so.
+    /// The back end has no mapping of an address for this access.
     Miss {
         iova: u64,
         access: Permissions,
@@ -40,7 +40,7 @@ pub enum IotlbMessage {
         iova: u64,
         size: u64,
     },
-    /// The mapping of an address forbids the access that the back end wanted.
+    /// The mapping of an address forbids this access of the back end.
     AccessFail {
         iova: u64,
         access: Permissions,
@@ -154,8 +154,8 @@ fn message_in(fields: Fields) -> Result<IotlbMessage, Malformed>
 }
 
 impl IotlbMessage {
-    /// The message of this payload: no other one is spelled so. `Kind` if no kind has its number, `EmptyRange` and
-    /// `Range` for the range of an UPDATE, and `Permissions` if a message has none though it needs some. Any two
+    /// The message of this payload: each message has its own. `Kind` if no kind has its number, `EmptyRange` and
+    /// `Range` for the range of an UPDATE, and `Permissions` if a message has none although it needs some. Any two
     /// numbers make an INVALIDATE, since the table has to hear of it: `DeviceTable::apply` tests its range.
     pub fn decode(payload: &[u8; PAYLOAD_LEN]) -> Result<IotlbMessage, Malformed>
         // What is decoded is spelled so.
@@ -210,7 +210,7 @@ impl IotlbMessage {
     }
 
     /// Its payload: fields that mean nothing are 0. `decode` gives the message again, unless it is an UPDATE whose
-    /// range is empty or passes the last address, or it has no permissions though it needs some.
+    /// range is empty or passes the last address, or it has no permissions although it needs some.
     pub fn encode(self) -> [u8; PAYLOAD_LEN]
         ensures bytes { result ≡ payload_bytes (fields_of self) }
         ensures spelled { IsMessage self → Spells (fields_in result) self }

@@ -11,7 +11,7 @@ ghost use Rattle.vhost_message.specs.declared.iotlb.IotlbMessage.{IotlbMessage};
 
 use crate::channel::Receive;
 
-/// What is encoded is decoded as it was: the payload of a message on the table spells it, and what spells it is
+/// What is encoded is decoded to the same: the payload of a message on the table spells it, and what spells it is
 /// decoded to it.
 pub fn messages_come_back()
     ensures spelled { (m : IotlbMessage) → IsOnTable m → Spells (fields_in (payload_bytes (fields_of m))) m }
@@ -27,7 +27,7 @@ pub fn requests_come_back()
         → request_of (header_of r bytes need_reply) (payload_of r bytes) ≡ Ok r }
 {}
 
-/// However the bytes of a channel are fed, in whatever pieces, and whenever a message is taken out: the messages that
+/// However the bytes of a channel are cut into pieces, and whenever a message is taken out: the messages that
 /// were taken, and what is kept then, are the bytes that were kept, one after the other. While more is wanted, no
 /// message stands at the front of what is kept.
 pub fn feeding_cuts_streams()

@@ -1,5 +1,5 @@
 //! The messages of the vhost-user protocol, as bytes: headers, payloads, what a front end asks for by them, and what a
-//! back end sends on its own channel. docs/VHOST_USER.md.
+//! back end sends on its own channel. The crate's README.md has the rules.
 #![tactic(auto)]
 
 mod backend_req;
@@ -25,7 +25,7 @@ pub use incoming::Incoming;
 pub use iotlb::{IotlbMessage, PAYLOAD_LEN};
 pub use message::{HEADER_LEN, MAX_CONFIG, MAX_MESSAGE, Message};
 pub use refusal::{Malformed, Refusal};
-pub use regions::{MAX_REGIONS, MemoryRegion, MemoryTable};
+pub use regions::{MAX_REGIONS, MemoryRegion, MemoryRegions, MemoryTable, guest_of};
 pub use requests::{
     Expected, VHOST_USER_GET_CONFIG, VHOST_USER_GET_FEATURES, VHOST_USER_GET_PROTOCOL_FEATURES,
     VHOST_USER_GET_QUEUE_NUM, VHOST_USER_GET_VRING_BASE, VHOST_USER_IOTLB_MSG,

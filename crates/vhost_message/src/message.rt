@@ -1,11 +1,11 @@
 //! The bytes of a message.
-ghost use Rattle.std.specs.Prelude.{◌≡◌, ◌+◌, ◌≤◌, [], ◌++◌, ◌==◌, length, OnOk};
-ghost use Rattle.std.specs.Io.KnownBytes.{Appends};
+ghost use Rattle.std.specs.Prelude.{◌≡◌, ◌+◌, ◌≤◌, [], ◌++◌, ◌==◌, length};
+ghost use Rattle.vhost_message.specs.Channel.{Sends};
 ghost use Rattle.vhost_message.specs.Header.{header_in};
 
 use crate::channel::ChannelError;
 use crate::header::Header;
-use std::io::Write;
+use std::io::{ErrorKind, Write};
 use std::marker::Model;
 
 /// How many bytes a header has.
@@ -34,6 +34,28 @@ impl Model for Message {
     ghost invariant = { λ m. m.len ≤ 280 };
 }
 
+// Writes bytes, all of them or a beginning.
+fn send<W: Write>(bytes: &[u8], writer: &mut W) -> Result<(), ChannelError>
+    ensures { Sends W.contents bytes.now writer.old result writer.new }
+{
+    if bytes.is_empty() {
+        return Ok(());
+    }
+    let mut at = 0;
+    for _ in 0..u64::MAX {
+        if at == bytes.len() {
+            return Ok(());
+        }
+        match writer.write(&bytes[at..]) {
+            Ok(0) => return Err(ChannelError::Failed),
+            Ok(count) => at += count,
+            Err(error) if error.kind() == ErrorKind::Interrupted => {}
+            Err(_) => return Err(ChannelError::Failed),
+        }
+    }
+    Err(ChannelError::Failed)
+}
+
 impl Message {
     /// No bytes.
     pub fn new() -> Message
@@ -45,7 +67,7 @@ impl Message {
         }
     }
 
-    /// How many bytes there are.
+    /// The number of bytes.
     pub fn len(&self) -> usize
         ensures count { result ≡ length self.now }
         ensures most { result ≤ 280 }
@@ -53,7 +75,7 @@ impl Message {
         self.len
     }
 
-    /// Whether there is none.
+    /// Whether there are no bytes.
     pub fn is_empty(&self) -> bool
         ensures { result ≡ (length self.now == 0) }
     {
@@ -85,13 +107,10 @@ impl Message {
         Header::at_front(self.as_slice())
     }
 
-    /// Writes the bytes to a channel. `Failed` if the writer fails.
+    /// Writes the bytes to a channel. `Failed` if the writer fails: then it has a beginning of them.
     pub fn send<W: Write>(&self, writer: &mut W) -> Result<(), ChannelError>
-        ensures { OnOk result (Appends (W.contents writer.old) (W.contents writer.new) self.now) }
+        ensures { Sends W.contents self.now writer.old result writer.new }
     {
-        match writer.write_all(self.as_slice()) {
-            Ok(()) => Ok(()),
-            Err(_) => Err(ChannelError::Failed),
-        }
+        send(self.as_slice(), writer)
     }
 }

@@ -14,7 +14,7 @@ pub enum Malformed {
     /// A range that is mapped ends past 2^64 - 1, or one that is invalidated past 2^64.
     #[error("range past the last address")]
     Range,
-    /// The permissions are none, or no permissions.
+    /// The permissions are empty or invalid.
     #[error("no permissions")]
     Permissions,
 }
@@ -34,7 +34,7 @@ pub enum Refusal {
     /// The payload is not as long as the request has it.
     #[error("invalid size of the payload")]
     PayloadSize,
-    /// The request does not come with so many descriptors.
+    /// The request does not come with this number of descriptors.
     #[error("invalid number of descriptors")]
     Descriptors,
     /// The feature that the request belongs to was not negotiated.
@@ -46,13 +46,13 @@ pub enum Refusal {
     /// There is no ring of this number.
     #[error("no such ring")]
     Index,
-    /// A ring has a descriptor, and no more of them than were offered.
+    /// A ring has one descriptor or more, and at most as many as were offered.
     #[error("invalid size of a ring")]
     QueueSize,
-    /// No split ring has this index.
+    /// A split ring cannot have this index.
     #[error("invalid index of a ring")]
     Base,
-    /// A flag or a switch that means nothing.
+    /// A flag or a switch without a meaning.
     #[error("invalid flags")]
     Flags,
     /// A part of a ring is not aligned: to 16 bytes the descriptor table, to 2 the available ring, to 4 the used ring.

@@ -67,8 +67,8 @@ impl MemoryRegion {
         others.iter().any(|other| self.overlaps(other))
     }
 
-    // Whether it has so many bytes of the front end's memory from an address on.
-    fn has_range(&self, user_address: u64, size: u64) -> bool
+    /// Whether it has this many bytes of the front end's own memory from an address on.
+    pub fn has_range(&self, user_address: u64, size: u64) -> bool
         ensures { result ≡ has_range user_address size self.now }
     {
         match user_address.checked_sub(self.user_address) {
@@ -85,6 +85,19 @@ impl MemoryRegion {
         let behind = user_address - self.user_address;
         GuestAddress(self.guest_address.0.wrapping_add(behind))
     }
+}
+
+/// Where a range of the front end's own memory lies in guest memory: in the first of these regions that has all of it.
+/// `None` if no region has.
+pub fn guest_of(regions: &[MemoryRegion], user_address: u64, size: u64) -> Option<GuestAddress>
+    ensures { result ≡ guest_of regions.now user_address size }
+{
+    for region in regions {
+        if region.has_range(user_address, size) {
+            return Some(region.guest_address(user_address));
+        }
+    }
+    None
 }
 
 // The region from a place in a payload on.
@@ -159,7 +172,7 @@ impl MemoryTable {
         }
     }
 
-    /// The table that is the payload of a SET_MEM_TABLE: `PayloadSize` if it does not have just the regions that it
+    /// The table that is the payload of a SET_MEM_TABLE: `PayloadSize` if it does not have exactly the regions that it
     /// counts.
     #[tactic(auto, unfolding(crate::specs::Regions::table_in))]
     pub fn decode(payload: &[u8]) -> Result<MemoryTable, Refusal>
@@ -217,16 +230,41 @@ impl MemoryTable {
         Ok(())
     }
 
-    /// Where a range of the front end's own memory lies in guest memory: in the first region that has all of it.
-    /// `None` if no region has.
+    /// `guest_of` of its regions.
     pub fn guest_of(&self, user_address: u64, size: u64) -> Option<GuestAddress>
         ensures { result ≡ guest_of self.now user_address size }
     {
-        for region in self.regions() {
-            if region.has_range(user_address, size) {
-                return Some(region.guest_address(user_address));
-            }
-        }
-        None
+        guest_of(self.regions(), user_address, size)
+    }
+}
+
+/// Regions that a front end shares, any number of them. Contracts see their list.
+#[derive(Debug, Drop)]
+pub struct MemoryRegions {
+    regions: Vec<MemoryRegion>,
+}
+
+impl Model for MemoryRegions {
+    ghost use Rattle.std.specs.Prelude.{List};
+    ghost use Rattle.vhost_message.specs.declared.regions.MemoryRegion.{MemoryRegion};
+
+    ghost Value = { List MemoryRegion };
+
+    ghost view = { λ m. m.regions.items };
+}
+
+impl MemoryRegions {
+    /// These regions.
+    pub fn new(regions: Vec<MemoryRegion>) -> MemoryRegions
+        ensures { result ≡ regions.items }
+    {
+        MemoryRegions { regions }
+    }
+
+    /// `guest_of` of its regions.
+    pub fn guest_of(&self, user_address: u64, size: u64) -> Option<GuestAddress>
+        ensures { result ≡ guest_of self.now user_address size }
+    {
+        guest_of(self.regions.as_slice(), user_address, size)
     }
 }

@@ -100,7 +100,7 @@ fn shape_of(request: u32) -> Option<Shape>
     }
 }
 
-/// What follows a header: so many bytes of payload. So many descriptors may have come with the message at most.
+/// What follows a header: how many bytes of payload, and how many descriptors may have come with the message at most.
 #[derive(Clone, Copy, Debug, PartialEq, Eq)]
 pub struct Expected {
     /// How many bytes of payload follow.
@@ -110,7 +110,7 @@ pub struct Expected {
 }
 
 /// What follows the header of a request. `Version` and `Direction` by its flags, `Request` if no request has its
-/// number, and `PayloadSize` if the request has no such payload: then it is not known where the next message begins.
+/// number, and `PayloadSize` if the request has no such payload: then where the next message begins is not known.
 pub fn expects(header: &Header) -> Result<Expected, Refusal>
     ensures exact { result ≡ expected header.now }
     ensures payload { IfOk result (λ e. e.payload ≡ header.now.size) }

@@ -121,7 +121,7 @@ with_rest s i base = stopped_at s i >>= λ v. Ok (with_vring s i (record v { bas
 
 -- ---- configuration
 
--- it has so many bytes from a place on
+-- it has N bytes from a place on
 abbrev pub in_config : Connection → ℕ → ℕ → Result (Unit {0}) Refusal
 in_config s offset len = needed s.protocol_features feature.config
     >>= λ _. if nat_lt (length s.config) (offset + len) then Err ConfigRange else Ok tt

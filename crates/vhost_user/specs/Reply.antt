@@ -1,4 +1,4 @@
--- What a back end answers.
+-- What a back end replies.
 use Rattle.std.specs.Prelude.{ℕ, ◌+◌, ◌&&◌, ◌==◌, nat_lt, if◌then◌else◌, List, [], ◌∷◌, ◌++◌, length, slice_range, slice_get, Option, Some, None}
 use Rattle.std.specs.Int.{w32, w64, to_le_bytes}
 use Rattle.vhost_user.specs.Connection.{Connection}
@@ -12,14 +12,14 @@ use Rattle.vhost_message.specs.declared.frontend_req.FrontendReq.TheVariants.{Ge
 use Rattle.vhost_message.specs.declared.header.Header.{Header}
 use Rattle.vhost_user.specs.declared.vring.Vring.{Vring}
 
--- a reply: version 1 and the flag of replies, and so many bytes
+-- a reply: version 1 and the flag of replies, and N bytes
 abbrev pub reply : ℕ → ℕ → List ℕ → List ℕ
 reply request size payload = header_bytes (record { request = request; flags = 5; size = size }) ++ payload
 
 abbrev pub number_reply : ℕ → ℕ → List ℕ
 number_reply request value = reply request 8 (to_le_bytes w64 value)
 
--- a message without a reply of its own is answered if it asks for that: by 0 if it was done
+-- a message without a reply of its own is answered if it asks for that: with 0 if it was done
 abbrev pub acknowledgement : Connection → Header → ℕ → List ℕ
 acknowledgement s h value =
     if needs_reply h && has s.protocol_features feature.reply_ack then number_reply h.request value else []

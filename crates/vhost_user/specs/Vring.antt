@@ -31,7 +31,7 @@ is_set Descriptor = true
 abbrev pub is_started : Vring → Bool
 is_started v = is_set v.kick
 
--- whether addresses are, but for the log, those that a ring has, if it has some
+-- whether addresses are, except for the log, those that a ring has, if it has some
 abbrev pub is_placed_as : Option VringAddr → VringAddr → Bool
 is_placed_as None new = true
 is_placed_as (Some old) new =
@@ -49,7 +49,7 @@ table_len num = 16 * num
 abbrev pub event_len : ℕ → ℕ
 event_len features = if has features event_idx then 2 else 0
 
--- flags and index, and an entry for each descriptor; a packed ring has flags and the event alone
+-- flags and index, and an entry for each descriptor; a packed ring has only flags and the event
 abbrev pub available_len : ℕ → ℕ → ℕ
 available_len features num = if has features ring_packed then 4 else 4 + 2 * num + event_len features
 

@@ -135,7 +135,7 @@ impl BackendReqHandler {
             && config.len() <= MAX_CONFIG
     }
 
-    /// A new connection: nothing is negotiated, and nothing known of memory and rings. There are `queues` rings, 1 to
+    /// A new connection: nothing is negotiated, and memory and rings are not known. There are `queues` rings, 1 to
     /// 256, and at most `MAX_CONFIG` bytes of configuration. `Invalid` if a back end cannot offer this.
     pub fn new(
         alloc: Global,
@@ -493,7 +493,7 @@ impl BackendReqHandler {
         }
     }
 
-    /// Takes a message: its header, its payload, and how many descriptors came with it. What it asks for is answered,
+    /// Takes a message: its header, its payload, and how many descriptors came with it. What it asks for is returned,
     /// and is part of the state from now on: the back end does the rest, as mapping memory, and sends `reply`.
     ///
     /// A ring that a GET_VRING_BASE names is stopped at once. What is in flight is finished, `stop` says where the ring
@@ -518,7 +518,7 @@ impl BackendReqHandler {
         Ok(request)
     }
 
-    /// Says where a ring goes on that was stopped. `Index` if there is no such ring, and `Started` if it is started.
+    /// Sets where a stopped ring goes on. `Index` if there is no such ring, and `Started` if it is started.
     pub fn stop(&mut self, index: u32, base: u32) -> Result<(), Refusal>
         ensures { Steps self.old (with_rest self.old index base) result self.new }
     {
@@ -577,7 +577,7 @@ impl BackendReqHandler {
         has(self.features, VHOST_USER_F_PROTOCOL_FEATURES) && !vring.enabled
     }
 
-    /// A ring as it is to be served. It is not before a kick and after a GET_VRING_BASE (`Stopped`), not if
+    /// A ring as it is to be served. It is not served before a kick and after a GET_VRING_BASE (`Stopped`), not if
     /// `VHOST_USER_F_PROTOCOL_FEATURES` was accepted and it is not enabled (`Disabled`), and not if it has no size, no
     /// address, or one that the memory of the front end does not have (`NoSize`, `NoAddress`, `UserAddress`).
     pub fn running(&self, index: u32) -> Result<RunningVring, NotRunning>

@@ -1,5 +1,5 @@
 //! The vhost-user protocol for a back end: bytes and numbers of descriptors come in, requests and bytes go out, and
-//! nothing else is touched. docs/VHOST_USER.md.
+//! nothing else is touched. The crate's README.md has the rules.
 #![tactic(auto)]
 
 mod backend_req_handler;

@@ -1,4 +1,4 @@
-//! What a back end answers.
+//! What a back end replies.
 ghost use Rattle.std.specs.Prelude.{◌≡◌, []};
 ghost use Rattle.vhost_user.specs.Reply.{acknowledgement, base_reply, config_reply, number_reply, refused, reply, reply_to};
 
@@ -91,9 +91,9 @@ impl BackendReqHandler {
         }
     }
 
-    /// What is sent for a request that was refused, or that failed: that it was not done, if the message asks for that.
-    /// A GET_CONFIG is answered without a payload. For other requests that have a reply of their own there is no such
-    /// answer.
+    /// What is sent for a request that was refused or that failed: that it was not done, if the message asks for a
+    /// reply. The reply to a GET_CONFIG has no payload then. Other requests with a reply of their own get no such
+    /// reply.
     pub fn refuse(&self, header: &Header) -> Message
         ensures { result ≡ refused self.now header.now }
     {

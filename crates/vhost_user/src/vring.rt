@@ -10,7 +10,7 @@ use vhost_message::VringAddr;
 pub enum Notifier {
     /// No message said so.
     Unset,
-    /// Not at all: the other end has to look by itself.
+    /// Not at all: the other end has to poll.
     Polled,
     /// By the descriptor that came last.
     Descriptor,

@@ -1,4 +1,4 @@
-//! Connections, row by row: what each message asks for or why it is refused, and what is answered.
+//! Connections, row by row: what each message asks for or why it is refused, and what the reply is.
 
 use crate::rows::{BOOT, CONFIG, END, FEATURES, IOMMU, LOGGING, PROTOCOL_FEATURES, Part, REFUSED};
 use std::alloc::Global;

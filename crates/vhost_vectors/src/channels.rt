@@ -81,7 +81,7 @@ pub struct Parts {
     pub kind: u8,
 }
 
-/// Puts a header behind other bytes.
+/// Appends a header to other bytes.
 pub fn put_header(out: &mut Vec<u8>, request: u32, flags: u32, size: u32) -> Result<(), Fail> {
     out.extend_from_slice(&request.to_le_bytes())?;
     out.extend_from_slice(&flags.to_le_bytes())?;
@@ -89,7 +89,7 @@ pub fn put_header(out: &mut Vec<u8>, request: u32, flags: u32, size: u32) -> Res
     Ok(())
 }
 
-/// Puts a payload behind other bytes. Its last six bytes mean nothing.
+/// Appends a payload to other bytes. Its last six bytes mean nothing.
 pub fn put_payload(out: &mut Vec<u8>, parts: Parts) -> Result<(), Fail> {
     out.extend_from_slice(&parts.iova.to_le_bytes())?;
     out.extend_from_slice(&parts.size.to_le_bytes())?;
@@ -98,13 +98,13 @@ pub fn put_payload(out: &mut Vec<u8>, parts: Parts) -> Result<(), Fail> {
     Ok(())
 }
 
-/// Puts a message of the front end behind other bytes.
+/// Appends a message of the front end to other bytes.
 pub fn put_message(out: &mut Vec<u8>, flags: u32, parts: Parts) -> Result<(), Fail> {
     put_header(out, 22, flags, 32)?;
     put_payload(out, parts)
 }
 
-/// Puts a reply to a message of the back end behind other bytes.
+/// Appends a reply to a message of the back end to other bytes.
 pub fn put_reply(out: &mut Vec<u8>, value: u64) -> Result<(), Fail> {
     put_header(out, 1, 5, 8)?;
     out.extend_from_slice(&value.to_le_bytes())?;

@@ -9,8 +9,8 @@ use crate::worlds::{
 use std::alloc::Global;
 use std::test::Fail;
 use test_text::expect_text;
-use vhost_iotlb::{Limits, MissError, ReadBytes, Request, UserMemory, UserRegion, WriteBytes};
-use vhost_message::{FrontendReq, MemoryTable, Message};
+use vhost_iotlb::{Limits, MissError, ReadBytes, Request, WriteBytes};
+use vhost_message::{FrontendReq, MemoryRegions, MemoryTable, Message};
 use vm_memory_base::GuestAddress;
 use vm_memory_guest::{Bytes, TlbId};
 
@@ -263,16 +263,8 @@ fn replied(alloc: Global, words: &str) -> Result<Vec<u8>, Fail> {
 }
 
 // The memory that a SET_MEM_TABLE announces.
-fn memory_of(alloc: Global, table: &MemoryTable) -> Result<UserMemory, Fail> {
-    let mut regions = Vec::new(alloc);
-    for region in table.regions() {
-        regions.push(UserRegion {
-            user_address: region.user_address,
-            guest_address: region.guest_address,
-            len: region.size,
-        })?;
-    }
-    Ok(UserMemory::new(regions))
+fn memory_of(alloc: Global, table: &MemoryTable) -> Result<MemoryRegions, Fail> {
+    Ok(MemoryRegions::new(table.regions().to_vec(alloc)?))
 }
 
 // Serves a message of another request: memory that is announced anew is meant from then on, and a payload of 16 bytes

@@ -1,4 +1,4 @@
-//! Pages that are taken back while other threads access them.
+//! Pages that are unmapped while other threads access them.
 
 use crate::worlds::{Host, IOVA, Memory, PAGE, World, announced, make_world, target_of, user_of};
 use std::alloc::Global;

@@ -4,7 +4,8 @@ use crate::channels::{Given, Parts};
 use std::alloc::Global;
 use std::sync::Arc;
 use std::test::Fail;
-use vhost_iotlb::{DeviceIotlb, DeviceTable, Limits, UserMemory, UserRegion};
+use vhost_iotlb::{DeviceIotlb, DeviceTable, Limits};
+use vhost_message::{MemoryRegion, MemoryRegions};
 use vm_memory_base::GuestAddress;
 use vm_memory_device::{IommuMemory, TableIommu};
 use vm_memory_guest::{
@@ -70,28 +71,25 @@ pub fn invalidate(page: u64) -> Parts {
 }
 
 /// The memory that the front end announced.
-pub fn announced(alloc: Global) -> Result<UserMemory, Fail> {
+pub fn announced(alloc: Global) -> Result<MemoryRegions, Fail> {
     let half = PAGES / 2 * PAGE;
     let mut regions = Vec::new(alloc);
-    regions.push(UserRegion {
-        user_address: FIRST,
-        guest_address: GuestAddress(0),
-        len: half,
-    })?;
-    regions.push(UserRegion {
-        user_address: SECOND,
-        guest_address: GuestAddress(half),
-        len: half,
-    })?;
-    regions.push(UserRegion {
-        user_address: NOWHERE,
-        guest_address: GuestAddress(PAGES * PAGE),
-        len: PAGE,
-    })?;
-    Ok(UserMemory::new(regions))
+    for (guest_address, size, user_address) in [
+        (0, half, FIRST),
+        (half, half, SECOND),
+        (PAGES * PAGE, PAGE, NOWHERE),
+    ] {
+        regions.push(MemoryRegion {
+            guest_address: GuestAddress(guest_address),
+            size,
+            user_address,
+            mmap_offset: 0,
+        })?;
+    }
+    Ok(MemoryRegions::new(regions))
 }
 
-/// A host, its guest memory behind a table of so many ranges, and the number of the table.
+/// A host, its guest memory behind a table of this many ranges, and the number of the table.
 #[derive(Drop)]
 pub struct World {
     pub host: Host,

@@ -13,7 +13,7 @@ pub record Device (D : Type 0) : Type 0 where
 abbrev pub terms_of : {D : Type 0} → (D → ℕ) → Device D → Terms
 terms_of sectors d = record { sectors = sectors d.disk; read_only = d.read_only; acked = d.acked }
 
--- VERSION_1, INDIRECT_DESC, EVENT_IDX and FLUSH, and RO where the device only reads
+-- VERSION_1, INDIRECT_DESC, EVENT_IDX and FLUSH, and RO if the device only reads
 abbrev pub offered : Bool → ℕ
 offered true = 2 ^ 32 + 2 ^ 28 + 2 ^ 29 + 2 ^ 9 + 2 ^ 5
 offered false = 2 ^ 32 + 2 ^ 28 + 2 ^ 29 + 2 ^ 9
@@ -23,7 +23,7 @@ abbrev pub acceptable : Bool → ℕ → Bool
 acceptable read_only features =
     bit_and features (offered read_only) == features && not (bit_and features (2 ^ 32) == 0)
 
--- whether a write of so many bytes has to be stable when its status is written: the driver did not accept FLUSH, so it
+-- whether a write of N bytes has to be stable when its status is written: the driver did not accept FLUSH, so it
 -- cannot ask for that later
 abbrev pub must_stay : ℕ → ℕ → Bool
 must_stay acked len = bit_and acked (2 ^ 9) == 0 && nat_lt 0 len

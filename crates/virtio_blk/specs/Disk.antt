@@ -1,4 +1,4 @@
--- Disks: their calls, and their bytes, where they are told.
+-- Disks: their calls, and their bytes, if they are known.
 use Rattle.std.specs.Prelude.{◌≡◌, ℕ, ◌+◌, ◌/◌, Bool, true, List, [], ◌∷◌, ◌++◌, length, take, drop, Option, Some, None, option_map}
 
 -- a call of a disk: a read from a sector on, with what it gave, a write from one on, with what it was given, a flush
@@ -12,7 +12,7 @@ abbrev pub joined : List (List ℕ) → List ℕ
 joined [] = []
 joined (p ∷ ps) = joined ps ++ p
 
--- pieces were moved one behind the other, from a sector on, each by a call that was done
+-- pieces were moved one after the other, from a sector on, each by a call that was done
 abbrev pub Moves : {D : Type 0} → (D → Call → Bool → D → Type 0) → (ℕ → List ℕ → Call) → ℕ → List (List ℕ) → D → D
     → Type 0
 Moves calls move sector [] old new = new ≡ old
@@ -27,7 +27,7 @@ patched at bytes all = take at all ++ bytes ++ drop (at + length bytes) all
 abbrev pub after_write : ℕ → List ℕ → Option (List ℕ) → Option (List ℕ)
 after_write at bytes all = option_map (patched at bytes) all
 
--- where a disk tells its bytes, it has these from one on
+-- if the bytes of a disk are known, it has these from one on
 abbrev pub LieAt : ℕ → List ℕ → Option (List ℕ) → Type 0
 LieAt at bytes None = Unit {0}
 LieAt at bytes (Some all) = bytes ≡ take (length bytes) (drop at all)

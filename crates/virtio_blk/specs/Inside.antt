@@ -19,7 +19,7 @@ failed (IommuError e) without = Err (IommuError e)
 failed Memory without = Err Memory
 failed e without = Ok without
 
--- what has to hold to do a request, whose data lie at one text of so many bytes, or go to another: they are whole
+-- what has to hold to do a request, whose data lie at a text of N bytes, or go to another: they are whole
 -- sectors that the disk has, and these have bytes of 64 bits
 abbrev pub CanDo : ℕ → Request → ℕ → ℕ → Type 0
 CanDo sectors (Read sector len) given room =
@@ -33,7 +33,7 @@ CanDo sectors Unserved given room = Unit {0}
 
 module _ {B D : Type 0} (marks : B → ℕ → ℕ → B → Type 0) (bytes : D → Option (List ℕ)) (sectors : D → ℕ)
     (calls : D → Call → Bool → D → Type 0) (m : memory.Memory) where
-  -- a request was done: its data, so many bytes, went to the front of a text, and of the device the disk alone changed
+  -- a request was done: its data, N bytes, went to the front of a text, and of the device only the disk changed
   pub record Did (request : Request) (given room : List Entry) (old : Device D) (host : Host B) (status moved : ℕ)
       (new : Device D) (after : Host B) : Type 0 where
     pub sent : List ℕ

@@ -25,12 +25,12 @@ pub record State (B D : Type 0) : Type 0 where
 abbrev pub past : Virtqueue → ℕ → List Segment → Virtqueue
 past q head chain = with_state q (after_pop {X = ℕ × List Segment} q.state (Ok (Some (head, chain))))
 
--- the answer, or a value in place of an error
+-- the result, or a value instead of an error
 abbrev pub or_value : Bool → Result Bool QueueError → Bool
 or_value b (Ok answer) = answer
 or_value b (Err e) = b
 
--- the error that was answered, if one was
+-- the error that was returned, if one was
 abbrev pub error_in : Result Bool QueueError → Option QueueError
 error_in (Ok b) = None
 error_in (Err e) = Some e
@@ -49,7 +49,7 @@ module _ {B D : Type 0} (marks : B → ℕ → ℕ → B → Type 0) (bytes : D 
     pub queue : new.queue ≡ after_used (past old.queue head chain) answer
 
   -- there was no chain, and the driver was asked to notify the device of the next one. That was refused, or it is
-  -- answered whether the driver had published more by then
+  -- returned whether the driver had published more by then
   pub record Idles (old : State B D) (answer : Result Bool QueueError) (new : State B D) : Type 0 where
     pub none : popped m old.host old.queue.state ≡ Ok None
     pub asked : EnablesIfReady marks m old.queue.state old.host answer new.host
@@ -60,7 +60,7 @@ module _ {B D : Type 0} (marks : B → ℕ → ℕ → B → Type 0) (bytes : D 
   abbrev pub Before : State B D → State B D → Type 0
   Before old new = (new ≡ old) ⊎ Idles old (Ok true) new
 
-  -- so many chains were popped, served and returned, one after the other
+  -- N chains were popped, served and returned, one after the other
   abbrev pub Turns : ℕ → State B D → State B D → Type 0
   Turns zero old new = new ≡ old
   Turns (suc n) old new =
@@ -99,8 +99,8 @@ module _ {B D : Type 0} (marks : B → ℕ → ℕ → B → Type 0) (bytes : D 
     pub turns : Turns count old last
     pub ends : ((count < most) × Ends last answer new) ⊎ ((count ≡ most) × (answer ≡ Ok true) × (new ≡ last))
 
-  -- what a call answers: whether the bound ended it, and the first error of the queue. The driver is to be interrupted
-  -- where it wants that. Where the queue cannot tell, it is where a chain was returned
+  -- what a call returns: whether the bound ended it, and the first error of the queue. The driver is to be interrupted
+  -- if it wants that. If the queue does not know, it is if a chain was returned
   pub record Processes (most : ℕ) (old : State B D) (served : Served) (new : State B D) : Type 0 where
     pub answer : Result Bool QueueError
     pub last : State B D

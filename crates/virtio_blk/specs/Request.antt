@@ -13,11 +13,11 @@ kind_of header = from_le_bytes w32 (take 4 header)
 abbrev pub sector_of : List ℕ → ℕ
 sector_of header = from_le_bytes w64 (drop 8 header)
 
--- so many bytes from a sector on are whole sectors of a disk of so many
+-- N bytes from a sector on are whole sectors of a disk of M sectors
 abbrev pub fits : ℕ → ℕ → ℕ → Bool
 fits sectors sector len = len % 512 == 0 && nat_le (512 * sector + len) (512 * sectors)
 
--- what a request asks for, by its header, where so many readable bytes follow that, and as many writable ones stand
+-- what a request asks for, by its header, if N readable bytes follow that, and as many writable ones stand
 -- in front of the status
 abbrev pub request_of : Terms → List ℕ → ℕ → ℕ → Request
 request_of terms header given room = let sector = sector_of header in

@@ -24,8 +24,8 @@ NoHeader m host es = (length es < 16) ⊎ StopsWithin m host.tables es 0 16
 abbrev pub SameDisk : {D : Type 0} → (D → Option (List ℕ)) → (D → ℕ) → D → D → Type 0
 SameDisk bytes sectors old new = (bytes new ≡ bytes old) × (sectors new ≡ sectors old)
 
--- the bytes of a text went to a disk, from a sector on, in pieces that it took: all so many, or whole pieces, up to
--- one that the disk did not take or where a byte could not be read
+-- the bytes of a text went to a disk, from a sector on, in pieces that it took: all N, or whole pieces, up to
+-- one that the disk did not take, or that has a byte that could not be read
 pub record Stores {B D : Type 0} (bytes : D → Option (List ℕ)) (sectors : D → ℕ)
     (calls : D → Call → Bool → D → Type 0) (m : Memory) (host : Host B) (es : List Entry) (sector len : ℕ) (old : D)
     (status : ℕ) (new : D) : Type 0 where
@@ -43,7 +43,7 @@ pub record Stores {B D : Type 0} (bytes : D → Option (List ℕ)) (sectors : D 
       × (calls last (writes (sector + moved / 512) (text_bytes m host (drop moved es) (min piece (len - moved)))) false
       new ⊎ ((new ≡ last) × StopsWithin m host.tables es moved piece)))
 
--- bytes that a disk gave, in pieces from a sector on, went to a text: all so many, or whole pieces up to one that the
+-- bytes that a disk gave, in pieces from a sector on, went to a text: all N, or whole pieces up to one that the
 -- disk did not give, or those in front of an address that could not be written
 pub record Loads {B D : Type 0} (bytes : D → Option (List ℕ)) (sectors : D → ℕ)
     (calls : D → Call → Bool → D → Type 0) (m : Memory) (host : Host B) (es : List Entry) (sector len : ℕ) (old : D)
@@ -60,13 +60,13 @@ pub record Loads {B D : Type 0} (bytes : D → Option (List ℕ)) (sectors : D �
       × ((spoilt : List ℕ) × calls last (reads (sector + length sent / 512) spoilt) false new))
       ⊎ ((new ≡ last) × StopsAt m host.tables es (length sent))))
 
--- what was written was brought to where it stays, or that failed
+-- what was written was flushed to stable storage, or that failed
 abbrev pub Flushes : {D : Type 0} → (D → Option (List ℕ)) → (D → ℕ) → (D → Call → Bool → D → Type 0) → D → ℕ → D
     → Type 0
 Flushes bytes sectors calls old status new = SameDisk bytes sectors old new
     × (((status ≡ 0) × calls old flushes true new) ⊎ ((status ≡ 1) × calls old flushes false new))
 
--- the first so many bytes of a name were written, or those before an address that could not be written
+-- the first N bytes of a name were written, or those before an address that could not be written
 abbrev pub Names : {B : Type 0} → Memory → Host B → List Entry → List ℕ → ℕ → ℕ → List ℕ → Type 0
 Names m host es name len status sent = (sent ≡ take (length sent) name)
     × (((status ≡ 0) × (length sent ≡ len))
@@ -94,7 +94,7 @@ module _ {B D : Type 0} (bytes : D → Option (List ℕ)) (sectors : D → ℕ) 
   Does (Refused code) given room old status sent new = (sent ≡ []) × (status ≡ code) × (new ≡ old.disk)
   Does Unserved given room old status sent new = (sent ≡ []) × (new ≡ old.disk)
 
-  -- what is done for a chain with these texts: nothing where its header cannot be read, and else what that asks for
+  -- what is done for a chain with these texts: nothing if its header cannot be read, and else what that asks for
   abbrev pub Performs : List Entry → List Entry → Device D → ℕ → List ℕ → D → Type 0
   Performs es room old status sent new =
       (NoHeader m host es × Does (Refused 1) (drop 16 es) room old status sent new)
@@ -103,14 +103,14 @@ module _ {B D : Type 0} (bytes : D → Option (List ℕ)) (sectors : D → ℕ) 
       (drop 16 es) room old status sent new)
 
 module _ {B : Type 0} (marks : B → ℕ → ℕ → B → Type 0) (m : Memory) where
-  -- a status went to the last byte of a text, or that cannot be written. Nothing else changed. So many of the text's
-  -- bytes are written without a gap then, where so many were before
+  -- a status went to the last byte of a text, or that cannot be written. Nothing else changed. N of the text's
+  -- bytes are written without a gap then, if N were before
   abbrev pub TellsStatus : List Entry → ℕ → ℕ → Host B → ℕ → Host B → Type 0
   TellsStatus es status sent old len new = let last = drop (length es - 1) es in
       (WritesAt marks m last (status ∷ []) old new × (len ≡ (if sent + 1 == length es then sent + 1 else sent)))
       ⊎ (StopsAt m old.tables last 0 × (new ≡ old) × (len ≡ sent))
 
-  -- data went to the front of a text, and behind that the status to its last byte
+  -- data went to the front of a text, and after that the status to its last byte
   abbrev pub Tells : List Entry → ℕ → List ℕ → Host B → ℕ → Host B → Type 0
   Tells es status sent old len new =
       (mid : Host B) × WritesAt marks m es sent old mid × TellsStatus es status (length sent) mid len new
@@ -125,7 +125,7 @@ module _ {B D : Type 0} (marks : B → ℕ → ℕ → B → Type 0) (bytes : D 
       × Tells marks m room status sent host len after × (new ≡ record old { disk = disk }))
       ((len ≡ 0) × (new ≡ old) × (after ≡ host))
 
-  -- a chain was served: so many bytes from its first writable one on were written without a gap
+  -- a chain was served: N bytes from its first writable one on were written without a gap
   abbrev pub Serves : List Segment → Device D → Host B → ℕ → Device D → Host B → Type 0
   Serves chain old host len new after =
       ServesTexts (text (readable chain)) (text (writable chain)) old host len new after

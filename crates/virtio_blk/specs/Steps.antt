@@ -16,7 +16,7 @@ use Rattle.virtio_blk.specs.declared.request.Request.{Request}
 use Rattle.virtio_blk.specs.declared.request.Request.TheVariants.{Read, Write, Flush, GetId, Refused, Unserved}
 use Rattle.virtio_blk.specs.declared.request.Terms.{Terms}
 
--- what a step answers: it was done, or it was done without bytes that have no memory. It is the error of an access that
+-- what a step returns: it was done, or it was done without bytes that have no memory. It is the error of an access that
 -- the IOMMU refuses, which the mapping may still come for
 abbrev pub answer_of : {T : Type 0} → Option AccessFault → T → T → Result T GuestMemoryError
 answer_of None done without = Ok done
@@ -24,7 +24,7 @@ answer_of (Some (access.NoRegion a)) done without = Ok without
 answer_of (Some access.NoHostBytes) done without = Ok without
 answer_of (Some (access.Refused iova len reason)) done without = Err (error_of (access.Refused iova len reason))
 
--- the same, or there was no memory for the translation of an access
+-- the same, or the allocation for the translation of an access failed
 abbrev pub Told : {T : Type 0} → Memory → Option AccessFault → T → T → Result T GuestMemoryError → Type 0
 Told m fault done without answer =
     (answer ≡ answer_of fault done without) ⊎ ((answer ≡ Err errors.Memory) × IsOn m)
@@ -45,7 +45,7 @@ Begins m host terms given room answer =
     (Told m (header_fault m host.tables given)
     (request_of terms (text_bytes m host given 16) (length given - 16) (length room - 1)) (Refused 1) answer))
 
--- the data of a request are whole sectors of a disk of so many, or at most the 20 bytes of a name
+-- the data of a request are whole sectors of a disk of N, or at most the 20 bytes of a name
 abbrev pub FitsOn : ℕ → Request → Type 0
 FitsOn sectors (Read sector len) = (len % 512 ≡ 0) × (512 * sector + len ≤ 512 * sectors)
 FitsOn sectors (Write sector len flush) = (len % 512 ≡ 0) × (512 * sector + len ≤ 512 * sectors)
@@ -60,12 +60,12 @@ FitsOn sectors Unserved = Unit {0}
 abbrev pub status_fault : Memory → List Table → List Entry → Option AccessFault
 status_fault m tables es = text_fault m.regions (route m tables) permissions.Write true (drop (length es - 1) es)
 
--- so many bytes of a text are written without a gap after its status, where so many were before that
+-- N bytes of a text are written without a gap after its status, if M were before that
 abbrev pub gapless : List Entry → ℕ → ℕ
 gapless es front = if front + 1 == length es then front + 1 else front
 
 -- a status went to the last byte of a text. Nothing else changed, and nothing at all if that cannot be written. The
--- answer is the number of bytes that are written without a gap, where so many were, or all before the status if that
+-- result is the number of bytes that are written without a gap, if N were, or all before the status if that
 -- number is larger
 abbrev pub Finishes : {B : Type 0} → (B → ℕ → ℕ → B → Type 0) → Memory → List Entry → ℕ → ℕ → Host B
     → Result ℕ GuestMemoryError → Host B → Type 0

@@ -16,18 +16,18 @@ module _ (m : Memory) (tables : List Table) where
   reached [] = []
   reached (e ∷ es) = onto (meets m.regions (route m tables) e.address 0) (reached es)
 
-  -- a call over a text may stop behind its first k addresses: the next one leads to no byte, or an IOMMU is on, which
-  -- may refuse the access, and for which there may be no memory
+  -- a call over a text may stop after its first k addresses: the next one leads to no byte, or an IOMMU is on, which
+  -- may refuse the access, and whose allocation may fail
   pub record StopsAt (es : List Entry) (k : ℕ) : Type 0 where
     pub more : k < length es
     pub stops : IsOn m ⊎ (length (reached es) ≡ k)
 
-  -- it may stop at one of so many addresses from the first ones on
+  -- it may stop at one of N addresses from the first ones on
   abbrev pub StopsWithin : List Entry → ℕ → ℕ → Type 0
   StopsWithin es from count = (k : ℕ) × (from ≤ k) × (k < from + count) × StopsAt es k
 
 module _ (m : Memory) (tables : List Table) (access : Permissions) where
-  -- calls over a text, one behind the other, each of at most so many addresses, of which it moves so many, are allowed
+  -- calls over a text, one after the other, each of at most N addresses, of which it moves M, are allowed
   -- to access these
   abbrev pub AreAllowed : List (ℕ × ℕ) → List Entry → Type 0
   AreAllowed [] es = Unit {0}

@@ -21,7 +21,7 @@ use std::marker::Model;
 // How many bytes are moved between the guest and the disk at once.
 pub(crate) const PIECE: usize = 65536;
 
-/// A virtio block device on a disk: docs/VIRTIO_BLK.md.
+/// A virtio block device on a disk: the crate's README.md.
 ///
 /// ```text
 /// let mut device = BlockDevice::new(alloc, disk, false, *b"the name of the disk")?;
@@ -50,7 +50,7 @@ impl<D> Model for BlockDevice<D> {
 }
 
 impl<D: Disk> BlockDevice<D> {
-    /// A device on a disk, with a name that drivers can ask for. One that only reads refuses to write. It allocates
+    /// A device on a disk, with a name that drivers can ask for. A read-only one refuses to write. It allocates
     /// what it needs to serve chains, once.
     pub fn new(
         alloc: Global,
@@ -78,15 +78,15 @@ impl<D: Disk> BlockDevice<D> {
         &self.disk
     }
 
-    /// The disk of a device that is done with.
+    /// The disk of a device that is no longer needed.
     pub fn into_disk(self) -> D
         ensures { result ≡ self.disk }
     {
         self.disk
     }
 
-    /// The features that it offers, each as its bit: VERSION_1, INDIRECT_DESC, EVENT_IDX, FLUSH, and RO where it only
-    /// reads.
+    /// The features that it offers, each as its bit: VERSION_1, INDIRECT_DESC, EVENT_IDX, FLUSH, and RO if it is
+    /// read-only.
     pub fn features(&self) -> u64
         ensures { result ≡ offered self.now.read_only }
     {
@@ -101,7 +101,7 @@ impl<D: Disk> BlockDevice<D> {
         }
     }
 
-    /// Accepts features for the driver, as its bits tell them, and answers whether it may have these: they are
+    /// Accepts the driver's feature bits, and returns whether the driver may have these features: they are
     /// offered, and VERSION_1 is among them. Else nothing changes.
     pub fn ack_features(&mut self, features: u64) -> bool
         ensures answer { result ≡ acceptable self.old.read_only features }
@@ -114,15 +114,15 @@ impl<D: Disk> BlockDevice<D> {
         true
     }
 
-    /// The features that were accepted last, and 0 where none were.
+    /// The features that were accepted last, and 0 if none were.
     pub fn acked_features(&self) -> u64
         ensures { result ≡ self.now.acked }
     {
         self.acked
     }
 
-    /// Whether the driver accepted that notifications go by event indices. The owner of the device then tells the
-    /// queue so, by `set_event_idx`.
+    /// Whether the driver accepted that notifications go by event indices. The owner of the device then passes
+    /// this to the queue, by `set_event_idx`.
     pub fn event_idx(&self) -> bool
         ensures { result ≡ not (bit_and self.now.acked (2 ^ 29) == 0) }
     {

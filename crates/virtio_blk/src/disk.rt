@@ -11,30 +11,30 @@ use thiserror::Error;
 /// How many bytes a sector has.
 pub const SECTOR_SIZE: usize = 512;
 
-/// Why a disk did not do what it was asked for.
+/// Why a disk did not do what was asked for.
 #[derive(Debug, Drop, Error)]
 pub enum DiskError {
     /// The system refused it.
     #[error("{0}")]
     Io(#[from] io::Error),
-    /// The disk is of a kind that refuses it, or refuses it now.
+    /// A disk of this kind refuses it, always or now.
     #[error("the disk refused it")]
     Refused,
 }
 
-/// A disk: so many sectors of 512 bytes. Its calls move whole sectors, all or none.
+/// A disk: a number of sectors of 512 bytes each. Its calls move whole sectors, all or none.
 ///
-/// Ghost members say what contracts know of it. `bytes` are the bytes of its sectors, where it tells them: a disk in
-/// memory does. A file does not, since other programs may write it; then nothing is promised of bytes.
+/// Ghost members say what contracts know of it. `bytes` are the bytes of its sectors, if they are known: a disk in
+/// memory knows them. A file does not, since other programs may write it; then nothing is promised of bytes.
 pub trait Disk: Drop {
-    /// The bytes of its sectors, where it tells them.
+    /// The bytes of its sectors, if they are known.
     ghost bytes: { Self → Option (List ℕ) };
 
     /// How many sectors it has.
     ghost sectors: { Self → ℕ };
 
     /// What its calls may do: the disk, what was asked for, whether that was done, and the disk afterwards. So a
-    /// contract can say of any disk that a call was made, and what was answered.
+    /// contract can say of any disk that a call was made, and what it returned.
     ghost calls: { Self → Call → Bool → Self → Type 0 };
 
     /// How many sectors it has.
@@ -61,12 +61,12 @@ pub trait Disk: Drop {
         ensures calls { calls self.old (writes sector data.now) (is_ok result) self.new }
         ensures sectors { sectors self.new ≡ sectors self.old };
 
-    /// Brings what was written to where it stays. The disk's bytes stay as they are.
+    /// Flushes what was written to stable storage. The disk's bytes stay as they are.
     fn flush(&mut self) -> Result<(), DiskError>
         ensures calls { calls self.old flushes (is_ok result) self.new }
         ensures bytes { bytes self.new ≡ bytes self.old }
         ensures sectors { sectors self.new ≡ sectors self.old };
 
-    /// The bytes that are told are those of all sectors.
+    /// The bytes that are known are those of all sectors.
     ghost whole: { (d : Self) (all : List ℕ) → bytes d ≡ Some all → length all ≡ 512 * sectors d };
 }

@@ -1,4 +1,4 @@
-//! A virtio block device over guest memory: docs/VIRTIO_BLK.md.
+//! A virtio block device over guest memory: the crate's README.md.
 #![tactic(auto)]
 
 mod device;

@@ -15,7 +15,7 @@ pub const VIRTIO_BLK_T_IN: u32 = 0;
 /// The kind of a request that writes to the disk.
 pub const VIRTIO_BLK_T_OUT: u32 = 1;
 
-/// The kind of a request that brings what was written to where it stays.
+/// The kind of a request that flushes what was written to stable storage.
 pub const VIRTIO_BLK_T_FLUSH: u32 = 4;
 
 /// The kind of a request for the name of the device.
@@ -30,12 +30,12 @@ pub const VIRTIO_BLK_S_IOERR: u8 = 1;
 /// The status of a request of a kind that the device does not know.
 pub const VIRTIO_BLK_S_UNSUPP: u8 = 2;
 
-/// What a request is held against: the disk, and what the driver accepted.
+/// What a request is checked against: the disk, and what the driver accepted.
 #[derive(Clone, Copy, Debug, PartialEq, Eq)]
 pub struct Terms {
     /// The number of sectors of the disk, each of 512 bytes.
     pub sectors: u64,
-    /// Whether the disk is only read.
+    /// Whether the disk is read-only.
     pub read_only: bool,
     /// The features that the driver accepted, each as its bit, and 0 if it accepted none. `VIRTIO_BLK_F_FLUSH` is the
     /// one that counts.
@@ -52,7 +52,7 @@ pub enum Request {
         len: usize,
     },
     /// The chain's readable bytes after the first 16, which are `len`, go to the disk, from a sector on. If `flush` is
-    /// true, the driver did not accept FLUSH, and the device makes them stable before it answers.
+    /// true, the driver did not accept FLUSH, and the device makes them stable before it writes the status.
     Write {
         sector: u64,
         len: usize,

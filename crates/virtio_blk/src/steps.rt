@@ -1,4 +1,4 @@
-//! A request in two steps, for a device whose disk is its own: docs/VIRTIO_BLK.md, "A disk of your own".
+//! A request in two steps, for a device whose disk is its own: the crate's README.md, "A disk of your own".
 ghost use Rattle.std.specs.Prelude.{◌≡◌, ◌≤◌, Some, None, IfOk, length};
 ghost use Rattle.vm_memory_device.specs.Chain.{readable, text, writable};
 ghost use Rattle.vm_memory_guest.specs.Host.{shape_of, Holds};
@@ -49,9 +49,9 @@ fn read_header<M: GuestMemory, B: Bitmap>(
 
 /// Reads the header of a request and says what the device has to do, before it does any of it. Nothing changes.
 ///
-/// A request that is wrong is no error, but `Refused`. An error means that nothing is decided:
+/// A request that is wrong is not an error, but `Refused`. An error means that nothing is decided:
 /// [`GuestMemoryError::IommuError`] if the IOMMU refuses an access to the header, and [`GuestMemoryError::Memory`] if
-/// there is no memory for its translation. A device whose mappings come later makes the call again then.
+/// its translation fails to allocate. A device whose mappings come later makes the call again then.
 pub fn begin<M: GuestMemory, B: Bitmap>(
     terms: Terms,
     mem: &M,
@@ -89,7 +89,7 @@ pub fn begin<M: GuestMemory, B: Bitmap>(
 /// no writable byte, the length is 0.
 ///
 /// An error means that nothing changed: [`GuestMemoryError::IommuError`] if the IOMMU refuses the access, and
-/// [`GuestMemoryError::Memory`] if there is no memory for its translation. A device whose mappings come later makes the
+/// [`GuestMemoryError::Memory`] if its translation fails to allocate. A device whose mappings come later makes the
 /// call again then.
 pub fn finish<M: GuestMemory, B: Bitmap>(
     mem: &M,

@@ -27,11 +27,11 @@ prefixed front rest =
     and_then rest (λ r. Ok (record { segments = front ++ r.segments; indirect = r.indirect }))
 
 module _ (descriptor : ℕ → Result Descriptor QueueError) (len : ℕ) where
-  -- what is met at an index of a table of so many descriptors: the one there, where the table has it
+  -- what is met at an index of a table of N descriptors: the one there, if the table has it
   abbrev pub entry : ℕ → Result Descriptor QueueError
   entry i = if nat_lt i len then descriptor i else Err errors.InvalidDescriptorIndex
 
-  -- at most so many descriptors that following `next` from an index gives. One more is a loop
+  -- at most N descriptors that following `next` from an index gives. One more is a loop
   unfoldable pub followed : ℕ → ℕ → Result Followed QueueError
   followed zero i = if nat_lt i len then Err errors.DescriptorLoop else Err errors.InvalidDescriptorIndex
   followed (suc most) i = and_then (entry i) (λ d.
@@ -54,7 +54,7 @@ direct f = no_other f.indirect
     no_other (Some d) = Err errors.NestedIndirect
 
 module _ {B : Type 0} (m : Memory) (host : Host B) where
-  -- what following gives in a table of so many descriptors at an address
+  -- what following gives in a table of N descriptors at an address
   abbrev pub followed_in : ℕ → ℕ → ℕ → Result Followed QueueError
   followed_in table len i = followed (descriptor_at m host table) len len i
 
@@ -70,7 +70,7 @@ module _ {B : Type 0} (m : Memory) (host : Host B) where
   abbrev pub segments_at : QueueState → ℕ → Result (List Segment) QueueError
   segments_at q head = and_then (followed_in q.desc_table q.size head) (λ f. with_indirect f.segments f.indirect)
 
-  -- the chain of a head, where its segments make one
+  -- the chain of a head, if its segments make one
   abbrev pub if_chain : List Segment → Option ChainFault → Result (List Segment) QueueError
   if_chain segments None = Ok segments
   if_chain segments (Some fault) = Err (errors.InvalidChain fault)
@@ -100,11 +100,11 @@ module _ {B : Type 0} (m : Memory) (host : Host B) where
   abbrev pub popped : QueueState → Result (Option (ℕ × List Segment)) QueueError
   popped q = and_then (next_head q) (chain_of q)
 
-  -- popping may fail to allocate: behind an IOMMU that is on, and where there is a chain to pop
+  -- popping may fail to allocate: behind an IOMMU that is on, and if there is a chain to pop
   abbrev pub MayWantChain : QueueState → Type 0
   MayWantChain q = IsOn m ⊎ ((head : ℕ) × (next_head q ≡ Ok (Some head)))
 
--- the state that popping leaves: one entry on where a chain was popped
+-- the state that popping leaves: one entry on if a chain was popped
 abbrev pub after_pop : {X : Type 0} → QueueState → Result (Option X) QueueError → QueueState
 after_pop q (Ok (Some x)) = record q { next_avail = behind q.next_avail }
 after_pop q (Ok None) = q

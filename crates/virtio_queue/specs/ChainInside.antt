@@ -6,7 +6,7 @@ use Rattle.virtio_queue.specs.Fields.{Refuses}
 use Rattle.virtio_queue.specs.declared.descriptor.Descriptor.{Descriptor}
 use Rattle.virtio_queue.specs.declared.error.QueueError.{QueueError}
 
--- the segments that are expected came behind those from before, and the indirect descriptor is the answer. Or that
+-- the segments that are expected came after those from before, and the indirect descriptor is the answer. Or that
 -- was refused, or an allocation failed
 abbrev pub Follows : Result Followed QueueError → List Segment → Result (Option Descriptor) QueueError
     → List Segment → Type 0

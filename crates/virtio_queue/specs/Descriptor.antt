@@ -1,4 +1,4 @@
--- Descriptors: their flags, and the segment of a chain that one tells of.
+-- Descriptors: their flags, and the segment of a chain that one describes.
 use Rattle.std.specs.Prelude.{ℕ, Bool, not, ◌==◌, bit_and}
 use Rattle.vm_memory_device.specs.declared.chain.Segment.{Segment}
 use Rattle.virtio_queue.specs.declared.descriptor.Descriptor.{Descriptor}
@@ -17,6 +17,6 @@ is_write_only d = has_flag d.flags 2
 abbrev pub is_indirect : Descriptor → Bool
 is_indirect d = has_flag d.flags 4
 
--- the segment of a chain that a descriptor tells of
+-- the segment of a chain that a descriptor describes
 abbrev pub segment_of : Descriptor → Segment
 segment_of d = record { addr = record { 0 = d.addr }; len = d.len; writable = is_write_only d }

@@ -18,11 +18,11 @@ use Rattle.virtio_queue.specs.declared.driver.QueueField.TheVariants.{AvailFlags
 use Rattle.virtio_queue.specs.declared.error.QueueError.{QueueError}
 use Rattle.virtio_queue.specs.declared.error.QueueError.TheVariants as errors
 
--- where the used ring begins behind the table and the available ring: at the next multiple of 4
+-- where the used ring begins after the table and the available ring: at the next multiple of 4
 abbrev pub used_offset : ℕ → ℕ
 used_offset size = (18 * size + 9) / 4 * 4
 
--- a queue of so many descriptors whose areas lie one behind the other, from an address on
+-- a queue of N descriptors whose areas lie one after the other, from an address on
 abbrev pub laid_out : ℕ → ℕ → DriverQueue
 laid_out base size = record {
   size = size;
@@ -39,7 +39,7 @@ layout_of base size = if not (is_size size) then Err errors.InvalidSize
     else if nat_le (base + used_offset size + (6 + 8 * size)) (2 ^ 64) then Ok (laid_out base size)
     else Err errors.AddressOverflow
 
--- where a field lies: so far behind the start of a ring
+-- where a field lies: at an offset from the start of a ring
 abbrev pub ring_of : DriverQueue → QueueField → ℕ
 ring_of d AvailFlags = d.avail_ring
 ring_of d AvailIdx = d.avail_ring
@@ -89,19 +89,19 @@ module _ {B : Type 0} (marks : B → ℕ → ℕ → B → Type 0) (m : Memory) 
       ((answer ≡ told (written_all (length bytes) x)) × Writes marks (windows x.path) bytes old new)
       ⊎ ((answer ≡ Err errors.Memory) × IsOn m × (new ≡ old))
 
-  -- the same at a place so far behind an address, if there is one
+  -- the same at an offset from an address, if there is such a place
   abbrev pub Puts : ℕ → ℕ → List ℕ → Host B → Result (Unit {0}) QueueError → Host B → Type 0
   Puts base offset bytes old answer new = MatchResult (place base offset (length bytes))
       (λ a. PutsAt a bytes old answer new) (λ e. (answer ≡ Err e) × (new ≡ old))
 
-  -- the head was stored in its slot, and behind it the index. Or one of them was refused
+  -- the head was stored in its slot, and after it the index. Or one of them was refused
   abbrev pub PublishesIn : DriverQueue → ℕ → Host B → Result (Unit {0}) QueueError → Host B → Type 0
   PublishesIn d head old answer new = (stored : Result (Unit {0}) QueueError) × (mid : Host B)
       × StoresWord marks m d.avail_ring (4 + 2 * slot d.size d.next_avail) head old stored mid
       × MatchResult stored (λ _. StoresWord marks m d.avail_ring 2 (behind d.next_avail) mid answer new)
       (λ e. (answer ≡ Err e) × (new ≡ mid))
 
-  -- the same where the ring has slots
+  -- the same if the ring has slots
   abbrev pub Publishes : DriverQueue → ℕ → Host B → Result (Unit {0}) QueueError → Host B → Type 0
   Publishes d head old answer new = MatchBool (d.size == 0) ((answer ≡ Err errors.InvalidSize) × (new ≡ old))
       (PublishesIn d head old answer new)

@@ -1,10 +1,10 @@
--- The errors of accesses, told as those of a queue.
+-- The errors of accesses, as those of a queue.
 use Rattle.vm_memory_guest.specs.declared.region.error.GuestMemoryError.{GuestMemoryError}
 use Rattle.vm_memory_guest.specs.declared.region.error.GuestMemoryError.TheVariants as errors
 use Rattle.virtio_queue.specs.declared.error.QueueError.{QueueError}
 use Rattle.virtio_queue.specs.declared.error.QueueError.TheVariants.{GuestMemory, Memory}
 
--- a failed allocation is told as such, and every other error as one of the access
+-- a failed allocation stays one, and every other error is one of the access
 abbrev pub of_access : GuestMemoryError → QueueError
 of_access errors.Memory = Memory
 of_access (errors.InvalidGuestAddress addr) = GuestMemory (errors.InvalidGuestAddress addr)

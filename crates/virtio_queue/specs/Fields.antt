@@ -20,20 +20,20 @@ use Rattle.virtio_queue.specs.declared.descriptor.Descriptor.{Descriptor}
 use Rattle.virtio_queue.specs.declared.error.QueueError.{QueueError}
 use Rattle.virtio_queue.specs.declared.error.QueueError.TheVariants as errors
 
--- the answer of an access, with its error told as one of a queue
+-- the result of an access, with its error as one of a queue
 abbrev pub told : {T : Type 0} → Result T GuestMemoryError → Result T QueueError
 told (Ok x) = Ok x
 told (Err e) = Err (of_access e)
 
--- a call answered what is expected. Or an allocation failed, where it may
+-- a call returned what is expected. Or an allocation failed, if it may
 abbrev pub Answers : {T : Type 0} → Type 0 → Result T QueueError → Result T QueueError → Type 0
 Answers may_want expected answer = (answer ≡ expected) ⊎ ((answer ≡ Err errors.Memory) × may_want)
 
--- a call was refused as is expected. Or an allocation failed, where it may
+-- a call was refused as is expected. Or an allocation failed, if it may
 abbrev pub Refuses : {T : Type 0} → Type 0 → Result T QueueError → QueueError → Type 0
 Refuses may_want expected e = (expected ≡ Err e) ⊎ ((e ≡ errors.Memory) × may_want)
 
--- the address of a field of n bytes that lies so far behind an address, where there are so many addresses
+-- the address of a field of n bytes at an offset from an address, if there are that many addresses
 abbrev pub place : ℕ → ℕ → ℕ → Result ℕ QueueError
 place base offset n = if nat_le (base + offset + n) (2 ^ 64) then Ok (base + offset) else Err errors.AddressOverflow
 
@@ -43,18 +43,18 @@ reached_at m host a n access = access_of m.regions (route m host.tables) a n acc
 
 -- ---- reading
 
--- the n bytes at an address, where all can be read
+-- the n bytes at an address, if all can be read
 abbrev pub bytes_in : {B : Type 0} → Memory → Host B → ℕ → ℕ → Result (List ℕ) GuestMemoryError
 bytes_in m host a n = let x = reached_at m host a n permissions.Read in
     answered (λ _. bytes_at host.blocks (path_cells x.path))
     (all_of PartialBuffer n (ended (length x.path) (option_map error_of x.fault)))
 
--- the n bytes at an address, where one load takes them all
+-- the n bytes at an address, if one load takes them all
 abbrev pub loaded : {B : Type 0} → Memory → Host B → ℕ → ℕ → Result (List ℕ) GuestMemoryError
 loaded m host a n =
     answered (λ xs. bytes_at host.blocks (path_cells xs)) (typed_path n (reached_at m host a n permissions.Read))
 
--- the number of 16 bits so far behind an address
+-- the number of 16 bits at an offset from an address
 abbrev pub word_at : {B : Type 0} → Memory → Host B → ℕ → ℕ → Result ℕ QueueError
 word_at m host base offset = and_then (place base offset 2) (λ a.
     told (answered (from_le_bytes w16) (loaded m host a 2)))
@@ -77,7 +77,7 @@ descriptor_at m host table i = and_then (place table (16 * i) 16) (λ a.
 abbrev pub pair_of : List ℕ → ℕ × ℕ
 pair_of bytes = (from_le_bytes w32 (take 4 bytes), from_le_bytes w32 (drop 4 bytes))
 
--- the two numbers of 32 bits so far behind an address
+-- the two numbers of 32 bits at an offset from an address
 abbrev pub pair_at : {B : Type 0} → Memory → Host B → ℕ → ℕ → Result (ℕ × ℕ) QueueError
 pair_at m host base offset = and_then (place base offset 8) (λ a. told (answered pair_of (bytes_in m host a 8)))
 
@@ -88,7 +88,7 @@ abbrev pub lies_whole : {B : Type 0} → Memory → Host B → ℕ → ℕ → P
 lies_whole m host a n access =
     nat_le (a + n) (2 ^ 64) && is_whole (reached_at m host a n access).path n
 
--- the window that an access of a number of 16 bits takes so far behind an address
+-- the window that an access of a number of 16 bits takes at an offset from an address
 abbrev pub window_at : {B : Type 0} → Memory → Host B → ℕ → ℕ → Permissions → Result Window QueueError
 window_at m host base offset access = and_then (place base offset 2) (λ a.
     told (place_of 2 (reached_at m host a 2 access)))
@@ -112,7 +112,7 @@ module _ {B : Type 0} (marks : B → ℕ → ℕ → B → Type 0) (m : Memory) 
   WritesBytes a bytes old new =
       Writes marks (windows (reached_at m old a (length bytes) permissions.Write).path) bytes old new
 
-  -- a number of 16 bits was stored so far behind an address, by one store, and nothing else changed. Or that was
+  -- a number of 16 bits was stored at an offset from an address, by one store, and nothing else changed. Or that was
   -- refused, and nothing changed at all
   abbrev pub StoresWord : ℕ → ℕ → ℕ → Host B → Result (Unit {0}) QueueError → Host B → Type 0
   StoresWord base offset value old answer new = MatchResult answer

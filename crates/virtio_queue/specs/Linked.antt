@@ -9,7 +9,7 @@ use Rattle.virtio_queue.specs.declared.error.QueueError.{QueueError}
 abbrev pub is_last : Descriptor → Bool
 is_last d = is_indirect d || not (has_next d)
 
--- these descriptors are those from an index on in a table of so many: `next` of each is the index of the one behind
+-- these descriptors are those from an index on in a table of N: `next` of each is the index of the one after it
 -- it, and the last one ends them
 unfoldable pub AreLinked : (ℕ → Result Descriptor QueueError) → ℕ → ℕ → List Descriptor → Type 0
 AreLinked descriptor len i [] = ⊥
@@ -17,7 +17,7 @@ AreLinked descriptor len i (d ∷ []) = (entry descriptor len i ≡ Ok d) × (is
 AreLinked descriptor len i (d ∷ e ∷ ds) =
     (entry descriptor len i ≡ Ok d) × (is_last d ≡ false) × AreLinked descriptor len d.next (e ∷ ds)
 
--- what they tell of: the segments of direct ones, and the indirect one
+-- what they describe: the segments of direct ones, and the indirect one
 abbrev pub told_by : List Descriptor → Followed
 told_by [] = record { segments = []; indirect = None }
 told_by (d ∷ ds) = if is_indirect d then record { segments = []; indirect = Some d }

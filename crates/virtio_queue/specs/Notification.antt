@@ -18,8 +18,8 @@ abbrev pub is_among : ℕ → ℕ → ℕ → Bool
 is_among n next i = nat_lt (ahead (before next) i) n
 
 module _ {B : Type 0} (m : Memory) (host : Host B) where
-  -- whether the driver wants to know of the last n entries: with event indices where its event is among them, else
-  -- where its flag NO_INTERRUPT is not set. Where it is not known how many are new, it does
+  -- whether the driver wants to know of the last n entries: with event indices if its event is among them, else
+  -- if its flag NO_INTERRUPT is not set. If it is not known how many are new, it does
   abbrev pub wants_notification : QueueState → Option ℕ → Result Bool QueueError
   wants_notification q None = Ok true
   wants_notification q (Some n) = if q.event_idx_enabled
@@ -39,7 +39,7 @@ abbrev pub after_asked : Virtqueue → Result Bool QueueError → Virtqueue
 after_asked q (Ok needs) = record { state = q.state; added = Some 0 }
 after_asked q (Err e) = q
 
--- where a device tells the driver when to notify it, behind the start of the used ring, and what it writes there to
+-- where a device says when the driver is to notify it, after the start of the used ring, and what it writes there to
 -- be notified: with event indices the next entry that it waits for, else no flag
 abbrev pub kick_offset : QueueState → ℕ
 kick_offset q = if q.event_idx_enabled then 4 + 8 * q.size else 0
@@ -59,7 +59,7 @@ pub record Waits {B : Type 0} (m : Memory) (host : Host B) (q : QueueState) : Ty
   pub none : avail_idx m host q ≡ Ok q.next_avail
 
 module _ {B : Type 0} (marks : B → ℕ → ℕ → B → Type 0) (m : Memory) (q : QueueState) where
-  -- the driver is asked to notify, and then it is answered whether there is more in the ring by now. Or one of the two
+  -- the driver is asked to notify, and then whether there is more in the ring by now is returned. Or one of the two
   -- was refused, and nothing changed
   abbrev pub Enables : Host B → Result Bool QueueError → Host B → Type 0
   Enables old answer new = MatchResult answer

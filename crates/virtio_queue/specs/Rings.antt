@@ -3,12 +3,12 @@ use Rattle.std.specs.Prelude.{ℕ, ◌+◌, ◌-◌, ◌%◌, ◌^◌, nat_lt, �
 use Rattle.virtio_queue.specs.declared.error.QueueError.{QueueError}
 use Rattle.virtio_queue.specs.declared.error.QueueError.TheVariants.{InvalidAvailRingIndex}
 
--- what comes of an answer: of a value what is made of it, and an error stays
+-- what comes of a result: of a value what is made of it, and an error stays
 abbrev pub and_then : {S T E : Type 0} → Result S E → (S → Result T E) → Result T E
 and_then (Ok x) f = f x
 and_then (Err e) f = Err e
 
--- the index behind one, and the one before it
+-- the index after one, and the one before it
 abbrev pub behind : ℕ → ℕ
 behind i = (i + 1) % 2 ^ 16
 
@@ -19,11 +19,11 @@ before i = (i + (2 ^ 16 - 1)) % 2 ^ 16
 abbrev pub ahead : ℕ → ℕ → ℕ
 ahead index other = (index + (2 ^ 16 - other)) % 2 ^ 16
 
--- the slot of an index in a ring of so many
+-- the slot of an index in a ring of N slots
 abbrev pub slot : ℕ → ℕ → ℕ
 slot size i = i % size
 
--- what is taken next from a ring of heads: nothing where its index is the next one. It is at most the size ahead
+-- what is taken next from a ring of heads: nothing if its index is the next one. It is at most the size ahead
 abbrev pub next_in : ℕ → ℕ → ℕ → (ℕ → Result ℕ QueueError) → Result (Option ℕ) QueueError
 next_in size index next head = if ahead index next == 0 then Ok None
     else if nat_lt size (ahead index next) then Err InvalidAvailRingIndex

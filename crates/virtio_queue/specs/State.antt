@@ -1,4 +1,4 @@
--- Queues: what one keeps beside what lies in guest memory.
+-- Queues: what a queue keeps outside guest memory.
 use Rattle.std.specs.Prelude.{◌≡◌, ℕ, ◌%◌, ◌^◌, ◌≤◌, Bool, false, not, ◌==◌, ◌&&◌, nat_lt, nat_le, if◌then◌else◌, Option, Some, None, Result, Ok, Err, IsTrue}
 use Rattle.virtio_queue.specs.declared.state.QueueState.{QueueState}
 use Rattle.virtio_queue.specs.declared.error.QueueError.{QueueError}
@@ -9,7 +9,7 @@ abbrev pub is_size : ℕ → Bool
 is_size n = nat_lt 0 n && 2 ^ 15 % n == 0
 
 -- a queue: its state, and how many entries were added since it was last asked whether the driver has to be notified,
--- where this is known. Of 65536 and more it is 65536
+-- if this is known. Of 65536 and more it is 65536
 pub record Virtqueue : Type 0 where
   pub state : QueueState
   pub added : Option ℕ
@@ -35,7 +35,7 @@ new_queue max_size = record { state = new_state max_size; added = Some 0 }
 abbrev pub with_state : Virtqueue → QueueState → Virtqueue
 with_state q state = record { state = state; added = q.added }
 
--- the state is set where that is allowed. Else an error is answered, and nothing changes
+-- the state is set if that is allowed. Otherwise an error is returned, and nothing changes
 abbrev pub set_if : Bool → QueueError → Virtqueue → QueueState → Result (Unit {0}) QueueError × Virtqueue
 set_if allowed error q state = if allowed then (Ok tt, with_state q state) else (Err error, q)
 

@@ -34,7 +34,7 @@ module _ {B : Type 0} (m : Memory) (host : Host B) where
   entry_fault a = let way = route m host.tables in
       if allowed way a 8 permissions.Write then errors.InvalidUsedEntry else of_access (error_of (refusal way a 8))
 
-  -- the address of the entry of the next index, where it can be written for a head, which has to be below the size
+  -- the address of the entry of the next index, if it can be written for a head, which has to be below the size
   abbrev pub entry_place : QueueState → ℕ → Result ℕ QueueError
   entry_place q head = if not q.ready then Err errors.QueueNotReady
       else if nat_le q.size head then Err errors.InvalidDescriptorIndex

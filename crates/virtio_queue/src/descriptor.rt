@@ -1,4 +1,4 @@
-//! Descriptors: what a driver tells of one segment of a chain.
+//! Descriptors: what a driver says of one segment of a chain.
 ghost use Rattle.std.specs.Prelude.{◌≡◌, refl};
 ghost use Rattle.std.specs.Int.{w16, w32, w64};
 ghost use Rattle.vm_memory_base.specs.lemmas.ByteCodes.{wrapped_code, unsigned_code, length-low};
@@ -16,7 +16,7 @@ pub const VRING_DESC_F_WRITE: u16 = 2;
 /// The flag of a descriptor whose segment is an indirect table.
 pub const VRING_DESC_F_INDIRECT: u16 = 4;
 
-/// A descriptor, as its 16 bytes lie in guest memory: docs/VIRTQUEUE.md, "Descriptors".
+/// A descriptor, as its 16 bytes lie in guest memory: the crate's README.md, "Descriptors".
 #[derive(Clone, Copy, Debug, PartialEq, Eq)]
 pub struct Descriptor {
     /// The guest address of its segment.
@@ -25,7 +25,7 @@ pub struct Descriptor {
     pub len: u32,
     /// NEXT 1, WRITE 2, INDIRECT 4. Other bits are ignored.
     pub flags: u16,
-    /// The index of the next descriptor, where NEXT says that there is one.
+    /// The index of the next descriptor, if NEXT says that there is one.
     pub next: u16,
 }
 

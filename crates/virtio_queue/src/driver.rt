@@ -21,13 +21,13 @@ pub enum QueueField {
     AvailIdx,
     /// The head in a slot of the available ring.
     AvailHead(u16),
-    /// The index of the used entry that the driver waits for, behind the available ring.
+    /// The index of the used entry that the driver waits for, after the available ring.
     UsedEvent,
     /// The flags of the used ring: NO_NOTIFY is 1.
     UsedFlags,
     /// The device's index.
     UsedIdx,
-    /// The index of the head that the device waits for, behind the used ring.
+    /// The index of the head that the device waits for, after the used ring.
     AvailEvent,
 }
 
@@ -57,10 +57,10 @@ pub struct DriverQueue {
 }
 
 impl DriverQueue {
-    /// A queue whose areas lie one behind the other from an address on: the table, the available ring, and the used
+    /// A queue whose areas lie one after the other from an address on: the table, the available ring, and the used
     /// ring at the next multiple of 4. It writes nothing: where memory is zero, the rings are empty. `InvalidSize`
-    /// where the size is no power of two from 1 to 32768, `InvalidDescTableAlign` where the address is no multiple
-    /// of 16, `AddressOverflow` where the areas pass the greatest address.
+    /// if the size is not a power of two from 1 to 32768, `InvalidDescTableAlign` if the address is not a multiple
+    /// of 16, `AddressOverflow` if the areas pass the greatest address.
     pub fn new(base: GuestAddress, size: u16) -> Result<DriverQueue, QueueError>
         ensures { result ≡ layout_of base.0 size }
     {
@@ -146,7 +146,7 @@ impl DriverQueue {
         store_word(mem, host, ring, offset, value)
     }
 
-    /// Puts a descriptor into the table, at any index. Where memory ends inside it, its beginning is written.
+    /// Puts a descriptor into the table, at any index. If memory ends inside it, its beginning is written.
     pub fn put_descriptor<M: GuestMemory, B: Bitmap>(
         &self,
         mem: &M,
@@ -162,8 +162,8 @@ impl DriverQueue {
         put_value(mem, host, self.desc_table, 16 * index as u64, descriptor)
     }
 
-    /// Publishes a head: it goes into the next slot of the available ring, and behind it the index. `InvalidSize`
-    /// where the size is 0.
+    /// Publishes a head: it goes into the next slot of the available ring, and after it the index. `InvalidSize`
+    /// if the size is 0.
     pub fn publish<M: GuestMemory, B: Bitmap>(
         &mut self,
         mem: &M,
@@ -187,7 +187,7 @@ impl DriverQueue {
     }
 
     /// Takes the next used entry, if the device has published one: a head, and how many bytes the device wrote.
-    /// `InvalidSize` where the size is 0.
+    /// `InvalidSize` if the size is 0.
     pub fn take_used<M: GuestMemory, B: Bitmap>(
         &mut self,
         mem: &M,

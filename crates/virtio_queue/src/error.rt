@@ -43,10 +43,10 @@ pub enum QueueError {
     /// A descriptor of an indirect table leads to an indirect table.
     #[error("indirect table inside an indirect table")]
     NestedIndirect,
-    /// The length of an indirect table is 0, no multiple of 16, or above 65,535 descriptors.
+    /// The length of an indirect table is 0, not a multiple of 16, or above 65,535 descriptors.
     #[error("invalid length of an indirect table")]
     InvalidIndirectTable,
-    /// The segments of the descriptors make no chain.
+    /// The segments of the descriptors do not make a chain.
     #[error("invalid chain: {0}")]
     InvalidChain(ChainFault),
     /// The entry of the used ring does not lie whole in memory that may be written.

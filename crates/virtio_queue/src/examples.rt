@@ -8,8 +8,8 @@ ghost use Rattle.virtio_queue.specs.State.{is_size};
 ghost use Rattle.virtio_queue.specs.declared.descriptor.Descriptor.{Descriptor};
 ghost use Rattle.virtio_queue.specs.declared.error.QueueError.TheVariants.{DescriptorLoop, IndirectWithNext, InvalidAvailRingIndex, InvalidDescriptorIndex, InvalidIndirectTable};
 
-/// Sizes are powers of two. Indices go on from 65535 to 0. A ring of two heads, 7 and 8, gives that of the next index,
-/// also there; nothing where the driver has published no more; and no index that is three ahead.
+/// Sizes are powers of two. Indices go on from 65535 to 0. A ring of two heads, 7 and 8, gives the one at the next
+/// index, even there; nothing if the driver has published no more; and no index that is three ahead.
 pub fn rings_go_round()
     ensures sizes { (is_size 0 ≡ false) × (is_size 1 ≡ true) × (is_size 12 ≡ false) × (is_size (2 ^ 15) ≡ true) }
     ensures indices { (behind 65535 ≡ 0) × (before 0 ≡ 65535) }
@@ -18,15 +18,15 @@ pub fn rings_go_round()
     ensures ahead { next_in 2 1 65534 (λ i. Ok (i + 7)) ≡ Err InvalidAvailRingIndex }
 {}
 
-/// The two entries before index 1 are those of 65535 and 0. Of 65536 entries each index is one.
+/// The two entries before index 1 are those of 65535 and 0. Each index is among 65536 entries.
 pub fn events_go_round()
     ensures two { (is_among 2 1 65535 ≡ true) × (is_among 2 1 0 ≡ true) × (is_among 2 1 1 ≡ false)
         × (is_among 2 1 65534 ≡ false) }
     ensures all { (is_among 65535 7 6 ≡ true) × (is_among 65535 7 7 ≡ false) × (is_among 65536 7 7 ≡ true) }
 {}
 
-/// In a table of two descriptors where 1 leads to 0, and 0 to none, following from 1 gives both, and 2 is no index.
-/// Where each leads to 0, it is a loop. An indirect table of 48 bytes has three descriptors, one of 24 bytes is none,
+/// In a table of two descriptors where 1 leads to 0, and 0 to none, following from 1 gives both, and 2 is not an index.
+/// If each leads to 0, it is a loop. An indirect table of 48 bytes has three descriptors, one of 24 bytes is refused,
 /// and none has a next one.
 #[tactic(auto, unfolding(crate::specs::Available::followed))]
 pub fn chains_are_followed()

@@ -25,8 +25,8 @@ use vm_memory_base::{Bitmap, ExactBitmap};
 use vm_memory_guest::laws::accesses::accesses_are_by_bytes;
 use vm_memory_guest::laws::typed::loads_and_stores_are_by_bytes;
 
-/// What following `next` from an index gives is what some linked descriptors tell of, and no other: at most as many as
-/// is allowed, which is the length of the table. Where more are linked, they are a loop.
+/// What following `next` from an index gives is what some linked descriptors describe, and no other: at most as many as
+/// is allowed, which is the length of the table. If more are linked, they are a loop.
 pub fn chains_are_linked_descriptors()
     ensures followed { (descriptor : ℕ → Result Descriptor QueueError) (len most i : ℕ) (f : Followed)
         → followed descriptor len most i ≡ Ok f
@@ -56,7 +56,7 @@ pub fn used_entries_are_written_by_bytes<B: ExactBitmap>()
     loads_and_stores_are_by_bytes::<B>();
 }
 
-/// Where the rings of a history say what lies in memory, the head that a queue pops next is the one that an event of
+/// If the rings of a history say what lies in memory, the head that a queue pops next is the one that an event of
 /// the history pops.
 pub fn queues_pop_as_histories_do<B: Bitmap>()
     ensures { (m : Memory) (host : Host B) (q : QueueState) (r : Rings) → q.next_avail ≡ r.next_avail

@@ -1,4 +1,4 @@
-//! Split virtqueues over guest memory: what a device takes from a driver, and what it gives back.
+//! Split virtqueues over guest memory: what a device takes from a driver, and what it returns.
 #![tactic(auto)]
 
 mod chain;

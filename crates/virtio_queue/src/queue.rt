@@ -15,10 +15,10 @@ use crate::state::QueueState;
 use std::marker::Model;
 use vm_memory_base::GuestAddress;
 
-/// A split virtqueue, as the device sees it: docs/VIRTQUEUE.md.
+/// A split virtqueue, as the device sees it: the crate's README.md.
 ///
-/// It is set up by the transport, as the driver asks, and then pops the chains that the driver publishes, and gives
-/// them back. A call that reaches guest memory is refused while the queue is not ready.
+/// It is set up by the transport, as the driver asks, and then pops the chains that the driver publishes, and returns
+/// them. A call that reaches guest memory is refused while the queue is not ready.
 ///
 /// ```text
 /// loop {
@@ -96,7 +96,7 @@ fn state_error(state: &QueueState) -> Option<QueueError>
 }
 
 impl Queue {
-    /// A queue that nobody has set up, whose size is the greatest. `InvalidMaxSize` where that is no power of two
+    /// A queue in its reset state, with the maximum size. `InvalidMaxSize` if that is not a power of two
     /// from 1 to 32768.
     pub fn new(max_size: u16) -> Result<Queue, QueueError>
         ensures { result ≡ if is_size max_size then Ok (new_queue max_size) else Err QueueError.InvalidMaxSize }
@@ -111,9 +111,9 @@ impl Queue {
         })
     }
 
-    /// A queue of this state. The first part that no queue can have is refused: `InvalidMaxSize`, `InvalidSize`,
+    /// A queue of this state. The first part that a queue cannot have is refused: `InvalidMaxSize`, `InvalidSize`,
     /// `InvalidDescTableAlign`, `InvalidAvailRingAlign`, `InvalidUsedRingAlign`, in this order. Which entries the
-    /// driver was notified of is no part of a state, so the queue's first `needs_notification` is true.
+    /// driver was notified of is not part of a state, so the queue's first `needs_notification` is true.
     pub fn from_state(state: QueueState) -> Result<Queue, QueueError>
         ensures { MatchResult result
             (λ queue. (queue ≡ record { state = state; added = None }) × (state_error state ≡ None))
@@ -129,7 +129,7 @@ impl Queue {
         })
     }
 
-    /// Its state. A queue can be made of it again.
+    /// Its state, from which a queue can be made again.
     #[inline]
     pub fn state(&self) -> QueueState
         ensures state { result ≡ self.now.state }
@@ -138,7 +138,7 @@ impl Queue {
         self.state
     }
 
-    /// Makes it what `new` gave: not ready, of the greatest size, with all else 0.
+    /// Resets it to what `new` gave: not ready, with the maximum size, and all else 0.
     pub fn reset(&mut self)
         ensures { self.new ≡ new_queue self.old.state.max_size }
     {
@@ -163,7 +163,7 @@ impl Queue {
         self.state.size
     }
 
-    /// Sets the size. `InvalidSize` where it is no power of two from 1 to the greatest size.
+    /// Sets the size. `InvalidSize` if it is not a power of two from 1 to the greatest size.
     pub fn set_size(&mut self, size: u16) -> Result<(), QueueError>
         ensures { (result, self.new) ≡ set_if (is_size size && nat_le size self.old.state.max_size)
             QueueError.InvalidSize self.old (record self.old.state { size = size }) }
@@ -198,7 +198,7 @@ impl Queue {
         GuestAddress(self.state.desc_table)
     }
 
-    /// Sets the address of the table of descriptors. `InvalidDescTableAlign` where it is no multiple of 16.
+    /// Sets the address of the table of descriptors. `InvalidDescTableAlign` if it is not a multiple of 16.
     pub fn try_set_desc_table_address(&mut self, addr: GuestAddress) -> Result<(), QueueError>
         ensures { (result, self.new) ≡ set_if (addr.0 % 16 == 0)
             QueueError.InvalidDescTableAlign self.old (record self.old.state { desc_table = addr.0 }) }
@@ -218,7 +218,7 @@ impl Queue {
         GuestAddress(self.state.avail_ring)
     }
 
-    /// Sets the address of the available ring. `InvalidAvailRingAlign` where it is no multiple of 2.
+    /// Sets the address of the available ring. `InvalidAvailRingAlign` if it is not a multiple of 2.
     pub fn try_set_avail_ring_address(&mut self, addr: GuestAddress) -> Result<(), QueueError>
         ensures { (result, self.new) ≡ set_if (addr.0 % 2 == 0)
             QueueError.InvalidAvailRingAlign self.old (record self.old.state { avail_ring = addr.0 }) }
@@ -238,7 +238,7 @@ impl Queue {
         GuestAddress(self.state.used_ring)
     }
 
-    /// Sets the address of the used ring. `InvalidUsedRingAlign` where it is no multiple of 4.
+    /// Sets the address of the used ring. `InvalidUsedRingAlign` if it is not a multiple of 4.
     pub fn try_set_used_ring_address(&mut self, addr: GuestAddress) -> Result<(), QueueError>
         ensures { (result, self.new) ≡ set_if (addr.0 % 4 == 0)
             QueueError.InvalidUsedRingAlign self.old (record self.old.state { used_ring = addr.0 }) }
@@ -250,7 +250,7 @@ impl Queue {
         Ok(())
     }
 
-    /// Whether notifications go by event indices, and not by flags.
+    /// Whether notifications go by event indices rather than flags.
     #[inline]
     pub fn event_idx_enabled(&self) -> bool
         ensures { result ≡ self.now.state.event_idx_enabled }
@@ -258,7 +258,7 @@ impl Queue {
         self.state.event_idx_enabled
     }
 
-    /// Sets whether notifications go by event indices, and not by flags.
+    /// Sets whether notifications go by event indices rather than flags.
     pub fn set_event_idx(&mut self, enabled: bool)
         ensures { self.new ≡ with_state self.old (record self.old.state { event_idx_enabled = enabled }) }
     {

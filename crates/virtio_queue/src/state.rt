@@ -1,6 +1,6 @@
 //! The state of a queue as a plain value.
 
-/// All that a queue keeps beside what lies in guest memory, as a plain value: to be stored, and to be sent to where a
+/// Everything that a queue keeps outside guest memory, as a plain value: to be stored, or sent to the host that a
 /// machine moves to. `Queue::state` gives it, and `Queue::from_state` makes a queue of it.
 #[derive(Clone, Copy, Debug, PartialEq, Eq)]
 pub struct QueueState {
@@ -20,6 +20,6 @@ pub struct QueueState {
     pub next_avail: u16,
     /// How many entries were added to the used ring, modulo 2^16.
     pub next_used: u16,
-    /// Whether notifications go by event indices, and not by flags.
+    /// Whether notifications go by event indices rather than flags.
     pub event_idx_enabled: bool,
 }

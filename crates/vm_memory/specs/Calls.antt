@@ -1,4 +1,4 @@
--- What the calls of a machine answer and leave, where their commands do not say it all.
+-- What the calls of a machine return and leave, beyond what their commands say.
 use Rattle.std.specs.Prelude.{◌≡◌, ◌⊎◌, ℕ, ◌++◌, List, [], map, drop, length, slice_get, true, Option, Some, None, option_map, Result, Err}
 use Rattle.std.specs.Int.{byte_len, to_le_bytes, from_le_bytes}
 use Rattle.vm_memory_base.specs.Pages.{PageSet}
@@ -35,7 +35,7 @@ use Rattle.vm_memory.specs.declared.machine.refusal.Refusal.{Refusal}
 use Rattle.vm_memory.specs.declared.machine.refusal.Refusal.TheVariants as refusal
 
 -- a call that writes n bytes at an address of a memory replies and leaves what is said of the memory of this number and
--- of the host. Or it wants memory for the pieces of a translation, and changes nothing
+-- of the host. Or the allocation of the pieces of a translation fails, and nothing changes
 abbrev pub WritesOf : State → ℕ → ℕ → ℕ → (Memory → Host PageSet → Reply × Host PageSet) → Reply → State
     → Type 0
 WritesOf old memory a n does r new = ((r, new) ≡ apply old (changes_by old memory does))
@@ -51,7 +51,7 @@ filled_from (Some m) host a buffer =
 abbrev pub buffer_after : State → ℕ → ℕ → List ℕ → List ℕ
 buffer_after old memory a buffer = filled_from (slice_get old.memories memory) old.host a buffer
 
--- a read into a buffer answers what its command replies, and the bytes that it reaches are in the buffer then. Or it
+-- a read into a buffer returns what its command replies, and the bytes that it reaches are in the buffer then. Or it
 -- wants memory for the pieces of a translation, and the buffer stays
 abbrev pub ReadsInto : {T : Type 0} → State → ℕ → ℕ → Command → (T → Reply) → List ℕ → Result T Refusal → List ℕ
     → Type 0
@@ -60,7 +60,7 @@ ReadsInto now memory a c told buffer result new =
     ⊎ ((result ≡ Err refusal.Memory) × MayTranslate now memory a (length buffer) permissions.Read
     × (new ≡ buffer))
 
--- what a load of n bytes at a answers: the value of the bytes that it takes, or why there is none
+-- what a load of n bytes at a returns: the value of the bytes that it takes, or why there is none
 abbrev pub loaded : {T : Type 0} → (List ℕ → T) → Option Memory → Host PageSet → ℕ → ℕ → Result T Refusal
 loaded value None host a n = Err refusal.NoSuch
 loaded value (Some m) host a n =

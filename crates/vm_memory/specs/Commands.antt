@@ -1,4 +1,4 @@
--- What is told of each command: what it does, where it may want memory, and which memory or table it is on.
+-- What is said of each command: what it does, when it may fail to allocate, and which memory or table it is on.
 use Rattle.std.specs.Prelude.{◌≡◌, ◌≢◌, ◌<◌, ◌==◌, if◌then◌else◌, ℕ, Bool, true, false, IsTrue, List, [], ◌∷◌, length, slice_get}
 use Rattle.std.specs.Prelude.{Option, Some, None, IsSome, IsSomeAnd}
 use Rattle.std.specs.Int.{byte_len}
@@ -34,7 +34,7 @@ use Rattle.vm_memory.specs.declared.machine.command.Command.TheVariants.{WriteTo
 use Rattle.vm_memory.specs.declared.machine.command.Reply.{Reply}
 use Rattle.vm_memory.specs.declared.machine.command.Reply.TheVariants.{Pages, Done}
 
--- what a command does, where memory is not wanting
+-- what a command does, if no allocation fails
 abbrev pub effect : State → Command → Effect
 effect old (FromRegions numbers) = if_there (named old.regions numbers) (λ rs. laid_out rs (layout_error rs))
 effect old (Insert layout region) =
@@ -91,7 +91,7 @@ MayTranslate old memory a n access =
 abbrev pub HasDirtyPage : State → BitmapId → Type 0
 HasDirtyPage old id = IsSomeAnd (bitmap_of old.host id) (λ set. dirty_pages set ≢ [])
 
--- where memory may be wanting: for what is made, for a range that is mapped or no longer is, for the bytes, the pages
+-- when an allocation may fail: for what is made, for a range that is mapped or no longer is, for the bytes, the pages
 -- and the ranges that a reply lists, for the room of a sink, and for the pieces of a translation that is allowed. For
 -- nothing it is not wanting
 abbrev pub MayWant : State → Command → Type 0

@@ -27,7 +27,7 @@ apply old (AddsMemory m) = (MemoryMade (length old.memories), record old { memor
 apply old (SetsMemory number m) = (Done, record old { memories = slice_set old.memories number m })
 apply old (Leaves r host) = (r, record old { host = host })
 
--- a number that names nothing is told
+-- a number that names nothing is reported
 abbrev pub if_there : {X : Type 0} → Option X → (X → Effect) → Effect
 if_there None does = Replies NoSuch
 if_there (Some x) does = does x

@@ -15,7 +15,7 @@ use Rattle.vm_memory.specs.declared.machine.command.Command.{Command}
 use Rattle.vm_memory.specs.declared.machine.command.Reply.{Reply}
 
 -- a command of a run, between those before it and those after it: its reply, between theirs, and the states that
--- it was answered in and left
+-- it was run in and left
 pub record AnsweredIn (old : State) (before : List Command) (c : Command) (after : List Command) (rs : List Reply)
     (new : State) : Type 0 where
   pub earlier : List Reply

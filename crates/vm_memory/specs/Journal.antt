@@ -1,4 +1,4 @@
--- What a journal is: a machine, and what it served. And what a call of a machine that threads share tells.
+-- What a journal is: a machine, and what it served. And what a call of a machine that threads share returns.
 use Rattle.std.specs.Prelude.{◌≡◌, ℕ, List, [], ◌∷◌, ◌++◌, length, slice_get, Some}
 use Rattle.vm_memory.specs.Machine.{Step, Run}
 use Rattle.vm_memory.specs.Parts.{Parts}
@@ -37,7 +37,7 @@ module _ {R I B : Type 0} (state : Parts R I B → State) where
     pub replies : new.replies ≡ old.replies ++ reply ∷ []
     pub stepped : Step (state old.machine) command reply (state new.machine)
 
-  -- a call that tells no reply: nothing ran, or the command was served as the entry of this number
+  -- a call that returns no reply: nothing ran, or the command was served as the entry of this number
   abbrev pub TellsNone : Served R I B → Command → CallError → Served R I B → Type 0
   TellsNone old command Memory new = new ≡ old
   TellsNone old command (Ran n) new = (reply : Reply) × Serves old n command reply new

@@ -11,7 +11,7 @@ use Rattle.vm_memory.specs.declared.machine.refusal.Refusal.TheVariants as refus
 
 module _ {R I B W : Type 0} (region : R → Region) (number : I → ℕ) (does : W → Memory → Host B → W → Host B → Type 0)
   where
-    -- the work was done on this memory, and of the machine the host alone changed. Or there is no such memory
+    -- the work was done on this memory, and of the machine only the host changed. Or there is no such memory
     abbrev pub LendsIf : Option (MachineMemory R I) → Parts R I B → W → Result (Unit {0}) Refusal → W → Parts R I B
         → Type 0
     LendsIf None old work answer work' new = (answer ≡ Err refusal.NoSuch) × (work' ≡ work) × (new ≡ old)

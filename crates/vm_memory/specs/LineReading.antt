@@ -11,7 +11,7 @@ use Rattle.vm_memory.specs.declared.script.words.LineError.TheVariants as error
 use Rattle.vm_memory.specs.declared.machine.command.Command as commands
 use Rattle.vm_memory.specs.declared.machine.command.Command.TheVariants as make
 
--- what each command reads of the words behind its first
+-- what each command reads of the words after its first
 abbrev pub layout_at : List (List ℕ) → Read commands.Command
 layout_at words = do
   numbers ← numbers_at words

@@ -125,7 +125,7 @@ Means line Nothing = IsTrue (is_blank line)
 Means line (Setup s) = IsUtf8 line × Spells line (setup_fields s)
 Means line (Command c) = IsUtf8 line × Spells line (command_fields c)
 
--- what reading a line answers: what it means, or that it means nothing
+-- what reading a line gives: what it means, or that it means nothing
 abbrev pub Parses : List ℕ → Result Line LineError → Type 0
 Parses line (Ok meaning) = Means line meaning
 Parses line (Err Bad) = (meaning : Line) → ¬ (Means line meaning)

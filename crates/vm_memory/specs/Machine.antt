@@ -7,15 +7,15 @@ use Rattle.vm_memory.specs.declared.machine.command.Command.{Command}
 use Rattle.vm_memory.specs.declared.machine.command.Reply.{Reply}
 use Rattle.vm_memory.specs.declared.machine.command.Reply.TheVariants.{Memory}
 
--- what a command answers and leaves, where memory is not wanting
+-- the reply to a command and what it leaves, if no allocation fails
 abbrev pub outcome : State → Command → Reply × State
 outcome old c = apply old (effect old c)
 
--- from old, a machine may answer a command so and be in new then
+-- from old, a machine may reply so to a command and be in new then
 abbrev pub Step : State → Command → Reply → State → Type 0
 Step old c r new = ((r, new) ≡ outcome old c) ⊎ ((r ≡ Memory) × MayWant old c × (new ≡ old))
 
--- from old, a machine may answer these commands so, one after another, and be in new then
+-- from old, a machine may reply so to these commands, one after another, and be in new then
 abbrev pub Run : State → List Command → List Reply → State → Type 0
 Run old [] [] new = new ≡ old
 Run old (c ∷ cs) (r ∷ rs) new = (mid : State) × Step old c r mid × Run mid cs rs new

@@ -40,7 +40,7 @@ IsRead (Ok value) read = read ≡ Some value
 IsRead (Err error.Bad) read = read ≡ None
 IsRead (Err error.Memory) read = Unit {0}
 
--- a value and the words after it, where the words begin with one that spells a value
+-- a value and the words after it, if the words begin with one that spells a value
 abbrev pub Read : Type 0 → Type 0
 Read A = Option (A × List (List ℕ))
 

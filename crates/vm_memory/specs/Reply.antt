@@ -23,7 +23,7 @@ use Rattle.vm_memory.specs.declared.machine.command.Fault.TheVariants as fault
 use Rattle.vm_memory.specs.declared.machine.refusal.Refusal.{Refusal}
 use Rattle.vm_memory.specs.declared.machine.refusal.Refusal.TheVariants as refusal
 
--- an error of an access: want of memory is told as such, and every other error as the fault of its name
+-- an error of an access: a failed allocation stays one, and every other error is the fault of its name
 abbrev pub refusal_of : GuestMemoryError → Refusal
 refusal_of (errors.InvalidGuestAddress addr) = refusal.Fault (fault.InvalidGuestAddress addr)
 refusal_of (errors.IOError kind) = refusal.Fault (fault.IOError kind)
@@ -45,21 +45,21 @@ reply_of_refusal (refusal.Fault f) = Fault f
 abbrev pub reply_of_error : GuestMemoryError → Reply
 reply_of_error e = reply_of_refusal (refusal_of e)
 
--- the reply to a command whose call answers so: what is told of what it gave, or its refusal
+-- the reply to a command whose call returns so: what stands for its result, or its refusal
 abbrev pub replied : {T : Type 0} → (T → Reply) → Result T Refusal → Reply
 replied told (Ok given) = told given
 replied told (Err r) = reply_of_refusal r
 
--- what is told of a call that gives nothing
+-- the reply to a call that gives nothing
 abbrev pub as_done : Unit {0} → Reply
 as_done u = Done
 
--- the answer of an access, with its error as a refusal
+-- the result of an access, with its error as a refusal
 abbrev pub refused_as : {T : Type 0} → Result T GuestMemoryError → Result T Refusal
 refused_as (Ok given) = Ok given
 refused_as (Err e) = Err (refusal_of e)
 
--- whether a fault tells of an access that may have moved bytes: fewer than it was to move, or those up to where
+-- whether a fault is one of an access that may have moved bytes: fewer than it was to move, or those up to where
 -- a source failed
 abbrev pub is_partial : faults.Fault → Bool
 is_partial (fault.PartialBuffer expected completed) = true
@@ -76,16 +76,16 @@ refusal_of_layout layouts.Memory = refusal.Memory
 abbrev pub reply_of_layout_error : GuestRegionCollectionError → Reply
 reply_of_layout_error e = reply_of_refusal (refusal_of_layout e)
 
--- the answer of an access: what is told of what it gave, or its error
+-- the reply to an access: what stands for its result, or its error
 abbrev pub reply_of : {T : Type 0} → (T → Reply) → Result T GuestMemoryError → Reply
 reply_of told (Ok given) = told given
 reply_of told (Err e) = reply_of_error e
 
--- how many bytes an access reached, or the error where it reached none
+-- how many bytes an access reached, or the error if it reached none
 abbrev pub access_result : Access → Result ℕ GuestMemoryError
 access_result reached = ended (length reached.path) (option_map error_of reached.fault)
 
--- where all of n bytes are wanted, fewer are an error
+-- if all of n bytes are wanted, fewer are an error
 abbrev pub all_moved : ℕ → Result ℕ GuestMemoryError → Result (Unit {0}) GuestMemoryError
 all_moved n answer = all_of (λ expected completed. errors.PartialBuffer expected completed) n answer
 
@@ -100,7 +100,7 @@ reads m host a n =
     let reached = reached_by m host.tables a n permissions.Read in
     reply_of (λ count. Bytes (bytes_read reached.path host)) (access_result reached)
 
--- a read of all bytes replies those of its path, where it reached all
+-- a read of all bytes replies those of its path, if it reached all
 abbrev pub reads_whole : Memory → Host PageSet → ℕ → ℕ → Reply
 reads_whole m host a n =
     let reached = reached_by m host.tables a n permissions.Read in
@@ -110,7 +110,7 @@ reads_whole m host a n =
 abbrev pub checks : Memory → Host PageSet → ℕ → ℕ → Permissions → Reply
 checks m host a n access = Truth (is_whole (reached_by m host.tables a n access).path n)
 
--- a write, of all bytes or of those that it reaches, leaves the bytes and their dirt in its path: it is empty where
+-- a write, of all bytes or of those that it reaches, leaves the bytes and their dirt in its path: it is empty if
 -- the write was refused
 abbrev pub writes : Bool → Memory → Host PageSet → ℕ → List ℕ → Reply × Host PageSet
 writes whole m host a bytes =

@@ -17,7 +17,7 @@ use Rattle.vm_memory.specs.declared.machine.command.Command.TheVariants.{Harvest
 use Rattle.vm_memory.specs.declared.machine.command.Reply.{Reply}
 use Rattle.vm_memory.specs.declared.machine.command.Reply.TheVariants.{Pages}
 
--- the same by the pages of a bitmap: where it tracks nothing, there is nothing to replace
+-- the same by the pages of a bitmap: if it tracks nothing, there is nothing to replace
 abbrev pub patched_by : PageSet → List ℕ → List ℕ → List ℕ → List ℕ
 patched_by None pages now image = image
 patched_by (Some p) pages now image = patched p.page_size pages now image
@@ -48,7 +48,7 @@ image_after block host (Harvest (bitmap.Block b)) (Pages pages) image =
     if b == block then patched_with block host pages image else image
 image_after block host c r image = image
 
--- pages of this size and number cover so many bytes
+-- pages of this size and number cover N bytes
 abbrev pub Cover : Option (ℕ × ℕ) → ℕ → Type 0
 Cover None len = len ≡ 0
 Cover (Some s) len = len ≤ s.1 * s.0

@@ -1,4 +1,4 @@
--- What a script answers, line by line, and how it ends.
+-- The replies of a script, line by line, and how it ends.
 use Rattle.std.specs.Prelude.{◌≡◌, ◌⊎◌, ◌+◌, ◌++◌, ℕ, List, [], ◌∷◌, length, Result, Ok, Err, codes}
 use Rattle.std.specs.Fmt.{decimal}
 use Rattle.vm_memory.specs.Lines.{Means}
@@ -16,21 +16,21 @@ use Rattle.vm_memory.specs.declared.script.line.Line.TheVariants.{Nothing, Setup
 use Rattle.vm_memory.specs.declared.machine.setup.SetupReply.{SetupReply}
 use Rattle.vm_memory.specs.declared.machine.setup.Setup as setups
 
--- the status that a program ends with where a script did not run to its end
+-- the status that a program ends with if a script did not run to its end
 abbrev pub status_of : DriveFault → ℕ
 status_of (fault.BadLine number) = 1
 status_of fault.Read = 2
 status_of fault.Write = 2
 status_of fault.Memory = 3
 
--- and the text that tells why
+-- and the text that says why
 abbrev pub text_of_drive_fault : DriveFault → List ℕ
 text_of_drive_fault (fault.BadLine number) = codes "line " ++ decimal number ++ codes ": bad line"
 text_of_drive_fault fault.Read = codes "read failed"
 text_of_drive_fault fault.Write = codes "write failed"
 text_of_drive_fault fault.Memory = codes "out of memory"
 
--- where a script stands: before its first command, or behind it
+-- where a script stands: before its first command, or after it
 pub data Stage : Type 0 where
   setting : State → Stage
   commanding : State → Stage
@@ -43,7 +43,7 @@ state_at (commanding s) = s
 abbrev pub beginning : Stage
 beginning = setting (state_made no_parts)
 
--- what a line of this meaning may be answered: the text, and where the script stands then
+-- what the reply to a line of this meaning may be: the text, and where the script stands then
 abbrev pub Answer : Stage → Line → List ℕ → Stage → Type 0
 Answer old Nothing text new = (text ≡ []) × (new ≡ old)
 Answer (setting s) (Setup setup) text new =
@@ -57,23 +57,23 @@ Answer old (Command command) text new =
 abbrev pub AnswersLine : Stage → List ℕ → List ℕ → Stage → Type 0
 AnswersLine old line text new = (meaning : Line) × Means line meaning × Answer old meaning text new
 
--- lines that are answered one after another
+-- lines that get their replies one after another
 abbrev pub Answers : Stage → List (List ℕ) → List ℕ → Stage → Type 0
 Answers old [] text new = (text ≡ []) × (new ≡ old)
 Answers old (line ∷ lines) text new =
     (first : List ℕ) × (others : List ℕ) × (mid : Stage) × AnswersLine old line first mid
     × Answers mid lines others new × (text ≡ first ++ others)
 
--- a line that sets up behind a command
+-- a line that sets up after a command
 abbrev pub SetsUpLate : Stage → List ℕ → Type 0
 SetsUpLate (setting s) line = ⊥
 SetsUpLate (commanding s) line = (setup : setups.Setup) × Means line (Setup setup)
 
--- a line is bad that means nothing, or that sets up behind a command
+-- a line is bad that means nothing, or that sets up after a command
 abbrev pub IsBad : Stage → List ℕ → Type 0
 IsBad old line = ((meaning : Line) → ¬ (Means line meaning)) ⊎ SetsUpLate old line
 
--- what was written is the beginning of what some of the lines, from the first on, are answered
+-- what was written is the beginning of the replies to some of the lines, from the first on
 abbrev pub BreaksOff : List (List ℕ) → List ℕ → Type 0
 BreaksOff lines written = (done : List (List ℕ)) × (left : List (List ℕ)) × (text : List ℕ) × (rest : List ℕ)
     × (end : Stage) × (lines ≡ done ++ left) × Answers beginning done text end × (text ≡ written ++ rest)

@@ -24,7 +24,7 @@ add_region old block start (Some bytes) =
     (RegionMade (length old.regions), record old { regions = old.regions ++ region_at start block (length bytes) ∷ [] })
     else (InvalidRegion, old)
 
--- what a setup line answers and leaves, where memory is not wanting
+-- the reply to a setup line and what it leaves, if no allocation fails
 abbrev pub set_up : State → setups.Setup → SetupReply × State
 set_up old (setup.Block size page) =
     if size == 0 || nat_le (2 ^ 63) size then (InvalidSize, old)
@@ -48,7 +48,7 @@ set_up old (setup.Translator table) =
     (TranslatorMade (length old.translators), record old { translators = old.translators ++ table.0 ∷ [] })
     else (NoSuch, old)
 
--- a reply that tells the number of what was made
+-- a reply with the number of what was made
 abbrev pub IsMade : SetupReply → Type 0
 IsMade InvalidSize = ⊥
 IsMade InvalidRegion = ⊥
@@ -56,6 +56,6 @@ IsMade NoSuch = ⊥
 IsMade Memory = ⊥
 IsMade reply = Unit {0}
 
--- a setup line may be answered so, and leave new: where something is to be made, memory may be wanting
+-- a setup line may get this reply, and leave new: if something is to be made, its allocation may fail
 abbrev pub SetsUp : State → setups.Setup → SetupReply → State → Type 0
 SetsUp old s r new = ((r, new) ≡ set_up old s) ⊎ ((r ≡ Memory) × IsMade (set_up old s).0 × (new ≡ old))

@@ -54,7 +54,7 @@ abbrev pub text_of_truth : Bool → List ℕ
 text_of_truth true = codes "true"
 text_of_truth false = codes "false"
 
--- the kinds of I/O errors that a script can meet; every other is told as Other
+-- the kinds of I/O errors that a script can meet; every other is Other
 abbrev pub text_of_kind : ErrorKind → List ℕ
 text_of_kind Interrupted = codes "Interrupted"
 text_of_kind WriteZero = codes "WriteZero"
@@ -96,7 +96,7 @@ text_of_ending (ending.Count count) = codes "count " ++ decimal count
 text_of_ending ending.Done = codes "ok"
 text_of_ending (ending.Fault f) = codes "error " ++ text_of_fault f
 
--- what a command answers
+-- the reply to a command
 abbrev pub text_of : replies.Reply → List ℕ
 text_of (reply.Layout number) = codes "layout " ++ decimal number
 text_of (reply.MemoryMade number) = codes "memory " ++ decimal number
@@ -115,7 +115,7 @@ text_of reply.NoSuch = codes "error NoSuch"
 text_of reply.BadRange = codes "error BadRange"
 text_of reply.Memory = codes "error Memory"
 
--- what a setup line answers
+-- the reply to a setup line
 abbrev pub text_of_setup : setups.SetupReply → List ℕ
 text_of_setup (setup.BlockMade number) = codes "block " ++ decimal number
 text_of_setup (setup.SpaceMade number) = codes "space " ++ decimal number
@@ -127,7 +127,7 @@ text_of_setup setup.InvalidRegion = codes "error F3"
 text_of_setup setup.NoSuch = codes "error NoSuch"
 text_of_setup setup.Memory = codes "error Memory"
 
--- what a script can tell: numbers of 64 bits, bytes, and the kinds of I/O errors that it can meet
+-- what a script can print: numbers of 64 bits, bytes, and the kinds of I/O errors that it can meet
 abbrev pub IsMet : ErrorKind → Type 0
 IsMet Interrupted = Unit {0}
 IsMet WriteZero = Unit {0}

@@ -1,4 +1,4 @@
--- How the lines of a script are answered, with what is not written yet. No public clause cites this module.
+-- How the lines of a script get their replies, with what is not written yet. No public clause cites this module.
 use Rattle.std.specs.Prelude.{◌≡◌, ◌++◌, ℕ, Bool, true, false, List, [], Option, Some, None, Result, Ok, Err}
 use Rattle.std.specs.Borrow.{Bor}
 use Rattle.std.specs.Io.KnownBytes.{Appends}
@@ -21,7 +21,7 @@ abbrev pub stage_of : Bool → ScriptParts → Stage
 stage_of false machine = setting (state_made machine)
 stage_of true machine = commanding (state_made machine)
 
--- a text was taken behind what is not written yet, and what was sent of both is written
+-- a text was taken after what is not written yet, and what was sent of both is written
 abbrev pub Puts : Option (List ℕ) → List ℕ → List ℕ → Bool → Option (List ℕ) → List ℕ → Type 0
 Puts before pending text true after left =
     (sent : List ℕ) × Appends before after sent × (pending ++ text ≡ sent ++ left)
@@ -32,7 +32,7 @@ Puts before pending text false after left =
 abbrev pub Waits : Option (List ℕ) → List ℕ → Option (List ℕ) → List ℕ → Type 0
 Waits before pending after left = Appends before after [] × (left ≡ pending)
 
--- a setup line behind a command
+-- a setup line after a command
 abbrev pub IsLate : Stage → Line → Type 0
 IsLate (commanding s) (Setup setup) = Unit {0}
 IsLate stage meaning = ⊥
@@ -45,7 +45,7 @@ TellsText text (Err fault.Write) before pending after left = Puts before pending
 TellsText text (Err fault.Memory) before pending after left = Waits before pending after left
 TellsText text (Err error) before pending after left = ⊥
 
--- how a line of this meaning was answered
+-- the reply that a line of this meaning got
 abbrev pub TellsMeaning : Stage → Line → ℕ → Result (Unit {0}) DriveFault → Stage → Option (List ℕ) → List ℕ
     → Option (List ℕ) → List ℕ → Type 0
 TellsMeaning old meaning number (Ok done) new before pending after left =
@@ -56,7 +56,7 @@ TellsMeaning old meaning number (Err fault.Write) new before pending after left 
     (text : List ℕ) × (end : Stage) × Answer old meaning text end × Puts before pending text false after left
 TellsMeaning old meaning number (Err error) new before pending after left = Waits before pending after left
 
--- how one line was answered
+-- the reply that one line got
 abbrev pub Tells : Stage → List ℕ → ℕ → Result (Unit {0}) DriveFault → Stage → Option (List ℕ) → List ℕ
     → Option (List ℕ) → List ℕ → Type 0
 Tells old line number (Ok done) new before pending after left =
@@ -67,13 +67,13 @@ Tells old line number (Err fault.Write) new before pending after left =
     (text : List ℕ) × (end : Stage) × AnswersLine old line text end × Puts before pending text false after left
 Tells old line number (Err error) new before pending after left = Waits before pending after left
 
--- what reading a line of this number answers where it has no meaning
+-- what reading a line of this number gives if it has no meaning
 abbrev pub Refuses : List ℕ → ℕ → DriveFault → Type 0
 Refuses line number (fault.BadLine n) = (n ≡ number) × ((meaning : Line) → ¬ (Means line meaning))
 Refuses line number fault.Memory = Unit {0}
 Refuses line number error = ⊥
 
--- an error that is no bad line
+-- an error that is not a bad line
 abbrev pub IsOutside : DriveFault → Type 0
 IsOutside (fault.BadLine n) = ⊥
 IsOutside error = Unit {0}
@@ -83,7 +83,7 @@ abbrev pub kept : Result (Unit {0}) DriveFault → List ℕ → List ℕ
 kept (Err fault.Write) left = []
 kept ending left = left
 
--- how the lines were answered
+-- the replies that the lines got
 abbrev pub TellsAll : List (List ℕ) → Result (Unit {0}) DriveFault → Option (List ℕ) → Option (List ℕ) → List ℕ → Type 0
 TellsAll lines ending before after left =
     (sent : List ℕ) × Appends before after sent × Ends lines ending (sent ++ kept ending left)

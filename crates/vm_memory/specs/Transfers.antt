@@ -36,7 +36,7 @@ given_by reached n sink =
     given_out of_window (option_map error_of reached.fault) (windows reached.path) 0
     (record { next = map taking_of sink; room = Some n })
 
--- how a transfer out ended is replied beside the bytes that the sink took. Want of memory is told as such
+-- the reply has how a transfer out ended, and the bytes that the sink took. A failed allocation stays one
 abbrev pub beside_taken : List ℕ → Reply → Reply
 beside_taken taken (Count n) = Sent (ending.Count n) taken
 beside_taken taken Done = Sent ending.Done taken

@@ -40,7 +40,7 @@ loads m host a w =
     reply_of (λ xs. Value (from_le_bytes w (bytes_read xs host)))
     (taken_by m host.tables a (byte_len w) permissions.Read)
 
--- a store of bytes leaves them, and their dirt, where it takes as many
+-- a store of bytes leaves them, and their dirt, if it takes as many
 abbrev pub stores_bytes : Memory → Host PageSet → ℕ → List ℕ → Reply × Host PageSet
 stores_bytes m host a bytes =
     let taken = taken_by m host.tables a (length bytes) permissions.Write in

@@ -58,7 +58,7 @@ IsSourceStep text (source.Give bytes) = (word : List ℕ) × (text ≡ codes "g:
 IsSourceStep text (source.Interrupted bytes) = (word : List ℕ) × (text ≡ codes "i:" ++ word) × IsBytes word bytes
 IsSourceStep text (source.Fail bytes) = (word : List ℕ) × (text ≡ codes "f:" ++ word) × IsBytes word bytes
 
--- the letter t, a colon and a number, or a letter alone, for what a sink does at one try
+-- the letter t, a colon and a number, or just a letter, for what a sink does at one try
 abbrev pub IsSinkStep : List ℕ → SinkStep → Type 0
 IsSinkStep text (sink.Take most) = (word : List ℕ) × (text ≡ codes "t:" ++ word) × IsNumber word most
 IsSinkStep text sink.Interrupted = text ≡ codes "i"

@@ -1,4 +1,4 @@
-//! What a machine answers and leaves in small cases: each function here is a theorem, and does nothing.
+//! What a machine replies and leaves in small cases: each function here is a theorem, and does nothing.
 #![tactic(auto, unfolding(vm_memory_base::specs::Runs::runs, vm_memory_base::specs::Table::each, vm_memory_base::specs::Transfer::again_upto, vm_memory_base::specs::Transfer::rest_of, vm_memory_guest::specs::Access::path, vm_memory_guest::specs::Access::first_fault, vm_memory_guest::specs::Access::stretches, vm_memory_guest::specs::Dealt::in_order))]
 
 ghost use Rattle.std.specs.Prelude.{◌≡◌, ℕ, ◌-◌, ◌^◌, [], ◌∷◌, ◌++◌, None, true, false};
@@ -43,8 +43,8 @@ ghost use Rattle.vm_memory.specs.declared.machine.command.Reply.TheVariants.{Don
 ghost use Rattle.vm_memory.specs.declared.machine.command.Width.TheVariants.{One, Two, Four, Eight};
 ghost use Rattle.vm_memory.specs.declared.machine.command.Fault.TheVariants as fault;
 
-/// A layout of regions of the pool, or with a region more or one less, is the next, and the one before it stays; it
-/// may be left without a region. A memory has the regions of its layout and is the next. One over another layout has
+/// A layout of regions of the pool, or with one region more or less, is a new one, and the one before it stays; it
+/// may be left without a region. A memory has the regions of its layout and is a new one. One over another layout has
 /// the IOMMU of the memory that it is made of, and only the IOMMU of the memory that is named is turned on or off.
 pub fn layouts_and_memories_are_made()
     ensures made { outcome machine (FromRegions (1 ∷ 2 ∷ []))
@@ -74,10 +74,10 @@ pub fn layouts_and_memories_are_made()
     ensures turn_of_plain { outcome machine (Enable 0 true) ≡ (NoSuch, machine) }
 {}
 
-/// Reads and writes go over touching regions, and stop at a hole and at a region without host bytes; of no byte they
-/// are no error. A write marks the pages of its bytes in their blocks. With an IOMMU that is on it goes where its
-/// addresses are mapped and marks the space, and where one address has no mapping that grants the access nothing is
-/// reached. With one that is off it is as without.
+/// Reads and writes go over touching regions, and stop at a hole and at a region without host bytes; for no bytes they
+/// are not an error. A write marks the pages of its bytes in their blocks. With an IOMMU that is on it goes where its
+/// addresses are mapped and marks the space, and if one address has no mapping that grants the access, nothing is
+/// reached. If it is off, it is as if there were none.
 pub fn bytes_are_answered()
     ensures up_to_a_hole { outcome machine (Read 0 (at 6) 4) ≡ (Bytes (7 ∷ 8 ∷ []), machine) }
     ensures bare_region { outcome machine (Read 0 (at 12) 1) ≡ (Fault fault.HostAddressNotAvailable, machine) }
@@ -110,7 +110,7 @@ pub fn bytes_are_answered()
 
 /// A store leaves the bytes of its value, the lowest first, and marks their pages. A value is stored and loaded at a
 /// place of its block that is a multiple of its width, in one region and through one mapping. A copy moves the bytes
-/// of the shorter window, as they were, and is refused where a window passes its block.
+/// of the shorter window, as they were, and is refused if a window passes its block.
 pub fn values_and_copies_are_answered()
     ensures store { outcome machine (Store 0 Two (at 2) (two_bytes 9 10))
         ≡ (
@@ -159,7 +159,7 @@ pub fn checks_and_tables_are_answered()
     ensures bad_range { outcome machine (Set 0 (at (2 ^ 64 - 1)) (at 0) 1 permissions.Read) ≡ (BadRange, machine) }
 {}
 
-/// Dirty pages are answered ascending, and stay dirty. A harvest answers them, and then none of them is dirty, and
+/// Dirty pages are returned ascending, and stay dirty. A harvest returns them, and then none of them is dirty, and
 /// all other bitmaps are as before. A patch takes the bytes of the listed pages, and no others: the last page may be
 /// cut, and pages past it have no bytes.
 pub fn pages_are_harvested()
@@ -186,8 +186,8 @@ pub fn pages_are_harvested()
     ensures image_of_a_refused { image_after 0 marked_host (Harvest (Block 0)) Memory (9 ∷ []) ≡ 9 ∷ [] }
 {}
 
-/// An image mirrors a block where only bytes of dirty pages differ, and pages cover it that reach its end. A write to
-/// a memory whose IOMMU is on is not direct, and all else is.
+/// An image mirrors a block if only bytes of dirty pages differ, and pages cover it that reach its end. A write to
+/// a memory whose IOMMU is on is not direct, and everything else is.
 pub fn images_that_mirror_a_block()
     ensures dirty_page { MirrorsBlock 0 marked_host (1 ∷ 2 ∷ 9 ∷ 9 ∷ []) }
     ensures clean_page { MirrorsBlock 0 marked_host (1 ∷ 9 ∷ 3 ∷ 4 ∷ []) → ⊥ }
@@ -204,7 +204,7 @@ pub fn images_that_mirror_a_block()
 {}
 
 /// An allocation may fail for what is made, for the bytes and the pages that are replied, for ranges of a table, and
-/// for the pieces of a translation that is allowed. Where there is nothing of these, none does.
+/// for the pieces of a translation that is allowed. Without any of these, none fails.
 pub fn who_may_want_memory()
     ensures layout { MayWant machine (FromRegions (0 ∷ [])) }
     ensures memory { MayWant machine (Plain 0) }
@@ -235,9 +235,9 @@ pub fn who_may_want_memory()
     ensures look_up_of_nothing { MayWant machine (Lookup 0 (at 16) 0 permissions.Read) → ⊥ }
 {}
 
-/// A step has its one answer, or `Memory`, which leaves the machine. A run answers each command by a step from where
-/// the one before ended. Of its commands on a table those are the table's calls that were done: not one past the last
-/// address, nor one whose allocation failed, nor one of another table.
+/// A step has one reply, or `Memory`, which leaves the machine as it was. A run takes a step for each command, from
+/// where the one before ended. Of its commands on a table those are the table's calls that were done: not one past the
+/// last address, nor one whose allocation failed, nor one of another table.
 pub fn steps_and_runs()
     ensures names_nothing { outcome machine (FromRegions (0 ∷ 3 ∷ [])) ≡ (NoSuch, machine) }
     ensures answer { Step machine (Read 0 (at 0) 2) (Bytes (1 ∷ 2 ∷ [])) machine }
@@ -271,8 +271,8 @@ pub fn steps_and_runs()
 {}
 
 /// A machine stands for what its regions, translators, memories and bitmaps mean. Its host holds the bytes of every
-/// region, the table of every translator, and what every memory names. An error is replied by its name, and a failed
-/// allocation as `Memory`.
+/// region, the table of every translator, and what every memory names. The reply to an error is its name, and the reply
+/// to a failed allocation is `Memory`.
 pub fn what_a_machine_stands_for()
     ensures state { state_of {R = Region} {I = ℕ} {B = PageSet} (λ r. r) (λ i. i) (λ b. b) (record {
       host = host;
@@ -323,7 +323,7 @@ pub fn what_a_machine_stands_for()
 
 /// A transfer in leaves what its source gave, up to the first window that is not filled, or of all bytes until the
 /// windows are full. A failed try leaves its scribble, and marks all of its window. A transfer that reaches nothing
-/// asks nothing of its source.
+/// asks its source for nothing.
 pub fn transfers_in_are_answered()
     ensures short { outcome machine (ReadFrom 0 (at 2) 4 (Give (9 ∷ []) ∷ Give (10 ∷ []) ∷ []))
         ≡ (
@@ -355,7 +355,7 @@ pub fn transfers_in_are_answered()
     ensures may_want { MayWant machine (ReadFrom 1 (at 16) 1 []) }
 {}
 
-/// A transfer out replies how it ended, and the bytes that its sink took, also where it failed. It changes nothing,
+/// The reply to a transfer out says how it ended, and which bytes its sink took, even if it failed. It changes nothing,
 /// and may fail to allocate for what the sink takes.
 pub fn transfers_out_are_answered()
     ensures over_two_regions { outcome machine (WriteTo 0 (at 2) 4 (sink.Take 3 ∷ []))

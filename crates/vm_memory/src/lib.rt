@@ -1,4 +1,4 @@
-//! Guest memory for virtual machine monitors: every public name of the crates below, but their modules of
+//! Guest memory for virtual machine monitors: every public name of the crates below, except their modules of
 //! theorems, and the machine.
 #![tactic(auto)]
 

@@ -261,11 +261,11 @@ impl<R: GuestMemoryRegion, I: Iommu, B: ExactBitmap> Machine<R, I, B> {
     }
 }
 
-/// Runs commands in order, and appends a reply for each. It reserves room for the replies first. `AllocError` where
+/// Runs commands in order, and appends a reply for each. It reserves room for the replies first. `AllocError` if
 /// that fails, and then nothing ran and nothing was appended.
 ///
 /// The replies, the bytes of the host and its dirty pages are those of a model: docs/PROVED.md, "The main theorem",
-/// and docs/DEFINITIONS.md, "The other main theorems" and "Images kept in rounds".
+/// and the crate's README.md, "History" and "Images kept in rounds".
 pub fn run<R: GuestMemoryRegion, I: Iommu, B: ExactBitmap>(
     machine: &mut Machine<R, I, B>,
     commands: &[Command],

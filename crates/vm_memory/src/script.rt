@@ -34,7 +34,7 @@ pub enum DriveFault {
     Read,
     /// The output failed.
     Write,
-    /// The allocation of the script or of its machine's answers failed.
+    /// The allocation of the script or of its machine's replies failed.
     Memory,
 }
 

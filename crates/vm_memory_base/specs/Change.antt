@@ -50,7 +50,7 @@ abbrev pub if_any : {X : Type 0} → Option X → List X
 if_any None = []
 if_any (Some x) = x ∷ []
 
--- a run before others, which joins the first where that begins right behind it and is mapped alike
+-- a run before others, which joins the first if that begins right after it and is mapped alike
 abbrev pub prepended : AddressRun Mapping → List (AddressRun Mapping) → List (AddressRun Mapping)
 prepended r [] = r ∷ []
 prepended r (s ∷ rs) =
@@ -81,14 +81,14 @@ abbrev pub gaps : ℕ → ℕ → List (AddressRun Mapping) → List (AddressRun
 gaps at end [] = cut_onto at end tt []
 gaps at end (r ∷ rs) = cut_onto at (min r.start end) tt (gaps (max at (r.start + r.len)) end rs)
 
--- runs without so many of the first ones, but for those that a test spares
+-- runs without the first N, except those that a test spares
 abbrev pub without_first : {K : Type 0} → (AddressRun K → Bool) → ℕ → List (AddressRun K) → List (AddressRun K)
 without_first spares zero rs = rs
 without_first spares (suc n) [] = []
 without_first spares (suc n) (r ∷ rs) =
     if spares r then (r ∷ without_first spares (suc n) rs) else without_first spares n rs
 
--- a limit, if there is one, is above 0, and there are at most so many runs
+-- a limit, if there is one, is above 0, and there are at most N runs
 abbrev pub IsWithinLimit : {K : Type 0} → Option ℕ → List (AddressRun K) → Type 0
 IsWithinLimit None rs = Unit {0}
 IsWithinLimit (Some limit) rs = (0 < limit) × (length rs ≤ limit)

@@ -31,7 +31,7 @@ marks_at page [] i = false
 marks_at page (e ∷ history) zero = sets page e
 marks_at page (e ∷ history) (suc i) = marks_at page history i
 
--- whether the step of this number is a clear that answers the page: it takes its word, in which the page is set
+-- whether the step of this number is a clear that returns the page: it takes its word, in which the page is set
 abbrev pub answers_at : ℕ → Bool → List Event → ℕ → Bool
 answers_at page set [] i = false
 answers_at page set (e ∷ history) zero = set && takes_word page e

@@ -5,7 +5,7 @@ use Rattle.vm_memory_base.specs.Paging.{page_size_of, count_of}
 use Rattle.vm_memory_base.specs.declared.bitmap.exclusive.ExclusiveBitmap.{ExclusiveBitmap}
 use Rattle.vm_memory_base.specs.declared.bitmap.paging.Paging.{Paging}
 
--- how many bytes it was made for, in pages of which size
+-- how many bytes it was made for, and the size of its pages
 abbrev pub paging_of : ExclusiveBitmap → Paging
 paging_of b = b.paging
 

@@ -8,7 +8,7 @@ use Rattle.vm_memory_base.specs.Pages.{dirty_from}
 abbrev pub flag : List ℕ → ℕ → Bool
 flag words page = nat_eq (bit_at (slice_index words (page / 64)) (page % 64)) 1
 
--- the flags of so many pages
+-- the flags of N pages
 abbrev pub flags_of : List ℕ → ℕ → List Bool
 flags_of words count = map (flag words) (range_with_len 0 count)
 

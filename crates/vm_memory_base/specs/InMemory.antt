@@ -16,7 +16,7 @@ room_from bytes at = Some (record { next = []; room = Some (length bytes - at) }
 abbrev pub put_from : ℕ → List ℕ → List ℕ → List ℕ
 put_from at others bytes = take at bytes ++ over_front others (drop at bytes)
 
--- bytes were given to a vector: it has all of them more. Or it found no memory for them, and has none more
+-- bytes were given to a vector: it has all of them more. Or the allocation failed, and it has none more
 abbrev pub HasAllOrNone : {T : Type 0} → List ℕ → List ℕ → Result T VolatileMemoryError → List ℕ → Type 0
 HasAllOrNone old bytes answer new =
     MatchResult answer (λ all. new ≡ old ++ bytes) (λ e. (e ≡ Memory) × (0 < length bytes) × (new ≡ old))

@@ -23,7 +23,7 @@ mapped_ranges rs = map mapped_range rs
 abbrev pub Translates : Says → ℕ → ℕ → Permissions → List MappedRange → Type 0
 Translates f a n access found = (is_allowed f a n access ≡ true) × (found ≡ mapped_ranges (pieces f a n))
 
--- one that is not allowed is refused with the whole range, and why. Memory may be wanting for the pieces of one that
+-- one that is not allowed is refused with the whole range, and why. The allocation of the pieces may fail for one that
 -- is allowed, if it has any
 abbrev pub RefusesTranslation : Says → ℕ → ℕ → Permissions → IommuError → Type 0
 RefusesTranslation f a n access e =

@@ -14,19 +14,19 @@ use Rattle.vm_memory_base.specs.declared.bitmap.tracked.marker_bitmap.MarkerBitm
 abbrev pub held_of : MarkerBitmap → Option (TrackedBitmap × Marker)
 held_of b = option_map (λ h. (h.bitmap.value, h.marker)) b.held
 
--- a mark is a mark by its marker. Where there is none, nothing is marked
+-- a mark is a mark by its marker. If there is none, nothing is marked
 abbrev pub MarksHeld : Option (TrackedBitmap × Marker) → ℕ → ℕ → Option (TrackedBitmap × Marker) → Type 0
 MarksHeld None offset len new = new ≡ None
 MarksHeld (Some h) offset len new =
     (m : Marker) × (new ≡ Some (h.0, m)) × (marker_table m ≡ marker_table h.1)
     × MarksRange (paging_of h.0) offset len (known_to h.1) (known_to m)
 
--- a byte past the last page is told clean. Where there is no marker, each is
+-- a byte past the last page is reported clean. If there is no marker, each is
 abbrev pub TellsHeld : Option (TrackedBitmap × Marker) → ℕ → Bool → Type 0
 TellsHeld None offset told = told ≡ false
 TellsHeld (Some h) offset told = count_of (paging_of h.0) ≤ offset / page_size_of (paging_of h.0) → told ≡ false
 
--- the marker meets the harvester. Where there is none, nothing is changed
+-- the marker meets the harvester. If there is none, nothing is changed
 abbrev pub Meets : Option (TrackedBitmap × Marker) → Harvester
     → Option (TrackedBitmap × Marker) → Harvester → Type 0
 Meets None harvester new after = (new ≡ None) × (after ≡ harvester)

@@ -31,7 +31,7 @@ abbrev pub rounds_of : ℕ → List Note → List ℕ
 rounds_of word [] = []
 rounds_of word (n ∷ notes) = if n.word == word then (n.round ∷ rounds_of word notes) else rounds_of word notes
 
--- the greatest round that is noted of a word, and 0 where none is
+-- the greatest round that is noted of a word, and 0 if none is
 abbrev pub greatest_of : ℕ → List Note → ℕ
 greatest_of word [] = 0
 greatest_of word (n ∷ notes) = if n.word == word then max n.round (greatest_of word notes) else greatest_of word notes

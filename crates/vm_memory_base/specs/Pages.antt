@@ -15,11 +15,11 @@ PageSet = Option Pages
 abbrev pub pages_with : ℕ → List Bool → PageSet
 pages_with size flags = Some (record { page_size = size; flags = flags })
 
--- the page size and the number of pages, where pages are tracked
+-- the page size and the number of pages, if pages are tracked
 abbrev pub shape : PageSet → Option (ℕ × ℕ)
 shape set = option_map (λ p. (p.page_size, length p.flags)) set
 
--- whether the byte at an offset lies in a dirty page: past the last page, or where nothing is tracked, it
+-- whether the byte at an offset lies in a dirty page: past the last page, or if nothing is tracked, it
 -- does not
 abbrev pub is_dirty_at : PageSet → ℕ → Bool
 is_dirty_at None offset = false
@@ -51,7 +51,7 @@ abbrev pub flags_set : Bool → (ℕ → Bool) → ℕ → List Bool → List Bo
 flags_set flag test page [] = []
 flags_set flag test page (dirty ∷ flags) = (if test page then flag else dirty) ∷ flags_set flag test (page + 1) flags
 
--- the pages after a mark of len bytes from start on. Pages past the last are no pages
+-- the pages after a mark of len bytes from start on. There are no pages past the last
 abbrev pub marked : ℕ → ℕ → PageSet → PageSet
 marked start len None = None
 marked start len (Some p) = pages_with p.page_size (flags_set true (takes p.page_size start len) 0 p.flags)
@@ -75,7 +75,7 @@ abbrev pub cleaned : PageSet → PageSet
 cleaned None = None
 cleaned (Some p) = pages_with p.page_size (replicate (length p.flags) false)
 
--- so many bytes in pages of this size, all clean. The last page may be cut
+-- N bytes in pages of this size, all clean. The last page may be cut
 abbrev pub new_pages : ℕ → ℕ → PageSet
 new_pages size bytes = pages_with size (replicate (div_ceil bytes size) false)
 
@@ -84,7 +84,7 @@ abbrev pub word_of : List Bool → ℕ
 word_of [] = 0
 word_of (dirty ∷ flags) = (if dirty then 1 else 0) + 2 * word_of flags
 
--- so many words of 64 flags each
+-- N words of 64 flags each
 abbrev pub words_of : ℕ → List Bool → List ℕ
 words_of zero flags = []
 words_of (suc n) flags = word_of (take 64 flags) ∷ words_of n (drop 64 flags)
@@ -99,7 +99,7 @@ abbrev pub IsPageSet : PageSet → Type 0
 IsPageSet None = Unit {0}
 IsPageSet (Some p) = (0 < p.page_size) × ((length p.flags - 1) * p.page_size < 2 ^ 64)
 
--- no page is dirty, and the pages, where there are any, cover so many bytes
+-- no page is dirty, and the pages, if there are any, cover N bytes
 abbrev pub IsCleanFor : ℕ → PageSet → Type 0
 IsCleanFor len None = Unit {0}
 IsCleanFor len (Some p) = (dirty_pages (Some p) ≡ []) × (len ≤ length p.flags * p.page_size)

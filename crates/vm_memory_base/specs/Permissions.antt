@@ -28,7 +28,7 @@ union a b = of_bits (has_read a || has_read b) (has_write a || has_write b)
 abbrev pub intersection : Permissions → Permissions → Permissions
 intersection a b = of_bits (has_read a && has_read b) (has_write a && has_write b)
 
--- an access is allowed where each of its bits is there, so asking for none always is
+-- an access is allowed if each of its bits is there, so asking for none always is
 abbrev pub allow : Permissions → Permissions → Bool
 allow a access = (not (has_read access) || has_read a) && (not (has_write access) || has_write a)
 

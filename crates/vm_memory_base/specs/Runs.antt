@@ -8,12 +8,12 @@ pub record AddressRun (K : Type 0) : Type 0 where
   pub len : ℕ
   pub value : K
 
--- a test that passes exactly where its two values are equal
+-- a test that passes exactly if its two values are equal
 abbrev pub TestsEquality : {K : Type 0} → (K → K → Bool) → Type 0
 TestsEquality {K} same = ((j k : K) → same j k ≡ true → j ≡ k) × ((k : K) → same k k ≡ true)
 
 module _ {K : Type 0} (same : K → K → Bool) where
-  -- the runs with one more address before them, which joins the first where that begins right behind it and
+  -- the runs with one more address before them, which joins the first if that begins right after it and
   -- has the same value
   abbrev pub with_address : ℕ → K → List (AddressRun K) → List (AddressRun K)
   with_address a k [] = record { start = a; len = 1; value = k } ∷ []
@@ -43,7 +43,7 @@ abbrev pub value_at : {K : Type 0} → List (AddressRun K) → ℕ → Option K
 value_at [] x = None
 value_at (r ∷ rs) x = if is_within r.start r.len x then Some r.value else value_at rs x
 
--- the run from one address up to another, where there is any between them, before other runs
+-- the run from one address up to another, if there is any between them, before other runs
 abbrev pub cut_onto : {K : Type 0} → (from to : ℕ) → K → List (AddressRun K) → List (AddressRun K)
 cut_onto from to k rs =
     if nat_lt from to then (record { start = from; len = to - from; value = k } ∷ rs) else rs

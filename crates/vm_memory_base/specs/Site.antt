@@ -23,13 +23,13 @@ pub record IsFront (rs : List (AddressRun Mapping)) (at : ℕ) (front : Edge) : 
       × (runs_below at rs ≡ runs_below l.start rs ++ d ∷ []))
   pub whole : front.stored ≡ true → IfSome front.run (λ l. runs_below at rs ≡ runs_below l.start rs ++ l ∷ [])
 
--- the run behind an address starts there, and a run is stored there or not
+-- the run after an address starts there, and a run is stored there or not
 pub record IsBehind (rs : List (AddressRun Mapping)) (at : ℕ) (behind : Edge) : Type 0 where
   pub starts : IfSome behind.run (λ r. r.start ≡ at)
   pub stored : behind.stored ≡ true → IfSome behind.run (λ r. runs_from at rs ≡ r ∷ runs_from (at + 1) rs)
   pub absent : behind.stored ≡ false → runs_from at rs ≡ runs_from (at + 1) rs
 
--- what is told to be clear has no run that starts in it behind its first address
+-- what is said to be clear has no run that starts in it after its first address
 abbrev pub IsClear : List (AddressRun Mapping) → Site → Type 0
 IsClear rs site = site.clear ≡ true → runs_from (site.start + 1) rs ≡ runs_from site.end rs
 
@@ -40,7 +40,7 @@ pub record IsSite (rs : List (AddressRun Mapping)) (site : Site) : Type 0 where
   pub behind : IsBehind rs site.end site.behind
   pub clear : IsClear rs site
 
--- what runs say below an address is in front of it, and what they say from one on is behind it
+-- what runs say below an address is in front of it, and what they say from one on is after it
 abbrev pub CutsInFront : List (AddressRun Mapping) → ℕ → Edge → Type 0
 CutsInFront rs at front = runs_below (start_or front.run at) rs ++ if_any front.run ≡ cut_to 0 at rs
 

@@ -1,4 +1,4 @@
--- What readers and writers of the system do as sources and sinks, as far as their calls tell it.
+-- What readers and writers of the system do as sources and sinks, as far as their calls say.
 use Rattle.std.specs.Prelude.{◌≡◌, ℕ, List, Option, Result, Ok, Err, IfErr}
 use Rattle.std.specs.IoError.{error_kind}
 use Rattle.std.specs.Io.KnownBytes.{ReadConsumes, WriteAppends}
@@ -8,7 +8,7 @@ use Rattle.vm_memory_base.specs.Transfer.{Answer}
 use Rattle.vm_memory_base.specs.declared.io.VolatileMemoryError.{VolatileMemoryError}
 use Rattle.vm_memory_base.specs.declared.io.VolatileMemoryError.TheVariants.{IOError}
 
--- an answer of the system, as sources and sinks tell it: the count, or the kind of the error
+-- a result of the system, as sources and sinks report it: the count, or the kind of the error
 abbrev pub told_as : Result ℕ Error → Answer
 told_as (Ok count) = Ok count
 told_as (Err e) = Err (IOError (error_kind e))

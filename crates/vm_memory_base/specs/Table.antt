@@ -32,7 +32,7 @@ pub data TableEvent : Type 0 where
   InvalidateAll : TableEvent
   Evict : (iova len : ℕ) → TableEvent
 
--- what is said of x after an event, where old was said before it
+-- what is said of x after an event, if old was said before it
 abbrev pub says_after : TableEvent → ℕ → Option Mapping → Option Mapping
 says_after (Set iova to len permissions) x old =
     if is_within iova len x then Some (record { difference = difference iova to; permissions = permissions })
@@ -48,7 +48,7 @@ covers (Invalidate iova len) x = is_within iova len x
 covers InvalidateAll x = true
 covers (Evict iova len) x = is_within iova len x
 
--- what is said of x after events, the earliest first, where old was said before them: the last one that
+-- what is said of x after events, the earliest first, if old was said before them: the last one that
 -- covers x decides
 abbrev pub says_after_all : List TableEvent → ℕ → Option Mapping → Option Mapping
 says_after_all [] x old = old
@@ -62,7 +62,7 @@ says_nothing x = None
 abbrev pub new_table_after : List TableEvent → Says
 new_table_after calls x = says_after_all calls x (says_nothing x)
 
--- a table as it is kept: at most so many runs, if there is a limit, and its runs
+-- a table as it is kept: at most N runs, if there is a limit, and its runs
 pub record Table : Type 0 where
   pub limit : Option ℕ
   pub ranges : List (AddressRun Mapping)
@@ -75,7 +75,7 @@ says table x = value_at table.ranges x
 abbrev pub canonical_list : Says → List (AddressRun Mapping)
 canonical_list f = runs same_mapping f 0 (2 ^ 64)
 
--- how many of so many runs are too many
+-- how many of N runs are too many
 abbrev pub excess : Option ℕ → ℕ → ℕ
 excess None count = 0
 excess (Some limit) count = count - limit
@@ -131,11 +131,11 @@ unfoldable pub each : (Option Mapping → Bool) → Says → ℕ → ℕ → Boo
 each test f a zero = true
 each test f a (suc n) = test (f a) && each test f (a + 1) n
 
--- whether the end of n addresses from a on is no address
+-- whether the end of n addresses from a on is not an address
 abbrev pub overruns : ℕ → ℕ → Bool
 overruns a n = nat_lt (2 ^ 64 - 1) (a + n)
 
--- an access to n addresses from a on is allowed where each grants it
+-- an access to n addresses from a on is allowed if each grants it
 abbrev pub is_allowed : Says → ℕ → ℕ → Permissions → Bool
 is_allowed f a n access = n == 0 || (not (overruns a n) && each (grants access) f a n)
 
@@ -147,7 +147,7 @@ forbids access m = not (allow m.permissions access)
 abbrev pub reason : Says → ℕ → ℕ → Reason
 reason f a n = if overruns a n || not (each is_some f a n) then MissingMapping else AccessNotAllowed
 
--- so many addresses from base on
+-- N addresses from base on
 pub record Range : Type 0 where
   pub base : ℕ
   pub len : ℕ
@@ -180,8 +180,8 @@ abbrev pub if_forbidden : Permissions → Option Mapping → Option Mapping
 if_forbidden access None = None
 if_forbidden access (Some m) = if allow m.permissions access then None else Some m
 
--- what is missed: the runs of the asked addresses that have no mapping, and the whole range where its end
--- is no address
+-- what is missed: the runs of the asked addresses that have no mapping, and the whole range if its end
+-- is not an address
 abbrev pub misses : Says → ℕ → ℕ → List Range
 misses f a n =
     if overruns a n then (record { base = a; len = n } ∷ [])

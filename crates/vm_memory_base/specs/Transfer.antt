@@ -1,4 +1,4 @@
--- Sources and sinks of bytes: what they do at a try, where they tell it, and tries again after interruptions.
+-- Sources and sinks of bytes: what they do at a try, if that is known, and retries after interruptions.
 use Rattle.std.specs.Prelude.{◌≡◌, ◌⊎◌, ℕ, zero, suc, ◌+◌, ◌-◌, ◌<◌, ◌≤◌, Bool, true, false, ◌||◌, nat_lt, if◌then◌else◌, min, List, [], ◌∷◌, ◌++◌, length, take, drop, Option, Some, None, IfSome, option_map, Result, Ok, Err, IfOk, MatchBool}
 use Rattle.std.specs.declared.io.ErrorKind.{ErrorKind}
 use Rattle.std.specs.declared.io.ErrorKind.TheVariants.{Interrupted, WriteZero, UnexpectedEof}
@@ -6,7 +6,7 @@ use Rattle.vm_memory_base.specs.declared.io.ReadExactFault.{ReadExactFault}
 use Rattle.vm_memory_base.specs.declared.io.VolatileMemoryError.{VolatileMemoryError}
 use Rattle.vm_memory_base.specs.declared.io.VolatileMemoryError.TheVariants.{OutOfBounds, Overflow, TooBig, Misaligned, IOError, PartialBuffer, Memory}
 
--- what a try answers: how many bytes it moved, or why it failed
+-- what a try returns: how many bytes it moved, or why it failed
 abbrev pub Answer : Type 0
 Answer = Result ℕ VolatileMemoryError
 
@@ -16,7 +16,7 @@ pub data Next : Type 0 where
   Gives : (bytes : List ℕ) → Next
   Fails : (scribble : List ℕ) (error : VolatileMemoryError) → Next
 
--- one try of a source: the bytes that came to the beginning of what it was lent, its answer, and what it does
+-- one try of a source: the bytes that came to the beginning of what it was lent, its result, and what it does
 -- next
 pub record Tried : Type 0 where
   pub bytes : List ℕ
@@ -70,7 +70,7 @@ count_of (Err e) = 0
 
 -- ---- turns of any kind: of a source, of a sink, or of a window that is lent
 
--- what was answered, and the state after it
+-- what was returned, and the state after it
 pub record Made (E X : Type 0) : Type 0 where
   pub answer : Result ℕ E
   pub left : X
@@ -79,7 +79,7 @@ pub record Made (E X : Type 0) : Type 0 where
 abbrev pub retries : ℕ
 retries = 64
 
--- a try, and again after an interruption, at most so many times in a row
+-- a try, and again after an interruption, at most N times in a row
 unfoldable pub again_upto : {X : Type 0} → (X → Made VolatileMemoryError X) → ℕ → X → Made VolatileMemoryError X
 again_upto try zero x = try x
 again_upto try (suc more) x = let t = try x in if is_interrupted t.answer then again_upto try more t.left else t
@@ -105,7 +105,7 @@ counted_as count Whole = Ok count
 counted_as count Dry = Ok count
 counted_as count (Failed e) = Err e
 
--- what follows a turn, behind the bytes that were moved before it
+-- what follows a turn, after the bytes that were moved before it
 abbrev pub after_turn : {X : Type 0} → ℕ → X → Answer → (ℕ → Moved X) → Moved X
 after_turn done x (Ok zero) more = record { count = done; stop = Dry; left = x }
 after_turn done x (Ok (suc count)) more = more (done + suc count)
@@ -149,7 +149,7 @@ module _ {X : Type 0} (Turn : ℕ → X → Answer → X → Type 0) (n : ℕ) w
 
 -- ---- sources
 
--- where a source tells what it does next: one try of it, over this buffer
+-- if what a source does next is known: one try of it, over this buffer
 abbrev pub ReadsAs : Option (List Next) → List ℕ → Answer → List ℕ
     → Option (List Next) → Type 0
 ReadsAs source old answer new after = IfSome source (λ next.
@@ -164,7 +164,7 @@ module _ {S : Type 0} (source : S → Option (List Next)) (reads : S → List �
       × IfOk answer (λ count. count ≤ length old.1) × reads old.0 old.1 answer new.1 new.0
       × (new.2 ≡ (old.2 || is_interrupted answer))
 
-  -- tries of what is behind the bytes that are done
+  -- tries of what follows the bytes that are done
   abbrev pub ReadsBehind : ℕ → S × List ℕ × Bool → Answer → S × List ℕ × Bool → Type 0
   ReadsBehind done old answer new = (part : List ℕ)
       × Again Reads (old.0, drop done old.1, old.2) answer (new.0, part, new.2)
@@ -198,7 +198,7 @@ lent_behind done l =
     let t = again lent_once (record l { buffer = drop done l.buffer }) in
     record { answer = t.answer; left = record t.left { buffer = take done l.buffer ++ t.left.buffer } }
 
--- a buffer that a source was to fill: what it is then, the answer, and what the source does next
+-- a buffer that a source was to fill: what it is then, the result, and what the source does next
 pub record Filled : Type 0 where
   pub buffer : List ℕ
   pub answer : Result (Unit {0}) ReadExactFault
@@ -244,7 +244,7 @@ FillsBy source reads known old buffer answer new after =
     × WholeOf (ReadsBehind source reads) n (old, buffer, false) count stop (after, new, interrupted)
     × (answer ≡ filled_as n interrupted count stop))
 
--- where a source tells what it does next: it fills a buffer
+-- if what a source does next is known: it fills a buffer
 abbrev pub FillsAs : Option ℕ → Option (List Next) → List ℕ → Result (Unit {0}) ReadExactFault → List ℕ
     → Option (List Next) → Type 0
 FillsAs known source old answer new after = IfSome source (λ next.
@@ -253,7 +253,7 @@ FillsAs known source old answer new after = IfSome source (λ next.
 
 -- ---- sinks
 
--- what a sink does next: it takes at most so many bytes at one try, or it fails at one
+-- what a sink does next: it takes at most N bytes at one try, or it fails at one
 pub data Taking : Type 0 where
   Takes : (count : ℕ) → Taking
   Refuses : (error : VolatileMemoryError) → Taking
@@ -284,7 +284,7 @@ offered_next n (Refuses e ∷ rest) room =
 abbrev pub offered : ℕ → Sink → Made VolatileMemoryError Sink
 offered n sink = offered_next n sink.next sink.room
 
--- a sink that tells what it does next was offered n bytes. Or it wanted memory, where it may and n is not 0, and
+-- a sink whose next steps are known was offered n bytes. Or an allocation failed, if it may and n is not 0, and
 -- took none
 abbrev pub TakesAs : Type 0 → Option Sink → ℕ → Answer → Option Sink → Type 0
 TakesAs may_want sink n answer after = IfSome sink (λ before.
@@ -297,7 +297,7 @@ abbrev pub Keeps : Option (List ℕ) → List ℕ → ℕ → Option (List ℕ) 
 Keeps None bytes count after = Unit {0}
 Keeps (Some before) bytes count after = after ≡ Some (before ++ take count bytes)
 
--- one write of a sink: of the bytes that it was offered, its answer, and the sink before and after it
+-- one write of a sink: of the bytes that it was offered, its result, and the sink before and after it
 module _ {S : Type 0} (sink : S → Option Sink) (taken : S → Option (List ℕ)) (may_want : S → Type 0)
     (writes : S → List ℕ → Answer → S → Type 0) where
   abbrev pub TakesOnce : List ℕ → S → Answer → S → Type 0
@@ -305,7 +305,7 @@ module _ {S : Type 0} (sink : S → Option Sink) (taken : S → Option (List ℕ
       × Keeps (taken old) bytes (count_of answer) (taken new) × (may_want new → may_want old)
       × writes old bytes answer new
 
--- a sink that tells what it does next was offered n bytes by tries. Or it wanted memory, where it may
+-- a sink whose next steps are known was offered n bytes by tries. Or an allocation failed, if it may
 abbrev pub OffersAs : Type 0 → Option Sink → ℕ → Answer → Option Sink → Type 0
 OffersAs may_want sink n answer after = IfSome sink (λ before.
     let o = again (offered n) before in
@@ -315,13 +315,13 @@ OffersAs may_want sink n answer after = IfSome sink (λ before.
 abbrev pub sent : ℕ → Sink → Moved Sink
 sent n = whole_of (λ done. again (offered (n - done))) n
 
--- what is answered where the sink took all, took none of what was left, or failed
+-- what is returned if the sink took all, took none of what was left, or failed
 abbrev pub sent_as : Stop → Result (Unit {0}) VolatileMemoryError
 sent_as Whole = Ok tt
 sent_as Dry = Err (IOError WriteZero)
 sent_as (Failed e) = Err e
 
--- a sink that tells what it does next was given n bytes, and took so many. Or it wanted memory, where it may
+-- a sink whose next steps are known was given n bytes, and took N of them. Or an allocation failed, if it may
 abbrev pub SendsAs : Type 0 → Option Sink → ℕ → ℕ → Result (Unit {0}) VolatileMemoryError → Option Sink
     → Type 0
 SendsAs may_want sink n count answer after = IfSome sink (λ before.

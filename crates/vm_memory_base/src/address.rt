@@ -35,12 +35,12 @@ pub trait AddressWord: Copy + Ord + Debug {
     fn bits_or(self, other: Self) -> Self
         ensures { value result ≡ bit_or (value self) (value other) };
 
-    /// The sum, or `None` where it does not fit 64 bits.
+    /// The sum, or `None` if it does not fit 64 bits.
     fn checked_add(self, other: Self) -> Option<Self>
         ensures { SomeIff (option_map value result) (value self + value other < 2 ^ 64)
             (value self + value other) };
 
-    /// The difference, or `None` where `other` is the greater.
+    /// The difference, or `None` if `other` is greater.
     fn checked_sub(self, other: Self) -> Option<Self>
         ensures { SomeIff (option_map value result) (value other ≤ value self) (value self - value other) };
 
@@ -49,7 +49,7 @@ pub trait AddressWord: Copy + Ord + Debug {
         ensures wrapped { value result.0 ≡ (value self + value other) % 2 ^ 64 }
         ensures overflow { IsTrue result.1 ↔ (2 ^ 64 ≤ value self + value other) };
 
-    /// The difference modulo 2^64, and whether `other` was the greater.
+    /// The difference modulo 2^64, and whether `other` was greater.
     fn overflowing_sub(self, other: Self) -> (Self, bool)
         ensures wrapped { value result.0 ≡ (value self + (2 ^ 64 - value other)) % 2 ^ 64 }
         ensures overflow { IsTrue result.1 ↔ (value self < value other) };
@@ -59,20 +59,20 @@ pub trait AddressWord: Copy + Ord + Debug {
         requires { value self + value other < 2 ^ 64 }
         ensures { value result ≡ value self + value other };
 
-    /// The difference. `other` must not be the greater.
+    /// The difference. `other` must not be greater.
     fn unchecked_sub(self, other: Self) -> Self
         requires { value other ≤ value self }
         ensures { value result ≡ value self - value other };
 
     /// The least multiple of `power_of_two`, which has to be a power of two, at or above the word.
-    /// `None` where the word and one less than the power have a sum that does not fit 64 bits.
+    /// `None` if the sum of the word and one less than the power does not fit 64 bits.
     fn checked_align_up(self, power_of_two: Self) -> Option<Self>
         requires { HasOneBit (value power_of_two) }
         ensures { SomeIff (option_map value result) (value self + (value power_of_two - 1) < 2 ^ 64)
             (next_multiple_of (value self) (value power_of_two)) };
 
     /// The least multiple of `power_of_two`, which has to be a power of two, at or above the word.
-    /// The word and one less than the power have to have a sum that fits 64 bits.
+    /// The sum of the word and one less than the power has to fit 64 bits.
     fn unchecked_align_up(self, power_of_two: Self) -> Self
         requires power { HasOneBit (value power_of_two) }
         requires fits { value self + (value power_of_two - 1) < 2 ^ 64 }
@@ -187,7 +187,7 @@ pub trait Address: AddressValue
     fn raw_value(&self) -> Self::V
         ensures { Self.V.value result ≡ number self.now };
 
-    /// The bits of the address that are set in the mask, too.
+    /// The bits of the address that are also set in the mask.
     #[inline]
     fn mask(&self, mask: Self::V) -> Self::V
         ensures { Self.V.value result ≡ bit_and (number self.now) (Self.V.value mask) }
@@ -195,7 +195,7 @@ pub trait Address: AddressValue
         self.raw_value().bits_and(mask)
     }
 
-    /// How far the address lies above `base`, in bytes, or `None` where it lies below.
+    /// The distance of the address above `base`, in bytes, or `None` if it lies below.
     #[inline]
     fn checked_offset_from(&self, base: Self) -> Option<Self::V>
         ensures { SomeIff (option_map Self.V.value result) (number base ≤ number self.now)
@@ -204,7 +204,7 @@ pub trait Address: AddressValue
         self.raw_value().checked_sub(base.raw_value())
     }
 
-    /// How far the address lies above `base`, in bytes. It must not lie below.
+    /// The distance of the address above `base`, in bytes. It must not lie below.
     #[inline]
     fn unchecked_offset_from(&self, base: Self) -> Self::V
         requires { number base ≤ number self.now }
@@ -214,7 +214,7 @@ pub trait Address: AddressValue
     }
 
     /// The least multiple of `power_of_two`, which has to be a power of two, at or above the
-    /// address. `None` where the address and one less than the power have a sum that does not fit
+    /// address. `None` if the sum of the address and one less than the power does not fit
     /// 64 bits.
     #[inline]
     fn checked_align_up(&self, power_of_two: Self::V) -> Option<Self>
@@ -227,7 +227,7 @@ pub trait Address: AddressValue
         Some(Self::new(aligned))
     }
 
-    /// The address that lies `other` bytes above, or `None` where it does not fit 64 bits.
+    /// The address that lies `other` bytes above, or `None` if it does not fit 64 bits.
     #[inline]
     fn checked_add(&self, other: Self::V) -> Option<Self>
         ensures { SomeIff (option_map number result) (number self.now + Self.V.value other < 2 ^ 64)
@@ -257,7 +257,7 @@ pub trait Address: AddressValue
         Self::new(self.raw_value().unchecked_add(offset))
     }
 
-    /// The address that lies `other` bytes below, or `None` where there is none.
+    /// The address that lies `other` bytes below, or `None` if there is none.
     #[inline]
     fn checked_sub(&self, other: Self::V) -> Option<Self>
         ensures { SomeIff (option_map number result) (Self.V.value other ≤ number self.now)
@@ -267,7 +267,7 @@ pub trait Address: AddressValue
         Some(Self::new(difference))
     }
 
-    /// The address that lies `other` bytes below modulo 2^64, and whether `other` was the greater.
+    /// The address that lies `other` bytes below modulo 2^64, and whether `other` was greater.
     #[inline]
     fn overflowing_sub(&self, other: Self::V) -> (Self, bool)
         ensures wrapped { number result.0 ≡ (number self.now + (2 ^ 64 - Self.V.value other)) % 2 ^ 64 }
@@ -277,7 +277,7 @@ pub trait Address: AddressValue
         (Self::new(difference), overflow)
     }
 
-    /// The address that lies `other` bytes below. `other` must not be the greater.
+    /// The address that lies `other` bytes below. `other` must not be greater.
     #[inline]
     fn unchecked_sub(&self, other: Self::V) -> Self
         requires { Self.V.value other ≤ number self.now }
@@ -287,7 +287,7 @@ pub trait Address: AddressValue
     }
 
     /// The least multiple of `power_of_two`, which has to be a power of two, at or above the
-    /// address. The address and one less than the power have to have a sum that fits 64 bits.
+    /// address. The sum of the address and one less than the power has to fit 64 bits.
     #[inline]
     fn unchecked_align_up(&self, power_of_two: Self::V) -> Self
         requires power { HasOneBit (Self.V.value power_of_two) }

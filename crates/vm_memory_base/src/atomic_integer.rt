@@ -16,10 +16,10 @@ pub trait AtomicInteger: Send + Sync {
     /// The atomic integer that holds `v`.
     fn new(v: Self::V) -> Self;
 
-    /// Reads the integer. Each step is sequentially consistent, whichever order is asked for.
+    /// Reads the integer. Each step is sequentially consistent, whatever order is asked for.
     fn load(&self, order: Ordering) -> Self::V;
 
-    /// Writes the integer. Each step is sequentially consistent, whichever order is asked for.
+    /// Writes the integer. Each step is sequentially consistent, whatever order is asked for.
     fn store(&self, val: Self::V, order: Ordering);
 }
 

@@ -26,35 +26,35 @@ pub trait Bitmap {
     /// `ExactBitmap` ties to pages.
     ghost marks: { Self → ℕ → ℕ → Self → Type 0 };
 
-    /// What may be answered of the byte at an offset.
+    /// What may be reported of the byte at an offset.
     ghost tells: { Self → ℕ → Bool → Type 0 };
 
     /// What `NewBitmap` may make for a length in bytes: the type's own relation, too. A bitmap that is not made for a
     /// length leaves it empty.
     ghost made: { ℕ → Self → Type 0 } = { λ _ _. ⊥ };
 
-    /// Marks `len` bytes from `offset` on as written, and none where `len` is 0. An exact bitmap makes the pages of
-    /// these bytes dirty. What lies past its last page, or past 2^64 - 1, is left out: docs/DEFINITIONS.md,
+    /// Marks `len` bytes from `offset` on as written, and none if `len` is 0. An exact bitmap makes the pages of
+    /// these bytes dirty. What lies past its last page, or past 2^64 - 1, is left out: the crate's README.md,
     /// "Page sets".
     fn mark_dirty(&mut self, offset: usize, len: usize)
         ensures { marks self.old offset len self.new };
 
     /// Whether the byte at `offset` is reported as written. An exact bitmap reports whether the byte's page is dirty.
-    /// Past its last page no byte is.
+    /// It is false past its last page.
     fn dirty_at(&self, offset: usize) -> bool
         ensures { tells self.now offset result };
 }
 
-/// A bitmap that tracks a set of pages, exactly: docs/DEFINITIONS.md, "Page sets".
+/// A bitmap that tracks a set of pages, exactly: the crate's README.md, "Page sets".
 pub trait ExactBitmap: Bitmap {
     /// The pages that it tracks.
     ghost pages: { Self → PageSet };
 
-    /// The page size in bytes and the number of pages, or nothing where nothing is tracked.
+    /// The page size in bytes and the number of pages, or nothing if nothing is tracked.
     fn shape(&self) -> Option<(usize, usize)>
         ensures { result ≡ page_set.shape (pages self.now) };
 
-    /// The numbers of the dirty pages, ascending. `AllocError` where the allocation of the list fails. Where no page
+    /// The numbers of the dirty pages, ascending. `AllocError` if the allocation of the list fails. If no page
     /// is dirty, it allocates nothing.
     fn dirty_pages(&self, alloc: Global) -> Result<Vec<usize>, AllocError>
         ensures dirty { IfOk result (λ dirty. dirty.items ≡ page_set.dirty_pages (pages self.now)) }
@@ -71,8 +71,8 @@ pub trait ExactBitmap: Bitmap {
         Ok(dirty)
     }
 
-    /// Takes the dirty pages: gives their numbers, ascending, and makes them clean. `AllocError` where the allocation
-    /// of the list fails, and then nothing changes. Where no page is dirty, it allocates nothing.
+    /// Takes the dirty pages: gives their numbers, ascending, and makes them clean. `AllocError` if the allocation
+    /// of the list fails, and then nothing changes. If no page is dirty, it allocates nothing.
     fn harvest(&mut self, alloc: Global) -> Result<Vec<usize>, AllocError>
         ensures dirty { IfOk result (λ dirty. dirty.items ≡ page_set.dirty_pages (pages self.old)) }
         ensures clean { OnOk result (pages self.new ≡ page_set.cleaned (pages self.old)) }
@@ -85,7 +85,7 @@ pub trait ExactBitmap: Bitmap {
     ghost marks_pages: { (old new : Self) (offset len : ℕ) → Self.marks old offset len new
         → pages new ≡ page_set.marked offset len (pages old) };
 
-    /// A byte is reported dirty where its page is dirty.
+    /// A byte is reported dirty if its page is dirty.
     ghost tells_pages: { (b : Self) (offset : ℕ) (told : Bool) → Self.tells b offset told
         → told ≡ page_set.is_dirty_at (pages b) offset };
 
@@ -95,7 +95,7 @@ pub trait ExactBitmap: Bitmap {
 
 /// A bitmap that can be made for a length in bytes.
 pub trait NewBitmap: Bitmap {
-    /// A clean bitmap for `len` bytes, which may be 0. `AllocError` where its allocation fails.
+    /// A clean bitmap for `len` bytes, which may be 0. `AllocError` if its allocation fails.
     fn with_len(alloc: Global, len: usize) -> Result<Self, AllocError>
         ensures { IfOk result (Self.made len) };
 }
@@ -145,7 +145,7 @@ impl NewBitmap for () {
     }
 }
 
-/// Tracks what the bitmap that it holds tracks, and nothing where it holds none.
+/// Tracks what the bitmap that it holds tracks, and nothing if it holds none.
 impl<B: Bitmap> Bitmap for Option<B> {
     ghost use Rattle.vm_memory_base.specs.OptionalBitmap.{MarksOption, TellsOption};
 

@@ -61,12 +61,12 @@ pub trait ByteValued: ByteSized + Copy {
     fn zeroed() -> Self
         ensures { bytes result ≡ replicate Self.width 0 };
 
-    /// The value with the bytes of `data`, or `None` where these are not `size()` bytes.
+    /// The value with the bytes of `data`, or `None` if these are not `size()` bytes.
     fn from_slice(data: &[u8]) -> Option<Self>
         ensures { SomeIff result (length «data».now ≡ Self.width) (value_of «data».now) };
 
-    /// Writes the bytes of the value over `out`. Where `out` does not have `size()` bytes, it writes nothing
-    /// and answers false.
+    /// Writes the bytes of the value over `out`. If `out` does not have `size()` bytes, it writes nothing
+    /// and returns false.
     fn to_slice(&self, out: &mut [u8]) -> bool
         ensures fits { IsTrue result ↔ (length out.old ≡ Self.width) }
         ensures written { OnTrue result (out.new ≡ bytes self.now) }
@@ -114,7 +114,7 @@ pub trait ByteValued: ByteSized + Copy {
 
     /// Writes the bytes of the value to a writer, at most 64 at once.
     ///
-    /// An error is the writer's. It leaves open how many of the bytes the writer took.
+    /// An error is the writer's. How many of the bytes the writer took is not known.
     final fn write_all_to<W: Write>(&self, writer: &mut W) -> io::Result<()>
         ensures { Self.width < 2 ^ 64
             → OnOk result (Appends (W.contents writer.old) (W.contents writer.new) (bytes self.now)) }
@@ -132,7 +132,7 @@ pub trait ByteValued: ByteSized + Copy {
 
     /// The value with the next `size()` bytes of a reader, taken at most 64 at once.
     ///
-    /// An error is the reader's. It leaves open how many bytes the reader gave. Where a reader ends too
+    /// An error is the reader's. How many bytes the reader gave is not known. If a reader ends too
     /// early, std's error is of the kind `UnexpectedEof`.
     final fn read_exact_from<R: Read>(reader: &mut R) -> io::Result<Self>
         ensures { Self.width < 2 ^ 64

@@ -1,4 +1,4 @@
-//! Integers whose bytes stand in an order that their type names, for structures that devices and
+//! Integers whose types name the order of their bytes, for structures that devices and
 //! guests share.
 //!
 //! ```rust
@@ -13,11 +13,11 @@ ghost use Rattle.vm_memory_base.specs.lemmas.ByteCodes.{wrapped_code, reversed_c
 
 use crate::bytes::{ByteSized, FixedInteger, reversed};
 
-/// An integer whose bytes stand the lowest first. It holds the native value.
+/// An integer stored with its lowest byte first. It holds the native value.
 #[derive(Clone, Copy, Debug, PartialEq, Eq, Default)]
 pub struct LittleEndian<T>(pub T);
 
-/// An integer whose bytes stand the highest first. It holds the native value.
+/// An integer stored with its highest byte first. It holds the native value.
 #[derive(Clone, Copy, Debug, PartialEq, Eq, Default)]
 pub struct BigEndian<T>(pub T);
 
@@ -55,7 +55,7 @@ impl<T: FixedInteger> LittleEndian<T> {
         native
     }
 
-    /// Whether the value is that of a native integer.
+    /// Whether the value equals a native integer.
     #[inline]
     pub fn equals_native(self, native: T) -> bool
         ensures { IsTrue result ↔ (self.0 ≡ native) }
@@ -153,7 +153,7 @@ impl<T: FixedInteger> BigEndian<T> {
         native
     }
 
-    /// Whether the value is that of a native integer.
+    /// Whether the value equals a native integer.
     #[inline]
     pub fn equals_native(self, native: T) -> bool
         ensures { IsTrue result ↔ (self.0 ≡ native) }

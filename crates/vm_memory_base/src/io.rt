@@ -1,4 +1,4 @@
-//! Sources and sinks of bytes, and what accesses of windows answer.
+//! Sources and sinks of bytes, and what accesses of windows return.
 ghost use Rattle.std.specs.Prelude.{◌≡◌, ℕ, ◌≤◌, List, length, Option, IfOk, IfErr, OnOk, if◌then◌else◌, ⊤};
 ghost use Rattle.std.specs.IoError.{error_kind};
 ghost use Rattle.vm_memory_base.specs.Transfer.{Answer, Next, ReadsAs, FillsBy, is_short};
@@ -34,7 +34,7 @@ impl Model for IoError {
 }
 
 impl IoError {
-    /// The error of a kind alone.
+    /// The error of a kind, and nothing else.
     pub fn of_kind(kind: ErrorKind) -> IoError
         ensures { result ≡ kind }
     {
@@ -43,7 +43,7 @@ impl IoError {
         }
     }
 
-    /// What sort of failure it is.
+    /// The kind of failure.
     pub fn kind(&self) -> ErrorKind
         ensures { result ≡ self.now }
     {
@@ -81,16 +81,16 @@ impl fmt::Debug for IoError {
 /// Why an access of a window was refused.
 #[derive(Debug, Drop, Error)]
 pub enum VolatileMemoryError {
-    /// The end of what was asked for, or its start where that decides, lies past the window.
+    /// What was asked for ends past the window, or starts past it if the start is tested.
     #[error("address 0x{addr:x} is out of bounds")]
     OutOfBounds { addr: usize },
-    /// The sum of the two is no 64-bit number.
+    /// The sum of the two is not a 64-bit number.
     #[error("address 0x{base:x} offset by 0x{offset:x} would overflow")]
     Overflow { base: usize, offset: usize },
-    /// The product of the two, a number of bytes, is no 64-bit number.
+    /// The product of the two, a number of bytes, is not a 64-bit number.
     #[error("{nelements} elements of size {size} would overflow a usize")]
     TooBig { nelements: usize, size: usize },
-    /// The address is no multiple of the alignment, in bytes.
+    /// The address is not a multiple of the alignment, in bytes.
     #[error("address 0x{addr:x} is not aligned to {alignment}")]
     Misaligned { addr: usize, alignment: usize },
     /// A source or a sink failed.
@@ -110,14 +110,14 @@ pub type VolatileMemoryResult<T> = Result<T, VolatileMemoryError>;
 /// Why a source did not fill what it was lent, and how much of it may have changed.
 #[derive(Debug, Drop)]
 pub struct ReadExactFault {
-    /// How many leading bytes may have changed: those that were filled where the source ended, all after an error
-    /// or an interrupted try, and none where the source refused at once.
+    /// How many leading bytes may have changed: those that were filled if the source ended, all after an error
+    /// or an interrupted try, and none if the source refused at once.
     pub touched: usize,
     /// Why not all was filled.
     pub error: VolatileMemoryError,
 }
 
-/// A source of bytes, which fills memory that it is lent. It may fill less than it was lent.
+/// A source of bytes, which fills memory that it is lent, or a part of it.
 ///
 /// ```rust
 /// use vm_memory_base::ReadVolatile;
@@ -137,20 +137,20 @@ pub trait ReadVolatile {
     // What else is known of one read: of the source and the buffer before it, its answer, and both after it.
     ghost reads: { Self → List ℕ → Answer → List ℕ → Self → Type 0 } = { λ s old answer new t. ⊤ };
 
-    /// Fills the beginning of the buffer, and answers how many bytes that is. For a buffer of some bytes, 0 is the
+    /// Fills the beginning of the buffer, and returns how many bytes that is. For a buffer of some bytes, 0 is the
     /// end of the source. An error is the source's own, and may leave the buffer changed.
     fn read_volatile(&mut self, buf: &mut [u8]) -> VolatileMemoryResult<usize>
         ensures count { IfOk result (λ count. count ≤ length buf.old) }
         ensures tells { ReadsAs (source self.old) buf.old result buf.new (source self.new) }
         ensures reads { reads self.old buf.old result buf.new self.new };
 
-    /// How many bytes it has left, where it looks before it fills a buffer. Then it refuses a longer buffer at
-    /// once. Most sources do not look, and answer `None`.
+    /// How many bytes it has left, if it checks before it fills a buffer. Then it refuses a longer buffer at
+    /// once. Most sources do not check, and return `None`.
     fn known_left(&self) -> Option<usize>
         ensures { result ≡ known_left self.now };
 
-    /// Fills the whole buffer by reads in turn. An interrupted read is made again, at most 64 times in a row. The
-    /// 65th interruption is answered, and any other error at once. `UnexpectedEof` where the source ends before.
+    /// Fills the whole buffer by repeated reads. An interrupted read is made again, at most 64 times in a row. The
+    /// 65th interruption is returned, and any other error at once. `UnexpectedEof` if the source ends early.
     final fn read_exact_volatile(&mut self, buf: &mut [u8]) -> Result<(), ReadExactFault>
         ensures touched { IfErr result (λ fault. fault.touched ≤ length buf.old) }
         ensures reads { FillsBy source reads known_left self.old buf.old result buf.new self.new }
@@ -201,7 +201,7 @@ fn ended(touched: usize) -> ReadExactFault
     }
 }
 
-/// A sink of bytes, which takes bytes out of memory that it is lent. It may take fewer than it was lent.
+/// A sink of bytes, which takes bytes out of memory that it is lent, or a part of them.
 ///
 /// ```rust
 /// use vm_memory_base::WriteVolatile;
@@ -223,7 +223,7 @@ pub trait WriteVolatile {
     // What else is known of one write: of the sink before it, the bytes, its answer, and the sink after it.
     ghost writes: { Self → List ℕ → Answer → Self → Type 0 } = { λ s bytes answer t. ⊤ };
 
-    /// Takes the first bytes of the buffer, and answers how many. An error is the sink's own. `Memory` says that
+    /// Takes the first bytes of the buffer, and returns how many. An error is the sink's own. `Memory` says that
     /// its allocation failed, and that it took nothing.
     fn write_volatile(&mut self, buf: &[u8]) -> VolatileMemoryResult<usize>
         ensures count { IfOk result (λ count. count ≤ length buf.now) }
@@ -232,9 +232,9 @@ pub trait WriteVolatile {
         ensures wants { may_want self.new → may_want self.old }
         ensures writes { writes self.old buf.now result self.new };
 
-    /// Takes the whole buffer by writes in turn. An interrupted write is made again, at most 64 times in a row. The
-    /// 65th interruption is answered, and any other error at once. `WriteZero` where the sink takes nothing of
-    /// bytes that are left.
+    /// Takes the whole buffer by repeated writes. An interrupted write is made again, at most 64 times in a row. The
+    /// 65th interruption is returned, and any other error at once. `WriteZero` if the sink takes none of
+    /// the remaining bytes.
     final fn write_all_volatile(&mut self, buf: &[u8]) -> VolatileMemoryResult<()>
         ensures sends { (count : ℕ) × (count ≤ length buf.now) × OnOk result (count ≡ length buf.now)
             × SendsBy (TakesOnce sink taken may_want writes) self.old buf.now count result self.new }

@@ -37,7 +37,7 @@ impl Permissions {
         }
     }
 
-    /// Whether every access of `access` is among these: so `No` is always allowed.
+    /// Whether every access of `access` is among these. So `No` is always allowed.
     pub fn allow(&self, access: Self) -> bool
         ensures { result ≡ set.allow self.now access }
     {
@@ -93,7 +93,7 @@ pub enum Reason {
     MissingMapping,
     /// A mapping of the range does not permit the access.
     AccessNotAllowed,
-    /// No call answers this.
+    /// No call returns this.
     NotConfigured,
 }
 
@@ -136,18 +136,18 @@ pub enum IommuError {
         iova_range: IovaRange,
         reason: Reason,
     },
-    /// No call answers this.
+    /// No call returns this.
     #[error("Expected 0x{:x}+{} to be a continuous I/O virtual address range, but only {continuous_length} bytes are", iova_range.base.0, iova_range.length)]
     Fragmented {
         iova_range: IovaRange,
         continuous_length: usize,
     },
-    /// No call answers this.
+    /// No call returns this.
     #[error("IOMMU not configured correctly, cannot operate: {reason}")]
     IommuMisconfigured {
         reason: Reason,
     },
-    /// The allocation of the answer failed.
+    /// The allocation of the result failed.
     #[error("out of memory")]
     Memory,
 }

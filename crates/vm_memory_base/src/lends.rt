@@ -1,4 +1,4 @@
-//! What lends a value that lies behind it.
+//! References and owners that lend a value.
 ghost use Rattle.std.specs.Prelude.{◌≡◌};
 
 use std::rc::Rc;

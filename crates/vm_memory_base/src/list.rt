@@ -1,9 +1,9 @@
-//! Lists that clauses see as lists, whatever room their vectors have.
+//! Lists that clauses see as lists, whatever the capacity of their vectors.
 ghost use Rattle.std.specs.Prelude.{◌≡◌};
 
 use std::marker::Model;
 
-/// Items in order. A clause sees them alone, not the room of their vector.
+/// Items in order. A clause sees only them, not the capacity of their vector.
 #[derive(Debug, Drop)]
 pub struct Items<T> {
     items: Vec<T>,

@@ -6,16 +6,16 @@ use Rattle.vm_session.specs.declared.call.Answer.{Answer}
 use Rattle.vm_session.specs.declared.call.Call.{Call}
 use Rattle.vm_session.specs.declared.call.Miss.{Miss}
 
--- a session is opened, or memory is wanting and the handle stays
+-- a session is opened, or an allocation fails and the handle stays
 abbrev pub Opens : Option WholeSession → ℕ → Option WholeSession → Type 0
 Opens old code new = ((code ≡ 0) × (new ≡ Some new_session)) ⊎ ((code ≡ 3) × (new ≡ old))
 
--- an open session answers a call, and is open then
+-- a call of an open session was made, and it stays open
 abbrev pub CallsAt : Option WholeSession → Call → List ℕ → List ℕ → Answer → List ℕ → Option WholeSession → Type 0
 CallsAt (Some old) call input out a out' (Some new) = AnswersCall old call input out a out' new
 CallsAt old call input out a out' new = ⊥
 
--- what the call missed is answered, if a table refused it
+-- what the call missed is returned, if a table refused it
 abbrev pub MissesAt : Option WholeSession → Call → Answer → Miss → Miss → Type 0
 MissesAt (Some new) call a miss miss' = MissesIf new.parts call a miss miss'
 MissesAt None call a miss miss' = ⊥

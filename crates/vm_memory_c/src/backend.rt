@@ -1,4 +1,4 @@
-//! The handle of a vhost-user back end's connection: where it lies.
+//! The handle of a vhost-user back end's connection: a pointer to it.
 ghost use Rattle.std.specs.Prelude.{◌≡◌, Option, Some, None, IsSome};
 ghost use Rattle.vhost_user.specs.Connection.{Connection};
 ghost use Rattle.vm_memory_c.specs.Backend.{backend_owns};
@@ -9,7 +9,7 @@ use std::marker::Model;
 use std::ptr::null_mut;
 use vhost_calls::BackendReqHandler;
 
-/// Where a connection lies, if it is open.
+/// A pointer to a connection, if it is open.
 #[repr(C)]
 #[derive(Drop)]
 pub struct Backend {

@@ -1,4 +1,4 @@
-//! The handle of a session: where it lies.
+//! The handle of a session: a pointer to it.
 ghost use Rattle.std.specs.Prelude.{◌≡◌, Option, Some, None, IsSome};
 ghost use Rattle.vm_session.specs.Retries.{WholeSession};
 ghost use Rattle.vm_memory_c.specs.Handle.{handle_owns};
@@ -9,7 +9,7 @@ use std::marker::Model;
 use std::ptr::null_mut;
 use vm_session::Session;
 
-/// Where a session lies, if it is open.
+/// A pointer to a session, if it is open.
 #[repr(C)]
 #[derive(Drop)]
 pub struct Handle {

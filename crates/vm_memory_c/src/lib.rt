@@ -15,7 +15,7 @@ use std::alloc::Global;
 use std::mem;
 use vm_session::{Answer, Call, Miss, Session};
 
-/// Opens a session, and puts its handle into `session`, which has to be closed or new. Answers 0, or 3 where the
+/// Opens a session, and puts its handle into `session`, which has to be closed or new. Returns 0, or 3 if the
 /// allocation fails, and then the handle stays.
 #[unsafe(no_mangle)]
 pub extern "C" fn vmm_open(alloc: Global, session: &mut Handle) -> u32
@@ -30,7 +30,7 @@ pub extern "C" fn vmm_open(alloc: Global, session: &mut Handle) -> u32
     }
 }
 
-/// Answers a call of an open session. If a table refused it, `miss` is what it missed first, and else `miss` stays.
+/// Makes a call of an open session. If a table refused it, `miss` is what it missed first, and otherwise `miss` stays.
 #[unsafe(no_mangle)]
 pub extern "C" fn vmm_call(
     alloc: Global,

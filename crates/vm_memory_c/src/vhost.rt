@@ -64,7 +64,7 @@ pub extern "C" fn vmm_vhost_wanted(start: &[u8], rest: &mut VhostWanted) -> u32
     vhost_calls::wanted(start, rest)
 }
 
-/// Takes a message that came with so many descriptors, and says in `request` what it asks for. If it is refused,
+/// Takes a message and how many descriptors came with it, and puts into `request` what it asks for. If it is refused,
 /// nothing changes.
 #[unsafe(no_mangle)]
 pub extern "C" fn vmm_vhost_handle(
@@ -121,7 +121,7 @@ pub extern "C" fn vmm_vhost_refuse(
     count
 }
 
-/// Says the index at which a stopped ring goes on.
+/// Sets the index at which a stopped ring goes on.
 #[unsafe(no_mangle)]
 pub extern "C" fn vmm_vhost_stop(
     alloc: Global,

@@ -74,14 +74,14 @@ access_len [] = 0
 access_len (e ∷ es) = if e.ends then 1 else access_len es + 1
 
 module _ (regions : List Region) (route : Route) (access : Permissions) where
-  -- what the first entry of a text meets: where an access begins with it that is not allowed, its refusal, and
+  -- what the first entry of a text meets: if an access begins with it that is not allowed, its refusal, and
   -- else what its address meets
   abbrev pub meets_entry : Bool → Entry → List Entry → Meets
   meets_entry begins e es = if begins && not (allowed route e.address (access_len (e ∷ es)) access)
       then Stops (refusal route e.address (access_len (e ∷ es)))
       else meets regions route e.address 0
 
-  -- the bytes of a text that are reached, up to the first that is not, where an access begins with the text or not
+  -- the bytes of a text that are reached, up to the first that is not, whether an access begins with the text or not
   unfoldable pub text_path : Bool → List Entry → List Reached
   text_path begins [] = []
   text_path begins (e ∷ es) = onto (meets_entry begins e es) (text_path e.ends es)
@@ -118,7 +118,7 @@ pub record MayWantAt (m : Memory) (tables : List Table) (access : Permissions) (
   pub begins : begins_at true es k ≡ true
   pub reached : k ≤ length (extent_of m tables access es).path
 
--- a call over this text reached what there is. Or it ended before an access that there was no memory to translate
+-- a call over this text reached what there is. Or it ended before an access whose translation failed to allocate
 abbrev pub Extends : Memory → List Table → Permissions → List Entry → Extent → Type 0
 Extends m tables access es x = (x ≡ extent_of m tables access es)
     ⊎ ((k : ℕ) × MayWantAt m tables access es k

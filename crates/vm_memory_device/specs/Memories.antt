@@ -16,7 +16,7 @@ abbrev pub memory_meant : {R I : Type 0} → (R → Region) → (I → ℕ) → 
 memory_meant region number (Plain rs) = plain (map region rs)
 memory_meant region number (Translated m) = behind (map region m.backend) (number m.iommu) m.space m.on
 
--- its regions fit where each of their type does
+-- its regions fit if each of their type does
 pub each_fits : {R I : Type 0} (region : R → Region) → ((r : R) → IsRegion (region r)) → (number : I → ℕ)
     → (m : MachineMemory R I) → All IsRegion (memory_meant region number m).regions
 each_fits region fits number (Plain rs) = each_is_region region fits rs

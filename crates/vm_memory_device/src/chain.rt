@@ -70,7 +70,7 @@ impl Model for Chain {
 }
 
 impl Chain {
-    /// The chain of these segments, which may be none. They are tested in order, each for `Range`, for `Order`, and for
+    /// The chain of these segments. There may be none. They are tested in order, each for `Range`, for `Order`, and for
     /// `TooLong` together with those before it. It allocates nothing.
     #[inline(always)]
     pub fn new(segments: Vec<Segment>) -> Result<Chain, ChainFault>

@@ -1,4 +1,4 @@
-//! What a device has of guest memory: accesses through an IOMMU, and chains of descriptors.
+//! What a device uses of guest memory: accesses through an IOMMU, and chains of descriptors.
 #![tactic(auto)]
 
 mod chain;

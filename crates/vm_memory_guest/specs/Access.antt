@@ -75,7 +75,7 @@ unfoldable pub first_fault : (ℕ → Meets) → ℕ → ℕ → Option AccessFa
 first_fault m i zero = None
 first_fault m i (suc n) = or_fault (m i) (first_fault m (i + 1) n)
 
--- there is a cut between two neighbouring bytes where their regions or their mappings differ
+-- there is a cut between two neighbouring bytes if their regions or their mappings differ
 abbrev pub same_mappings : Option Mapping → Option Mapping → Bool
 same_mappings None None = true
 same_mappings (Some m) (Some n) = same_mapping m n

@@ -1,4 +1,4 @@
--- What accesses answer, and how a buffer is filled.
+-- What accesses return, and how a buffer is filled.
 use Rattle.std.specs.Prelude.{◌≡◌, ◌⊎◌, ℕ, ◌-◌, ◌==◌, nat_lt, if◌then◌else◌, min, List, [], ◌∷◌, ◌++◌, drop, length, Option, Some, None, option_map, Result, Ok, Err}
 use Rattle.vm_memory_base.specs.declared.io.VolatileMemoryError.{VolatileMemoryError}
 use Rattle.vm_memory_base.specs.declared.io.VolatileMemoryError.TheVariants.{OutOfBounds}
@@ -10,19 +10,19 @@ pub record Reach (E : Type 0) : Type 0 where
   pub windows : List Window
   pub fault : Option E
 
--- what is reached, with what stops it told as an error
+-- what is reached, with what stops it as an error
 abbrev pub told : {F E : Type 0} → (F → E) → Reach F → Reach E
 told error reach = record { windows = reach.windows; fault = option_map error reach.fault }
 
 module _ {E : Type 0} where
-  -- a call answered what is expected and left its effect. Or it answered that there was no memory, where it
-  -- may want some, and left everything
+  -- a call returned what is expected and left its effect. Or it returned that an allocation failed, if it
+  -- may make one, and left everything
   abbrev pub Outcome : {T : Type 0} → E → Type 0 → Result T E → Type 0 → Type 0 → Result T E → Type 0
   Outcome memory may_want expected unchanged effect (Ok value) = (Ok value ≡ expected) × effect
   Outcome memory may_want expected unchanged effect (Err e) =
       ((e ≡ memory) × may_want × unchanged) ⊎ ((Err e ≡ expected) × effect)
 
--- n bytes of a window from an offset on: as many as it has, and none where the offset is past its last byte. To
+-- n bytes of a window from an offset on: as many as it has, and none if the offset is past its last byte. To
 -- reach none of none nothing stops
 abbrev pub window_reach : Window → ℕ → ℕ → Reach VolatileMemoryError
 window_reach w offset n = if n == 0

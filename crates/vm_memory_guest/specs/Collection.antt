@@ -14,7 +14,7 @@ pub record IsIndexed (regions : List Region) (numbers : List ℕ) : Type 0 where
   pub layout : IsLayout regions
   pub starts : numbers ≡ map (λ r. r.start) regions
 
--- where each value of a type is a region, each of a list is
+-- if each value of a type is a region, each of a list is
 pub each_is_region : {R : Type 0} (region : R → Region) → ((r : R) → IsRegion (region r))
     → (rs : List R) → All IsRegion (map region rs)
 each_is_region region fits [] = All-nil IsRegion

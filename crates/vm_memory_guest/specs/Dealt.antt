@@ -1,4 +1,4 @@
--- Transfers from a source or to a sink that tells what it does, computed: its outcomes are dealt to windows in
+-- Transfers from a source or to a sink that says what it does, computed: its outcomes are dealt to windows in
 -- order.
 use Rattle.std.specs.Prelude.{ℕ, ◌+◌, ◌-◌, ◌==◌, Bool, true, false, if◌then◌else◌, List, [], ◌∷◌, length, Option, Result, Ok, Err}
 use Rattle.vm_memory_base.specs.Pages.{PageSet}
@@ -11,7 +11,7 @@ use Rattle.vm_memory_guest.specs.Transfer.{marked_of, ended}
 use Rattle.vm_memory_guest.specs.Typed.{answered}
 use Rattle.vm_memory_guest.specs.Window.{Window, cells_of, part}
 
--- what follows the move of a window, behind so many bytes: the others, where it was moved whole
+-- what follows the move of a window, after n bytes: the others, if it was moved whole
 abbrev pub after_move : {E X : Type 0} → (VolatileMemoryError → E) → ℕ → Window → X → Answer
     → (ℕ → Made E X) → Made E X
 after_move failure total w x (Ok count) more =
@@ -30,7 +30,7 @@ module _ {E X : Type 0} (failure : VolatileMemoryError → E) (fault : Option E)
 abbrev pub dirty_window : Window → Host PageSet → Host PageSet
 dirty_window w host = marks_pages w.bitmap.id w.bitmap.base w.size host
 
--- one try of a source beside a host: its bytes come to the front of the window. What it told is marked, or all
+-- one try of a source with a host: its bytes come to the front of the window. What it reported is marked, or all
 -- after a failure
 abbrev pub lent : Window → List Next × Host PageSet → Made VolatileMemoryError (List Next × Host PageSet)
 lent w x =
@@ -48,7 +48,7 @@ dealt true w x =
     let m = whole_of (λ filled. again (lent (part w filled (w.size - filled)))) w.size x in
     record { answer = counted_as m.count m.stop; left = m.left }
 
--- what was dealt: the answer, what the source does next, and the host
+-- what was dealt: the result, what the source does next, and the host
 pub record Dealt (E : Type 0) : Type 0 where
   pub answer : Result ℕ E
   pub left : List Next
@@ -61,13 +61,13 @@ received failure fault until_full ws total source host =
     let m = in_order failure fault (dealt until_full) ws total (source, host) in
     record { answer = m.answer; left = m.left.0; host = m.left.1 }
 
--- the bytes of a window are offered to a sink, which took so many before, until all are taken
+-- the bytes of a window are offered to a sink, which took N before, until all are taken
 abbrev pub sent_whole : Window → Sink × ℕ → Made VolatileMemoryError (Sink × ℕ)
 sent_whole w x =
     let s = sent w.size x.0 in
     record { answer = answered (λ all. w.size) (sent_as s.stop); left = (s.left, x.1 + s.count) }
 
--- what a sink was dealt: the answer, how many bytes it took, and what it does next
+-- what a sink was dealt: the result, how many bytes it took, and what it does next
 pub record Given (E : Type 0) : Type 0 where
   pub answer : Result ℕ E
   pub taken : ℕ

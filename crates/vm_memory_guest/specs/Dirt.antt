@@ -36,7 +36,7 @@ path_marks xs = map (λ x. (x.bitmap, x.mark)) xs
 abbrev pub window_marks : Window → List (BitmapId × ℕ)
 window_marks w = map (λ offset. (w.bitmap.id, offset)) (numbers w.bitmap.base w.size)
 
--- the pages of a named bitmap. Where there is no such bitmap, there are none
+-- the pages of a named bitmap. If there is no such bitmap, there are none
 abbrev pub pages_at : BitmapId → Host PageSet → PageSet
 pages_at (Block block) host = slice_index_or host.bitmaps block None
 pages_at (Space space) host = slice_index_or host.spaces space None

@@ -7,7 +7,7 @@ use Rattle.vm_memory_guest.specs.Access.{AccessFault, NoRegion, NoHostBytes, Ref
 use Rattle.vm_memory_guest.specs.declared.region.error.GuestMemoryError.{GuestMemoryError}
 use Rattle.vm_memory_guest.specs.declared.region.error.GuestMemoryError.TheVariants.{IOError, InvalidBackendAddress, InvalidGuestAddress, HostAddressNotAvailable, IommuError, PartialBuffer, Memory}
 
--- the error that a fault is told as
+-- the error that stands for a fault
 abbrev pub error_of : AccessFault → GuestMemoryError
 error_of (NoRegion a) = InvalidGuestAddress (record { 0 = a })
 error_of NoHostBytes = HostAddressNotAvailable

@@ -15,7 +15,7 @@ pub record Shape : Type 0 where
   pub spaces : ℕ
   pub tables : ℕ
 
--- the host with one more block, of so many zeroed bytes
+-- the host with one more block, of N zeroed bytes
 abbrev pub with_block : {B : Type 0} → Host B → ℕ → B → Host B
 with_block host size bitmap = record host {
   blocks = host.blocks ++ replicate size 0 ∷ [];

@@ -4,13 +4,13 @@ use Rattle.vm_memory_guest.specs.Region.{Region}
 use Rattle.vm_memory_guest.specs.declared.region.error.GuestRegionCollectionError.{GuestRegionCollectionError}
 use Rattle.vm_memory_guest.specs.declared.region.error.GuestRegionCollectionError.TheVariants as layout
 
--- one region more, in its place: before the first that starts above it, so behind any that starts where it does
+-- one region more, in its place: before the first that starts above it, so after any that starts where it does
 abbrev pub inserted : {R : Type 0} → (R → Region) → List R → R → List R
 inserted region [] new = new ∷ []
 inserted region (r ∷ rs) new =
     if nat_lt (region new).start (region r).start then new ∷ r ∷ rs else r ∷ inserted region rs new
 
--- an error tells the fault of regions, or the want of memory, which may come first
+-- an error says what is wrong with regions, or that an allocation failed, which may come first
 abbrev pub IsFault : Option GuestRegionCollectionError → GuestRegionCollectionError → Type 0
 IsFault fault e = (e ≡ layout.Memory) ⊎ (fault ≡ Some e)
 
@@ -18,7 +18,7 @@ IsFault fault e = (e ≡ layout.Memory) ⊎ (fault ≡ Some e)
 abbrev pub is_exactly : ℕ → ℕ → Region → Bool
 is_exactly base size r = r.start == base && r.len == size
 
--- one region was taken out behind another: the others, and it
+-- one region was taken out after another: the others, and it
 abbrev pub behind_first : {R : Type 0} → R → Option (List R × R) → Option (List R × R)
 behind_first r None = None
 behind_first r (Some p) = Some (r ∷ p.0, p.1)

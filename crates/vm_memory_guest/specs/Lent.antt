@@ -33,7 +33,7 @@ pub record MarksChanges (ws : List Window) (old new : Host PageSet) : Type 0 whe
       → is_dirty_at (pages_at id new) offset ≡ true
   pub bytes : (cell : Cell) → (byte_at new.blocks cell ≡ byte_at old.blocks cell) ⊎ IsMarked ws cell new
 
--- whether a step of a source is no failure, or one by an error that passes the test
+-- whether a step of a source is not a failure, or fails with an error that passes the test
 abbrev pub fails_as : (VolatileMemoryError → Bool) → Next → Bool
 fails_as test (Gives bytes) = true
 fails_as test (Fails scribble e) = test e

@@ -11,7 +11,7 @@ pub record Translation : Type 0 where
   pub table : ℕ
   pub space : ℕ
 
--- an IOMMU: what memory lies behind where it is on, and whether it is
+-- an IOMMU: what memory lies behind if it is on, and whether it is
 pub record Switched : Type 0 where
   pub behind : Translation
   pub on : Bool
@@ -21,7 +21,7 @@ pub record Memory : Type 0 where
   pub regions : List Region
   pub iommu : Option Switched
 
--- what a memory lies behind: nothing where its IOMMU is off
+-- what a memory lies behind: nothing if its IOMMU is off
 abbrev pub behind_if : Bool → Translation → Option Translation
 behind_if false b = None
 behind_if true b = Some b
@@ -50,12 +50,12 @@ route_behind (Some b) tables = Through (says_of (slice_get tables b.table)) b.sp
 abbrev pub route : Memory → List Table → Route
 route memory tables = route_behind (behind_of memory.iommu) tables
 
--- what is said of addresses on the way: nothing where they are physical as they are
+-- what is said of addresses on the way: nothing if they are physical as they are
 abbrev pub said_on : Route → Says
 said_on Direct = says_nothing
 said_on (Through f space) = f
 
--- the mapping of the byte i of an access at a, where its address is translated and has one
+-- the mapping of the byte i of an access at a, if its address is translated and has one
 abbrev pub mapping_of : Route → ℕ → ℕ → Option Mapping
 mapping_of route a i = said_on route (a + i)
 
@@ -69,7 +69,7 @@ abbrev pub physical : Route → ℕ → ℕ → ℕ
 physical Direct a i = step a i
 physical (Through f space) a i = translated (a + i) (f (a + i))
 
--- what a memory names: the bytes of its regions, and its table and space, also where its IOMMU is off
+-- what a memory names: the bytes of its regions, and its table and space, even if its IOMMU is off
 abbrev pub switched_names : Option Switched → List Name
 switched_names None = []
 switched_names (Some s) = host.Tlb s.behind.table ∷ host.Space s.behind.space ∷ []

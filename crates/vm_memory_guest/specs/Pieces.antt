@@ -9,7 +9,7 @@ use Rattle.vm_memory_guest.specs.Region.{Region}
 use Rattle.vm_memory_guest.specs.Walk.{walk_of}
 use Rattle.vm_memory_guest.specs.Window.{Window}
 
--- one walk, and behind it another, unless something stops the first
+-- one walk, and after it another, unless something stops the first
 abbrev pub unless_stopped : List Window → Option AccessFault → Reach AccessFault → Reach AccessFault
 unless_stopped ws None rest = record { windows = ws ++ rest.windows; fault = rest.fault }
 unless_stopped ws (Some fault) rest = record { windows = ws; fault = Some fault }
@@ -31,7 +31,7 @@ marking_from space x (w ∷ ws) =
 abbrev pub marking : ℕ → ℕ → Reach AccessFault → Reach AccessFault
 marking space x walk = record { windows = marking_from space x walk.windows; fault = walk.fault }
 
--- what is left of such a walk behind the piece that it goes through: pieces, and the space that it marks, from
+-- what is left of such a walk after the piece that it goes through: pieces, and the space that it marks, from
 -- an address on
 pub record PiecesLeft : Type 0 where
   pub regions : List Region
@@ -39,7 +39,7 @@ pub record PiecesLeft : Type 0 where
   pub space : ℕ
   pub iova : ℕ
 
--- what a walk has left that goes through one piece alone, or through pieces of which it has these left
+-- what is left of a walk through one piece, or through pieces of which these are left
 abbrev pub left_of : Reach AccessFault → Option PiecesLeft → Reach AccessFault
 left_of walk None = walk
 left_of walk (Some p) = marking p.space p.iova (followed_by walk (walk_of_pieces p.regions p.pieces))

@@ -16,15 +16,15 @@ use Rattle.vm_memory_guest.specs.declared.host.address.HostAddress.{HostAddress}
 abbrev pub bitmap_from : Cell → BitmapRef
 bitmap_from first = record { id = Block first.block; base = first.offset }
 
--- an offset of a region, where there is an address at it
+-- an offset of a region, if there is an address at it
 abbrev pub offset_in : Region → ℕ → Option MemoryRegionAddress
 offset_in r offset = if nat_lt offset r.len then Some (record { 0 = offset }) else None
 
--- the offset of an address, where the region holds it
+-- the offset of an address, if the region holds it
 abbrev pub offset_of : Region → ℕ → Option MemoryRegionAddress
 offset_of r a = if has_address r a then Some (record { 0 = a - r.start }) else None
 
--- where the byte at an offset of a region is, whose first byte is there
+-- where the byte at an offset of a region is, given the place of its first byte
 abbrev pub host_address_from : Option Cell → ℕ → ℕ → Result HostAddress GuestMemoryError
 host_address_from None len offset = Err HostAddressNotAvailable
 host_address_from (Some first) len offset = if nat_lt offset len
@@ -44,15 +44,15 @@ greatest_last [] = 0
 greatest_last (r ∷ rs) = max (last r) (greatest_last rs)
 
 module _ {R : Type 0} (region : R → Region) (rs : List R) where
-  -- an address, where a region holds it
+  -- an address, if a region holds it
   abbrev pub address_in : ℕ → Option GuestAddress
   address_in a = option_map (λ r. record { 0 = a }) (containing_in region rs a)
 
-  -- the address so far above another, where that is an address and a region holds it
+  -- the address so far above another, if that is an address and a region holds it
   abbrev pub address_above : ℕ → ℕ → Option GuestAddress
   address_above base offset = if nat_lt (base + offset) (2 ^ 64) then address_in (base + offset) else None
 
-  -- what the region that holds an address answers at its offset there
+  -- what the region that holds an address returns for its offset there
   abbrev pub region_answer : {T : Type 0} → (Region → ℕ → Result T GuestMemoryError) → ℕ → Option R
       → Result T GuestMemoryError
   region_answer ask a None = Err (InvalidGuestAddress (record { 0 = a }))

@@ -15,7 +15,8 @@ range_error addr size =
     if size == 0 || nat_le (2 ^ 63) size then Some (MmapRegion block.InvalidSize)
     else if nat_le (2 ^ 64) (addr.0 + size) then Some InvalidGuestRegion else None
 
--- what is told of a range that was refused: why it makes no region, or else that its block found no memory
+-- the error of a range that was refused: why it does not make a region, or else that the allocation of its block
+-- failed
 abbrev pub range_refusal : GuestAddress → ℕ → FromRangesError
 range_refusal addr size = unwrap_or (range_error addr size) (MmapRegion block.Memory)
 
@@ -47,11 +48,11 @@ HasBlocks made [] old new = new ≡ old
 HasBlocks {B} made (r ∷ rs) old new =
     (bitmap : B) × made r.1 bitmap × HasBlocks made rs (with_block old r.1 bitmap) new
 
--- what is told where a range is refused, or behind the last that the regions make no layout
+-- what is reported if a range is refused, or after the last that the regions make no layout
 abbrev pub refused_at : Option (GuestAddress × ℕ) → List Region → Option FromRangesError
 refused_at (Some r) rs = Some (range_refusal r.0 r.1)
 refused_at None rs = option_map Collection (layout_error rs)
 
--- behind the blocks of so many ranges a region, or the collection of all, found no memory
+-- after the blocks of a number of ranges were made, the allocation of a region, or of the collection, failed
 abbrev pub FoundNoMemory : ℕ → FromRangesError → Type 0
 FoundNoMemory blocks e = (0 < blocks) × (e ≡ Collection layout.Memory)

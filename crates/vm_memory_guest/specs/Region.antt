@@ -10,7 +10,7 @@ use Rattle.vm_memory_guest.specs.declared.region.error.GuestRegionCollectionErro
 use Rattle.vm_memory_guest.specs.declared.region.error.GuestRegionCollectionError.TheVariants as layout
 use Rattle.vm_memory_guest.specs.Host.{Name, Cell}
 
--- len addresses from start on, and the cell of the first where the region has host bytes: the others follow
+-- len addresses from start on, and the cell of the first if the region has host bytes: the others follow
 pub record Region : Type 0 where
   pub start : ℕ
   pub len : ℕ
@@ -112,7 +112,7 @@ abbrev pub layout_error : List Region → Option GuestRegionCollectionError
 layout_error [] = Some layout.NoMemoryRegion
 layout_error (r ∷ rs) = neighbours_error (r ∷ rs)
 
--- the fault of regions that an error tells: want of memory is none
+-- the fault of regions that an error reports: a failed allocation is not one
 abbrev pub fault_of : GuestRegionCollectionError → Option GuestRegionCollectionError
 fault_of layout.Memory = None
 fault_of e = Some e

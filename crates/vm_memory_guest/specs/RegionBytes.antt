@@ -1,4 +1,4 @@
--- Accesses of a region: those of the window of all its bytes, with their errors told as those of guest memory.
+-- Accesses of a region: those of the window of all its bytes, with their errors as those of guest memory.
 use Rattle.std.specs.Prelude.{ℕ, [], Some, Result, Ok, Err}
 use Rattle.std.specs.Result.{result_map_both}
 use Rattle.vm_memory_base.specs.declared.io.VolatileMemoryError.{VolatileMemoryError}
@@ -9,7 +9,7 @@ use Rattle.vm_memory_guest.specs.Typed.{aligned_of}
 use Rattle.vm_memory_guest.specs.Window.{Window}
 use Rattle.vm_memory_guest.specs.declared.region.error.GuestMemoryError.{GuestMemoryError}
 
--- an answer of a window, as guest memory tells it
+-- a result of a window, as guest memory reports it
 abbrev pub as_guest : {T : Type 0} → Result T VolatileMemoryError → Result T GuestMemoryError
 as_guest answer = result_map_both (λ x. x) of_window answer
 
@@ -21,7 +21,7 @@ reach_in (Ok w) offset n = told of_window (window_reach w offset n)
 abbrev pub region_reach : Region → ℕ → ℕ → Reach GuestMemoryError
 region_reach r offset n = reach_in (slice_of r 0 r.len) offset n
 
--- the window of a load or a store of so many bytes at an offset
+-- the window of a load or a store of N bytes at an offset
 abbrev pub place_in : Result Window GuestMemoryError → ℕ → ℕ → Result Window GuestMemoryError
 place_in (Err e) offset size = Err e
 place_in (Ok w) offset size = as_guest (aligned_of w offset size)

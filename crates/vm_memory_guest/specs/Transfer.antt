@@ -9,12 +9,12 @@ use Rattle.vm_memory_guest.specs.Host.{Host, bytes_at, written}
 use Rattle.vm_memory_guest.specs.Typed.{answered}
 use Rattle.vm_memory_guest.specs.Window.{Window, cells_of, part, window_from, subslice_of, MarksWindow}
 
--- how many bytes of so many that were lent to a source are marked: those that it told, or all after a failure
+-- how many of N bytes that were lent to a source are marked: those that it reported, or all after a failure
 abbrev pub marked_of : ℕ → Answer → ℕ
 marked_of size (Ok count) = count
 marked_of size (Err e) = size
 
--- the same, where the source was to fill all of them by itself
+-- the same, if the source was to fill all of them by itself
 abbrev pub touched_of : ℕ → Result (Unit {0}) ReadExactFault → ℕ
 touched_of size (Ok filled) = size
 touched_of size (Err fault) = fault.touched
@@ -25,7 +25,7 @@ filled_of size (Ok filled) = Ok size
 filled_of size (Err fault) = Err fault.error
 
 -- how the bytes of a window are moved: by one try, by tries of what is left until none is, or by the source
--- or the sink alone
+-- or only the sink
 pub data Moving : Type 0 where
   Once : Moving
   UntilWhole : Moving
@@ -36,7 +36,7 @@ abbrev pub filling : Bool → Moving
 filling true = UntilWhole
 filling false = Once
 
--- a source beside a host
+-- a source with a host
 abbrev pub beside : {S B : Type 0} → S → Host B → S × Host B
 beside source host = (source, host)
 
@@ -64,7 +64,7 @@ module _ {S B : Type 0} (source : S → Option (List Next)) (reads : S → List 
 module _ {S B : Type 0} (source : S → Option (List Next)) (reads : S → List ℕ → Answer → List ℕ → S → Type 0)
     (known : S → Option ℕ) (marks : B → ℕ → ℕ → B → Type 0) where
   -- to be filled by the source alone: its bytes are then these, and all of the window, or what the source
-  -- touched where it failed, is marked at once
+  -- touched if it failed, is marked at once
   pub record LendsWhole (w : Window) (old : S × Host B) (answer : Answer) (new : S × Host B) : Type 0 where
     pub bytes : List ℕ
     pub filled : Result (Unit {0}) ReadExactFault
@@ -101,7 +101,7 @@ module _ {S : Type 0} (sink : S → Option Sink) (taken : S → Option (List ℕ
   Takes UntilWhole = Sends
   Takes Alone = Sends
 
--- what is answered where a walk ended, after so many bytes: the fault that ended it, where there are none
+-- what is returned if a walk ended, after N bytes: the fault that ended it, if N is 0
 abbrev pub ended : {E : Type 0} → ℕ → Option E → Result ℕ E
 ended total None = Ok total
 ended total (Some e) = if total == 0 then Err e else Ok total
@@ -120,13 +120,13 @@ module _ {X E : Type 0} (told : VolatileMemoryError → E) (fault : Option E)
       (λ e. (answer ≡ Err (told e)) × (new ≡ mid))
 
 module _ {E : Type 0} where
-  -- the answer where all n bytes are wanted: the error for a transfer in part, where they are less
+  -- the result if all n bytes are wanted: the error for a transfer in part, if they are less
   abbrev pub all_of : (ℕ → ℕ → E) → ℕ → Result ℕ E → Result (Unit {0}) E
   all_of partial n (Ok total) = if total == n then Ok tt else Err (partial n total)
   all_of partial n (Err e) = Err e
 
-  -- a transfer moved the windows that are to be moved, and how that ended is told so. Or it answered that there
-  -- was no memory, where it may want some, and asked and changed nothing
+  -- a transfer moved the windows that are to be moved, and how that ended is returned. Or it returned that
+  -- an allocation failed, if it may, and it asked and changed nothing
   abbrev pub Transfers : {T X : Type 0} → E → Type 0 → (VolatileMemoryError → E) → Reach E
       → (Window → X → Answer → X → Type 0) → (Result ℕ E → Result T E) → X → Result T E → X
       → Type 0

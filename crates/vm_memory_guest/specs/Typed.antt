@@ -8,12 +8,12 @@ use Rattle.vm_memory_guest.specs.Window.{Window, subslice_of}
 use Rattle.vm_memory_guest.specs.declared.region.error.GuestMemoryError.{GuestMemoryError}
 use Rattle.vm_memory_guest.specs.declared.region.error.GuestMemoryError.TheVariants.{InvalidBackendAddress}
 
--- how many bytes the values of a type are told to take: their width, cut to 64 bits
+-- how many bytes the values of a type are said to take: their width, cut to 64 bits
 abbrev pub size_of : ℕ → ℕ
 size_of width = min width (2 ^ 64 - 1)
 
 module _ {E : Type 0} where
-  -- an answer that is made of what is given
+  -- a result that is made of what is given
   abbrev pub answered : {S T : Type 0} → (S → T) → Result S E → Result T E
   answered f (Ok x) = Ok (f x)
   answered f (Err e) = Err e
@@ -23,7 +23,7 @@ module _ {E : Type 0} where
   given (Ok w) = w ∷ []
   given (Err e) = []
 
--- the window of a load or a store at an offset of a window: so many bytes from there on, where their place in
+-- the window of a load or a store at an offset of a window: N bytes from there on, if their place in
 -- the block is a multiple of their number
 abbrev pub if_aligned : Result Window VolatileMemoryError → Result Window VolatileMemoryError
 if_aligned (Err e) = Err e
@@ -32,7 +32,7 @@ if_aligned (Ok w) = if w.offset % w.size == 0 then Ok w else Err (Misaligned w.o
 abbrev pub aligned_of : Window → ℕ → ℕ → Result Window VolatileMemoryError
 aligned_of w offset size = if_aligned (subslice_of w offset size)
 
--- the window of a load or a store in guest memory: the first that is reached, where it has all bytes and its
+-- the window of a load or a store in guest memory: the first that is reached, if it has all bytes and its
 -- place in the block is a multiple of their number
 abbrev pub first_aligned : ℕ → List Window → Option GuestMemoryError → Result Window GuestMemoryError
 first_aligned size [] None = Err InvalidBackendAddress
@@ -49,7 +49,7 @@ is_uncut [] = true
 is_uncut (x ∷ []) = true
 is_uncut (x ∷ y ∷ xs) = not (is_cut x y) && is_uncut (y ∷ xs)
 
--- the bytes of a load or a store in guest memory: all that are reached, where none is missing, there is no cut
+-- the bytes of a load or a store in guest memory: all that are reached, if none is missing, there is no cut
 -- between them, and the first one's place in its block is a multiple of their number
 abbrev pub whole_path : ℕ → List Reached → Option GuestMemoryError → Result (List Reached) GuestMemoryError
 whole_path size [] None = Err InvalidBackendAddress

@@ -9,7 +9,7 @@ abbrev pub sum_of : ℕ → ℕ → Result ℕ VolatileMemoryError
 sum_of base offset =
     if nat_lt (base + offset) (2 ^ 64) then Ok (base + offset) else Err (Overflow base offset)
 
--- where so many bytes from base on end, in a memory of this size
+-- where N bytes from base on end, in a memory of this size
 abbrev pub end_of : ℕ → ℕ → ℕ → Result ℕ VolatileMemoryError
 end_of size base offset =
     if nat_lt (base + offset) (2 ^ 64)
@@ -21,11 +21,11 @@ pub record Elements : Type 0 where
   pub window : Window
   pub count : ℕ
 
--- the window of the value of this number, where each has so many bytes
+-- the window of the value of this number, if each has N bytes
 abbrev pub element_at : Elements → ℕ → ℕ → Window
 element_at elements size index = part elements.window (index * size) size
 
--- that many values of so many bytes each, where the window of as many bytes is asked of a memory. Their
+-- that many values of N bytes each, if the window of as many bytes is asked of a memory. Their
 -- number and their bytes are fewer than 2 ^ 63
 abbrev pub elements_in : ℕ → Result Window VolatileMemoryError → Result Elements VolatileMemoryError
 elements_in count (Ok w) = Ok (record { window = w; count = count })

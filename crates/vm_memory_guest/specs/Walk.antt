@@ -23,12 +23,12 @@ error_item (Some fault) = Err (error_of fault) ∷ []
 abbrev pub items_of : Reach AccessFault → List (Result Window GuestMemoryError)
 items_of walk = map (λ w. Ok w) walk.windows ++ error_item walk.fault
 
--- the windows alone: its error is the answer where it comes first, and else is not told
+-- the windows without the error: that is returned if it comes first, and otherwise dropped
 abbrev pub windows_before : List Window → Option AccessFault → Result (List Window) GuestMemoryError
 windows_before [] (Some fault) = Err (error_of fault)
 windows_before ws fault = Ok ws
 
--- the windows that are left, where this one comes next: with none there are no others
+-- the windows that are left, if this one comes next: with none there are no others
 abbrev pub windows_from : Option Window → List Window → List Window
 windows_from None ws = []
 windows_from (Some w) ws = w ∷ ws
@@ -59,6 +59,6 @@ RefusesAccess memory tables a n access e =
 abbrev pub NeedsPieces : Memory → List Table → ℕ → ℕ → Permissions → Type 0
 NeedsPieces memory tables a n access = IsOn memory × (0 < n) × (allowed (route memory tables) a n access ≡ true)
 
--- there was no memory for these pieces
+-- the allocation of these pieces failed
 abbrev pub WantsMemory : Memory → List Table → ℕ → ℕ → Permissions → GuestMemoryError → Type 0
 WantsMemory memory tables a n access e = (e ≡ errors.Memory) × NeedsPieces memory tables a n access

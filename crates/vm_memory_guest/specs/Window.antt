@@ -1,4 +1,4 @@
--- Windows: so many bytes of a block from an offset on, and the view of a bitmap that their writes mark.
+-- Windows: N bytes of a block from an offset on, and the view of a bitmap that their writes mark.
 use Rattle.std.specs.Prelude.{◌≡◌, ℕ, ◌+◌, nat_lt, List, [], ◌∷◌, sum_by, flat_map, slice_get, slice_set, Option, Some, MatchBool, ◌^◌, ◌-◌, if◌then◌else◌, nat_le, Result, Ok, Err}
 use Rattle.vm_memory_base.specs.Pages.{in_view}
 use Rattle.vm_memory_base.specs.declared.io.VolatileMemoryError.{VolatileMemoryError}
@@ -10,7 +10,7 @@ use Rattle.vm_memory_guest.specs.Host.{Host, Name, Cell, cells_from, written}
 use Rattle.vm_memory_base.specs.declared.bitmap.BitmapRef.{BitmapRef}
 use Rattle.vm_memory_guest.specs.declared.host.BlockId.{BlockId}
 
--- so many bytes of a block from an offset on, and the view of a bitmap that their writes mark
+-- N bytes of a block from an offset on, and the view of a bitmap that their writes mark
 pub record Window : Type 0 where
   pub block : BlockId
   pub offset : ℕ
@@ -54,14 +54,14 @@ part w offset len = record {
   bitmap = record { id = w.bitmap.id; base = in_view w.bitmap.base offset };
 }
 
--- `count` bytes of a window from an offset on: refused where their sum is no number of 64 bits, or passes the
+-- `count` bytes of a window from an offset on: refused if their sum is not a number of 64 bits, or passes the
 -- window's length
 abbrev pub subslice_of : Window → ℕ → ℕ → Result Window VolatileMemoryError
 subslice_of w offset count = if nat_lt (offset + count) (2 ^ 64)
     then (if nat_le (offset + count) w.size then Ok (part w offset count) else Err (OutOfBounds (offset + count)))
     else Err (Overflow offset count)
 
--- the bytes of a window from count on: refused where their place in the block is no number of 64 bits, or
+-- the bytes of a window from count on: refused if their place in the block is not a number of 64 bits, or
 -- passes the window's end
 abbrev pub window_from : Window → ℕ → Result Window VolatileMemoryError
 window_from w count = if nat_lt (w.offset + count) (2 ^ 64)

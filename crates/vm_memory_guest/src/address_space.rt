@@ -1,4 +1,4 @@
-//! What gives snapshots of guest memory.
+//! Types that give snapshots of guest memory.
 ghost use Rattle.std.specs.Prelude.{◌≡◌, IfOk};
 
 use crate::guest_memory::GuestMemory;
@@ -7,9 +7,9 @@ use std::rc::Rc;
 use std::sync::{Arc, Wait};
 use vm_memory_base::Lends;
 
-/// Gives snapshots of guest memory: of one that stays, or of one that another thread may replace.
+/// Gives snapshots of guest memory that stays the same, or that another thread may replace.
 ///
-/// A snapshot never changes, so that a device may use it as long as it likes.
+/// A snapshot never changes, so a device may use it for as long as it likes.
 ///
 /// ```text
 /// let snapshot = space.memory(&rt, alloc)?;
@@ -25,8 +25,8 @@ pub trait GuestAddressSpace {
     /// The memories that a snapshot taken now may be of.
     ghost may_be: { Self → Self.M → Type 0 };
 
-    /// A snapshot of the memory. It may wait for a lock. `AllocError` where the memory cannot be shared once
-    /// more, as it has 2^63 - 1 owners.
+    /// A snapshot of the memory. It may wait for a lock. `AllocError` if the memory cannot be shared once
+    /// more, because it has 2^63 - 1 owners.
     fn memory(&self, rt: &impl Wait, alloc: Global) -> Result<Self::T, AllocError>
         ensures { IfOk result (λ snapshot. may_be self.now (Self.T.lent snapshot)) };
 }

@@ -42,12 +42,12 @@ pub struct GuestMemoryAtomic<M: GuestMemory + Drop> {
 }
 
 impl<M: GuestMemory + Drop> GuestMemoryAtomic<M> {
-    /// Shares a memory. `AllocError` where an allocation fails.
+    /// Shares a memory. `AllocError` if an allocation fails.
     pub fn new(alloc: Global, memory: M) -> Result<GuestMemoryAtomic<M>, AllocError> {
         GuestMemoryAtomic::from_arc(alloc, Arc::new(alloc, memory)?)
     }
 
-    /// Shares a memory that is shared already. `AllocError` where the allocation of its locks fails.
+    /// Shares a memory that is shared already. `AllocError` if the allocation of its locks fails.
     pub fn from_arc(alloc: Global, memory: Arc<M>) -> Result<GuestMemoryAtomic<M>, AllocError> {
         let current = Current {
             memory: RwLock::new(memory),
@@ -68,7 +68,7 @@ impl<M: GuestMemory + Drop> GuestMemoryAtomic<M> {
     }
 
     /// A reader for one thread, which keeps a snapshot and renews it when the memory was replaced. It may wait for a
-    /// replacement that is being made. `AllocError` where the memory or its locks have 2^63 - 1 owners.
+    /// replacement that is being made. `AllocError` if the memory or its locks have 2^63 - 1 owners.
     pub fn reader(&self, rt: &impl Wait) -> Result<GuestMemoryReader<M>, AllocError> {
         let current = Arc::try_clone(&self.current)?;
         let (seen, snapshot) = current.snapshot(rt)?;
@@ -163,8 +163,8 @@ impl<M: GuestMemory + Drop> Deref for GuestMemoryLoadGuard<M> {
     }
 }
 
-/// A reader of a memory that may be replaced, for one thread: it keeps a snapshot, and looks at each call whether that
-/// is still of the last memory. `GuestMemoryAtomic::reader` makes it.
+/// A reader of a memory that may be replaced, for one thread: it keeps a snapshot, and checks at each call whether that
+/// is still of the current memory. `GuestMemoryAtomic::reader` makes it.
 ///
 /// As long as the memory is not replaced, a call takes no lock and writes nothing that threads share. A device thread
 /// asks its reader for the memory at each request:
@@ -187,13 +187,13 @@ pub struct GuestMemoryReader<M: GuestMemory + Drop> {
 }
 
 impl<M: GuestMemory + Drop> GuestMemoryReader<M> {
-    /// Lends the snapshot that the reader keeps, once it is of the last memory: where the memory was replaced since the
-    /// last call, a new snapshot takes the place of the old one first. Only then may it wait, for a replacement that
-    /// is being made. So each replacement that was made before the call is seen, and never an older memory after a
+    /// Lends the snapshot that the reader keeps, once it is of the current memory: if the memory was replaced since the
+    /// last call, a new snapshot replaces the old one first. Only then may it wait, for a replacement that
+    /// is being made. So each replacement made before the call is seen, and an older memory is never lent after a
     /// newer one.
     ///
-    /// What is lent stays as it is for as long as it is lent. Its clone stays longer, and may be kept while the reader
-    /// goes on. `AllocError` where the new memory has 2^63 - 1 owners. Then the reader keeps the old snapshot, and the
+    /// What is lent stays as it is for as long as it is lent. A clone of it may be kept while the reader
+    /// goes on. `AllocError` if the new memory has 2^63 - 1 owners. Then the reader keeps the old snapshot, and the
     /// next call tries again.
     #[inline(always)]
     pub fn memory(&mut self, rt: &impl Wait) -> Result<&GuestMemoryLoadGuard<M>, AllocError> {
@@ -222,7 +222,7 @@ pub struct GuestMemoryExclusiveGuard<'a, M: GuestMemory + Drop> {
 
 impl<'a, M: GuestMemory + Drop> GuestMemoryExclusiveGuard<'a, M> {
     /// Replaces the memory, and ends the turn. It waits for snapshots that are being taken. Snapshots that were
-    /// taken before stay as they are. `AllocError` where the allocation to share the new memory fails, and then the
+    /// taken before stay as they are. `AllocError` if the allocation to share the new memory fails, and then the
     /// old one stays.
     pub fn replace(self, rt: &impl Wait, alloc: Global, memory: M) -> Result<(), AllocError> {
         let memory = Arc::new(alloc, memory)?;

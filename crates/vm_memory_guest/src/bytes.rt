@@ -16,8 +16,8 @@ use vm_memory_base::{AtomicAccess, Bitmap, ByteValued, ReadVolatile, WriteVolati
 
 /// Access to bytes by addresses of type `A`: an offset of a window or of a region, or an address of guest memory.
 ///
-/// An access reaches windows of the host that it is lent, one after the other, up to the first address at which there
-/// is no byte: docs/DEFINITIONS.md, "Accesses". A write moves the buffer into them and marks each at once. Every call
+/// An access reaches windows of the host that it is lent, one after the other, up to the first address where there
+/// is no byte: the crate's README.md, "Accesses". A write moves the buffer into them and marks each at once. Every call
 /// requires that the host holds what `self` names.
 ///
 /// ```text
@@ -48,7 +48,7 @@ pub trait Bytes<A>: Named {
     /// keeps it from moving more.
     ghost moved: { Self → List Table → A → ℕ → Permissions → Reach Self.E };
 
-    /// The same of a transfer that has to move all of these bytes.
+    /// The same for a transfer that has to move all of these bytes.
     ghost moved_whole: { Self → List Table → A → ℕ → Permissions → Reach Self.E };
 
     /// How a transfer in that has to fill all bytes fills a window.
@@ -57,12 +57,12 @@ pub trait Bytes<A>: Named {
     /// How a transfer out moves a window.
     ghost sending: { Moving };
 
-    /// The error for one of a source or a sink.
+    /// The error that stands for one of a source or a sink.
     ghost failure: { VolatileMemoryError → Self.E };
 
-    /// Writes the beginning of the buffer that fits, and answers how many bytes that is. Where no byte fits, the error
-    /// says why. An empty buffer answers 0, but for a region without host bytes, which refuses it. Behind an IOMMU
-    /// that is on, an access of a byte or more that it allows allocates. Where that fails, the error is `Memory`, and
+    /// Writes the beginning of the buffer that fits, and returns how many bytes that is. If no byte fits, the error
+    /// says why. For an empty buffer it returns 0, except that a region without host bytes refuses it. Behind an IOMMU
+    /// that is on, an access of a byte or more that it allows allocates. If that fails, the error is `Memory`, and
     /// nothing changes.
     fn write<B: Bitmap>(
         &self,
@@ -78,7 +78,7 @@ pub trait Bytes<A>: Named {
         ensures at_most { IfOk result (λ count. count ≤ length buf.now) }
         ensures shape { shape_of host.new ≡ shape_of host.old };
 
-    /// Reads into the beginning of the buffer, and answers how many bytes that is. Its errors are those of `write`.
+    /// Reads into the beginning of the buffer, and returns how many bytes that is. Its errors are those of `write`.
     fn read<B: Bitmap>(
         &self,
         host: &HostMemory<B>,
@@ -92,8 +92,8 @@ pub trait Bytes<A>: Named {
             (buf.new ≡ filled_buffer host.now.blocks (cells r.windows) buf.old) result }
         ensures at_most { IfOk result (λ count. count ≤ length buf.old) };
 
-    /// Writes the whole buffer. Where only its beginning fits, it writes that, and the error says how long it is.
-    /// Where no byte fits, the error says why, as in `write`.
+    /// Writes the whole buffer. If only its beginning fits, it writes that, and the error says how long it is.
+    /// If no byte fits, the error says why, as in `write`.
     fn write_slice<B: Bitmap>(
         &self,
         host: &mut HostMemory<B>,
@@ -107,8 +107,8 @@ pub trait Bytes<A>: Named {
             (Writes B.marks r.windows buf.now host.old host.new) result }
         ensures shape { shape_of host.new ≡ shape_of host.old };
 
-    /// Fills the whole buffer. Where only its beginning can be filled, it fills that, and the error says how long it
-    /// is. Where no byte can be read, the error says why, as in `read`.
+    /// Fills the whole buffer. If only its beginning can be filled, it fills that, and the error says how long it
+    /// is. If no byte can be read, the error says why, as in `read`.
     fn read_slice<B: Bitmap>(
         &self,
         host: &HostMemory<B>,
@@ -149,9 +149,9 @@ pub trait Bytes<A>: Named {
             (Unit {0}) (Unit {0}) result };
 
     /// Stores a value as one atomic integer, in one window and at a place in its block that is a multiple of the
-    /// value's size. Every store is sequentially consistent, whichever order is asked for. A value that lies across
+    /// value's size. Every store is sequentially consistent, whatever order is asked for. A value that lies across
     /// two windows or at another place is refused: in guest memory and in a region as `InvalidBackendAddress`, in a
-    /// window as `OutOfBounds`, `Overflow` or `Misaligned`. Other errors come as in `write`.
+    /// window as `OutOfBounds`, `Overflow` or `Misaligned`. Other errors are as in `write`.
     fn store<T: AtomicAccess, B: Bitmap>(
         &self,
         host: &mut HostMemory<B>,
@@ -167,7 +167,7 @@ pub trait Bytes<A>: Named {
         ensures shape { shape_of host.new ≡ shape_of host.old };
 
     /// Loads a value as one atomic integer, from one window and a place in its block that is a multiple of the value's
-    /// size. Every load is sequentially consistent, whichever order is asked for. Its errors are those of `store`.
+    /// size. Every load is sequentially consistent, whatever order is asked for. Its errors are those of `store`.
     fn load<T: AtomicAccess, B: Bitmap>(
         &self,
         host: &HostMemory<B>,
@@ -181,9 +181,9 @@ pub trait Bytes<A>: Named {
             (Unit {0}) (Unit {0}) result };
 
     /// Lends a source the windows of at most `count` bytes, one after the other, up to the first that it does not
-    /// fill, and answers how many bytes came. Where no window can be lent, the error says why. An interrupted try is
-    /// made again, at most 64 times in a row. Any other error of the source is answered at once. Each try marks what
-    /// it filled, or all that was lent where it failed.
+    /// fill, and returns how many bytes came. If no window can be lent, the error says why. An interrupted try is
+    /// made again, at most 64 times in a row. Any other error of the source is returned at once. Each try marks what
+    /// it filled, or all that was lent if it failed.
     fn read_volatile_from<F: ReadVolatile, B: Bitmap>(
         &self,
         host: &mut HostMemory<B>,
@@ -199,9 +199,9 @@ pub trait Bytes<A>: Named {
         ensures at_most { IfOk result (λ total. total ≤ count) }
         ensures shape { shape_of host.new ≡ shape_of host.old };
 
-    /// Fills `count` bytes from a source. In guest memory the error says how many bytes came, where the source ends
-    /// before, or the memory ends behind the first byte. A window or a region that lacks some of the bytes fills none;
-    /// where the source ends before, its error is `UnexpectedEof`. A failure of the source is answered.
+    /// Fills `count` bytes from a source. In guest memory the error says how many bytes came, if the source ends
+    /// early, or the memory ends after the first byte. A window or a region that lacks some of the bytes fills none;
+    /// if the source ends early, its error is `UnexpectedEof`. A failure of the source is returned.
     fn read_exact_volatile_from<F: ReadVolatile, B: Bitmap>(
         &self,
         host: &mut HostMemory<B>,
@@ -216,9 +216,9 @@ pub trait Bytes<A>: Named {
             (all_of partial count) (beside src.old host.old) result (beside src.new host.new) }
         ensures shape { shape_of host.new ≡ shape_of host.old };
 
-    /// Offers a sink the bytes of the windows of at most `count` bytes, one window after the other, and answers how
-    /// many it took. Where no byte can be offered, the error says why. An interrupted try is made again, at most 64
-    /// times in a row. Any other error of the sink is answered at once. No byte and no mark changes.
+    /// Offers a sink the bytes of the windows of at most `count` bytes, one window after the other, and returns how
+    /// many it took. If no byte can be offered, the error says why. An interrupted try is made again, at most 64
+    /// times in a row. Any other error of the sink is returned at once. No byte and no mark changes.
     fn write_volatile_to<F: WriteVolatile, B: Bitmap>(
         &self,
         host: &HostMemory<B>,
@@ -233,9 +233,9 @@ pub trait Bytes<A>: Named {
             (λ total. total) dst.old result dst.new }
         ensures at_most { IfOk result (λ total. total ≤ count) };
 
-    /// Offers a sink `count` bytes until it has taken them. In guest memory, where the memory ends behind the first
+    /// Offers a sink `count` bytes until it has taken them. In guest memory, if the memory ends after the first
     /// byte, the error says how many it took. A window or a region that lacks some of the bytes offers none. A sink
-    /// that takes none is `WriteZero`. A failure of the sink is answered. No byte and no mark changes.
+    /// that takes none is `WriteZero`. A failure of the sink is returned. No byte and no mark changes.
     fn write_all_volatile_to<F: WriteVolatile, B: Bitmap>(
         &self,
         host: &HostMemory<B>,

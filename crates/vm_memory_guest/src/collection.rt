@@ -52,7 +52,7 @@ impl<R: GuestMemoryRegion> GuestRegionCollection<R> {
         }
     }
 
-    /// The layout of these regions, in order, as `from_arc_regions` makes it. An allocation may fail before a fault of
+    /// The layout of these regions, in order, as `from_arc_regions` makes it. An allocation may fail before an error in
     /// the regions is found.
     pub fn from_regions(alloc: Global, regions: Vec<R>) -> Result<Self, GuestRegionCollectionError>
         ensures { MatchResult result
@@ -67,7 +67,7 @@ impl<R: GuestMemoryRegion> GuestRegionCollection<R> {
 
     /// The layout of these regions, in order. An empty list is `NoMemoryRegion`. The first two neighbours that are out
     /// of order are `UnsortedMemoryRegions` if the earlier starts above the later, and `MemoryRegionOverlap` otherwise.
-    /// `Memory` if an allocation fails; a fault of the regions is reported first.
+    /// `Memory` if an allocation fails; an error in the regions is reported first.
     pub fn from_arc_regions(regions: Vec<Arc<R>>) -> Result<Self, GuestRegionCollectionError>
         ensures { MatchResult result
             (λ c. (layout_error (map R.region (regions_of regions)) ≡ None) × (c ≡ regions_of regions))

@@ -26,7 +26,7 @@ use crate::volatile_memory::slice::VolatileSlice;
 use std::marker::Model;
 use vm_memory_base::{Bitmap, GuestAddress, MappedRange, Permissions};
 
-/// The windows of an access, translated or not, and then the error of what stopped it. After its end or an error
+/// The windows of an access, translated or not, and then the error that stopped it. After its end or an error
 /// it stays ended.
 #[derive(Drop)]
 pub struct IommuMemorySliceIterator<'a, M: GuestMemoryBackend> {
@@ -48,7 +48,7 @@ impl<'a, M: GuestMemoryBackend> Model for IommuMemorySliceIterator<'a, M> {
 
 impl<'a, M: GuestMemoryBackend> IommuMemorySliceIterator<'a, M> {
     /// The windows of pieces of physical addresses, one piece after the other, up to the first fault. They mark
-    /// the space, from the address `iova` on: behind the greatest address comes 0.
+    /// the space, from the address `iova` on: after the greatest address comes 0.
     pub fn of_pieces(
         backend: &'a M,
         pieces: Vec<MappedRange>,
@@ -98,7 +98,7 @@ impl<'a, M: GuestMemoryBackend> Iterator for IommuMemorySliceIterator<'a, M> {
     }
 }
 
-/// Guest memory: a backend, or one behind an IOMMU. Every type that implements it has `Bytes` by guest address. A
+/// Guest memory: a backend, alone or behind an IOMMU. Every type that implements it has `Bytes` by guest address. A
 /// call that is lent the host requires that it holds what the memory names.
 ///
 /// ```text
@@ -114,8 +114,8 @@ pub trait GuestMemory: Named {
     ghost memory: { Self → Memory };
 
     /// The windows of `count` bytes from an address on, and then the error of the first that is not there. An
-    /// access that the translation does not allow is refused at once with `IommuError`, also where its end passes
-    /// 2^64 - 1. `Memory` comes only with an IOMMU that is on and allows the access, and never for one of no byte.
+    /// access that the translation does not allow is refused at once with `IommuError`, even if its end passes
+    /// 2^64 - 1. `Memory` comes only if an IOMMU is on and allows the access, and never for no bytes.
     fn get_slices<B: Bitmap>(
         &self,
         host: &HostMemory<B>,
@@ -130,8 +130,8 @@ pub trait GuestMemory: Named {
             ⊎ RefusesAccess (memory self.now) host.now.tables addr.0 count access e) }
         ensures layout { IsLayout (memory self.now).regions };
 
-    /// Whether each of `count` bytes from an address on may be accessed so, and has a byte of the host. Of no
-    /// byte it is true. `Memory` comes as from `get_slices`, and no other error comes.
+    /// Whether each of `count` bytes from an address on may be accessed so, and has a byte of the host. For no
+    /// bytes it is true. The only error is `Memory`, as from `get_slices`.
     #[inline]
     fn check_range<B: Bitmap>(
         &self,
@@ -153,7 +153,7 @@ pub trait GuestMemory: Named {
         }
     }
 
-    /// The backend, where no IOMMU is on, so that its addresses are the memory's. Otherwise `None`.
+    /// The backend if no IOMMU is on, and its addresses are the memory's. Otherwise `None`.
     fn physical_memory(&self) -> Option<&Self::PhysicalMemory>
         ensures { let m = memory self.now in
             MatchOption result (IsOn m) (λ backend. (behind_of m.iommu ≡ None)
@@ -162,7 +162,7 @@ pub trait GuestMemory: Named {
     /// Its regions' addresses and offsets fit 64 bits.
     ghost each_fits: { (m : Self) → All IsRegion (memory m).regions };
 
-    /// It names the places of its regions' bytes, and its table and space, also where its IOMMU is off.
+    /// It names the places of its regions' bytes, and its table and space, even if its IOMMU is off.
     ghost names_memory: { (m : Self) → Self.names m ≡ memory_names (memory m) };
 }
 

@@ -40,7 +40,7 @@ pub enum MmapRegionError {
     Memory,
 }
 
-/// What a host holds. Its calls answer for any number: how long a block is, and which spaces and tables there are.
+/// What a host holds. Its calls take any number: how long a block is, and which spaces and tables there are.
 #[derive(Drop)]
 pub struct HostShape {
     blocks: Vec<usize>,
@@ -136,8 +136,8 @@ pub trait Named {
         ensures { IsTrue result ↔ Holds shape.now (names self.now) };
 }
 
-/// Host memory: all bytes, bitmaps, spaces and tables. Each kind is numbered from 0. A number names the same thing for
-/// good, and no block changes its length.
+/// Host memory: all bytes, bitmaps, spaces and tables. Each kind is numbered from 0. A number always names the same
+/// thing, and no block changes its length.
 #[derive(Drop)]
 pub struct HostMemory<B> {
     alloc: Global,
@@ -216,8 +216,8 @@ impl<B> HostMemory<B> {
         self.blocks[block.0].len()
     }
 
-    /// Makes a block of `size` zeroed bytes, tracked by a bitmap, and answers its number. `InvalidSize` for a size of
-    /// 0 or above 2^63 - 1, `Memory` where an allocation fails. Then nothing changes.
+    /// Makes a block of `size` zeroed bytes, tracked by a bitmap, and returns its number. `InvalidSize` for a size of
+    /// 0 or above 2^63 - 1, `Memory` if an allocation fails. Then nothing changes.
     pub fn new_block_with(&mut self, size: usize, bitmap: B) -> Result<BlockId, MmapRegionError>
     where
         B: Drop,
@@ -256,7 +256,7 @@ impl<B> HostMemory<B> {
         Ok(block)
     }
 
-    /// Makes a space, the pages of which `bitmap` tracks, and answers its number. `AllocError` where an allocation
+    /// Makes a space whose pages `bitmap` tracks, and returns its number. `AllocError` if an allocation
     /// fails, and then nothing changes.
     pub fn new_space(&mut self, bitmap: B) -> Result<SpaceId, AllocError>
     where
@@ -283,7 +283,7 @@ impl<B> HostMemory<B> {
         Ok(space)
     }
 
-    /// Makes a table that maps no address, and answers its number. `AllocError` where an allocation fails, and then
+    /// Makes a table that maps no address, and returns its number. `AllocError` if an allocation fails, and then
     /// nothing changes.
     pub fn new_table(&mut self) -> Result<TlbId, AllocError>
         ensures number { IfOk result (λ table. table.0 ≡ length self.old.tables) }
@@ -296,7 +296,7 @@ impl<B> HostMemory<B> {
         self.new_table_with(table)
     }
 
-    /// Takes in a table, which may have a limit or mappings, and answers its number. `AllocError` where an allocation
+    /// Adds a table, which may have a limit or mappings, and returns its number. `AllocError` if an allocation
     /// fails, and then nothing changes.
     pub fn new_table_with(&mut self, table: Iotlb) -> Result<TlbId, AllocError>
         ensures number { IfOk result (λ number. number.0 ≡ length self.old.tables) }

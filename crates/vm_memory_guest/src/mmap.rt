@@ -53,7 +53,7 @@ impl Model for MmapRegion {
 }
 
 impl MmapRegion {
-    /// Makes a block of `size` zeroed bytes in the host: `InvalidSize` for 0 or above 2^63 - 1, `Memory` where
+    /// Makes a block of `size` zeroed bytes in the host: `InvalidSize` for 0 or above 2^63 - 1, `Memory` if
     /// an allocation fails. A refusal changes nothing.
     pub fn new<B: NewBitmap + Drop>(
         host: &mut HostMemory<B>,
@@ -143,7 +143,7 @@ impl VolatileMemory for MmapRegion {
     ghost gives_whole = { λ r. subslice-whole (whole_window r) };
 }
 
-/// A block of a host at a guest address. One block may lie at several.
+/// A block of a host at a guest address. A block may lie at several addresses.
 #[derive(Clone, Copy, Debug)]
 pub struct GuestRegionMmap {
     mapping: MmapRegion,
@@ -166,7 +166,7 @@ impl Model for GuestRegionMmap {
 }
 
 impl GuestRegionMmap {
-    /// The block at a guest address, or `None` exactly where the address plus the size passes 2^64 - 1.
+    /// The block at a guest address, or `None` exactly if the address plus the size passes 2^64 - 1.
     pub fn new(mapping: MmapRegion, guest_base: GuestAddress) -> Option<Self>
         ensures fits { IsSome result ↔ (guest_base.0 + mapping.size < 2 ^ 64) }
         ensures value { IfSome result (λ r. (r.start ≡ guest_base.0) × (r.mapping ≡ mapping)) }
@@ -246,10 +246,10 @@ impl GuestMemoryRegion for GuestRegionMmap {
     }
 }
 
-/// Why ranges of addresses make no guest memory.
+/// Why ranges of addresses do not make guest memory.
 #[derive(Debug, Drop, Error)]
 pub enum FromRangesError {
-    /// The regions make no layout.
+    /// The regions do not make a layout.
     #[error("Error constructing guest region collection: {0}")]
     Collection(GuestRegionCollectionError),
     /// The block of a range was not made.
@@ -278,8 +278,8 @@ impl From<MmapRegionError> for FromRangesError {
 
 impl GuestRegionMmap {
     /// Makes a block of `size` zeroed bytes in the host, at a guest address. The size is tested first, as in
-    /// `MmapRegion::new`, and then that the address plus the size fits: `InvalidGuestRegion` where it does not.
-    /// A failed allocation is that of the mapping, `MmapRegion(Memory)`. A refusal of any kind adds no block.
+    /// `MmapRegion::new`, and then that the address plus the size fits: `InvalidGuestRegion` if it does not.
+    /// A failed allocation is `MmapRegion(Memory)`. No refusal adds a block.
     pub fn from_range<B: NewBitmap + Drop>(
         host: &mut HostMemory<B>,
         addr: GuestAddress,
@@ -311,11 +311,11 @@ impl GuestRegionMmap {
 
 impl GuestMemoryRegionBytes for GuestRegionMmap {}
 
-/// Guest memory of blocks of a host.
+/// Guest memory made of blocks of a host.
 pub type GuestMemoryMmap = GuestRegionCollection<GuestRegionMmap>;
 
 impl GuestRegionCollection<GuestRegionMmap> {
-    /// Guest memory of new blocks of zeroed bytes: each range has the first address and the size of one. The
+    /// Guest memory of new blocks of zeroed bytes: each range is the first address and the size of one. The
     /// blocks are made in order, as `GuestRegionMmap::from_range` does, and then the regions are tested as in
     /// `from_regions`. A failed allocation of a block is `MmapRegion(Memory)`, one of a shared region or of the
     /// collection `Collection(Memory)`. The blocks before a refusal stay in the host, and nothing names them.

@@ -12,10 +12,10 @@ use crate::host::address::HostAddress;
 use crate::volatile_memory::slice::VolatileSlice;
 use vm_memory_base::{BitmapRef, GuestAddress, GuestUsize, MemoryRegionAddress};
 
-/// A range of guest physical addresses, with or without host bytes: docs/DEFINITIONS.md, "Regions".
+/// A range of guest physical addresses, with or without host bytes: the crate's README.md, "Regions".
 ///
 /// A region with host bytes lies at one place of one block, and its windows mark that block's bitmap at
-/// the block's offsets. One without always answers `HostAddressNotAvailable`.
+/// the block's offsets. One without always returns `HostAddressNotAvailable`.
 ///
 /// ```text
 /// let window = region.get_slice(MemoryRegionAddress(0x10), 4)?;
@@ -37,7 +37,7 @@ pub trait GuestMemoryRegion: Named + Drop {
         ensures { result.0 ≡ last (region self.now) };
 
     /// The view of a bitmap that writes mark, from the region's first byte on: that of its block. A region without host
-    /// bytes answers any view, and nothing of it is ever marked.
+    /// bytes returns any view, and nothing of it is ever marked.
     fn bitmap(&self) -> BitmapRef
         ensures { IfSome (region self.now).place (λ first. result ≡ bitmap_from first) };
 
@@ -49,7 +49,7 @@ pub trait GuestMemoryRegion: Named + Drop {
         addr.0 < self.len()
     }
 
-    /// The offset, where there is an address at it, and otherwise `None`.
+    /// The offset, if there is an address at it, and otherwise `None`.
     #[inline]
     final fn check_address(&self, addr: MemoryRegionAddress) -> Option<MemoryRegionAddress>
         ensures { result ≡ offset_in (region self.now) addr.0 }
@@ -57,7 +57,7 @@ pub trait GuestMemoryRegion: Named + Drop {
         self.address_in_range(addr).then_some(addr)
     }
 
-    /// The offset that lies `offset` bytes above `base`, where there is an address at it, and otherwise `None`.
+    /// The offset that lies `offset` bytes above `base`, if there is an address at it, and otherwise `None`.
     #[inline]
     final fn checked_offset(
         &self,
@@ -70,7 +70,7 @@ pub trait GuestMemoryRegion: Named + Drop {
         self.check_address(MemoryRegionAddress(sum))
     }
 
-    /// The offset of an address, where the region holds it, and otherwise `None`.
+    /// The offset of an address, if the region holds it, and otherwise `None`.
     #[inline]
     final fn to_region_addr(&self, addr: GuestAddress) -> Option<MemoryRegionAddress>
         ensures { result ≡ offset_of (region self.now) addr.0 }
@@ -79,8 +79,8 @@ pub trait GuestMemoryRegion: Named + Drop {
         self.check_address(MemoryRegionAddress(offset))
     }
 
-    /// Where the byte at an offset is in the host. `HostAddressNotAvailable` where the region has no host bytes,
-    /// otherwise `InvalidBackendAddress` where there is no address at the offset.
+    /// Where the byte at an offset is in the host. `HostAddressNotAvailable` if the region has no host bytes,
+    /// otherwise `InvalidBackendAddress` if there is no address at the offset.
     #[inline]
     final fn get_host_address(&self, addr: MemoryRegionAddress) -> GuestMemoryResult<HostAddress>
         ensures { result ≡ host_address_of (region self.now) addr.0 }
@@ -89,7 +89,7 @@ pub trait GuestMemoryRegion: Named + Drop {
         Ok(window.host_address())
     }
 
-    /// The window of all bytes, or `HostAddressNotAvailable` where the region has no host bytes.
+    /// The window of all bytes, or `HostAddressNotAvailable` if the region has no host bytes.
     #[inline]
     final fn as_volatile_slice(&self) -> GuestMemoryResult<VolatileSlice>
         ensures { result ≡ slice_of (region self.now) 0 (region self.now).len }
@@ -97,8 +97,8 @@ pub trait GuestMemoryRegion: Named + Drop {
         self.get_slice(MemoryRegionAddress(0), self.len() as usize)
     }
 
-    /// The window of `count` bytes from `offset` on. `HostAddressNotAvailable` where the region has no host bytes,
-    /// otherwise `InvalidBackendAddress` where it passes the region's end.
+    /// The window of `count` bytes from `offset` on. `HostAddressNotAvailable` if the region has no host bytes,
+    /// otherwise `InvalidBackendAddress` if it passes the region's end.
     fn get_slice(
         &self,
         offset: MemoryRegionAddress,

@@ -1,4 +1,4 @@
-//! Windows of host memory, and what gives them.
+//! Windows of host memory, and types that give them.
 ghost use Rattle.std.specs.Prelude.{◌≡◌, ℕ, ◌-◌, ◌*◌, ◌^◌, ◌<◌, ◌↔◌, ◌&&◌, nat_lt, if◌then◌else◌, Result, Ok, Err, IsTrue, IfOk, IsOk};
 ghost use Rattle.vm_memory_base.specs.declared.io.VolatileMemoryError as error;
 ghost use Rattle.vm_memory_base.specs.declared.io.VolatileMemoryError.TheVariants.{TooBig};
@@ -15,7 +15,7 @@ use self::reference::VolatileRef;
 use self::slice::VolatileSlice;
 use vm_memory_base::{ByteValued, VolatileMemoryError, VolatileMemoryResult};
 
-/// The sum of two numbers, or `Overflow` where it is no 64-bit number.
+/// The sum of two numbers, or `Overflow` if it is not a 64-bit number.
 #[inline]
 pub fn compute_offset(base: usize, offset: usize) -> VolatileMemoryResult<usize>
     ensures { result ≡ sum_of base offset }
@@ -24,7 +24,7 @@ pub fn compute_offset(base: usize, offset: usize) -> VolatileMemoryResult<usize>
         .ok_or(VolatileMemoryError::Overflow { base, offset })
 }
 
-/// What gives windows of host memory, by offset and length in bytes.
+/// A type that gives windows of host memory, by offset and length in bytes.
 ///
 /// ```text
 /// let header = memory.get_slice(0, 16)?;
@@ -34,14 +34,14 @@ pub trait VolatileMemory {
     /// The number of its bytes.
     ghost size: { Self → ℕ };
 
-    /// What it gives of some bytes from an offset on.
+    /// What it gives for some bytes from an offset on.
     ghost slice: { Self → ℕ → ℕ → Result Window error.VolatileMemoryError };
 
     /// The number of bytes.
     fn len(&self) -> usize
         ensures { result ≡ size self.now };
 
-    /// The window of `count` bytes from `offset` on: `Overflow` where their sum passes 2^64 - 1, `OutOfBounds` where it
+    /// The window of `count` bytes from `offset` on: `Overflow` if their sum passes 2^64 - 1, `OutOfBounds` if it
     /// passes the length.
     fn get_slice(&self, offset: usize, count: usize) -> VolatileMemoryResult<VolatileSlice>
         ensures { result ≡ slice self.now offset count };
@@ -71,7 +71,7 @@ pub trait VolatileMemory {
         Ok(VolatileRef::new(slice))
     }
 
-    /// The `n` values from `offset` on. `TooBig` where their number, or that of their bytes, passes 2^63 - 1. Otherwise
+    /// The `n` values from `offset` on. `TooBig` if their number, or that of their bytes, passes 2^63 - 1. Otherwise
     /// it is refused as `get_slice` refuses their bytes.
     #[inline]
     final fn get_array_ref<T: ByteValued>(
@@ -86,8 +86,8 @@ pub trait VolatileMemory {
         Ok(VolatileArrayRef::new(slice, n))
     }
 
-    /// Where `offset` bytes from `base` on end. `Overflow` where that is no 64-bit number, `OutOfBounds` with that end
-    /// where it passes the length.
+    /// Where `offset` bytes from `base` on end. `Overflow` if that is not a 64-bit number, `OutOfBounds` with that end
+    /// if it passes the length.
     #[inline]
     final fn compute_end_offset(&self, base: usize, offset: usize) -> VolatileMemoryResult<usize>
         ensures { result ≡ end_of (size self.now) base offset }

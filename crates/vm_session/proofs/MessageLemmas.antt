@@ -19,7 +19,7 @@ use Rattle.vhost_message.specs.declared.iotlb.IotlbMessage.{IotlbMessage}
 use Rattle.vhost_message.specs.declared.iotlb.IotlbMessage.TheVariants as message
 use Rattle.vhost_iotlb.specs.declared.table.Refusal.{Refusal}
 use Rattle.vhost_iotlb.specs.declared.table.Refusal.TheVariants as refusal
-use Rattle.vhost_iotlb.specs.declared.user_memory.UserRegion.{UserRegion}
+use Rattle.vhost_message.specs.declared.regions.MemoryRegion.{MemoryRegion}
 use Rattle.vm_session.specs.Messages.{IsApplied, answer_of_applied}
 use Rattle.vm_session.specs.QueueCodes.{no_such}
 use Rattle.vm_session.specs.declared.call.Answer.{Answer}
@@ -54,7 +54,7 @@ module _ {B : Type 0} (pages : B → PageSet) where
   malformed_seen number (message.Miss iova access) calls old new h = (h.0, ap seen h.1)
   malformed_seen number (message.AccessFail iova access) calls old new h = (h.0, ap seen h.1)
 
-  pub applies_seen : (number : ℕ) (regions : List UserRegion) (m : IotlbMessage) (r : Result (Unit {0}) Refusal)
+  pub applies_seen : (number : ℕ) (regions : List MemoryRegion) (m : IotlbMessage) (r : Result (Unit {0}) Refusal)
       (calls : List TableEvent) (old new : Host B) → Applies number regions m r calls old new
       → Applies number regions m r calls (seen old) (seen new)
   applies_seen number regions m (Ok u) calls old new h = makes_seen number (call_of regions m) calls old new h

@@ -7,7 +7,7 @@ use Rattle.vm_memory.specs.State.{State}
 use Rattle.vm_memory.specs.declared.machine.setup.Setup as setups
 use Rattle.vm_memory.specs.declared.machine.setup.Setup.TheVariants as setup
 use Rattle.vhost_message.specs.declared.iotlb.IotlbMessage.{IotlbMessage}
-use Rattle.vhost_iotlb.specs.declared.user_memory.UserRegion.{UserRegion}
+use Rattle.vhost_message.specs.declared.regions.MemoryRegion.{MemoryRegion}
 use Rattle.vm_session.specs.Kinds.{is_access, is_message, is_table, is_work, kinds}
 use Rattle.vm_session.specs.Messages.{is_announced, regions_in}
 use Rattle.vm_session.specs.Retries.{Clears, IsServed, Readies, WholeSession, bound_of, forgotten, heard, is_due, is_sent, limit_made, limits_after, message_at, missed, noted, noted_miss}
@@ -34,19 +34,19 @@ no_message s call input o is none =
     otherwise (is_sent (slice_get kinds call.kind)) _ None (ap is_sent is ∙ none)
 
 -- nothing is remembered, and no table is emptied
-pub readies_none : (s : SessionState) (regions : List UserRegion) (p : Option (ℕ × IotlbMessage))
+pub readies_none : (s : SessionState) (regions : List MemoryRegion) (p : Option (ℕ × IotlbMessage))
     → Readies None regions p s s
 readies_none s regions None = refl
 readies_none s regions (Some p) = refl
 
 -- without a message nothing is emptied
-pub readies_same : (retry : Option Retry) (regions : List UserRegion) (p : Option (ℕ × IotlbMessage))
+pub readies_same : (retry : Option Retry) (regions : List MemoryRegion) (p : Option (ℕ × IotlbMessage))
     (old ready : SessionState) → p ≡ None → Readies retry regions p old ready → ready ≡ old
 readies_same retry regions p old ready none h =
     subst (λ (x : Option (ℕ × IotlbMessage)). Readies retry regions x old ready) none h
 
 -- queues stay
-pub readies_queues : (retry : Option Retry) (regions : List UserRegion) (p : Option (ℕ × IotlbMessage))
+pub readies_queues : (retry : Option Retry) (regions : List MemoryRegion) (p : Option (ℕ × IotlbMessage))
     (old ready : SessionState) → Readies retry regions p old ready → ready.queues ≡ old.queues
 readies_queues retry regions None old ready h = ap (λ (s : SessionState). s.queues) h
 readies_queues retry regions (Some p) old ready h = at (is_due retry p.0 && is_announced regions p.1) h

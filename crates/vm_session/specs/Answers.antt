@@ -35,7 +35,7 @@ code_of_kind WriteZero = 34
 code_of_kind UnexpectedEof = 35
 code_of_kind kind = 36
 
--- where a translation is refused, and where an IOMMU is misconfigured
+-- if a translation is refused, and if an IOMMU is misconfigured
 abbrev pub code_of_reason : Reason → ℕ
 code_of_reason MissingMapping = 42
 code_of_reason AccessNotAllowed = 43
@@ -80,7 +80,7 @@ abbrev pub number_of_truth : Bool → ℕ
 number_of_truth true = 1
 number_of_truth false = 0
 
--- what is answered where a command replies so. Of a transfer to a sink `count` is how many bytes it took
+-- what is answered if a command replies so. Of a transfer to a sink `count` is how many bytes it took
 abbrev pub answer_of : replies.Reply → Answer
 answer_of (reply.Layout number) = valued number
 answer_of (reply.MemoryMade number) = valued number
@@ -114,7 +114,7 @@ bytes_of (reply.Pieces pieces) = bytes_of_pieces pieces
 bytes_of (reply.Fails fails) = bytes_of_ranges fails.misses ++ bytes_of_ranges fails.access_fails
 bytes_of r = []
 
--- what is answered where a setup line replies so
+-- what is answered if a setup line replies so
 abbrev pub answer_of_setup : setups.SetupReply → Answer
 answer_of_setup (setup.BlockMade number) = valued number
 answer_of_setup (setup.SpaceMade number) = valued number

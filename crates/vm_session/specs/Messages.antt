@@ -11,14 +11,14 @@ use Rattle.vm_memory.specs.Memories.{table_of}
 use Rattle.vm_memory.specs.State.{State}
 use Rattle.vhost_iotlb.specs.Changes.{Applies}
 use Rattle.vhost_message.specs.Iotlb.{fields_in, message_in}
-use Rattle.vhost_iotlb.specs.UserMemory.{guest_of}
+use Rattle.vhost_message.specs.Regions.{guest_of}
 use Rattle.vhost_message.specs.declared.refusal.Malformed.{Malformed}
 use Rattle.vhost_message.specs.declared.refusal.Malformed.TheVariants as malformed
 use Rattle.vhost_message.specs.declared.iotlb.IotlbMessage.{IotlbMessage}
 use Rattle.vhost_message.specs.declared.iotlb.IotlbMessage.TheVariants as message
 use Rattle.vhost_iotlb.specs.declared.table.Refusal.{Refusal}
 use Rattle.vhost_iotlb.specs.declared.table.Refusal.TheVariants as refusal
-use Rattle.vhost_iotlb.specs.declared.user_memory.UserRegion.{UserRegion}
+use Rattle.vhost_message.specs.declared.regions.MemoryRegion.{MemoryRegion}
 use Rattle.vm_session.specs.Codes.{bad_call, coded, no_memory}
 use Rattle.vm_session.specs.QueueCodes.{no_such}
 use Rattle.vm_session.specs.Requests.{address}
@@ -27,15 +27,16 @@ use Rattle.vm_session.specs.declared.call.Call.{Call}
 
 -- ---- the input
 
--- a part of the front end's memory: where it begins there, where in guest memory, and how long it is
-abbrev pub region_in : List ℕ → UserRegion
+-- a region of the front end's memory: where it begins there, where in guest memory, and how long it is
+abbrev pub region_in : List ℕ → MemoryRegion
 region_in row = record {
-  user_address = from_le_bytes w64 (take 8 row);
   guest_address = address (from_le_bytes w64 (take 8 (drop 8 row)));
-  len = from_le_bytes w64 (take 8 (drop 8 (drop 8 row)));
+  size = from_le_bytes w64 (take 8 (drop 8 (drop 8 row)));
+  user_address = from_le_bytes w64 (take 8 row);
+  mmap_offset = 0;
 }
 
-abbrev pub regions_in : List ℕ → List UserRegion
+abbrev pub regions_in : List ℕ → List MemoryRegion
 regions_in rows = map region_in (first_chunks 24 (length rows / 24) rows)
 
 -- a message, and rows that are whole
@@ -81,21 +82,21 @@ is_update (message.Miss iova access) = false
 is_update (message.AccessFail iova access) = false
 
 -- an UPDATE of a range that the announced memory has
-abbrev pub is_announced : List UserRegion → IotlbMessage → Bool
+abbrev pub is_announced : List MemoryRegion → IotlbMessage → Bool
 is_announced regions (message.Update iova size user permissions) = is_some (guest_of regions user size)
 is_announced regions (message.Invalidate iova size) = false
 is_announced regions (message.Miss iova access) = false
 is_announced regions (message.AccessFail iova access) = false
 
 -- a message is applied to the table of this number
-abbrev pub IsApplied : ℕ → List UserRegion → IotlbMessage → State → Answer → State → Type 0
+abbrev pub IsApplied : ℕ → List MemoryRegion → IotlbMessage → State → Answer → State → Type 0
 IsApplied table regions m old a new =
     (r : Result (Unit {0}) Refusal) × (calls : List TableEvent) × (host : Host PageSet)
     × Applies table regions m r calls old.host host × (a ≡ answer_of_applied r) × (new ≡ record old { host = host })
 
--- the table takes a message: it is malformed, or it is applied. For the rows of an UPDATE memory may be wanting, and
+-- the table takes a message: it is malformed, or it is applied. The allocation for the rows of an UPDATE may fail, and
 -- then nothing changes
-abbrev pub Takes : ℕ → List UserRegion → Result IotlbMessage Malformed → State → Answer → State → Type 0
+abbrev pub Takes : ℕ → List MemoryRegion → Result IotlbMessage Malformed → State → Answer → State → Type 0
 Takes table regions (Err e) old a new = (a ≡ coded (code_of_malformed e)) × (new ≡ old)
 Takes table regions (Ok m) old a new = IsApplied table regions m old a new
     ⊎ (IsTrue (is_update m) × (a ≡ no_memory) × (new ≡ old))

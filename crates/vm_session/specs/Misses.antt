@@ -1,4 +1,4 @@
--- What an access misses in a table, as it is answered beside the refusal of a call.
+-- What an access misses in a table, as it is reported with the refusal of a call.
 use Rattle.std.specs.Prelude.{◌≡◌, ◌==◌, ◌||◌, ◌+◌, ℕ, Bool, nat_lt, if◌then◌else◌, List, [], ◌∷◌, Option, Some, None, option_map, slice_get, MatchBool, MatchOption}
 use Rattle.vm_memory_base.specs.Table.{Range}
 use Rattle.vm_memory_base.specs.declared.iotlb.Permissions.{Permissions}
@@ -51,6 +51,7 @@ access_of s kind.NeedsNotification call a = Some permissions.Read
 access_of s kind.BeginRequest call a = Some permissions.Read
 access_of s kind.WriteChain call a = Some permissions.Write
 access_of s kind.AddUsed call a = Some permissions.Write
+access_of s kind.CompleteChain call a = Some permissions.Write
 access_of s kind.DisableNotification call a = Some permissions.Write
 access_of s kind.FinishRequest call a = Some permissions.Write
 access_of s kind.EnableNotification call a = notified s call.first a
@@ -103,6 +104,6 @@ abbrev pub Misses : SessionState → Call → Answer → Miss → Type 0
 Misses now call a miss = MatchOption (slice_get kinds call.kind) (miss ≡ no_miss)
     (λ kind. MissesFor now call a kind miss)
 
--- what is missed is answered beside the refusal of a table, and of other answers nothing is
+-- what is missed is reported with the refusal of a table, and with other answers nothing is
 abbrev pub MissesIf : SessionState → Call → Answer → Miss → Miss → Type 0
 MissesIf now call a old new = MatchBool (is_untranslated a) (Misses now call a new) (new ≡ old)

@@ -10,7 +10,7 @@ use Rattle.vm_memory.specs.declared.machine.command.Command.TheVariants as comma
 use Rattle.vm_memory.specs.declared.machine.command.Reply.{Reply}
 use Rattle.vhost_message.specs.declared.iotlb.IotlbMessage.{IotlbMessage}
 use Rattle.vhost_message.specs.declared.iotlb.IotlbMessage.TheVariants as message
-use Rattle.vhost_iotlb.specs.declared.user_memory.UserRegion.{UserRegion}
+use Rattle.vhost_message.specs.declared.regions.MemoryRegion.{MemoryRegion}
 use Rattle.vm_session.specs.Kinds.{is_message, is_table, kinds}
 use Rattle.vm_session.specs.Messages.{is_announced, message_of, regions_in}
 use Rattle.vm_session.specs.Misses.{memory_of}
@@ -146,13 +146,13 @@ abbrev pub is_due : Option Retry → ℕ → Bool
 is_due None table = false
 is_due (Some r) table = r.table == table && is_again r.stage
 
--- all mappings of a table are taken back
+-- all addresses of a table are unmapped
 abbrev pub Clears : ℕ → SessionState → SessionState → Type 0
 Clears table old new = (r : Reply) × Step old.machine (command.InvalidateAll table) r new.machine
     × (new.queues ≡ old.queues)
 
 -- it is emptied before it takes an UPDATE that maps announced memory
-abbrev pub Readies : Option Retry → List UserRegion → Option (ℕ × IotlbMessage) → SessionState → SessionState → Type 0
+abbrev pub Readies : Option Retry → List MemoryRegion → Option (ℕ × IotlbMessage) → SessionState → SessionState → Type 0
 Readies retry regions None old new = new ≡ old
 Readies retry regions (Some p) old new =
     MatchBool (is_due retry p.0 && is_announced regions p.1) (Clears p.0 old new) (new ≡ old)

@@ -108,7 +108,7 @@ Does old e (worked kind) new = (slice_get kinds e.call.kind ≡ Some kind) × Is
     × OnBoth kind old e.call e.input e.before e.answer new e.after
 Does old e (wrote blocks) new = ⊥
 
--- a call is answered so, or in place of a miss that its table is too small
+-- a call is answered so, or instead of a miss that its table is too small
 abbrev pub IsToldAs : Answer → Answer → Type 0
 IsToldAs told a = (a ≡ told) ⊎ ((told.code ≡ 42) × (a ≡ record told { code = 53 }))
 
@@ -140,6 +140,7 @@ chain_at s number head = option_and_then (λ q. chain_of q head) (slice_get s.qu
 -- a call of a kind ends the flight of a chain of this head
 abbrev pub ends_flight : Kind → ℕ → ℕ → Bool
 ends_flight kind.AddUsed third head = third == head
+ends_flight kind.CompleteChain third head = third == head
 ends_flight kind.Forget third head = third == head
 ends_flight kind.ResetQueue third head = true
 ends_flight k third head = false

@@ -38,7 +38,7 @@ room_for old (command.Lookup table iova n access) =
     length (bytes_of (outcome old (command.Lookup table iova n access)).0)
 room_for old c = 0
 
--- a read fills a buffer as the call of a machine does, unless it wants memory
+-- a read fills a buffer as the call of a machine does, unless an allocation fails
 abbrev pub FillsFrom : State → ℕ → ℕ → ℕ → replies.Reply → List ℕ → List ℕ → Type 0
 FillsFrom old memory a n r out out' =
     (out' ≡ buffer_after old memory a (take n out) ++ drop n out) ⊎ ((r ≡ reply.Memory) × (out' ≡ out))
@@ -58,7 +58,7 @@ Fills old (command.Harvest id) r out out' = out' ≡ begins_with (bytes_of r) ou
 Fills old (command.Lookup table iova n access) r out out' = out' ≡ begins_with (bytes_of r) out
 Fills old c r out out' = out' ≡ out
 
--- the command runs, and its reply is answered, where the output has room. Or it wants memory, and changes nothing
+-- the command runs, and the answer is its reply, if the output has room. Or an allocation fails, and nothing changes
 abbrev pub Runs : State → commands.Command → List ℕ → Answer → List ℕ → State → Type 0
 Runs old c out a out' new = (r : replies.Reply) × Step old c r new × (a ≡ answer_of r) × Fills old c r out out'
     × ((room_for old c ≤ length out) ⊎ (r ≡ reply.Memory))
@@ -73,7 +73,7 @@ abbrev pub Does : State → Option commands.Command → List ℕ → Answer → 
 Does old None out a out' new = (a ≡ bad_call) × (out' ≡ out) × (new ≡ old)
 Does old (Some c) out a out' new = Runs old c out a out' new ⊎ IsShort old c out a out' new
 
--- where the input is a list, memory may be wanting for it, and then nothing changes
+-- if the input is a list, its allocation may fail, and then nothing changes
 abbrev pub DoesListed : State → Option commands.Command → List ℕ → Answer → List ℕ → State → Type 0
 DoesListed old o out a out' new = Does old o out a out' new ⊎ ((a ≡ no_memory) × (out' ≡ out) × (new ≡ old))
 
@@ -81,7 +81,7 @@ abbrev pub DoesIf : Bool → State → Option commands.Command → List ℕ → 
 DoesIf true old o out a out' new = DoesListed old o out a out' new
 DoesIf false old o out a out' new = Does old o out a out' new
 
--- what is answered to a call of a kind that is none of setup
+-- what is answered to a call of a kind that is not one of setup
 abbrev pub Served : State → Kind → Call → List ℕ → List ℕ → Answer → List ℕ → State → Type 0
 Served old kind call input out a out' new =
     DoesIf (takes_list kind) old (command_at kind call input) out a out' new

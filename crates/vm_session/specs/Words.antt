@@ -21,7 +21,7 @@ put_first None rest = None
 put_first (Some x) None = None
 put_first (Some x) (Some xs) = Some (x ∷ xs)
 
--- a step of a source by what it does with bytes: it gives them, or leaves them behind and is interrupted, or fails
+-- a step of a source by what it does with bytes: it gives them, or leaves them there and is interrupted, or fails
 abbrev pub source_at : ℕ → List ℕ → Option SourceStep
 source_at number bytes =
     if number == 256 then Some (sources.Give bytes)
@@ -40,7 +40,7 @@ sources_in bytes (number ∷ numbers) =
 abbrev pub sink_at : ℕ → Option SinkStep
 sink_at number = if number == 1 then Some sinks.Interrupted else if number == 2 then Some sinks.Fail else None
 
--- the steps of a sink. Behind 0 stands how many bytes it takes at most
+-- the steps of a sink. After 0 stands how many bytes it takes at most
 abbrev pub sinks_in : Bool → List ℕ → Option (List SinkStep)
 sinks_in taking [] = if taking then None else Some []
 sinks_in true (most ∷ numbers) = put_first (Some (sinks.Take most)) (sinks_in false numbers)

@@ -31,7 +31,7 @@ pub struct Call {
     pub value: u64,
 }
 
-/// What a session answers.
+/// The answer of a session.
 #[repr(C)]
 #[derive(Clone, Copy, Debug, PartialEq, Eq)]
 pub struct Answer {
@@ -50,7 +50,7 @@ pub struct Answer {
 #[repr(C)]
 #[derive(Clone, Copy, Debug, PartialEq, Eq)]
 pub struct Miss {
-    /// The access: 1 to read, 2 to write, 3 for both; 0 if nothing is told.
+    /// The access: 1 to read, 2 to write, 3 for both; 0 if nothing is said.
     pub access: u32,
     pub address: u64,
     pub length: usize,
@@ -73,7 +73,7 @@ pub enum Kind {
     Translator,
     /// Makes the layout of the regions whose numbers the input lists.
     Layout,
-    /// Makes a layout of the layout `first` with the region `second` more.
+    /// Makes a layout of the layout `first` and the region `second`.
     Insert,
     /// Makes a layout of the layout `first` without its region of `length` bytes at `address`.
     Remove,
@@ -90,7 +90,7 @@ pub enum Kind {
     Read,
     /// Writes the bytes of the input that fit to the memory `first` at `address`.
     Write,
-    /// Reads just `length` bytes.
+    /// Reads exactly `length` bytes.
     ReadSlice,
     /// Writes all bytes of the input.
     WriteSlice,
@@ -100,23 +100,23 @@ pub enum Kind {
     Load,
     /// Receives at most `length` bytes of the memory `first` at `address` from the source whose steps the input lists.
     ReadFrom,
-    /// Receives just so many.
+    /// Receives exactly that many.
     ReadExactFrom,
     /// Sends at most `length` bytes of the memory `first` at `address` to the sink whose steps the input lists. What it
     /// takes is the output.
     WriteTo,
-    /// Sends just so many.
+    /// Sends exactly that many.
     WriteAllTo,
     /// Whether `length` bytes of the memory `first` at `address` may be accessed so.
     CheckRange,
     /// Copies `length` bytes at offset `address` of the block `first` to `other_length` at offset `target` of the block
-    /// `second`, as many as both have.
+    /// `second`, up to the shorter of the two.
     Copy,
     /// Maps `length` addresses of the table `first` from `address` on to those from `target` on, for this access.
     Set,
-    /// Takes back the mappings of `length` addresses of the table `first` from `address` on.
+    /// Unmaps `length` addresses of the table `first` from `address` on.
     Invalidate,
-    /// Takes back all mappings of the table `first`.
+    /// Unmaps all addresses of the table `first`.
     InvalidateAll,
     /// Where `length` addresses of the table `first` lead, from `address` on, for this access.
     Lookup,
@@ -137,7 +137,7 @@ pub enum Kind {
     Queue,
     /// Sets the part `second` of the queue `first` to `value`: the number of a `QueuePart`, from 0.
     SetQueue,
-    /// Makes the queue `first` what it was when it was made. Its chains are in flight no more.
+    /// Resets the queue `first` to what it was when it was made. None of its chains is in flight then.
     ResetQueue,
     /// The state of the queue `first`, as a list of nine numbers in the order of the fields of `QueueState`.
     QueueState,
@@ -160,9 +160,9 @@ pub enum Kind {
     WriteChain,
     /// Returns the chain in flight of the head `third` to the driver, with `value` bytes written.
     AddUsed,
-    /// Whether the driver has to be notified of what was returned since this was last asked.
+    /// Whether the driver has to be notified of what was returned since the last such call.
     NeedsNotification,
-    /// Asks the driver to notify the device of what it publishes next. The answer is whether there is more already.
+    /// Asks the driver to notify the device of what it publishes next. The answer says whether there is more already.
     EnableNotification,
     /// Asks the driver not to notify the device.
     DisableNotification,
@@ -180,6 +180,10 @@ pub enum Kind {
     /// message's 32 bytes, and then a row of 24 for each part of the memory that the front end announced: where the part
     /// begins in the front end's memory, where in guest memory, and how many bytes it has. An INVALIDATE needs no rows.
     IotlbMessage,
+    /// `WriteChain` and then `AddUsed` in one call: writes the bytes of the input to the chain in flight of the head
+    /// `third`, from the offset `address` of its writable bytes on, and returns it to the driver with `value` bytes
+    /// written. A chain that did not take all of the input stays in flight: the answer says why, or how many bytes it took.
+    CompleteChain,
 }
 
 /// A part of a queue that a transport sets as the driver asks.
@@ -257,6 +261,7 @@ impl Kind {
                 | Kind::DisableNotification
                 | Kind::BeginRequest
                 | Kind::FinishRequest
+                | Kind::CompleteChain
         )
     }
 
@@ -277,7 +282,7 @@ impl Kind {
     }
 }
 
-const KINDS: [Kind; 53] = [
+const KINDS: [Kind; 54] = [
     Kind::Block,
     Kind::Space,
     Kind::Table,
@@ -331,6 +336,7 @@ const KINDS: [Kind; 53] = [
     Kind::BeginRequest,
     Kind::FinishRequest,
     Kind::IotlbMessage,
+    Kind::CompleteChain,
 ];
 
 // The kind of a number, if it is one.
@@ -382,6 +388,7 @@ pub(crate) fn work_kind(number: u32) -> Option<Kind>
         48 => Some(Kind::EnableNotification),
         50 => Some(Kind::BeginRequest),
         51 => Some(Kind::FinishRequest),
+        53 => Some(Kind::CompleteChain),
         _ => None,
     }
 }

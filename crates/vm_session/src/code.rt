@@ -21,17 +21,17 @@ pub const INVALID_SIZE: u32 = 5;
 /// A region ends past the greatest address.
 pub const INVALID_REGION: u32 = 6;
 
-/// The call means nothing: its kind, its width, its access or its switch is none, a page or a limit is 0, or the input
-/// is no list of the call.
+/// The call has no meaning: its kind, its width, its access or its switch is invalid, a page or a limit is 0, or the
+/// input is not a list of the call.
 pub const BAD_CALL: u32 = 16;
 
 /// The output is too short. It has to have `count` bytes.
 pub const SHORT: u32 = 18;
 
-/// The driver has published no more chains. This is no refusal.
+/// The driver has published no more chains. This is not a refusal.
 pub const NO_CHAIN: u32 = 19;
 
-/// A head came again whose chain is in flight. The chain stays the next one.
+/// The head of a chain in flight came again. The chain stays the next one.
 pub const IN_FLIGHT: u32 = 20;
 
 /// The chains in flight would have more descriptors than the queue's bound. The chain stays the next one.
@@ -73,7 +73,7 @@ pub const IOMMU_NOT_ALLOWED: u32 = 43;
 
 pub const IOMMU_NOT_CONFIGURED: u32 = 44;
 
-/// Of these addresses only `count` lie in a row.
+/// Only the first `count` of these addresses lie in a row.
 pub const IOMMU_FRAGMENTED: u32 = 45;
 
 /// The IOMMU is misconfigured, for one of these reasons.
@@ -85,7 +85,7 @@ pub const MISCONFIGURED_NOT_CONFIGURED: u32 = 48;
 
 pub const IOMMU_MEMORY: u32 = 49;
 
-/// A layout of no region, of regions that overlap, or of regions that do not ascend.
+/// A layout without regions, of regions that overlap, or of regions that do not ascend.
 pub const NO_MEMORY_REGION: u32 = 50;
 
 pub const MEMORY_REGION_OVERLAP: u32 = 51;

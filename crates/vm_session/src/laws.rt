@@ -20,7 +20,7 @@ pub fn calls_run_the_model()
 {}
 
 /// A chain in flight keeps its descriptors, whatever calls are made and whatever the guest writes to its tables, until a
-/// call returns it, forgets it, or makes its queue what it was.
+/// call returns it, forgets it, or resets its queue.
 pub fn chains_stay_in_flight()
     ensures { (shared : List ℕ) (es : List Event) (old new : WholeSession) (number head : ℕ) (chain : List Segment)
         → HappenAll shared old es new → All (λ e. EndsFlight number head e → ⊥) es

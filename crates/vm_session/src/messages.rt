@@ -5,7 +5,7 @@ ghost use Rattle.vm_memory_base.specs.Table.{TableEvent};
 ghost use Rattle.vm_memory.specs.Parts.{state_of};
 ghost use Rattle.vm_memory.specs.ScriptMachine.{state_made};
 ghost use Rattle.vhost_iotlb.specs.Changes.{Applies};
-ghost use Rattle.vhost_iotlb.specs.UserMemory.{guest_of, has_range};
+ghost use Rattle.vhost_message.specs.Regions.{guest_of};
 ghost use Rattle.vhost_iotlb.specs.declared.table.Refusal as refusals;
 ghost use Rattle.vm_session.specs.Codes.{no_memory};
 ghost use Rattle.vm_session.specs.Messages.{AnswersMessage, IsApplied, answer_of_applied, answer_of_refusal, code_of_malformed, is_announced, is_update, is_whole, message_of, region_in, regions_in};
@@ -15,8 +15,8 @@ use crate::answer::refused;
 use crate::call::{Answer, Call};
 use crate::code;
 use std::alloc::{AllocError, Global};
-use vhost_iotlb::{DeviceTable, Refusal, UserMemory, UserRegion};
-use vhost_message::{IotlbMessage, Malformed, PAYLOAD_LEN};
+use vhost_iotlb::{DeviceTable, Refusal};
+use vhost_message::{IotlbMessage, Malformed, MemoryRegion, MemoryRegions, PAYLOAD_LEN};
 use vm_memory::{Machine, ScriptMachine, Work};
 use vm_memory_base::{Bitmap, ExactBitmap, GuestAddress};
 use vm_memory_device::Iommu;
@@ -37,20 +37,21 @@ fn number_at(bytes: &[u8]) -> (u64, &[u8])
     }
 }
 
-fn region_in(row: &[u8; ROW_LEN]) -> UserRegion
+fn region_in(row: &[u8; ROW_LEN]) -> MemoryRegion
     ensures { result ≡ region_in row.now }
 {
     let (user_address, rest) = number_at(row);
     let (guest_address, rest) = number_at(rest);
-    let (len, _) = number_at(rest);
-    UserRegion {
-        user_address,
+    let (size, _) = number_at(rest);
+    MemoryRegion {
         guest_address: GuestAddress(guest_address),
-        len,
+        size,
+        user_address,
+        mmap_offset: 0,
     }
 }
 
-fn regions_in(alloc: Global, rows: &[u8]) -> Result<Vec<UserRegion>, AllocError>
+fn regions_in(alloc: Global, rows: &[u8]) -> Result<Vec<MemoryRegion>, AllocError>
     ensures { IfOk result (λ regions. regions.items ≡ regions_in rows.now) }
 {
     let mut regions = Vec::with_capacity(alloc, rows.len() / ROW_LEN)?;
@@ -97,23 +98,13 @@ fn applied(outcome: Result<(), Refusal>) -> Answer
     })
 }
 
-// Whether a part has so many bytes of the front end's memory from an address on.
-fn has_range(region: &UserRegion, user_address: u64, size: u64) -> bool
-    ensures { result ≡ has_range user_address size region.now }
-{
-    match user_address.checked_sub(region.user_address) {
-        Some(behind) => behind <= region.len && size <= region.len - behind,
-        None => false,
-    }
-}
-
 // Whether some row has so many bytes of the front end's memory from an address on. It allocates nothing.
 fn any_has_range(rows: &[u8], user_address: u64, size: u64) -> bool
     ensures { result ≡ is_some (guest_of (regions_in rows.now) user_address size) }
 {
     let (chunks, _) = rows.as_chunks::<ROW_LEN>();
     for chunk in chunks {
-        if has_range(&region_in(chunk), user_address, size) {
+        if region_in(chunk).has_range(user_address, size) {
             return true;
         }
     }
@@ -206,7 +197,7 @@ fn apply_with(
     };
     let device = DeviceTable {
         table: TlbId(table),
-        memory: UserMemory::new(regions),
+        memory: MemoryRegions::new(regions),
     };
     apply_to(machine, memory, device, message)
 }

@@ -11,7 +11,7 @@ use vhost_message::IotlbMessage;
 pub(crate) enum Stage {
     /// It missed.
     Missed,
-    /// It missed again, after an UPDATE. The next UPDATE has the table emptied.
+    /// It missed again, after an UPDATE. The next UPDATE empties the table first.
     Again,
     /// The table was emptied for it.
     Alone,
@@ -125,7 +125,7 @@ pub(crate) fn missed(
     }
 }
 
-/// A call that missed nothing is remembered no more.
+/// A call that missed nothing is no longer remembered.
 pub(crate) fn forgotten(retry: Option<Retry>, call: &Call, input_len: usize) -> Option<Retry>
     ensures { result ≡ forgotten retry call.now input_len }
 {

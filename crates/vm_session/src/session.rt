@@ -36,7 +36,7 @@ impl Model for Session {
 }
 
 impl Session {
-    /// A session that made nothing. It allocates nothing.
+    /// A session that has made nothing yet. It allocates nothing.
     pub fn new(alloc: Global) -> Session
         ensures { result ≡ new_session }
     {
@@ -49,7 +49,7 @@ impl Session {
 
     /// Answers a call. `Kind` says what each call takes and does, and docs/BINDINGS.md lists the codes of answers.
     ///
-    /// Bytes that are written and lists come by the input; bytes that are read and lists go to the front of the output,
+    /// Bytes to write, and lists, come in the input; bytes that were read, and lists, go to the front of the output,
     /// whose other bytes stay. If the output is too short, the answer says how many bytes it has to have, and nothing
     /// changed.
     ///
@@ -64,7 +64,7 @@ impl Session {
         answer
     }
 
-    /// Answers a call as `call` does, and puts the answer where it is wanted, so that it is not copied.
+    /// Answers a call as `call` does, and puts the answer into `answer`, so that it is not copied.
     #[inline]
     pub fn call_into(&mut self, call: &Call, input: &[u8], output: &mut [u8], answer: &mut Answer)
         ensures { AnswersCall self.old call.now input.now output.old answer.new output.new self.new }
@@ -76,8 +76,8 @@ impl Session {
     }
 
     /// Answers a call as `call_into` does. If a table refused it, `IOMMU_MISSING`, `IOMMU_NOT_ALLOWED` or
-    /// `IOTLB_TOO_SMALL`, what it missed first is put into `miss`, which else stays. Without memory to look it up, it is
-    /// `Miss::none()`.
+    /// `IOTLB_TOO_SMALL`, what it missed first is put into `miss`, which otherwise stays. If looking that up fails to
+    /// allocate, it is `Miss::none()`.
     #[inline]
     pub fn call_telling(
         &mut self,

@@ -1,4 +1,4 @@
-//! The setup calls: what they ask for, and what they are answered.
+//! The setup calls: what they ask for, and their answers.
 ghost use Rattle.std.specs.Prelude.{◌≡◌, ◌==◌, false, IsTrue, MatchOption};
 ghost use Rattle.vm_memory.specs.ScriptMachine.{state_made};
 ghost use Rattle.vm_memory.specs.State.{State};

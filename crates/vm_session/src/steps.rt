@@ -6,7 +6,7 @@ use std::alloc::{AllocError, Global};
 use std::mem;
 use vm_memory_base::{ByteList, Items, SinkStep, SourceStep};
 
-/// The steps of a source that numbers list, if they do, or `AllocError` where there is no memory for them.
+/// The steps of a source that numbers list, if they do, or `AllocError` if their allocation fails.
 pub(crate) fn sources_of(
     alloc: Global,
     words: &[usize],
@@ -45,7 +45,7 @@ fn source_of(word: usize, bytes: Vec<u8>) -> Option<SourceStep>
     }
 }
 
-/// The steps of a sink that numbers list, if they do, or `AllocError` where there is no memory for them.
+/// The steps of a sink that numbers list, if they do, or `AllocError` if their allocation fails.
 pub(crate) fn sinks_of(
     alloc: Global,
     words: &[usize],

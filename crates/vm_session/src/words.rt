@@ -90,7 +90,7 @@ fn put_row(output: &mut [u8], at: usize, base: u64, size: u64)
     put_word(output, at + 8, size);
 }
 
-/// The numbers that bytes list, if they do, or `AllocError` where there is no memory for them.
+/// The numbers that bytes list, if they do, or `AllocError` if their allocation fails.
 pub(crate) fn numbers_of(alloc: Global, input: &[u8]) -> Result<Option<Vec<usize>>, AllocError>
     ensures { IfOk result (λ o. option_map (λ v. v.items) o ≡ numbers_in input.now) }
 {

@@ -100,7 +100,7 @@ pub struct Guest {
 }
 
 impl Guest {
-    /// A guest with a queue of so many descriptors.
+    /// A guest with a queue of this many descriptors.
     pub fn new(alloc: Global, size: u16, iommu: bool) -> anyhow::Result<Guest> {
         let mut host = HostMemory::new(alloc);
         let memory = memory_of(alloc, &mut host, iommu)?;
@@ -278,7 +278,7 @@ impl Guest {
         Ok(status[0])
     }
 
-    /// Has a request served, and tells what it comes to.
+    /// Has a request served, and prints what it comes to.
     pub fn ask<D: Disk>(
         &mut self,
         alloc: Global,

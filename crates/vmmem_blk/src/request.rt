@@ -1,4 +1,4 @@
-//! Requests, as lines tell them.
+//! Requests, as lines describe them.
 
 use std::alloc::Global;
 use thiserror::Error;
@@ -17,7 +17,7 @@ pub enum Request {
     Id,
 }
 
-/// Why a line is no request.
+/// Why a line is not a request.
 #[derive(Debug, Drop, Error)]
 pub enum LineError {
     #[error("the bytes are not UTF-8")]
@@ -85,7 +85,7 @@ fn bytes_of(alloc: Global, word: Option<&str>) -> Result<Vec<u8>, LineError> {
     sectors_of(alloc, word)
 }
 
-/// The request of a line, or why it is none. `Memory` says that an allocation failed.
+/// The request of a line, or why it is not one. `Memory` says that an allocation failed.
 pub fn request_of(alloc: Global, line: &[u8]) -> Result<Request, LineError> {
     let Ok(text) = str::from_utf8(line) else {
         return Err(LineError::Utf8);

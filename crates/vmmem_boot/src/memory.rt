@@ -24,12 +24,12 @@ fn size_behind_hole(mib: u64) -> u64 {
     mib.saturating_mul(MIB).saturating_sub(HOLE)
 }
 
-/// The last address of the memory below the hole, of a machine with so many MiB.
+/// The last address of the memory below the hole, of a machine with this many MiB.
 pub fn last_low_address(mib: u64) -> u64 {
     mib.saturating_mul(MIB).min(HOLE).saturating_sub(1)
 }
 
-/// The last address of all memory, of a machine with so many MiB.
+/// The last address of all memory, of a machine with this many MiB.
 pub fn last_address(mib: u64) -> u64 {
     match size_behind_hole(mib) {
         0 => last_low_address(mib),
@@ -37,14 +37,14 @@ pub fn last_address(mib: u64) -> u64 {
     }
 }
 
-/// Whether a machine with so many MiB has memory at each address from one up to another.
+/// Whether a machine with this many MiB has memory at each address from one up to another.
 pub fn fits(mib: u64, start: u64, end: u64) -> bool {
     let low = last_low_address(mib).saturating_add(1);
     let rest = size_behind_hole(mib);
     end <= low || (start >= BEHIND_HOLE && end <= BEHIND_HOLE.saturating_add(rest))
 }
 
-/// Memory of so many MiB: the first of them, the others up to the hole, and the rest behind it.
+/// Memory of this many MiB: the first of them, the others up to the hole, and the rest after it.
 pub fn memory_of(alloc: Global, host: &mut Host, mib: u64) -> Result<GuestMemoryMmap> {
     let low = last_low_address(mib).saturating_add(1);
     let all = [
@@ -61,7 +61,7 @@ pub fn memory_of(alloc: Global, host: &mut Host, mib: u64) -> Result<GuestMemory
     Ok(GuestMemoryMmap::from_ranges(alloc, host, ranges.as_slice())?)
 }
 
-/// The SHA-256 of so many bytes at an address, in hexadecimal digits.
+/// The SHA-256 of this many bytes at an address, in hexadecimal digits.
 pub fn digest_of(
     alloc: Global,
     host: &Host,

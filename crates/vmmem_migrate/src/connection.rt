@@ -34,7 +34,7 @@ fn after<R: Clock>(rt: &R, seconds: u64) -> io::Result<Instant> {
 }
 
 impl<'a, R: Clock> Connection<'a, R> {
-    /// What comes first has so many seconds from now.
+    /// What comes first has this many seconds from now.
     pub fn new(rt: &'a R, stream: &'a TcpStream, seconds: u64) -> io::Result<Connection<'a, R>> {
         Ok(Connection {
             rt,
@@ -44,7 +44,7 @@ impl<'a, R: Clock> Connection<'a, R> {
         })
     }
 
-    /// What comes next has so many seconds from now, as a whole.
+    /// What comes next has this many seconds from now, as a whole.
     pub fn allow(&mut self, seconds: u64) -> io::Result<()> {
         self.until = after(self.rt, seconds)?;
         Ok(())

@@ -1,4 +1,4 @@
-//! Digests of whole blocks, which both ends tell each other behind the pause.
+//! Digests of whole blocks, which both ends send each other after the pause.
 
 use crate::report::tell_digest;
 use anyhow::{Context, Result, bail};
@@ -15,7 +15,7 @@ pub fn send_digests<W: Write>(writer: &mut W, digests: &[[u8; 32]]) -> Result<()
     Ok(())
 }
 
-/// Reads so many digests.
+/// Reads this many digests.
 pub fn read_digests<R: Read>(alloc: Global, reader: &mut R, count: usize) -> Result<Vec<[u8; 32]>> {
     let mut digests = Vec::new(alloc);
     for _ in 0..count {
@@ -28,7 +28,7 @@ pub fn read_digests<R: Read>(alloc: Global, reader: &mut R, count: usize) -> Res
     Ok(digests)
 }
 
-/// Prints the digests of this end, and fails where the other end's differ.
+/// Prints the digests of this end, and fails if the other end's differ.
 pub fn compare(
     rt: &impl Print,
     alloc: Global,

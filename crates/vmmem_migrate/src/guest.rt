@@ -126,7 +126,7 @@ fn fill_page(host: &mut Host, spot: &Spot, rng: &mut Xoshiro256PlusPlus, bytes: 
     put(host, spot.block, spot.start, &bytes[..count]);
 }
 
-/// Fills the pages of a guest with random bytes, but for every eighth one.
+/// Fills the pages of a guest with random bytes, except every eighth one.
 pub fn fill(alloc: Global, host: &mut Host, layout: &Layout, seed: u64) -> Result<(), AllocError> {
     let mut rng = Xoshiro256PlusPlus::seed_from_u64(seed);
     let mut bytes = vec![in alloc; 0u8; layout.page_size.get()]?;
@@ -185,7 +185,7 @@ fn digest_of(host: &Host, block: BlockId) -> [u8; 32] {
     hasher.finalize()
 }
 
-/// The SHA-256 of each of so many blocks, from the one of number `base` on.
+/// The SHA-256 of each of a number of blocks, from the one of number `base` on.
 pub fn digests_of(
     alloc: Global,
     host: &Host,

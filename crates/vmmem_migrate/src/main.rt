@@ -1,4 +1,4 @@
-//! Moves the memory of a guest to another process in rounds, while threads write it, and tells and draws the rounds.
+//! Moves the memory of a guest to another process in rounds, while threads write it, and prints and draws the rounds.
 #![tactic(auto)]
 
 mod connection;

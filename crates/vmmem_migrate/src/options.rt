@@ -294,7 +294,7 @@ fn asked_in<'a>(name: &str, found: &ArgMatches<'a>) -> Result<Asked<'a>, NoSize<
     }
 }
 
-/// Reads the words of a command line. Where they ask for help, the help is the error.
+/// Reads the words of a command line. If they ask for help, the help is the error.
 pub fn read_words<'a>(alloc: Global, words: &'a [String]) -> Result<Asked<'a>, Error> {
     let mut command = command(alloc)?;
     let matches = command.try_get_matches_from_mut(words)?;

@@ -227,7 +227,7 @@ fn name_pause(
     write!(text, "</text>\n")
 }
 
-/// The picture of the rounds of a guest with so many pages, as SVG.
+/// The picture of the rounds of a guest with this many pages, as SVG.
 pub fn picture_of(
     alloc: Global,
     rounds: &Rounds,

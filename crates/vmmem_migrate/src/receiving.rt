@@ -14,7 +14,7 @@ use std::time::Clock;
 // How many bytes are read ahead.
 const AHEAD: usize = 0x4_0000;
 
-/// A guest that came, or none where all of it came but leave to run it, and the connection on which it came.
+/// A guest that came, or none if all of it came but leave to run it, and the connection on which it came.
 #[derive(Drop)]
 pub struct Received<'a, R> {
     pub guest: Option<Guest>,
@@ -25,7 +25,7 @@ pub struct Received<'a, R> {
     writer: Connection<'a, R>,
 }
 
-/// The digests of this end, and those that the other end told.
+/// The digests of this end, and those that the other end sent.
 #[derive(Drop)]
 pub struct TwoDigests {
     pub ours: Vec<[u8; 32]>,

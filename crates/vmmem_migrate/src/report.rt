@@ -14,11 +14,11 @@ pub struct Row {
     pub bytes: u64,
     /// How many microseconds it took.
     pub micros: u64,
-    /// The pages that were dirty behind it.
+    /// The pages that were dirty after it.
     pub left: usize,
 }
 
-/// The rounds of a migration, of which the last one is in the pause.
+/// The rounds of a migration. The last one is in the pause.
 #[derive(Drop)]
 pub struct Rounds {
     pub rows: Vec<Row>,
@@ -40,7 +40,7 @@ fn micros_of(time: Duration) -> u64 {
         .saturating_add(u64::from(time.subsec_micros()))
 }
 
-/// Microseconds, as milliseconds with one digit behind the point.
+/// Microseconds, as milliseconds with one digit after the point.
 pub fn millis_text(alloc: Global, micros: u64) -> Result<String, AllocError> {
     let whole = micros / 1000;
     let tenth = micros % 1000 / 100;
@@ -68,7 +68,7 @@ pub fn tell_head(rt: &impl Print, times: bool) -> Result<()> {
     Ok(())
 }
 
-/// The line of a round of a guest with so many pages.
+/// The line of a round of a guest with this many pages.
 pub fn tell_row(
     rt: &impl Print,
     alloc: Global,
@@ -103,7 +103,7 @@ pub fn tell_no_headway(rt: &impl Print, before: usize) -> Result<()> {
     Ok(())
 }
 
-/// The line of a round at the receiver, where so many frames have come.
+/// The line of a round at the receiver, after this many frames.
 pub fn tell_round(rt: &impl Print, number: u64, frames: u64) -> Result<()> {
     println!(rt; "round {number} ended, {frames} frames so far")?;
     Ok(())

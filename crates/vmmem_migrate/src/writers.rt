@@ -14,7 +14,7 @@ use std::{io, thread};
 pub enum Pace {
     /// By the clock.
     Clock,
-    /// By what the sender counts: beside each round they write so many pages, and then they wait for the next one.
+    /// By what the sender counts: during each round they write this many pages, and then they wait for the next one.
     Count,
 }
 
@@ -22,9 +22,9 @@ pub enum Pace {
 #[derive(Drop)]
 pub struct Running {
     pub host: Host,
-    /// Whether the guest runs: no page is written where it does not.
+    /// Whether the guest runs: no page is written if it does not.
     pub runs: bool,
-    /// How many pages each writer may have written, where they are counted.
+    /// How many pages each writer may have written, if they are counted.
     pub due: u64,
     /// How many pages were written.
     pub written: u64,
@@ -94,7 +94,7 @@ impl Shared {
         count.checked_div(self.load.threads).unwrap_or(0)
     }
 
-    /// Lets the writers write what they write beside a round of so many pages.
+    /// Lets the writers write what they write during a round of this many pages.
     pub fn release<R: Wait>(&self, rt: &R, pages: usize) {
         let count = self.share_beside(pages);
         let mut running = self.running.lock(rt);
@@ -194,7 +194,7 @@ fn write_by_count<R: Wait>(rt: &R, shared: &Shared, rng: &mut Xoshiro256PlusPlus
     }
 }
 
-/// What the writer of this number does. It ends when the guest stops, or where the clock cannot be read.
+/// What the writer of this number does. It ends when the guest stops, or if the clock cannot be read.
 pub fn write_on<R: Clock + Wait>(rt: &R, shared: &Shared, writer: u64, pace: Pace) {
     let seed = shared.load.seed.wrapping_add(writer).wrapping_add(1);
     let mut rng = Xoshiro256PlusPlus::seed_from_u64(seed);

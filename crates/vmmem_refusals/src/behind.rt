@@ -1,4 +1,4 @@
-//! The calls of a memory behind an IOMMU that is on, which translate and so want memory, those of chains above it, and
+//! The calls of a memory behind an IOMMU that is on, which translate and so may fail to allocate, those of chains, and
 //! transfers of a window to a vector.
 
 use crate::calls::{Answer, Calls, keep};

@@ -1,4 +1,4 @@
-//! The calls of bitmaps that want memory.
+//! The calls of bitmaps that may fail to allocate.
 ghost use Rattle.std.specs.Prelude.{◌≡◌};
 ghost use Rattle.vm_memory_base.specs.Markers.{AreNew, table_of, harvester_table};
 

@@ -4,20 +4,20 @@ use crate::famine::{Famine, MOST, STEP};
 use std::alloc::AllocError;
 use std::test::Fail;
 
-/// What a call answered.
+/// What a call returned.
 #[derive(Clone, Copy, PartialEq, Eq)]
 pub enum Answer {
     /// It did what it was asked for.
     Done,
-    /// It was refused for want of memory.
+    /// It was refused because an allocation failed.
     Refused,
-    /// It did not run: what it is called with found no memory, or what calls it.
+    /// It did not run: an allocation failed for what it is called with, or for what calls it.
     NotRun,
     /// Something else.
     Other,
 }
 
-/// How many calls were refused for want of memory, and how many found none before they ran.
+/// How many calls were refused because an allocation failed, and how many did not run for that.
 #[derive(Clone, Copy)]
 pub struct Refusals {
     pub refused: usize,
@@ -40,7 +40,7 @@ impl Refusals {
     }
 }
 
-/// Calls that want memory, by number from 0, and a state that they change.
+/// Calls that may fail to allocate, by number from 0, and a state that they change.
 pub trait Calls {
     /// How many calls there are.
     fn count(&self) -> usize;
@@ -48,10 +48,10 @@ pub trait Calls {
     /// Makes a call.
     fn make(&mut self, number: usize) -> Answer;
 
-    /// All that can be seen of what a call may change, and of what the last call that was done answered.
+    /// All that can be seen of what a call may change, and of what the last call that was done returned.
     fn seen(&mut self, number: usize) -> Result<String, Fail>;
 
-    /// Fails where a refusal that is told in some way of its own was not met.
+    /// Fails if a refusal that is reported in its own way was not met.
     fn expect_met(&self) -> Result<(), Fail> {
         Ok(())
     }

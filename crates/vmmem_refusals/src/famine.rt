@@ -1,4 +1,4 @@
-//! Want of memory, made by hand.
+//! Failed allocations, made by hand.
 
 use std::alloc::{AllocError, Global};
 
@@ -17,7 +17,7 @@ pub const MOST: usize = 0x1_8000;
 /// passed over.
 pub const STEP: usize = 32;
 
-/// All memory that the process may have is taken, but for some that is kept back for what is made and called.
+/// All memory that the process may have is taken, except some that is kept back for what is made and called.
 ///
 /// What is taken lies in vectors that are never written, since a build may leave out memory that nothing holds.
 #[derive(Drop)]
@@ -43,7 +43,7 @@ impl Famine {
         Ok(famine)
     }
 
-    /// Takes what was kept back, too, and leaves about so many bytes.
+    /// Takes what was kept back, too, and leaves about this many bytes.
     pub fn begin(&mut self, left: usize) -> Result<(), AllocError> {
         self.spare.push(Vec::with_capacity(self.alloc, MOST)?)?;
         take_by_halves(self.alloc, &mut self.filled, PARTS * PART);

@@ -392,7 +392,7 @@ fn synced(machine: &mut TestMachine, image: &mut [u8]) -> Answer {
     }
 }
 
-/// What a reply answers. A check whose memory was refused does not say that the range may not be accessed.
+/// What a reply says. A check whose memory was refused does not say that the range may not be accessed.
 pub fn answer_of(reply: &Reply) -> Answer {
     match reply {
         Reply::Memory => Answer::Refused,

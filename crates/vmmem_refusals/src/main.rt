@@ -1,4 +1,4 @@
-//! Refuses calls their memory, request by request, and fails where a call that was refused changed something, or where
+//! Refuses calls their memory, request by request, and fails if a call that was refused changed something, or if
 //! a call is refused though there is memory. It takes all memory of its process, and writes to next to none of it.
 #![tactic(auto)]
 

@@ -1,4 +1,4 @@
-//! The calls of hosts and of layouts of guest memory that want memory.
+//! The calls of hosts and of layouts of guest memory that may fail to allocate.
 
 use crate::calls::{Answer, Calls, keep};
 use std::alloc::{AllocError, Global};
@@ -45,7 +45,7 @@ fn parts_of(alloc: Global, host: &mut Host) -> Result<(GuestMemoryMmap, GuestReg
     Ok((layout, region))
 }
 
-/// So many bytes, no two parts of which are alike.
+/// This many bytes, no two parts of which are alike.
 pub fn different_bytes(alloc: Global, count: usize) -> Result<Vec<u8>, AllocError> {
     let mut bytes = Vec::new(alloc);
     for number in 0..count {
@@ -197,7 +197,7 @@ fn send_to<M: GuestMemory, B: Bitmap>(
     count_answer(memory.write_volatile_to(host, start, sink, 0x800), 0x800)
 }
 
-/// What a call answers that moves so many bytes.
+/// What a call that moves this many bytes returns.
 pub fn count_answer(answer: GuestMemoryResult<usize>, wanted: usize) -> Answer {
     match answer {
         Ok(count) if count == wanted => Answer::Done,

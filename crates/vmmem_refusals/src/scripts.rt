@@ -422,7 +422,7 @@ fn expect_rest(alloc: Global, script: &str, told: &str) -> Result<(), Fail> {
 }
 
 /// Refuses memory to a script, from its first request on, from its second on, and so on. It is to go on to its end, or
-/// to end for want of memory.
+/// to end because an allocation failed.
 pub fn expect_script(famine: &mut Famine, alloc: Global, script: &str) -> Result<(), Fail> {
     let mut wanted = Vec::with_capacity(alloc, ROOM)?;
     let ending = replies_of(alloc, script, &mut wanted);

@@ -1,4 +1,4 @@
-//! The calls of I/O tables that want memory, on tables of 1 to 40 ranges.
+//! The calls of I/O tables that may fail to allocate, on tables of 1 to 40 ranges.
 ghost use Rattle.std.specs.Prelude.{◌≤◌};
 
 use crate::calls::{Answer, Calls};

@@ -1,4 +1,4 @@
-//! Runs scripts, each on a machine of its own, and tells the first line at which the replies are not those wanted.
+//! Runs scripts, each on a machine of its own, and reports the first line at which the replies are not those expected.
 
 use crate::compare::first_difference;
 use crate::sections::{Section, lines_of};
@@ -10,7 +10,7 @@ use vm_memory::{DriveFault, drive};
 /// Why a replay did not come to its end.
 #[derive(Debug, Drop, Error)]
 pub enum ReplayFault {
-    /// There was no memory for it.
+    /// Its allocation failed.
     #[error("out of memory")]
     Memory,
     /// The output failed.
@@ -115,7 +115,7 @@ impl<'a, 'b> Replies<'a, 'b> {
         }
     }
 
-    /// Tells of each that was not taken.
+    /// Reports each that was not taken.
     pub fn tell_left<W: Write>(&self, tally: &mut Tally, out: &mut W) -> Result<(), ReplayFault> {
         for (section, taken) in self.sections.iter().zip(&self.taken) {
             if !*taken {
@@ -148,14 +148,14 @@ pub struct Tally {
     pub scripts: usize,
     /// Their lines, with empty lines and comments.
     pub lines: usize,
-    /// Scripts whose replies are not those wanted, and scripts that stand in one file alone.
+    /// Scripts whose replies are not those expected, and scripts that stand in only one file.
     pub differ: usize,
-    /// How many of those are told.
+    /// How many of those are reported.
     pub most: usize,
 }
 
 impl Tally {
-    /// Nothing replayed, and at most so many told.
+    /// Nothing replayed, and at most this many reported.
     pub fn new(most: usize) -> Tally {
         Tally {
             scripts: 0,
@@ -172,7 +172,7 @@ impl Tally {
         told
     }
 
-    /// Runs a script, and tells where its replies are not those wanted, or that none are recorded.
+    /// Runs a script, and reports where its replies are not those expected, or that none are recorded.
     pub fn replay<W: Write>(
         &mut self,
         alloc: Global,
@@ -196,7 +196,7 @@ impl Tally {
         }
     }
 
-    /// Tells that a script stands in one file alone.
+    /// Reports that a script stands in only one file.
     pub fn tell_alone<W: Write>(
         &mut self,
         number: u64,
@@ -240,7 +240,7 @@ impl Tally {
         write_reply(out, b"  came:   ", came.get(reply))
     }
 
-    /// Tells how many differ that were not told, and the numbers of all.
+    /// Reports how many differ that were not reported, and the numbers of all.
     pub fn tell_sum<W: Write>(&self, out: &mut W) -> Result<(), ReplayFault> {
         if self.differ > self.most {
             let more = self.differ - self.most;

@@ -1,4 +1,4 @@
-//! The front end: a guest's I/O table, its driver, and what it tells the back end.
+//! The front end: a guest's I/O table, its driver, and what it sends to the back end.
 ghost use Rattle.std.specs.Prelude.{◌<◌};
 
 use crate::hostile::{MALFORMED, malformed};
@@ -97,7 +97,7 @@ impl<C: Read + Write> End<C> {
     }
 }
 
-/// The guest's table: where each page leads, which frames are free, and what the back end was told of it.
+/// The guest's table: where each page leads, which frames are free, and what the back end was sent of it.
 #[derive(Drop)]
 pub struct Pages {
     pub frames: [u64; PAGES as usize],

@@ -2,7 +2,7 @@
 
 use std::alloc::Global;
 use std::sync::Arc;
-use vhost_iotlb::{UserMemory, UserRegion};
+use vhost_message::{MemoryRegion, MemoryRegions};
 use virtio_queue::DriverQueue;
 use vm_memory_base::GuestAddress;
 use vm_memory_device::{IommuMemory, TableIommu};
@@ -71,17 +71,18 @@ pub fn user_of(frame: u64) -> u64 {
 }
 
 /// The memory that the front end announces.
-pub fn announced(alloc: Global) -> anyhow::Result<UserMemory> {
+pub fn announced(alloc: Global) -> anyhow::Result<MemoryRegions> {
     let half = FRAMES / 2 * PAGE;
     let mut regions = Vec::new(alloc);
     for (user_address, guest_address) in [(LOW, 0), (HIGH, half)] {
-        regions.push(UserRegion {
-            user_address,
+        regions.push(MemoryRegion {
             guest_address: GuestAddress(guest_address),
-            len: half,
+            size: half,
+            user_address,
+            mmap_offset: 0,
         })?;
     }
-    Ok(UserMemory::new(regions))
+    Ok(MemoryRegions::new(regions))
 }
 
 /// Memory of this layout behind a table.

@@ -1,4 +1,4 @@
-//! Access to guest memory by guest address, where it ends before all bytes are moved.
+//! Access to guest memory by guest address that ends before all bytes are moved.
 
 use std::alloc::Global;
 use std::fmt;
@@ -8,10 +8,10 @@ use test_text::expect_text;
 use vm_memory_base::{GuestAddress, MemoryRegionAddress};
 use vm_memory_guest::{Bytes, HostMemory};
 
-/// An address, a count, and what an access answers and one that is to move all.
+/// An address, a count, and what an access returns, and one that is to move all.
 pub type Access<A> = (A, usize, &'static str, &'static str);
 
-/// Tries a write, a read, a write of all and a read of all, of each address and count, and fails where they do not
+/// Tries a write, a read, a write of all and a read of all, of each address and count, and fails if they do not
 /// answer so.
 pub fn expect_accesses<A: Copy, M: Bytes<A>>(
     alloc: Global,

@@ -124,10 +124,10 @@ fn first_progress(
 }
 
 impl Receiver {
-    /// Reads the header and makes its blocks in a host, of zeros, behind those that the host has. The blocks and the
-    /// stream's sections may cost `limit` bytes in all, of which each section costs `SECTION_COST` beside its name and
+    /// Reads the header and makes its blocks in a host, of zeros, after those that the host has. The blocks and the
+    /// stream's sections may cost `limit` bytes in all; each section costs `SECTION_COST` besides its name and
     /// bytes: `TooMuchMemory` if the blocks cost more. Nothing is made before the header is accepted. If an allocation
-    /// fails after that, blocks that were made stay, and no other changes.
+    /// fails after that, blocks that were made stay, and no other block changes.
     #[tactic(auto, using(crate::proofs::CostLemmas::blocks_cost))]
     pub fn begin<R: Read, B: NewBitmap + Drop>(
         alloc: Global,

@@ -12,7 +12,7 @@ use std::io::{Read, Write};
 use vm_memory_base::Bitmap;
 use vm_memory_guest::HostMemory;
 
-/// A guest that a receiver gives out: its blocks are those of the host from `base` on.
+/// A guest that a receiver hands over: its blocks are those of the host from `base` on.
 #[derive(Drop)]
 pub struct Guest {
     /// The number of its first block in the host.
@@ -42,9 +42,9 @@ impl Receiver {
     ghost use Rattle.live_migration.specs.Receiving.{BreaksReceiving, GivesOut, Receives, ReceivesAll};
     ghost use Rattle.live_migration.specs.declared.receiver.Stage.TheVariants as stage;
 
-    /// Takes all frames up to leave to run the guest. After done it says that it has all, and says nothing else: what is
-    /// refused is for the caller to send back. However it ends, blocks outside the header's stay as they were. If a
-    /// frame is refused, those before it stay in effect. `Failed` also if the reply cannot be written.
+    /// Takes all frames up to the permission to run the guest. After done it says that it has all, and no more: the
+    /// caller reports to the sender what is refused. However it ends, blocks outside the header's stay as they were. If
+    /// a frame is refused, those before it stay in effect. `Failed` also if the reply cannot be written.
     pub fn receive<R: Read, W: Write, B: Bitmap>(
         &mut self,
         reader: &mut R,
@@ -69,7 +69,7 @@ impl Receiver {
         Err(Refusal::Order)
     }
 
-    /// Gives the guest out, where the sender has given leave to run it, and else the receiver back.
+    /// Hands the guest over if the sender has permitted to run it, and otherwise returns the receiver.
     pub fn into_guest(self) -> Result<Guest, Receiver>
         ensures { MatchResult result (λ guest. GivesOut self.seen guest)
             (λ receiver. (receiver ≡ self) × (self.seen.stage ≡ stage.Gone → ⊥)) }

@@ -24,8 +24,8 @@ pub struct Section {
     pub bytes: Vec<u8>,
 }
 
-/// What a section costs of a receiver's limit beside its name and its bytes: no less than its place in the list of
-/// sections takes, with what allocations take beside what they hold.
+/// What a section costs of a receiver's limit besides its name and its bytes: at least what its entry in the list of
+/// sections takes, with the overhead of allocations.
 pub const SECTION_COST: u64 = 256;
 
 /// What a receiver has of a migration.
@@ -185,7 +185,7 @@ impl Receiver {
         Ok(self.seen.stage)
     }
 
-    /// Takes the next frame, and answers what is waited for then. What is refused changes nothing of the host, and from
+    /// Takes the next frame, and returns what is waited for then. What is refused changes nothing of the host, and from
     /// then on everything is refused, as `Order`.
     pub fn take<R: Read, B: Bitmap>(
         &mut self,

@@ -21,7 +21,7 @@ use vm_memory_guest::{BlockId, HostMemory};
 /// Why a call of a sender was refused.
 #[derive(Debug, Drop, Error)]
 pub enum SendError {
-    /// The blocks make no header.
+    /// The blocks do not make a header.
     #[error("{0}")]
     Header(Refusal),
     /// A block has no bitmap, or one whose pages do not cover it.
@@ -36,13 +36,13 @@ pub enum SendError {
     /// The name or the state of a section is too long.
     #[error("section is too long")]
     Section,
-    /// The call does not come here: pages or bytes still wait, or the round has no more blocks, or has some.
+    /// The call is out of order: pages or bytes still wait, or the round has no more blocks, or has some.
     #[error("call out of order")]
     Order,
     /// The receiver refused.
     #[error("refused: {0}")]
     Refused(Refusal),
-    /// The receiver answered what is no reply.
+    /// The receiver answered with what is not a reply.
     #[error("unknown reply")]
     Reply,
     /// Writing to the stream, or reading the reply, failed.

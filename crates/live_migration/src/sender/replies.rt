@@ -56,8 +56,8 @@ fn await_reply<R: Read>(reader: &mut R, wanted: Reply) -> Result<(), SendError>
 }
 
 impl Sender {
-    /// Waits for the receiver's word that it has made the memory, right after `begin`: else `Order`, and nothing is
-    /// read. On success just the bytes of `Reply::Ready` were read, and rounds may be sent. `Refused` with what the
+    /// Waits for the receiver to say that it made the memory, right after `begin`. Otherwise `Order`, and nothing is
+    /// read. On success exactly the bytes of `Reply::Ready` were read, and rounds may be sent. `Refused` with what the
     /// receiver refused, `Reply` if eight other bytes came, and `Failed` if fewer came before the stream ended or
     /// failed: then nothing more is sent.
     pub fn ready<R: Read>(&mut self, reader: &mut R) -> Result<(), SendError>
@@ -78,8 +78,9 @@ impl Sender {
         Ok(())
     }
 
-    /// Waits for the receiver's word that it has all, after `done`: else `Order`, and nothing is read. On success just
-    /// the bytes of `Reply::Accepted` were read, and the guest may be given up. The errors are those of `ready`.
+    /// Waits for the receiver to say that it has everything, after `done`. Otherwise `Order`, and nothing is read. On
+    /// success exactly the bytes of `Reply::Accepted` were read, and the guest may be given up. The errors are those of
+    /// `ready`.
     pub fn accepted<R: Read>(&mut self, reader: &mut R) -> Result<(), SendError>
         ensures heard { self.old.stage ≡ stages.Done
             → Awaits replies.Accepted (R.remaining reader.old) (R.remaining reader.new) result }

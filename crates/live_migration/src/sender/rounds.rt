@@ -28,10 +28,10 @@ impl Rounds {
     ghost use Rattle.live_migration.specs.Sending.{AreMarkedAgain, CopiesPages, HarvestsNext, harvested};
 
     /// Takes the pages of the next block of the round, so that they wait to be copied and none of the block is dirty,
-    /// and answers how many. In the first round these are all pages of the block, whoever harvested before.
+    /// and returns how many. In the first round these are all pages of the block, whoever harvested before.
     ///
-    /// `Order` where pages of a block still wait, or the round has no more blocks. `Untracked` where the block has no
-    /// bitmap of pages, `Changed` where the host has it no more as it was, `Memory` where an allocation fails. Then
+    /// `Order` if pages of a block still wait, or the round has no more blocks. `Untracked` if the block has no
+    /// bitmap of pages, `Changed` if the host no longer has it as it was, `Memory` if an allocation fails. Then
     /// nothing changes.
     pub fn harvest<B: ExactBitmap>(
         &mut self,
@@ -69,11 +69,11 @@ impl Rounds {
         self.turn += 1;
     }
 
-    /// Copies pages that wait, as they are now, behind what waits to be sent. One call copies at most 2^20 bytes of
-    /// pages, zeros among them, and at most 2^20 + 20 bytes wait to be sent then. It answers how many pages were
-    /// copied, which is 0 where there is no room.
+    /// Copies pages that wait, as they are now, after what waits to be sent. One call copies at most 2^20 bytes of
+    /// pages, zeros among them, and at most 2^20 + 20 bytes wait to be sent then. It returns how many pages were
+    /// copied, which is 0 if there is no room.
     ///
-    /// `Changed` where the host has the block no more as it was, and `Memory` where the first allocation fails. Then
+    /// `Changed` if the host no longer has the block as it was, and `Memory` if the first allocation fails. Then
     /// nothing changes.
     pub fn copy_batch<B: Bitmap>(&mut self, host: &HostMemory<B>) -> Result<usize, SendError>
         ensures copied { IfOk result (λ count. CopiesPages count self.old self.new host.now) }
@@ -100,8 +100,8 @@ impl Rounds {
         Ok(count)
     }
 
-    /// Makes each page dirty again of the blocks of which pages were harvested: in the first round all pages of a block
-    /// are, so that none of it is known to be accepted. A block that the host has no more as it was is left.
+    /// Makes each harvested page of the blocks dirty again: in the first round all pages of a block
+    /// are, so that none of it is known to be accepted. A block that the host no longer has as it was is left.
     pub fn mark_again<B: ExactBitmap>(&self, host: &mut HostMemory<B>)
         ensures { AreMarkedAgain B.pages (harvested self.now) host.old host.new }
     {

@@ -24,13 +24,13 @@ use vm_memory_guest::{BlockId, HostMemory};
 /// How far a sender has come.
 #[derive(Clone, Copy, Debug, PartialEq, Eq)]
 pub enum SendStage {
-    /// The header was sent, and the receiver's word that it is ready is awaited.
+    /// The header was sent, and the receiver has not yet said that it is ready.
     Begun,
     /// A round is sent.
     Sending,
     /// A round has ended, and nothing was sent since.
     RoundEnded,
-    /// All was sent, and the reply is awaited.
+    /// Everything was sent, and the reply is awaited.
     Done,
     /// The receiver has it all. The guest is given up with `go`, or kept by ending the connection.
     Accepted,
@@ -239,7 +239,7 @@ impl Sender {
         begin_with(alloc, targets, writer)
     }
 
-    /// Ends a migration before the guest was given up: marks each page again that was harvested, so that another may
+    /// Ends a migration before the guest was given up: marks each harvested page again, so that another may
     /// begin anew.
     pub fn abort<B: ExactBitmap>(self, host: &mut HostMemory<B>)
         ensures { AreMarkedAgain B.pages (harvested self.rounds) host.old host.new }
@@ -341,7 +341,7 @@ impl Sender {
         }
     }
 
-    /// Ends a round, in which each block was harvested and nothing waits: else `Order`, also before `ready`. `Memory`
+    /// Ends a round in which each block was harvested and nothing waits: otherwise `Order`, as before `ready`. `Memory`
     /// if an allocation fails, and `Failed` if the stream does: then nothing more is sent.
     pub fn end_round<W: Write>(&mut self, alloc: Global, writer: &mut W) -> Result<(), SendError>
         ensures sent { (sent : List ℕ) → Holds256 self.old.hasher sent
@@ -385,7 +385,8 @@ impl Sender {
         }
     }
 
-    /// Says that all was sent, right after the end of a round: else `Order`. The other errors are those of `end_round`.
+    /// Says that everything was sent, right after the end of a round: otherwise `Order`. The other errors are those of
+    /// `end_round`.
     pub fn done<W: Write>(&mut self, alloc: Global, writer: &mut W) -> Result<(), SendError>
         ensures sent { OnOk result (Sends (spelling Done) (W.contents writer.old) (W.contents writer.new)
             self.old.hasher self.new.hasher) }
@@ -410,8 +411,8 @@ impl Sender {
         }
     }
 
-    /// Gives the guest up: the receiver may run it. Only after the receiver has said that it has all, else `Order`, and
-    /// then nothing is sent. From then on the guest never runs here, even where the stream fails.
+    /// Gives the guest up: the receiver may run it. Only after the receiver has said that it has everything, otherwise
+    /// `Order`, and then nothing is sent. From then on the guest never runs here, even if the stream fails.
     #[tactic(auto, unfolding(crate::specs::Frame::spelling))]
     pub fn go<W: Write>(&mut self, writer: &mut W) -> Result<(), SendError>
         ensures sent { OnOk result (Appends (W.contents writer.old) (W.contents writer.new) (spelling Go)) }

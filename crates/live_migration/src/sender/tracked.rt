@@ -112,12 +112,12 @@ fn blocks_of<B: Bitmap>(
 }
 
 impl Rounds {
-    /// As `harvest`, of a block that a `TrackedBitmap` tracks in pages of the size of the header. `words` are what its
-    /// `get_and_reset` gave, or `close` in the last round. Where the call is refused, they are still the caller's, who
+    /// As `harvest`, for a block that a `TrackedBitmap` tracks in pages of the size in the header. `words` are what its
+    /// `get_and_reset` gave, or `close` in the last round. If the call is refused, they are still the caller's, who
     /// makes it again.
     ///
-    /// `Order` where pages of a block still wait, or the round has no more blocks. `Changed` where these are not the
-    /// words of so many pages, and `Memory` where an allocation fails. Then nothing changes.
+    /// `Order` if pages of a block still wait, or the round has no more blocks. `Changed` if these are not the
+    /// words of that number of pages, and `Memory` if an allocation fails. Then nothing changes.
     pub fn harvest_words(&mut self, alloc: Global, words: &[u32]) -> Result<usize, SendError>
         ensures taken { OnOk result (TakesWords words.now self.old self.new) }
         ensures err { OnErr result (self.new ≡ self.old) }
@@ -136,7 +136,7 @@ impl Rounds {
 }
 
 impl Sender {
-    /// As `begin`, of blocks that `TrackedBitmap`s track, each with its address and the size of its pages. The bitmaps
+    /// As `begin`, for blocks that `TrackedBitmap`s track, each with its address and the size of its pages. The bitmaps
     /// of the host are not looked at.
     pub fn begin_tracked<B: Bitmap, W: Write>(
         alloc: Global,

@@ -102,13 +102,13 @@ impl<D: Disk> BlockDevice<D> {
         (count, Ok(true))
     }
 
-    /// Serves the chains that the driver has published and returns each, until there are no more, but at most so many
-    /// chains: docs/VIRTIO_BLK.md. When there are no more, it asks the driver to notify the device of the next one,
+    /// Serves the chains that the driver has published and returns each, until there are no more, but at most `most`
+    /// chains: the crate's README.md. When there are no more, it asks the driver to notify the device of the next one,
     /// and goes on with what came by then.
     ///
-    /// The owner calls it when the driver notifies the device, and once more when the answer is that there is `more`.
-    /// So no request waits without a notification. The bound is for a guest that goes on publishing, or whose requests
-    /// write over the ring: the owner looks after its other devices before it calls again.
+    /// The owner calls it when the driver notifies the device, and again whenever it returns that there is `more`.
+    /// So no request waits without a notification. The bound is for a guest that keeps publishing, or whose requests
+    /// overwrite the ring: the owner serves its other devices before it calls again.
     pub fn process<M: GuestMemory, B: Bitmap>(
         &mut self,
         queue: &mut Queue,

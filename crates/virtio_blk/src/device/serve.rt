@@ -80,10 +80,10 @@ impl<D: Disk> BlockDevice<D> {
     }
 
     /// Serves a request: it does what the chain's header asks for, and writes the status to the chain's last writable
-    /// byte. It answers how many bytes from the first writable one on it wrote without a gap, which `add_used` takes.
+    /// byte. It returns how many bytes from the first writable one on it wrote without a gap, which `add_used` takes.
     ///
-    /// Whatever the chain is, it returns: what is wrong with a request is told to the guest by the status.
-    /// docs/VIRTIO_BLK.md has the rules. A chain with no byte for the status is not served, and the answer is 0.
+    /// Whatever the chain is, it returns: the status informs the guest of what is wrong with a request.
+    /// The crate's README.md has the rules. A chain with no byte for the status is not served, and the result is 0.
     pub fn serve<M: GuestMemory, B: Bitmap>(
         &mut self,
         mem: &M,

@@ -8,8 +8,8 @@ use std::io::{self, Read, Seek, SeekFrom, Write};
 
 /// A disk whose bytes lie in a file.
 ///
-/// It has as many sectors as the file has whole ones when the disk is made; bytes behind them are no part of it. Where
-/// the file was opened for reading alone, writes fail.
+/// It has as many sectors as the file has whole ones when the disk is made; bytes after them are not part of it. If
+/// the file was opened only for reading, writes fail.
 #[derive(Drop)]
 pub struct FileDisk {
     file: File,
@@ -18,7 +18,7 @@ pub struct FileDisk {
 }
 
 impl FileDisk {
-    /// A disk in this file. An error of the system is one of asking for the file's length.
+    /// A disk in this file. An error means that the system did not give the file's length.
     pub fn new(file: File) -> io::Result<FileDisk> {
         let sectors = file.metadata()?.len() / 512;
         Ok(FileDisk { file, sectors })

@@ -72,11 +72,11 @@ impl Queue {
         avail_idx(mem, host, &self.state)
     }
 
-    /// The next chain that the driver has published, with its head, or `None` where there is none. Its place moves on
-    /// by one where there is a chain, and stays otherwise.
+    /// The next chain that the driver has published, with its head, or `None` if there is none. Its place moves on
+    /// by one if there is a chain, and stays otherwise.
     ///
-    /// The first thing that is wrong is refused, in the order of docs/VIRTQUEUE.md, "Popping". After an error a device
-    /// has to be reset: the next call meets the same error as long as the driver leaves it there.
+    /// The first thing that is wrong is refused, in the order of README.md, "Popping". After an error a device
+    /// has to be reset: the next call finds the same error as long as the driver leaves it there.
     pub fn pop_descriptor_chain<M: GuestMemory, B: Bitmap>(
         &mut self,
         alloc: Global,

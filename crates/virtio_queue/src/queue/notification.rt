@@ -1,4 +1,4 @@
-//! Notifications: when the driver has to be told of used entries, and the device of available ones.
+//! Notifications: when the driver has to be notified of used entries, and the device of available ones.
 ghost use Rattle.std.specs.Prelude.{◌≡◌, ◌<◌, ◌^◌, false, true, Ok, IfOk, OnOk};
 ghost use Rattle.vm_memory_guest.specs.Host.{shape_of, Holds};
 ghost use Rattle.vm_memory_guest.specs.Memory.{IsOn};
@@ -15,10 +15,10 @@ use vm_memory_guest::laws::effects::{writes_keep_shapes, written_is_read_back};
 use vm_memory_guest::laws::typed::loads_and_stores_are_by_bytes;
 use vm_memory_guest::{GuestMemory, HostMemory, VolatileSlice};
 
-/// The flag of the available ring by which a driver asks for no notification.
+/// The flag of the available ring by which a driver suppresses notifications.
 pub const VRING_AVAIL_F_NO_INTERRUPT: u16 = 1;
 
-/// The flag of the used ring by which a device asks for no notification.
+/// The flag of the used ring by which a device suppresses notifications.
 pub const VRING_USED_F_NO_NOTIFY: u16 = 1;
 
 // Whether an index is one of the `count` before the next one.
@@ -101,9 +101,9 @@ fn kick_places<M: GuestMemory, B: Bitmap>(
 }
 
 impl Queue {
-    /// Whether the driver has to be notified of what was added to the used ring since this was last asked. With event
-    /// indices it has to where the index that it waits for is among these entries, and else where its flag does not
-    /// forbid it. At the first ask after `from_state` or `set_next_used` the answer is true.
+    /// Whether the driver has to be notified of what was added to the used ring since the last call of this. With event
+    /// indices it has to if the index that it waits for is among these entries, and else if its flag does not
+    /// forbid it. The first call after `from_state` or `set_next_used` returns true.
     pub fn needs_notification<M: GuestMemory, B: Bitmap>(
         &mut self,
         mem: &M,
@@ -124,7 +124,7 @@ impl Queue {
     }
 
     /// Asks the driver to notify the device of what it publishes next: by `avail_event` with event indices, or else by
-    /// clearing the flag. It says whether there is more in the ring by then than was popped. If there is, the device
+    /// clearing the flag. It returns whether there is more in the ring by then than was popped. If there is, the device
     /// goes on popping, since the driver may not notify it of that. If there is not, it waits for the next head. Both
     /// fields are looked up before one is written, so a call that is refused changes nothing.
     pub fn enable_notification<M: GuestMemory, B: Bitmap>(

@@ -1,4 +1,4 @@
-//! What the device gives back: the used ring.
+//! What the device returns: the used ring.
 ghost use Rattle.std.specs.Prelude.{◌≡◌, ◌⊎◌, ◌<◌, true, IfOk, IsTrue};
 ghost use Rattle.vm_memory_base.specs.declared.iotlb.Permissions.TheVariants.{Write};
 ghost use Rattle.vm_memory_guest.specs.Host.{shape_of, Holds};
@@ -89,7 +89,7 @@ fn one_more(added: u32) -> u32
 
 impl Queue {
     /// Whether the table of descriptors and the rings lie whole in memory, and the device may read the first two and
-    /// write the third. Past the greatest address there is no memory.
+    /// write the third. There is no memory past the greatest address.
     pub fn is_valid<M: GuestMemory, B: Bitmap>(
         &self,
         mem: &M,
@@ -126,7 +126,7 @@ impl Queue {
         load_word(mem, host, self.state.used_ring, 2)
     }
 
-    /// Gives a chain back, of this head, with how many bytes were written to it: the entry first, and then the index
+    /// Returns the chain of this head, with the number of bytes written to it: the entry first, and then the index
     /// that publishes it. Both are looked up before one is written, so a call that is refused changes nothing.
     ///
     /// `InvalidDescriptorIndex` if the head is at or past the size, and `InvalidUsedEntry` if the entry does not lie

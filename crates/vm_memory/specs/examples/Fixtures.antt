@@ -1,4 +1,4 @@
--- A small machine, in the words of the model. The examples alone cite it.
+-- A small machine, in the words of the model. Only the examples cite it.
 use Rattle.std.specs.Prelude.{ℕ, ◌+◌, ◌-◌, ◌*◌, ◌^◌, List, [], ◌∷◌, Some, None, Bool, true, false}
 use Rattle.vm_memory_base.specs.Pages.{PageSet}
 use Rattle.vm_memory_base.specs.Runs.{AddressRun}
@@ -22,7 +22,7 @@ use Rattle.vm_memory.specs.declared.machine.command.Fault.TheVariants.{InvalidGu
 abbrev pub at : ℕ → GuestAddress
 at a = record { 0 = a }
 
--- four addresses in block 0, the next four in block 1, and behind a hole four without host bytes
+-- four addresses in block 0, the next four in block 1, and after a hole four without host bytes
 abbrev pub low : Region
 low = record { start = 0; len = 4; place = Some (record { block = 0; offset = 0 }) }
 

@@ -59,8 +59,8 @@ use vm_memory_guest::laws::transfers::{
 };
 
 /// A command that is refused, or whose allocation fails, changes nothing, and neither does a read, a load, a transfer
-/// to a sink, a check or a look-up. A write, a read or a transfer in of all bytes that replies how many fitted is not
-/// refused here, and neither is a transfer whose source failed: bytes may have been written.
+/// to a sink, a check or a look-up. A write, a read or a transfer in of all bytes whose reply says how many fitted does
+/// not count as refused here, and neither does a transfer whose source failed: bytes may have been written.
 pub fn refusals_change_nothing()
     ensures fault { (old new : State) (c : Command) (f : Fault) → is_partial f ≡ false
         → Step old c (reply.Fault f) new → new ≡ old }
@@ -81,7 +81,7 @@ pub fn refusals_change_nothing()
     refused_transfers_in_change_nothing();
 }
 
-/// An image that mirrors a block which its bitmap covers is kept by every run: at each state of it, patched
+/// Every run keeps an image that mirrors a block which its bitmap covers: at each state of it, patched
 /// by the harvests before, it mirrors the block. A copy of the block is such an image.
 pub fn runs_keep_images()
     ensures copy { (block : ℕ) (host : Host PageSet) → MirrorsBlock block host (bytes_of_block block host) }
@@ -118,7 +118,7 @@ pub fn synced_images_are_the_block()
     runs_keep_images();
 }
 
-/// Where an image mirrors a block, a read replies the bytes of the image for those of the block that it
+/// If an image mirrors a block, the reply to a read has the bytes of the image for those of the block that it
 /// reaches, patched with the pages that are dirty then.
 pub fn reads_are_of_the_image()
     ensures { (block : ℕ) (image : List ℕ) (old new : State) (memory : ℕ) (addr : GuestAddress) (n : ℕ)
@@ -129,13 +129,13 @@ pub fn reads_are_of_the_image()
         → slice_get bytes k ≡ Some (slice_index (image_now block old.host image) x.cell.offset) }
 {}
 
-/// Each command of a run is answered in the state that the commands before it left.
+/// Each command of a run gets its reply in the state that the commands before it left.
 pub fn runs_go_on()
     ensures { (old new : State) (before after : List Command) (c : Command) (rs : List Reply)
         → Run old (before ++ c ∷ after) rs new → AnsweredIn old before c after rs new }
 {}
 
-/// Two runs of the same commands from the same state, neither of which replies `Memory`, give the same replies and
+/// Two runs of the same commands from the same state, without a reply `Memory`, give the same replies and
 /// leave the same state.
 pub fn ample_runs_agree()
     ensures { (old new again : State) (cs : List Command) (rs qs : List Reply) → Run old cs rs new
@@ -143,7 +143,7 @@ pub fn ample_runs_agree()
         → (qs ≡ rs) × (again ≡ new) }
 {}
 
-/// After a run a table says of each address what the last call or eviction that covers it made of it, and, where none
+/// After a run a table says of each address what the last call or eviction that covers it made of it, and, if none
 /// covers it, what the table said before the run. No table is made or taken away.
 pub fn tables_say_what_was_set_last()
     ensures all { (old new : State) (cs : List Command) (rs : List Reply) (number x : ℕ) (t : Table)
@@ -200,7 +200,7 @@ pub fn accesses_go_through_what_was_set_last()
     transfers_in_mark_what_they_change();
 }
 
-/// A command replies `Memory` only where `MayWant` allows it.
+/// The reply to a command is `Memory` only if `MayWant` allows it.
 pub fn memory_is_wanted_only_where_it_may_be()
     ensures { (old new : State) (c : Command) → Step old c Memory new → MayWant old c }
 {
@@ -235,7 +235,7 @@ pub fn runs_keep_layouts()
     one_region_holds_an_address();
 }
 
-/// Marks of bytes that a machine did not write change the bitmaps of blocks alone: no byte, no space and no table. They
+/// Marks of bytes that a machine did not write change only the bitmaps of blocks: no byte, no space and no table. They
 /// make no page clean, and the page of each byte dirty, if there is one.
 pub fn marks_change_bitmaps_alone()
     ensures rest { (cells : List Cell) (host : Host PageSet)

@@ -21,7 +21,7 @@ pub fn lines_mean_one_thing()
     ensures { (line : List ℕ) (a b : Line) → Means line a → Means line b → a ≡ b }
 {}
 
-/// Each command and each setup line of numbers of 64 bits and bytes has a line that means it.
+/// Each command and each setup line of 64-bit numbers and bytes has a line that means it.
 pub fn meanings_have_lines()
     ensures command { (c : Command) → AllByRecursion CanSpell (command_fields c)
         → (line : List ℕ) × Means line (lines.Command c) }
@@ -29,7 +29,7 @@ pub fn meanings_have_lines()
         → (line : List ℕ) × Means line (lines.Setup s) }
 {}
 
-/// Replies that differ have texts that differ, where they tell numbers of 64 bits, bytes, and kinds of I/O errors
+/// Replies that differ have texts that differ, if they have numbers of 64 bits, bytes, and kinds of I/O errors
 /// that a script can meet.
 pub fn replies_that_differ_have_other_texts()
     ensures replies { (r s : Reply) → CanTell r → CanTell s → text_of r ≡ text_of s → r ≡ s }
@@ -37,8 +37,8 @@ pub fn replies_that_differ_have_other_texts()
         → r ≡ s }
 {}
 
-/// Where lines are answered one after another, their setup lines are made first, and then their commands are a run of
-/// the model. The text is that of the replies, a line each.
+/// If lines get replies one after another, what their setup lines ask for is made first, and then their commands are a
+/// run of the model. The text is that of the replies, a line each.
 pub fn scripts_run_the_model()
     ensures { (lines : List (List ℕ)) (text : List ℕ) (end : Stage) → Answers beginning lines text end
         → (meanings : List Line) × (made : List SetupReply) × (start : State) × (replies : List Reply)

@@ -22,7 +22,7 @@ use vm_memory_guest::laws::accesses::accesses_are_by_bytes;
 use vm_memory_guest::{Bytes, GuestMemory, GuestMemoryRegion, HostMemory};
 
 impl<R: GuestMemoryRegion, I: Iommu, B: ExactBitmap> Machine<R, I, B> {
-    /// Reads a memory into the beginning of the buffer, and returns how many bytes that is: docs/DEFINITIONS.md, "Calls
+    /// Reads a memory into the beginning of the buffer, and returns how many bytes that is: README.md, "Calls
     /// of a machine". `NoSuch` if there is no such memory. Each error of `Bytes::read` becomes the fault of its name,
     /// except `Memory`.
     #[inline(always)]
@@ -38,7 +38,7 @@ impl<R: GuestMemoryRegion, I: Iommu, B: ExactBitmap> Machine<R, I, B> {
         read_of(memory, &self.host, addr, buf)
     }
 
-    /// Fills the whole buffer from a memory. Where only its beginning can be filled, it fills that, and the fault
+    /// Fills the whole buffer from a memory. If only its beginning can be filled, it fills that, and the fault
     /// says how long it is. Other refusals come as in `read`.
     #[inline(always)]
     pub fn read_slice(
@@ -71,7 +71,7 @@ impl<R: GuestMemoryRegion, I: Iommu, B: ExactBitmap> Machine<R, I, B> {
         write_to(memory, &mut self.host, addr, buf)
     }
 
-    /// Writes the whole buffer to a memory. Where only its beginning fits, it writes that, and the fault says how long
+    /// Writes the whole buffer to a memory. If only its beginning fits, it writes that, and the fault says how long
     /// it is. Other refusals come as in `write`.
     #[inline(always)]
     pub fn write_slice(
@@ -90,7 +90,7 @@ impl<R: GuestMemoryRegion, I: Iommu, B: ExactBitmap> Machine<R, I, B> {
         write_whole_to(memory, &mut self.host, addr, buf)
     }
 
-    /// Whether each of `count` bytes of a memory may be accessed so, and has a byte of the host. `NoSuch` where there
+    /// Whether each of `count` bytes of a memory may be accessed so, and has a byte of the host. `NoSuch` if there
     /// is no such memory.
     pub fn check_range(
         &self,

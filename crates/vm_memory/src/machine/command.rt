@@ -11,12 +11,12 @@ use vm_memory_base::{BitmapId, GuestAddress, GuestUsize, IommuError, IotlbFails,
 pub enum Command {
     /// Makes the layout of these regions of the pool.
     FromRegions(NumberList),
-    /// Makes a layout of one with a region of the pool more.
+    /// Makes a layout with one more region of the pool.
     Insert {
         layout: usize,
         region: usize,
     },
-    /// Makes a layout of one without its region of exactly these addresses: `size` of them, from `base` on.
+    /// Makes a layout without the region of exactly these addresses: `size` of them, from `base` on.
     Remove {
         layout: usize,
         base: GuestAddress,
@@ -53,13 +53,13 @@ pub enum Command {
         addr: GuestAddress,
         bytes: ByteList,
     },
-    /// Reads exactly `count` bytes of a memory, or returns none.
+    /// Reads exactly `count` bytes of a memory, or none.
     ReadSlice {
         memory: usize,
         addr: GuestAddress,
         count: usize,
     },
-    /// Writes bytes to a memory. Where not all of them fit, those before the first that does not are written.
+    /// Writes bytes to a memory. If not all of them fit, those before the first that does not are written.
     WriteSlice {
         memory: usize,
         addr: GuestAddress,
@@ -86,7 +86,7 @@ pub enum Command {
         count: usize,
         source: SourceList,
     },
-    /// Receives `count` bytes of a memory from a source. Where it ends before, those that came are there.
+    /// Receives `count` bytes of a memory from a source. If it ends early, those that came are there.
     ReadExactFrom {
         memory: usize,
         addr: GuestAddress,
@@ -100,7 +100,7 @@ pub enum Command {
         count: usize,
         sink: SinkList,
     },
-    /// Sends `count` bytes of a memory to a sink. Where not all are there, those before the first that is not
+    /// Sends `count` bytes of a memory to a sink. If not all are there, those before the first that is not
     /// are sent.
     WriteAllTo {
         memory: usize,
@@ -128,13 +128,13 @@ pub enum Command {
         length: usize,
         perm: Permissions,
     },
-    /// Takes back the mappings of `length` I/O addresses of a table, from `iova` on.
+    /// Unmaps `length` I/O addresses of a table, from `iova` on.
     Invalidate {
         table: usize,
         iova: GuestAddress,
         length: usize,
     },
-    /// Takes back all mappings of a table.
+    /// Unmaps all I/O addresses of a table.
     InvalidateAll(usize),
     /// Asks where `length` I/O addresses of a table lead, for an access.
     Lookup {
@@ -145,7 +145,7 @@ pub enum Command {
     },
     /// Asks for the dirty pages of a block's bitmap or of a space.
     Dirty(BitmapId),
-    /// Takes the dirty pages of a block's bitmap or of a space: none of them is dirty then.
+    /// Takes the dirty pages of a block's bitmap or of a space: afterwards none of them is dirty.
     Harvest(BitmapId),
 }
 
@@ -194,13 +194,13 @@ pub enum Fault {
     InvalidBackendAddress,
     /// The region has no host bytes.
     HostAddressNotAvailable,
-    /// A callback answered more than was left. No command calls one.
+    /// A callback returned more than was left. No command calls one.
     CallbackOutOfRange,
     /// A callback went past the greatest address. No command calls one.
     GuestAddressOverflow,
     /// The translation was refused.
     IommuError(IommuError),
-    /// A layout of no region.
+    /// A layout without regions.
     NoMemoryRegion,
     /// A region reaches the next.
     MemoryRegionOverlap,
@@ -219,14 +219,14 @@ pub enum Ending {
     Fault(Fault),
 }
 
-/// What a machine answers to a command. `NoSuch`, `BadRange` and `Memory` changed nothing.
+/// The reply of a machine to a command. `NoSuch`, `BadRange` and `Memory` changed nothing.
 #[derive(Debug, Drop)]
 pub enum Reply {
     /// The number of the layout that was made.
     Layout(usize),
     /// The number of the memory that was made.
     MemoryMade(usize),
-    /// The command did all that it asks for, and has no answer.
+    /// The command did all that it asks for, and has nothing to report.
     Done,
     /// How many bytes were moved.
     Count(usize),
@@ -246,9 +246,9 @@ pub enum Reply {
     Fails(IotlbFails),
     /// The call was refused.
     Fault(Fault),
-    /// A number of the command names nothing.
+    /// A number in the command names nothing.
     NoSuch,
-    /// A range of the command passes its block; or, of `Set` and `Invalidate`, its start plus its length passes
+    /// A range of the command passes its block; or, for `Set` and `Invalidate`, its start plus its length passes
     /// 2^64 - 1; or its value has too many bytes.
     BadRange,
     /// An allocation failed.

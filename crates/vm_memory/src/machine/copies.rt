@@ -20,7 +20,7 @@ use vm_memory_guest::{BlockId, GuestMemoryRegion, HostMemory, VolatileSlice};
 
 impl<R: GuestMemoryRegion, I: Iommu, B: ExactBitmap> Machine<R, I, B> {
     /// Copies the first bytes of a range of a block to the front of another, up to the length of the shorter. `NoSuch`
-    /// where there is no such block, `BadRange` where a range passes its block.
+    /// if there is no such block, `BadRange` if a range passes its block.
     pub fn copy(&mut self, from: BlockRange, to: BlockRange) -> Result<(), Refusal>
         ensures { let before = state_of R.region I.number B.pages self.old in
             Step before (command.Copy from to) (replied as_done result)

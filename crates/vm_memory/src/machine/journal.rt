@@ -19,15 +19,15 @@ pub enum CallError {
     /// The allocation of the entry failed. Nothing ran.
     #[error("out of memory")]
     Memory,
-    /// The command ran, and its reply stands in the journal at this number. The allocation of a copy of it failed.
+    /// The command ran, and its reply is the journal's entry of this number. The allocation of a copy of it failed.
     #[error("entry {0} ran, its reply found no memory")]
     Ran(usize),
 }
 
 /// A machine with what it served: each command and its reply, in order.
 ///
-/// Some state led by these commands and replies, as a run of the model, to the state now. The journal does not keep
-/// that state.
+/// These commands and replies are a run of the model from some state to the present one. The journal does not keep
+/// the former.
 #[derive(Drop)]
 pub struct Journal<R: GuestMemoryRegion, I: Iommu, B: ExactBitmap> {
     machine: Machine<R, I, B>,
@@ -47,7 +47,7 @@ impl<R: GuestMemoryRegion, I: Iommu, B: ExactBitmap> Model for Journal<R, I, B> 
 }
 
 impl<R: GuestMemoryRegion, I: Iommu, B: ExactBitmap> Journal<R, I, B> {
-    /// A journal of a machine, which has served nothing yet.
+    /// A journal of a machine that has served nothing yet.
     pub fn new(machine: Machine<R, I, B>) -> Journal<R, I, B>
         ensures { result ≡ record { machine = machine; commands = []; replies = [] } }
     {
@@ -60,7 +60,7 @@ impl<R: GuestMemoryRegion, I: Iommu, B: ExactBitmap> Journal<R, I, B> {
         }
     }
 
-    /// Runs a command, and answers the number of its entry: the number of those before it. `AllocError` where the
+    /// Runs a command, and returns the number of its entry: the number of entries before it. `AllocError` if the
     /// allocation of the entry fails, and then nothing ran.
     pub fn serve(&mut self, command: Command) -> Result<usize, AllocError>
         ensures served { let state = state_of R.region I.number B.pages in

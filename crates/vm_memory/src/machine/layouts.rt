@@ -37,7 +37,7 @@ impl<R: GuestMemoryRegion, I: Iommu, B: ExactBitmap> Machine<R, I, B> {
         }
     }
 
-    /// Makes a layout of one with a region of the pool more, and returns its number. `NoSuch` if there is no such
+    /// Makes a layout with one more region of the pool, and returns its number. `NoSuch` if there is no such
     /// layout or region. Each error of `GuestRegionCollection::insert_region` becomes the fault of its name, except
     /// `Memory`.
     pub fn insert(&mut self, layout: usize, region: usize) -> Result<usize, Refusal>
@@ -57,7 +57,7 @@ impl<R: GuestMemoryRegion, I: Iommu, B: ExactBitmap> Machine<R, I, B> {
         }
     }
 
-    /// Makes a layout of one without its region of exactly these addresses, `size` of them from `base` on, and returns
+    /// Makes a layout without the region of exactly these addresses, `size` of them from `base` on, and returns
     /// its number. `NoSuch` if there is no such layout. Each error of `GuestRegionCollection::remove_region` becomes
     /// the fault of its name, except `Memory`.
     pub fn remove(

@@ -1,4 +1,4 @@
-//! Lists that clauses see as lists, whatever room their vectors have.
+//! Lists that clauses see as lists, whatever the capacity of their vectors.
 
 pub use vm_memory_base::{ByteList, Items};
 use vm_memory_base::{MappedRange, SinkStep, SourceStep};

@@ -15,7 +15,7 @@ use vm_memory_device::{Iommu, IommuMemory, MachineMemory};
 use vm_memory_guest::{GuestMemoryRegion, SpaceId};
 
 impl<R: GuestMemoryRegion, I: Iommu, B: ExactBitmap> Machine<R, I, B> {
-    /// Makes a memory of a layout, without an IOMMU, and answers its number. `NoSuch` where there is no such layout.
+    /// Makes a memory of a layout, without an IOMMU, and returns its number. `NoSuch` if there is no such layout.
     pub fn plain(&mut self, layout: usize) -> Result<usize, Refusal>
         ensures { let before = state_of R.region I.number B.pages self.old in
             Step before (command.Plain layout) (replied reply.MemoryMade result)
@@ -31,7 +31,7 @@ impl<R: GuestMemoryRegion, I: Iommu, B: ExactBitmap> Machine<R, I, B> {
     }
 
     /// Makes a memory of a layout behind an IOMMU, which is on or off: with a translator of the pool, and a space that
-    /// its writes mark. Answers its number. `NoSuch` where there is no such layout, translator or space.
+    /// its writes mark. Returns its number. `NoSuch` if there is no such layout, translator or space.
     pub fn new_memory(
         &mut self,
         layout: usize,
@@ -63,7 +63,7 @@ impl<R: GuestMemoryRegion, I: Iommu, B: ExactBitmap> Machine<R, I, B> {
     }
 
     /// Makes a memory of a layout behind the IOMMU of another memory: with its translator, its space and its switch.
-    /// Answers its number. `NoSuch` where there is no such layout, or no such memory with an IOMMU.
+    /// Returns its number. `NoSuch` if there is no such layout, or no such memory with an IOMMU.
     pub fn replace_backend(&mut self, memory: usize, layout: usize) -> Result<usize, Refusal>
         ensures { let before = state_of R.region I.number B.pages self.old in
             Step before (command.ReplaceBackend memory layout) (replied reply.MemoryMade result)
@@ -84,7 +84,7 @@ impl<R: GuestMemoryRegion, I: Iommu, B: ExactBitmap> Machine<R, I, B> {
         }
     }
 
-    /// Turns the IOMMU of a memory on or off. `NoSuch` where there is no such memory, or it has no IOMMU.
+    /// Turns the IOMMU of a memory on or off. `NoSuch` if there is no such memory, or it has no IOMMU.
     pub fn enable(&mut self, memory: usize, on: bool) -> Result<(), Refusal>
         ensures { let before = state_of R.region I.number B.pages self.old in
             Step before (command.Enable memory on) (replied as_done result)

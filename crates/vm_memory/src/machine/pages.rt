@@ -16,8 +16,8 @@ use vm_memory_device::Iommu;
 use vm_memory_guest::{GuestMemoryRegion, HostMemory};
 
 impl<R: GuestMemoryRegion, I: Iommu, B: ExactBitmap> Machine<R, I, B> {
-    /// Puts the numbers of the dirty pages of a block's bitmap or of a space into `pages`, ascending, in place of what
-    /// it had. `NoSuch` where there is no such bitmap. Where it is refused, `pages` stays.
+    /// Puts the numbers of the dirty pages of a block's bitmap or of a space into `pages`, ascending, and replaces what
+    /// it had. `NoSuch` if there is no such bitmap. If the call is refused, `pages` stays.
     pub fn dirty(&self, bitmap: BitmapId, pages: &mut Vec<usize>) -> Result<(), Refusal>
         ensures answer { let now = state_of R.region I.number B.pages self.now in
             Step now (command.Dirty bitmap) (replied (λ (done : Unit {0}). reply.Pages pages.new.items) result) now }
@@ -36,7 +36,7 @@ impl<R: GuestMemoryRegion, I: Iommu, B: ExactBitmap> Machine<R, I, B> {
     }
 
     /// Takes the dirty pages of a block's bitmap or of a space, so that none of them is dirty then, and puts their
-    /// numbers into `pages`, ascending, in place of what it had. `NoSuch` where there is no such bitmap. Where it is
+    /// numbers into `pages`, ascending, and replaces what it had. `NoSuch` if there is no such bitmap. If it is
     /// refused, `pages` and the bitmap stay.
     pub fn harvest(&mut self, bitmap: BitmapId, pages: &mut Vec<usize>) -> Result<(), Refusal>
         ensures answer { let before = state_of R.region I.number B.pages self.old in

@@ -10,7 +10,7 @@ use vm_memory_base::IotlbFails;
 use vm_memory_guest::{GuestMemoryError, GuestRegionCollectionError};
 
 /// Why a machine refused a call. `NoSuch` and `BadRange` changed nothing, and neither did `Memory`, unless a source or
-/// a sink of the call found no memory after bytes had moved: these stay moved.
+/// a sink of the call failed to allocate after bytes had moved: these stay moved.
 #[derive(Clone, Copy, Debug, PartialEq, Eq, Error)]
 pub enum Refusal {
     /// A number of the call names nothing.
@@ -27,7 +27,7 @@ pub enum Refusal {
     Fault(Fault),
 }
 
-/// Want of memory stays what it is, and every other error is the fault of its name.
+/// A failed allocation stays what it is, and every other error is the fault of its name.
 impl From<GuestMemoryError> for Refusal {
     ghost use Rattle.std.specs.Prelude.{◌≡◌};
     ghost use Rattle.vm_memory.specs.Reply.{refusal_of};
@@ -56,7 +56,7 @@ impl From<GuestMemoryError> for Refusal {
     }
 }
 
-/// Likewise of regions that make no layout.
+/// Likewise for regions that do not make a layout.
 impl From<GuestRegionCollectionError> for Refusal {
     ghost use Rattle.std.specs.Prelude.{◌≡◌};
     ghost use Rattle.vm_memory.specs.Reply.{refusal_of_layout};

@@ -111,7 +111,7 @@ impl<R: GuestMemoryRegion, I: Iommu, B: ExactBitmap> Machine<R, I, B> {
         }
     }
 
-    /// Loads an integer of this width of a memory, as a number. It is refused as `load` is.
+    /// Loads an integer of this width from a memory, as a number. It is refused as `load` is.
     #[inline]
     pub fn load_word(&self, memory: usize, width: Width, addr: GuestAddress) -> Result<u64, Refusal>
         ensures { let now = state_of R.region I.number B.pages self.now in

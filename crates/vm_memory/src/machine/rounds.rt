@@ -20,11 +20,11 @@ use vm_memory_guest::{BlockId, GuestMemoryRegion, HostMemory};
 impl<R: GuestMemoryRegion, I: Iommu, B: ExactBitmap> Machine<R, I, B> {
     /// Brings an image of a block up to date: takes the dirty pages of the block's bitmap, so that none is
     /// dirty, and copies the bytes of these pages from the block. The host has to hold the block, and the
-    /// image to be as long. `AllocError` where the allocation of the list of pages fails, and then nothing
-    /// changes. Where no page is dirty, it allocates nothing.
+    /// image to be as long. `AllocError` if the allocation of the list of pages fails, and then nothing
+    /// changes. If no page is dirty, it allocates nothing.
     ///
     /// An image that was a copy of the block at some time, and was patched with the pages of each harvest
-    /// since, is the block then. The premises: docs/DEFINITIONS.md, "Images kept in rounds".
+    /// since, is the block then. The premises: the crate's README.md, "Images kept in rounds".
     pub fn sync(&mut self, block: BlockId, image: &mut [u8]) -> Result<(), AllocError>
         requires there { Holds (shape_of self.old.host) (names.Block block.0 ∷ []) }
         requires len { length image.old ≡ length (block_at self.old.host.blocks block.0) }

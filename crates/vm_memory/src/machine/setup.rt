@@ -65,7 +65,7 @@ pub enum SetupReply {
 pub type ScriptMachine = Machine<GuestRegionMmap, TableIommu, ExclusiveBitmap>;
 
 impl Machine<GuestRegionMmap, TableIommu, ExclusiveBitmap> {
-    /// A machine of nothing. It allocates nothing.
+    /// An empty machine. It allocates nothing.
     pub fn empty(alloc: Global) -> ScriptMachine
         ensures { result ≡ no_parts }
     {

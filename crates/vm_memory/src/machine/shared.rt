@@ -27,8 +27,8 @@ impl<R: GuestMemoryRegion, I: Iommu, B: ExactBitmap> SharedMachine<R, I, B> {
         }
     }
 
-    /// Serves a command, and answers the number of its entry and a copy of its reply. It waits while another thread
-    /// calls. `Memory` where the allocation of the entry fails, and then nothing ran. `Ran` where that of the copy
+    /// Serves a command, and returns the number of its entry and a copy of its reply. It waits while another thread
+    /// calls. `Memory` if the allocation of the entry fails, and then nothing ran. `Ran` if the allocation of the copy
     /// fails: the command ran, and `fetch` gives the reply.
     pub fn call(&self, rt: &impl Wait, command: Command) -> Result<(usize, Reply), CallError>
         ensures { IfOk result (λ a. IsEntry a.0 command a.1) }
@@ -37,7 +37,7 @@ impl<R: GuestMemoryRegion, I: Iommu, B: ExactBitmap> SharedMachine<R, I, B> {
     }
 
     /// A copy of the reply of an entry, if there is one of this number. It waits while another thread calls.
-    /// `AllocError` where the allocation of the copy fails.
+    /// `AllocError` if the allocation of the copy fails.
     pub fn fetch(&self, rt: &impl Wait, number: usize) -> Result<Option<Reply>, AllocError>
         ensures { IfOk result (λ o. IfSome o (λ reply. (command : Command) × IsEntry number command reply)) }
     {

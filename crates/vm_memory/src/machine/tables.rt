@@ -23,8 +23,8 @@ use vm_memory_device::Iommu;
 use vm_memory_guest::{GuestMemoryRegion, HostMemory, TlbId};
 
 impl<R: GuestMemoryRegion, I: Iommu, B: ExactBitmap> Machine<R, I, B> {
-    /// Maps `length` I/O addresses of a table, from `iova` on, to those from `map_to` on. `NoSuch` where there is no
-    /// such table, `BadRange` where `iova` plus `length` passes 2^64 - 1.
+    /// Maps `length` I/O addresses of a table, from `iova` on, to those from `map_to` on. `NoSuch` if there is no
+    /// such table, `BadRange` if `iova` plus `length` passes 2^64 - 1.
     pub fn set_mapping(
         &mut self,
         table: usize,
@@ -43,8 +43,8 @@ impl<R: GuestMemoryRegion, I: Iommu, B: ExactBitmap> Machine<R, I, B> {
         set_in(&mut self.host, table, iova, map_to, length, perm)
     }
 
-    /// Takes back the mappings of `length` I/O addresses of a table, from `iova` on. `NoSuch` where there is no such
-    /// table, `BadRange` where `iova` plus `length` passes 2^64 - 1.
+    /// Unmaps `length` I/O addresses of a table, from `iova` on. `NoSuch` if there is no such
+    /// table, `BadRange` if `iova` plus `length` passes 2^64 - 1.
     pub fn invalidate_mapping(
         &mut self,
         table: usize,
@@ -61,7 +61,7 @@ impl<R: GuestMemoryRegion, I: Iommu, B: ExactBitmap> Machine<R, I, B> {
         invalidate_in(&mut self.host, table, iova, length)
     }
 
-    /// Takes back all mappings of a table. `NoSuch` where there is no such table.
+    /// Unmaps all I/O addresses of a table. `NoSuch` if there is no such table.
     pub fn invalidate_all(&mut self, table: usize) -> Result<(), Refusal>
         ensures { let before = state_of R.region I.number B.pages self.old in
             Step before (command.InvalidateAll table) (replied as_done result)
@@ -75,7 +75,7 @@ impl<R: GuestMemoryRegion, I: Iommu, B: ExactBitmap> Machine<R, I, B> {
     }
 
     /// Where `length` I/O addresses of a table lead, from `iova` on, for an access: the pieces in order, or what is
-    /// missed and what fails. `NoSuch` where there is no such table.
+    /// missed and what fails. `NoSuch` if there is no such table.
     pub fn lookup(
         &self,
         table: usize,

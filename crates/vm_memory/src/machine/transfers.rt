@@ -54,7 +54,7 @@ impl<R: GuestMemoryRegion, I: Iommu, B: ExactBitmap> Machine<R, I, B> {
         receive(memory, &mut self.host, addr, src, count)
     }
 
-    /// Receives `count` bytes of a memory from a source. Where it ends before, or the memory ends behind the first
+    /// Receives `count` bytes of a memory from a source. If it ends early, or the memory ends after the first
     /// byte, the fault says how many came. Other refusals come as in `read_volatile_from`.
     pub fn read_exact_volatile_from<F: ReadVolatile>(
         &mut self,
@@ -102,7 +102,7 @@ impl<R: GuestMemoryRegion, I: Iommu, B: ExactBitmap> Machine<R, I, B> {
         send(memory, &self.host, addr, dst, count)
     }
 
-    /// Sends `count` bytes of a memory to a sink. Where the memory ends behind the first byte, the fault says how many
+    /// Sends `count` bytes of a memory to a sink. If the memory ends after the first byte, the fault says how many
     /// it took. Other refusals come as in `write_volatile_to`.
     pub fn write_all_volatile_to<F: WriteVolatile>(
         &self,

@@ -5,7 +5,7 @@ ghost use Rattle.vm_memory.specs.Words.{parts_of};
 
 use std::marker::Model;
 
-/// What is left of a text, whose lines end with line feeds. The last may lack it.
+/// The rest of a text, whose lines end with line feeds. The last line may lack it.
 #[derive(Drop)]
 pub(super) struct Lines<'a> {
     rest: Option<&'a [u8]>,

@@ -1,4 +1,4 @@
-//! What a script writes: texts, which wait until many of them are written at once.
+//! What a script writes: texts, which are buffered until many of them are written at once.
 ghost use Rattle.std.specs.Prelude.{◌≡◌, ◌≤◌, ◌++◌, [], length, take, drop, IsTrue, MatchOption};
 ghost use Rattle.std.specs.Io.KnownBytes.{Appends, Keeps};
 ghost use Rattle.vm_memory.specs.Told.{Puts};
@@ -8,7 +8,7 @@ use std::io::{ErrorKind, Write};
 // At most this many bytes of texts wait.
 pub(super) const ROOM: usize = 0x2000;
 
-/// Takes a text, which waits after those before it, or writes them. Returns false if the output fails.
+/// Takes a text, and buffers it after those before it, or writes them. Returns false if the output fails.
 pub(super) fn put<W: Write>(output: &mut W, waiting: &mut Vec<u8>, text: &[u8]) -> bool
     ensures { Puts (W.contents output.old) waiting.old.items text.now result (W.contents output.new) waiting.new.items }
 {

@@ -47,7 +47,7 @@ impl Session {
         })
     }
 
-    /// Runs the line with this number, and appends its reply to what waits to be written.
+    /// Runs the line with this number, and appends its reply to what is to be written.
     pub(super) fn answer<W: Write>(
         &mut self,
         alloc: Global,

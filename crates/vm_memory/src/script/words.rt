@@ -118,7 +118,7 @@ impl<'a> Words<'a> {
         self.words.next()
     }
 
-    /// The next word. After the last there is none.
+    /// The next word, if there is one.
     pub(super) fn word(&mut self) -> Result<&'a str, LineError>
         ensures { Gives (λ word. word.now) result self.new (word_at self.old) }
     {

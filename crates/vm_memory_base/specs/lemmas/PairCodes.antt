@@ -4,7 +4,7 @@ use Rattle.std.proofs.lemmas.List.{length-drop, length-take-le, take-append-drop
 use Rattle.vm_memory_base.specs.Bytes.{IsByteCode}
 use Rattle.vm_memory_base.specs.lemmas.ArrayCodes.{append_are_bytes, take_are_bytes, drop_are_bytes, front_of, rest_of}
 
--- values of one type, each with as many bytes, and behind them values of another
+-- values of one type, each with as many bytes, and after them values of another
 pub pair_code : {V W : Type 0} {width others : ℕ} {P : V → Type 0} {Q : W → Type 0} {first : V → List ℕ}
     {second : W → List ℕ} {first_of : List ℕ → V} {second_of : List ℕ → W}
     → IsByteCode width P first first_of → ((x : V) → length (first x) ≡ width)

@@ -1,4 +1,4 @@
--- What a source or a sink tells of tries and of turns follows from what it tells of one try.
+-- What a source or a sink says of tries and of turns follows from what it says of one try.
 use Rattle.std.proofs.Common.{◌≡◌, ℕ, ◌+◌, ◌-◌, ◌<◌, Bool, true, false, ◌||◌, MatchBool, List, ◌++◌, length, take, drop, Option, Some, None, Result, Ok, Err, refl, sym, ap, ap₂, subst, ◌∙◌, inl, inr, append-nil, append_assoc, add-zero, arith}
 use Rattle.std.proofs.lemmas.List.{length-drop}
 use Rattle.std.proofs.Math.Seq.{take-add}
@@ -78,7 +78,7 @@ keeps_more (Some before) bytes now count after so_far more =
     let as_before = so_far ∙ ap (λ (bs : List ℕ). Some bs) (append-nil before) in
     subst (λ (o : Option (List ℕ)). Keeps o bytes count after) as_before more
 
--- behind what it had taken
+-- after what it had taken
 keeps_on : (o : Option (List ℕ)) (bytes : List ℕ) (done : ℕ) (now : Option (List ℕ)) (count : ℕ)
     (after : Option (List ℕ)) → Keeps o bytes done now → Keeps now (drop done bytes) count after
     → Keeps o bytes (done + count) after
@@ -103,7 +103,7 @@ module _ {S : Type 0} (sink : S → Option Sink) (taken : S → Option (List ℕ
   abbrev IsSink : S → Sink → Type 0
   IsSink x y = sink x ≡ Some y
 
-  -- memory may be wanted of bytes alone
+  -- an allocation may fail only for some bytes
   abbrev WantsOf : ℕ → S → Type 0
   WantsOf n x = (0 < n) × wants x
 

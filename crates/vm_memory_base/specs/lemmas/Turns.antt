@@ -171,7 +171,7 @@ module _ {X : Type 0} (Kept : X → Type 0) (Good : VolatileMemoryError → Type
   after done x (Ok (suc count)) more h good rest = rest (done + suc count)
   after done x (Err e) more h good rest = (h, good)
 
-  -- what follows where some of n bytes are left, and where none is
+  -- what follows if some of n bytes are left, and if none is
   tested : (turn : ℕ → X → Made VolatileMemoryError X) (n turns done : ℕ) (x : X) → Kept x
       → (done < n → KeptBy (turn done x))
       → ((now : ℕ) → Kept (turn done x).left → KeptByAll (rest_of turn n turns now (turn done x).left))

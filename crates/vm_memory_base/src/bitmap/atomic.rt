@@ -43,7 +43,7 @@ impl AtomicBitmap {
     ghost use Rattle.vm_memory_base.specs.Shared.{paging_of};
 
     /// A clean bitmap for `byte_size` bytes in pages of `page_size` bytes, the last of which may be cut.
-    /// `AllocError` where its allocation fails.
+    /// `AllocError` if its allocation fails.
     pub fn new(alloc: Global, byte_size: usize, page_size: NonZeroUsize) -> Result<Self, AllocError>
         ensures bytes { IfOk result (λ b. bytes_of (paging_of b) ≡ byte_size) }
         ensures page_size { IfOk result (λ b. page_size_of (paging_of b) ≡ non_zero_usize_get page_size) }
@@ -55,7 +55,7 @@ impl AtomicBitmap {
     }
 
     /// Tracks `additional_size` bytes more. They fill the last page first, and then new pages, which are clean. The
-    /// sizes together have to fit 64 bits. `AllocError` where the allocation of the pages fails, and then nothing
+    /// sizes together have to fit 64 bits. `AllocError` if the allocation of the pages fails, and then nothing
     /// changes.
     pub fn enlarge(&mut self, additional_size: usize) -> Result<(), AllocError>
         requires { bytes_of (paging_of self.old) + additional_size < 2 ^ 64 }
@@ -88,7 +88,7 @@ impl AtomicBitmap {
         self.paging.byte_size()
     }
 
-    /// Whether page `index` is dirty. A page at or past the number of pages is not.
+    /// Whether page `index` is dirty. It is false from the number of pages on.
     #[inline]
     pub fn is_bit_set(&self, index: usize) -> bool
         ensures { count_of (paging_of self.now) ≤ index → result ≡ false }
@@ -96,7 +96,7 @@ impl AtomicBitmap {
         index < self.len() && self.map[index / 64].load(Ordering::SeqCst) & (1 << (index % 64)) != 0
     }
 
-    /// Whether the page of the byte at `addr` is dirty. Past the last page no byte is.
+    /// Whether the page of the byte at `addr` is dirty. It is false past the last page.
     #[inline]
     pub fn is_addr_set(&self, addr: usize) -> bool
         ensures { count_of (paging_of self.now) ≤ addr / page_size_of (paging_of self.now)
@@ -105,7 +105,7 @@ impl AtomicBitmap {
         self.is_bit_set(self.paging.page_of(addr))
     }
 
-    /// Makes the pages of `len` bytes from `start` on dirty, one after another: none, where `len` is 0. A range that
+    /// Makes the pages of `len` bytes from `start` on dirty, one after another, and none if `len` is 0. A range that
     /// passes 2^64 - 1 ends there, and what lies past the last page is left out.
     pub fn set_addr_range(&self, start: usize, len: usize) {
         let (first, end) = self.paging.pages_in(start, len);
@@ -158,7 +158,7 @@ impl AtomicBitmap {
     }
 
     /// Takes the dirty pages as words, and makes them clean: each word in one step, in order. No word has a bit at
-    /// or past the number of pages. `AllocError` where the allocation of the words fails, and then nothing changes.
+    /// or past the number of pages. `AllocError` if the allocation of the words fails, and then nothing changes.
     pub fn get_and_reset(&self, alloc: Global) -> Result<Vec<u64>, AllocError>
         ensures words { IfOk result (λ words. length words.items ≡ div_ceil (count_of (paging_of self.now)) 64) }
         ensures within { IfOk result (λ words. AreWithin (count_of (paging_of self.now)) words.items) }
@@ -196,7 +196,7 @@ fn set_in(word: &AtomicU64, bit: u64, left: Option<u64>) -> u64 {
 }
 
 /// A clone tracks the same number of bytes in pages of the same size. Those pages are dirty that were found dirty.
-/// `AllocError` where its allocation fails.
+/// `AllocError` if its allocation fails.
 impl Clone for AtomicBitmap {
     ghost use Rattle.vm_memory_base.specs.Shared.{paging_of};
 
@@ -241,7 +241,7 @@ impl SharedBitmap for () {
     fn mark_shared(&self, _offset: usize, _len: usize) {}
 }
 
-/// Tracks what the bitmap that it holds tracks, and nothing where it holds none.
+/// Tracks what the bitmap that it holds tracks, and nothing if it holds none.
 impl<B: SharedBitmap> SharedBitmap for Option<B> {
     #[inline]
     fn mark_shared(&self, offset: usize, len: usize) {

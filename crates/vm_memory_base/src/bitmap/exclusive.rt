@@ -36,7 +36,7 @@ impl ExclusiveBitmap {
     ghost use Rattle.vm_memory_base.specs.Exclusive.{paging_of, pages_of};
 
     /// A clean bitmap for `byte_size` bytes in pages of `page_size` bytes, the last of which may be cut.
-    /// `AllocError` where its allocation fails.
+    /// `AllocError` if its allocation fails.
     pub fn new(alloc: Global, byte_size: usize, page_size: NonZeroUsize) -> Result<Self, AllocError>
         ensures pages { IfOk result (λ b. Some (pages_of b)
             ≡ page_set.new_pages (non_zero_usize_get page_size) byte_size) }
@@ -63,7 +63,7 @@ impl ExclusiveBitmap {
         self.paging.byte_size()
     }
 
-    /// Makes clean the pages that a mark of `len` bytes from `start` on would make dirty: none, where `len` is 0,
+    /// Makes clean the pages that a mark of `len` bytes from `start` on would make dirty: none if `len` is 0,
     /// and none past the last page.
     pub fn reset_addr_range(&mut self, start: usize, len: usize)
         ensures pages { Some (pages_of self.new) ≡ page_set.unmarked start len (Some (pages_of self.old)) }
@@ -94,7 +94,7 @@ impl ExclusiveBitmap {
     }
 
     /// Takes the dirty pages as bits of words, page `n` as bit `n % 64` of word `n / 64`, and makes them clean.
-    /// `AllocError` where the allocation of the words fails, and then nothing changes.
+    /// `AllocError` if the allocation of the words fails, and then nothing changes.
     pub fn get_and_reset(&mut self, alloc: Global) -> Result<Vec<u64>, AllocError>
         ensures words { IfOk result (λ words. words.items ≡ page_set.dirty_words (Some (pages_of self.old))) }
         ensures clean { OnOk result (Some (pages_of self.new) ≡ page_set.cleaned (Some (pages_of self.old))) }

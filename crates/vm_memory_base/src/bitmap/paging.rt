@@ -6,7 +6,7 @@ ghost use Rattle.vm_memory_base.specs.Pages as page_set;
 
 use std::num::NonZeroUsize;
 
-/// So many bytes, from offset 0 on, in pages of one size, the last of which may be cut.
+/// A number of bytes, from offset 0 on, in pages of one size, the last of which may be cut.
 #[derive(Clone, Copy, Debug)]
 pub struct Paging {
     byte_size: usize,
@@ -20,7 +20,7 @@ pub struct Paging {
 impl Paging {
     ghost use Rattle.vm_memory_base.specs.Paging.{bytes_of, page_size_of, count_of, pages_in};
 
-    /// So many bytes in pages of `page_size` bytes.
+    /// This number of bytes in pages of `page_size` bytes.
     pub fn new(byte_size: usize, page_size: NonZeroUsize) -> Paging
         ensures bytes { bytes_of result ≡ byte_size }
         ensures page_size { page_size_of result ≡ non_zero_usize_get page_size }
@@ -57,7 +57,7 @@ impl Paging {
         self.count
     }
 
-    /// The page of the byte at `offset`. Where the byte is none of these, the page may be none.
+    /// The page of the byte at `offset`. If there is no such byte, there may be no such page.
     #[inline(always)]
     pub fn page_of(&self, offset: usize) -> usize
         ensures { result ≡ offset / page_size_of self.now }
@@ -81,7 +81,7 @@ impl Paging {
         (first, start.saturating_add(len - 1) / page_size)
     }
 
-    /// The pages of `len` bytes from `start` on, among those that there are: from one up to another, and none where
+    /// The pages of `len` bytes from `start` on, among those that there are: from one up to another, and none if
     /// `len` is 0. A range that passes 2^64 - 1 ends there.
     #[inline(always)]
     pub fn pages_in(&self, start: usize, len: usize) -> (usize, usize)

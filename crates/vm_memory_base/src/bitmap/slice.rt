@@ -52,7 +52,7 @@ impl<P> BaseSlice<P> {
 impl<P: Clone> BaseSlice<P> {
     ghost use Rattle.vm_memory_base.specs.Slices.{inner_of, base_of};
 
-    /// The slice of the same bitmap that begins `offset` bytes further on, modulo 2^64. `AllocError` where what
+    /// The slice of the same bitmap that begins `offset` bytes further on, modulo 2^64. `AllocError` if what
     /// lends the bitmap cannot be cloned. A reference always can.
     pub fn slice_at(&self, offset: usize) -> Result<BaseSlice<P>, AllocError>
         ensures inner { IfOk result (λ s. P.is_clone (inner_of self.now) (inner_of s)) }

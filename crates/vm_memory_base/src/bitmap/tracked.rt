@@ -1,5 +1,5 @@
 //! A bitmap that several threads mark while one harvests.
-ghost use Rattle.std.specs.Prelude.{◌≡◌, ℕ, ◌+◌, ◌-◌, ◌/◌, ◌^◌, ◌<◌, ◌≤◌, ◌↔◌, [], false, length, IfOk, OnErr, Err};
+ghost use Rattle.std.specs.Prelude.{◌≡◌, ℕ, ◌+◌, ◌-◌, ◌/◌, ◌^◌, ◌<◌, ◌≤◌, ◌↔◌, [], false, length, IfOk, OnOk, OnErr, Err};
 ghost use Rattle.std.specs.NonZero.{non_zero_usize_get};
 ghost use Rattle.std.specs.Int.{div_ceil};
 ghost use Rattle.vm_memory_base.specs.Notes.{rounds_of};
@@ -11,7 +11,7 @@ mod plays;
 mod view;
 
 pub use self::marker_bitmap::MarkerBitmap;
-use self::plays::{Both, Counts, Harvests, Looks, Marks, Newcomer, Note, Rounds};
+use self::plays::{Both, Counts, Deal, Harvests, Looks, Marks, Note, Rounds};
 use self::view::View;
 use super::paging::Paging;
 use atomic_table::{Seat, Shared, Table};
@@ -33,7 +33,7 @@ pub struct TrackedBitmap {
 #[derive(Drop)]
 pub struct Marker {
     seat: Seat<(), View>,
-    ghost marks_only: { (seat.me.1 ≡ []) × (seat.me.0.harvests ≡ []) },
+    ghost marks_only: { (seat.me.1 ≡ []) × (seat.me.0.harvests ≡ []) × (seat.me.0.markers ≡ 1) },
 }
 
 /// What a thread harvests a `TrackedBitmap` with. There is one.
@@ -46,13 +46,13 @@ pub struct Harvester {
         × tracked.AreSeen seat.table_id.words round seat.me.0 },
 }
 
-/// Why no page was harvested.
+/// Why no pages were harvested.
 #[derive(Clone, Copy, Debug, PartialEq, Eq, Error)]
 pub enum HarvestError {
     /// The allocation of the pages failed.
     #[error("out of memory")]
     Memory,
-    /// Each word was harvested 2^32 - 1 times, and has no room for the number of another round.
+    /// Each word was harvested 2^32 - 1 times, and the number of its round has no next one.
     #[error("rounds spent")]
     RoundsSpent,
 }
@@ -71,7 +71,7 @@ impl TrackedBitmap {
     ghost use Rattle.vm_memory_base.specs.declared.bitmap.tracked.HarvestError.TheVariants.{RoundsSpent};
 
     /// A bitmap for `byte_size` bytes in pages of `page_size` bytes, the last of which may be cut. No page is set.
-    /// With it come its harvester and as many markers as are asked for. `AllocError` where an allocation fails.
+    /// Its harvester and the requested number of markers come with it. `AllocError` if an allocation fails.
     pub fn new(
         alloc: Global,
         byte_size: usize,
@@ -81,7 +81,7 @@ impl TrackedBitmap {
         ensures pages { IfOk result (λ r. (bytes_of (paging_of r.0) ≡ byte_size)
             × (page_size_of (paging_of r.0) ≡ non_zero_usize_get page_size)) }
         ensures harvester { IfOk result (λ r. (harvester_table r.1 ≡ table_of r.0)
-            × (known_by r.1 ≡ tracked.newcomer (count_of (paging_of r.0)))) }
+            × (known_by r.1 ≡ tracked.new_harvester (count_of (paging_of r.0)) markers)) }
         ensures markers { IfOk result (λ r. (length r.2.items ≡ markers)
             × AreNew (table_of r.0) r.2.items) }
     {
@@ -114,7 +114,7 @@ impl TrackedBitmap {
             .fetch_or::<Marks>(&mut marker.seat, page / 32, 1 << (page % 32));
     }
 
-    /// Marks the pages of `len` bytes from `addr` on, ascending, each by one step: none, where `len` is 0. A range
+    /// Marks the pages of `len` bytes from `addr` on, ascending, each by one step, and none if `len` is 0. A range
     /// that passes 2^64 - 1 ends there, and what lies past the last page is left out. The marker has to be one of
     /// this bitmap's.
     pub fn mark(&self, marker: &mut Marker, addr: usize, len: usize)
@@ -129,7 +129,7 @@ impl TrackedBitmap {
         }
     }
 
-    /// Whether the page of the byte at `addr` is seen set, by one step. Past the last page none is. The marker has to
+    /// Whether the page of the byte at `addr` is seen set, by one step. False past the last page. The marker has to
     /// be one of this bitmap's.
     pub fn is_addr_set(&self, marker: &mut Marker, addr: usize) -> bool
         requires own { marker_table marker.old ≡ table_of self.now }
@@ -158,8 +158,8 @@ impl TrackedBitmap {
         (set_pages(found) >> (page % 32)) & 1 == 1
     }
 
-    /// Whether the page of the byte at `addr` was set at some moment. It takes no marker, and promises only that past
-    /// the last page none is.
+    /// Whether the page of the byte at `addr` was set at some moment. It takes no marker, and promises only that it is
+    /// false past the last page.
     pub fn glance(&self, addr: usize) -> bool
         ensures { count_of (paging_of self.now) ≤ addr / page_size_of (paging_of self.now) → result ≡ false }
     {
@@ -188,8 +188,8 @@ impl TrackedBitmap {
     }
 
     /// Takes the pages of every word, in order: page `n` is bit `n % 32` of number `n / 32`. One step takes a word
-    /// and opens its next round. `RoundsSpent` where there is a word that was harvested 2^32 - 1 times, `Memory`
-    /// where the allocation of the answer fails, and then nothing changes. The harvester has to be this bitmap's.
+    /// and opens its next round. `RoundsSpent` if there is a word that was harvested 2^32 - 1 times, `Memory`
+    /// if the allocation of the result fails, and then nothing changes. The harvester has to be this bitmap's.
     pub fn get_and_reset(
         &self,
         harvester: &mut Harvester,
@@ -238,12 +238,14 @@ impl TrackedBitmap {
         *round += 1;
     }
 
-    /// Hands what a marker knows to the harvester. Both have to be this bitmap's.
+    /// Hands what a marker knows to the harvester, which then has the notes of one marker more. Both have to be this
+    /// bitmap's.
     pub fn join(&self, harvester: &mut Harvester, marker: Marker)
         requires own { (harvester_table harvester.old ≡ table_of self.now)
             × (marker_table marker ≡ table_of self.now) }
         ensures same { harvester_table harvester.new ≡ harvester_table harvester.old }
         ensures joins { known_by harvester.new ≡ tracked.both (known_by harvester.old) (known_to marker) }
+        ensures counted { (known_by harvester.new).markers ≡ (known_by harvester.old).markers + 1 }
     {
         let Marker { seat } = marker;
         self.table
@@ -251,7 +253,7 @@ impl TrackedBitmap {
             .join_seat::<Both>(&mut harvester.seat, seat);
     }
 
-    /// Lets a marker meet the harvester. From then on the marker has seen each round at which the harvester stands.
+    /// Lets a marker meet the harvester. From then on the marker has seen each round that the harvester has reached.
     /// Both have to be this bitmap's.
     pub fn meet(&self, marker: &mut Marker, harvester: &mut Harvester)
         requires own { (marker_table marker.old ≡ table_of self.now)
@@ -283,8 +285,9 @@ impl TrackedBitmap {
         self.table.shared.join_seat::<Both>(hearer, told);
     }
 
-    /// Ends the bitmap, and answers the pages that are set, as `get_and_reset` does. Where the allocation of the
-    /// answer fails, bitmap and harvester come back. The harvester has to be this bitmap's.
+    /// Ends the bitmap, and returns the pages that are set, as `get_and_reset` does. If each marker was joined before,
+    /// these are pages that markers marked, and no others. If the allocation of the result fails, bitmap and harvester
+    /// come back. The harvester has to be this bitmap's.
     pub fn close(
         self,
         harvester: Harvester,
@@ -293,6 +296,8 @@ impl TrackedBitmap {
         requires own { harvester_table harvester ≡ table_of self }
         ensures left { IfOk result (λ words. (length words.items ≡ div_ceil (count_of (paging_of self)) 32)
             × tracked.IsLeft (known_by harvester) words.items) }
+        ensures marked { tracked.HasAllMarkers (known_by harvester)
+            → IfOk result (λ words. tracked.WereMarked (known_by harvester) words.items) }
         ensures last { IfOk result (λ words. tracked.AreLastPages (count_of (paging_of self)) (known_by harvester)
             words.items) }
         ensures within { IfOk result (λ words. tracked.AreWordsBelow (count_of (paging_of self)) words.items) }
@@ -316,7 +321,7 @@ impl TrackedBitmap {
 impl Marker {
     ghost use Rattle.vm_memory_base.specs.Markers.{AreNew};
 
-    // As many markers as are asked for, which know the number of pages and no more.
+    // As many markers as are asked for.
     fn deal(
         alloc: Global,
         shared: &Shared<(), View, usize, Rounds>,
@@ -324,16 +329,17 @@ impl Marker {
         count: usize,
     ) -> Result<Vec<Marker>, AllocError>
         requires own { seat.old.table_id ≡ shared.now.table_id }
+        requires first { seat.old.id ≡ 0 }
         requires some { 0 < shared.now.table_id.words }
-        ensures same { (seat.new.table_id ≡ seat.old.table_id) × (seat.new.id ≡ seat.old.id)
-            × (seat.new.me ≡ seat.old.me) }
+        ensures same { (seat.new.table_id ≡ seat.old.table_id) × (seat.new.id ≡ seat.old.id) }
+        ensures dealt { OnOk result (seat.new.me ≡ (tracked.after_deals count seat.old.me.0, seat.old.me.1)) }
         ensures markers { IfOk result (λ markers. (length markers.items ≡ count)
             × AreNew (shared.now.table_id, seat.old.me.0.count) markers.items) }
     {
         let mut markers = Vec::with_capacity(alloc, count)?;
         for _ in 0..count {
             markers.push(Marker {
-                seat: shared.split_seat::<Newcomer>(seat),
+                seat: shared.split_seat::<Deal>(seat),
             })?;
         }
         Ok(markers)

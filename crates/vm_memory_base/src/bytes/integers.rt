@@ -11,7 +11,7 @@ ghost use Rattle.vm_memory_base.specs.lemmas.ByteCodes.{unsigned_code, signed_co
 use super::ByteSized;
 use std::fmt::Debug;
 
-/// Integers of at most 16 bytes, all of whose bytes are their own: the integers, and those that name
+/// Integers of at most 16 bytes without padding: the native integers, and those that name
 /// the order of their bytes.
 pub trait FixedInteger: ByteSized + Copy + Eq + Debug {
     // Holds of the values of the type.
@@ -28,13 +28,13 @@ pub trait FixedInteger: ByteSized + Copy + Eq + Debug {
         ensures positive { 0 < result }
         ensures small { result ≤ 16 };
 
-    /// The number that the bytes of the value write, the lowest first.
+    /// The number that the bytes of the value spell, the lowest first.
     fn to_bits(self) -> u128
         ensures bytes { bytes_low_first 0 Self.width result ≡ bytes self }
         ensures fits { result < 256 ^ Self.width }
         ensures known { is_value self };
 
-    /// The value whose bytes write this number, which has to fit them.
+    /// The value whose bytes spell this number, which has to fit them.
     fn from_bits(bits: u128) -> Self
         requires { bits < 256 ^ Self.width }
         ensures { result ≡ value_of (bytes_low_first 0 Self.width bits) };
@@ -59,7 +59,7 @@ pub(crate) fn byte_of(bits: u128, size: usize, i: usize) -> u8
     bits.to_le_bytes()[..size][i]
 }
 
-/// The number of at most 16 bytes that a slice writes, the lowest byte first.
+/// The number of at most 16 bytes that a slice spells, the lowest byte first.
 #[inline]
 pub(crate) fn number_in(data: &[u8]) -> u128
     requires { length «data».now ≤ 16 }
@@ -105,7 +105,7 @@ pub(crate) fn with_byte(bits: u128, size: usize, i: usize, b: u8) -> u128
     number_in(&all[..size])
 }
 
-/// The number of `size` bytes with its bytes in turned order.
+/// The number of `size` bytes with its bytes reversed.
 #[inline]
 pub(crate) fn reversed(bits: u128, size: usize) -> u128
     requires { size ≤ 16 }

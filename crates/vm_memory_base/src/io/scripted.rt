@@ -14,13 +14,13 @@ use std::marker::Model;
 pub enum SourceStep {
     /// Gives these bytes, over as many tries as they take.
     Give(ByteList),
-    /// Writes these bytes over the beginning of what it was lent, and answers that it was interrupted.
+    /// Writes these bytes over the beginning of what it was lent, and returns that it was interrupted.
     Interrupted(ByteList),
-    /// Writes these bytes over the beginning of what it was lent, and answers an error of the kind `Other`.
+    /// Writes these bytes over the beginning of what it was lent, and returns an error of the kind `Other`.
     Fail(ByteList),
 }
 
-/// A source that follows a script. After its last step it gives nothing.
+/// A source that follows a script. After its last step it is at its end.
 #[derive(Drop)]
 pub struct ScriptSource<'a> {
     // What is left of a step that gives bytes.
@@ -94,13 +94,13 @@ impl ReadVolatile for ScriptSource<'_> {
 pub enum SinkStep {
     /// Takes at most this many bytes.
     Take(usize),
-    /// Takes none, and answers that it was interrupted.
+    /// Takes none, and returns that it was interrupted.
     Interrupted,
-    /// Takes none, and answers an error of the kind `Other`.
+    /// Takes none, and returns an error of the kind `Other`.
     Fail,
 }
 
-/// A sink that follows a script, and keeps what it took, as far as its room goes. After its last step it takes
+/// A sink that follows a script, and keeps what it took, as far as it has room. After its last step it takes
 /// what it has room for.
 #[derive(Drop)]
 pub struct ScriptSink<'a> {
@@ -125,8 +125,8 @@ impl<'a> Model for ScriptSink<'a> {
 }
 
 impl<'a> ScriptSink<'a> {
-    /// A sink that follows these steps, with room for `room` bytes, which it reserves. `AllocError` where that
-    /// fails. Without room it allocates nothing.
+    /// A sink that follows these steps, with room for `room` bytes, which it reserves. `AllocError` if that
+    /// fails. It allocates nothing if `room` is 0.
     pub fn new(
         alloc: Global,
         steps: &'a [SinkStep],

@@ -1,5 +1,5 @@
 //! Files, sockets and the standard output as sources and sinks, whose bytes are not known. A try is one call with the
-//! whole buffer, and answers what that call answered. No clause can say so: the clauses of `Read` and `Write` hold of
+//! whole buffer, and returns what that call returned. No clause can say so: the clauses of `Read` and `Write` hold of
 //! two calls, or of a part of the buffer, as well.
 ghost use Rattle.std.specs.Prelude.{◌≡◌, None};
 ghost use Rattle.vm_memory_base.specs.System.{ReadsOnce, WritesOnce, told_as};

@@ -1,4 +1,4 @@
-//! Tries again after interruptions.
+//! Retries after interruptions.
 ghost use Rattle.std.specs.Prelude.{◌≡◌, ◌≤◌, length, IfOk};
 ghost use Rattle.vm_memory_base.specs.Transfer.{is_interrupted, Reads, Again, TakesOnce};
 
@@ -57,7 +57,7 @@ pub(super) fn read_again<S: ReadVolatile>(
 }
 
 /// Writes once, and again after each interruption, at most 64 times in a row. The 65th interruption
-/// is answered, and any other error at once.
+/// is returned, and any other error at once.
 pub fn offer_again<S: WriteVolatile>(sink: &mut S, buf: &[u8]) -> VolatileMemoryResult<usize>
     ensures count { IfOk result (λ count. count ≤ length buf.now) }
     ensures writes { Again (TakesOnce S.sink S.taken S.may_want S.writes buf.now) sink.old result sink.new }

@@ -68,7 +68,7 @@ impl IovaRangeList {
 pub struct IotlbFails {
     /// The parts that are not mapped.
     pub misses: IovaRangeList,
-    /// The parts that are mapped, but without the access.
+    /// The parts that are mapped, but do not permit the access.
     pub access_fails: IovaRangeList,
 }
 
@@ -78,7 +78,7 @@ pub enum LookupError {
     /// A part of the range is not mapped, or its mapping does not permit the access.
     #[error("lookup failed")]
     Fails(IotlbFails),
-    /// The allocation of the parts that fail was refused.
+    /// The allocation of the list of these parts failed.
     #[error("out of memory")]
     Memory,
 }

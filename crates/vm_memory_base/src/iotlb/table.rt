@@ -24,7 +24,7 @@ use std::marker::Model;
 /// The table of an IOMMU: where I/O addresses lead, and which accesses are permitted there.
 ///
 /// It keeps the maximal ranges of neighbouring addresses that are mapped alike, ascending. So two tables of one
-/// limit that say the same of each address are equal: docs/DEFINITIONS.md, "I/O tables".
+/// limit that say the same of each address are equal: the crate's README.md, "I/O tables".
 ///
 /// ```rust
 /// use vm_memory_base::{GuestAddress, Iotlb, Permissions};
@@ -63,7 +63,7 @@ impl Iotlb {
         }
     }
 
-    /// A table that maps no address, and never keeps more than `limit` ranges. `limit` has to be 1 or more. It
+    /// A table that maps no address and never keeps more than `limit` ranges. `limit` has to be 1 or more. It
     /// allocates nothing.
     pub fn with_limit(alloc: Global, limit: usize) -> Iotlb
         requires { 0 < limit }
@@ -79,10 +79,10 @@ impl Iotlb {
     /// they were mapped to before. A length of 0 changes nothing and allocates nothing. The sum of `iova` and
     /// `length` has to be an address.
     ///
-    /// While a table with a limit has more ranges, it evicts the first of them that does not have `iova`. What it
+    /// While a table has more ranges than its limit, it evicts the first of them that does not have `iova`. What it
     /// evicts is a miss from then on.
     ///
-    /// `Memory` where an allocation fails, and then nothing is changed or evicted.
+    /// `Memory` if an allocation fails, and then nothing is changed or evicted.
     pub fn set_mapping(
         &mut self,
         iova: GuestAddress,
@@ -115,13 +115,13 @@ impl Iotlb {
         Ok(())
     }
 
-    /// Takes back the mappings of `length` addresses from `iova` on. A length of 0 changes nothing and allocates
+    /// Unmaps `length` addresses from `iova` on. A length of 0 changes nothing and allocates
     /// nothing. The sum of `iova` and `length` has to be an address.
     ///
-    /// While a table with a limit has more ranges, it evicts the first of them. What it evicts is a miss from then
+    /// While a table has more ranges than its limit, it evicts the first of them. What it evicts is a miss from then
     /// on.
     ///
-    /// `Memory` where an allocation fails, and then nothing is changed or evicted.
+    /// `Memory` if an allocation fails, and then nothing is changed or evicted.
     pub fn invalidate_mapping(
         &mut self,
         iova: GuestAddress,
@@ -148,7 +148,7 @@ impl Iotlb {
         Ok(())
     }
 
-    /// Takes back all mappings. It allocates nothing.
+    /// Unmaps all addresses. It allocates nothing.
     pub fn invalidate_all(&mut self)
         ensures all { self.new ≡ changed InvalidateAll self.old }
         ensures empty { self.new.ranges ≡ [] }
@@ -160,9 +160,9 @@ impl Iotlb {
     /// that is kept, so neighbouring pieces are mapped with different targets or permissions. A length of 0 gives no
     /// piece. A look-up that gives its pieces allocates nothing.
     ///
-    /// `Fails` where an address is not mapped or its mapping does not permit the access: the parts that are missed
-    /// and those that fail, each in order. Where the sum of `iova` and `length` is no address, the whole range is
-    /// missed. `Memory` where the allocation of these parts fails.
+    /// `Fails` if an address is not mapped or its mapping does not permit the access: the parts that are missed
+    /// and those that fail, each in order. If the sum of `iova` and `length` is not an address, the whole range is
+    /// missed. `Memory` if the allocation of these parts fails.
     #[inline]
     pub fn lookup(
         &self,
@@ -215,8 +215,8 @@ impl Iotlb {
     /// The pieces of a look-up, as a vector, or why the access is refused. It allocates the pieces, and nothing for a
     /// length of 0 or for a refusal.
     ///
-    /// `CannotResolve` where the table does not allow the access, with the whole range: `MissingMapping` where an
-    /// address is not mapped or the end is no address, otherwise `AccessNotAllowed`. `Memory` where the table allows
+    /// `CannotResolve` if the table does not allow the access, with the whole range: `MissingMapping` if an
+    /// address is not mapped or the end is not an address, otherwise `AccessNotAllowed`. `Memory` if the table allows
     /// the access, but the allocation of the pieces fails.
     pub fn resolve(
         &self,

@@ -3,9 +3,9 @@ ghost use Rattle.std.specs.Prelude.{◌≡◌, ◌↔◌, ◌⊎◌, ℕ, ◌<�
 ghost use Rattle.vm_memory_base.specs.Events.{Event, is_left, marks_at, answers_at};
 
 /// In every history of marks and clears, one word a step and whoever makes it, from the empty bitmap on, no page
-/// is lost and none is invented. The pages that the clears answered, with those that are left, are the marked
-/// ones. Each answer of a page has a mark of it since the answer before. And each mark of a page is followed by
-/// an answer that has it, or the page is left.
+/// is lost and none is invented. The pages that the clears returned, with those that are left, are the marked
+/// ones. Each return of a page has a mark of it since the return before. And each mark of a page is followed by
+/// a clear that returns it, or the page is left.
 pub fn event_law()
     ensures told { (history : List Event) (page : ℕ)
         → (((i : ℕ) × (answers_at page false history i ≡ true)) ⊎ (is_left page false history ≡ true))

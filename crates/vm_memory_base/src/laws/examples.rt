@@ -1,4 +1,4 @@
-//! What the definitions say where they turn, by computation: a function a subject, and a clause a case.
+//! What the definitions say in the cases that matter, by computation: a function a subject, and a clause a case.
 ghost use Rattle.std.specs.Prelude.{◌≡◌, ◌-◌, ◌^◌, true, false, [], ◌∷◌};
 ghost use Rattle.vm_memory_base.specs.Address.{next, step, difference, is_within, numbers};
 ghost use Rattle.vm_memory_base.specs.Pages.{dirty_words, is_dirty_at, marked, unmarked, new_pages, in_view, pages_with, IsPageSet};
@@ -7,7 +7,7 @@ ghost use Rattle.vm_memory_base.specs.Table.{same_mapping, Set, Invalidate, says
 ghost use Rattle.vm_memory_base.specs.declared.iotlb.Permissions.TheVariants.{No, Read, Write, ReadWrite};
 ghost use Rattle.vm_memory_base.specs.declared.iotlb.Reason.TheVariants.{MissingMapping, AccessNotAllowed};
 
-/// Behind the greatest address comes 0, and differences, steps and offsets in a view are taken modulo 2 ^ 64.
+/// After the greatest address comes 0, and differences, steps and offsets in a view are taken modulo 2 ^ 64.
 pub fn addresses_go_round()
     ensures after_the_greatest { next (2 ^ 64 - 1) ≡ 0 }
     ensures three_on { step (2 ^ 64 - 2) 3 ≡ 1 }
@@ -34,9 +34,9 @@ pub fn tables_after_calls()
         ≡ record { base = 8; len = 4 } ∷ [] }
 {}
 
-/// An empty look-up is allowed everywhere, and of an address with no mapping not even the access that asks
-/// nothing. A range whose end is no address is missed as a whole. A look-up across a gap misses the gap, and
-/// else it has a piece for each difference and each set of permissions, and fails where one forbids.
+/// An empty look-up is allowed everywhere, and at an address without a mapping not even the access that asks
+/// for nothing. A range whose end is not an address is missed as a whole. A look-up across a gap misses the gap, and
+/// else it has a piece for each difference and each set of permissions, and fails if one forbids.
 pub fn look_ups_of_tables()
     ensures empty { is_allowed says_nothing 5 0 Write ≡ true }
     ensures not_mapped { is_allowed says_nothing 5 1 No ≡ false }
@@ -61,8 +61,8 @@ pub fn look_ups_of_tables()
 {}
 
 /// A mark takes each page that one of its bytes lies in, up to the greatest offset and the last page, and one of
-/// no bytes takes none. Undoing it makes these pages clean. New pages are rounded up, and page k is bit k of the
-/// words.
+/// no bytes takes none. Undoing it makes these pages clean. The number of new pages is rounded up, and page k is bit k
+/// of the words.
 pub fn pages_and_marks()
     ensures empty { marked 6 0 (new_pages 4 12) ≡ new_pages 4 12 }
     ensures over_a_boundary { marked 3 2 (new_pages 4 12) ≡ pages_with 4 (true ∷ true ∷ false ∷ []) }

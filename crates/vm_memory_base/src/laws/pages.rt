@@ -14,8 +14,8 @@ pub fn mark_is_by_bytes()
         → marked (start + m) n (marked start m set) ≡ marked start (m + n) set }
 {}
 
-/// A mark keeps the page size and the number of pages. It goes no further than the greatest offset, changes
-/// nothing past the last page, and nothing where no pages are tracked.
+/// A mark keeps the page size and the number of pages. It goes no further than the greatest offset, and changes
+/// nothing past the last page, and nothing at all if no pages are tracked.
 pub fn mark_keeps_shape()
     ensures shape { (start len : ℕ) (set : PageSet) → shape (marked start len set) ≡ shape set }
     ensures pages { (start len : ℕ) (p : Pages) → (q : Pages) × (marked start len (Some p) ≡ Some q)
@@ -31,8 +31,8 @@ pub fn mark_keeps_shape()
     ensures untracked { (start len : ℕ) → marked start len None ≡ None }
 {}
 
-/// A byte that is marked is dirty, where its page is one of the set's, and no mark cleans a byte. A mark takes a
-/// page where one of its bytes lies in it, among the offsets of 64 bits, and makes no other page dirty.
+/// A byte that is marked is dirty, if its page is one of the set's, and no mark cleans a byte. A mark takes a
+/// page if one of its bytes lies in it, among the offsets of 64 bits, and makes no other page dirty.
 pub fn marked_bytes_are_dirty()
     ensures marked { (start len offset : ℕ) (p : Pages) → 0 < p.page_size
         → is_within start len offset ≡ true → offset < 2 ^ 64 → offset / p.page_size < length p.flags
@@ -75,7 +75,7 @@ pub fn new_pages_cover()
         → offset / p.page_size < length p.flags }
 {}
 
-/// Cleaning leaves the same pages, and none of them dirty. Undoing a mark makes its pages clean and no other.
+/// Cleaning leaves the same pages, none of them dirty. Undoing a mark makes its pages clean, and no others.
 pub fn cleaned_is_clean()
     ensures no_page { (set : PageSet) → dirty_pages (cleaned set) ≡ [] }
     ensures no_byte { (set : PageSet) (offset : ℕ) → is_dirty_at (cleaned set) offset ≡ false }
@@ -92,8 +92,8 @@ pub fn cleaned_is_clean()
     ensures undone_valid { (start len : ℕ) (set : PageSet) → IsPageSet set → IsPageSet (unmarked start len set) }
 {}
 
-/// The dirty pages are listed, no other pages are, and they ascend. Together with the shape they decide the page
-/// set. Each page is a bit of the words, which have no other bits. Where nothing is tracked nothing is dirty.
+/// Exactly the dirty pages are listed, in ascending order. Together with the shape they decide the page
+/// set. Each page is a bit of the words, which have no other bits. If nothing is tracked, nothing is dirty.
 pub fn dirty_pages_are_listed()
     ensures exactly { (p : Pages) (page : ℕ) → Contains (dirty_pages (Some p)) page
         ↔ (slice_index_or p.flags page false ≡ true) }

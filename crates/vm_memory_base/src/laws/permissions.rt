@@ -5,7 +5,7 @@ ghost use Rattle.vm_memory_base.specs.declared.iotlb.Permissions.TheVariants.{No
 ghost use Rattle.vm_memory_base.specs.Permissions.{has_read, has_write, union, intersection, allow, same};
 ghost use Rattle.vm_memory_base.specs.Runs.{TestsEquality};
 
-/// An access is allowed where each of its bits is permitted, which is an order on sets of permissions.
+/// An access is allowed if each of its bits is permitted, which is an order on sets of permissions.
 pub fn allowed_by_bits()
     ensures bits { (a access : Permissions) → (allow a access ≡ true)
         ↔ ((has_read access ≡ true → has_read a ≡ true)
@@ -19,7 +19,7 @@ pub fn allowed_by_bits()
     ensures antisymmetric { (a b : Permissions) → allow a b ≡ true → allow b a ≡ true → a ≡ b }
 {}
 
-/// A union has the bits of either set, and is allowed where both are. An intersection has the bits of both sets,
+/// A union has the bits of either set, and is allowed if both are. An intersection has the bits of both sets,
 /// and allows what both allow. `same` says whether two sets are equal.
 pub fn permissions_are_sets()
     ensures union_read { (a b : Permissions) → has_read (union a b) ≡ (has_read a || has_read b) }

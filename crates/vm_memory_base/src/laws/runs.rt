@@ -4,7 +4,7 @@ ghost use Rattle.vm_memory_base.specs.Address.{is_within};
 ghost use Rattle.vm_memory_base.specs.Runs.{AddressRun, TestsEquality, runs, IsCanonical, value_at, cut_to};
 
 /// The runs of a function are canonical. They say what it says of the addresses asked for, and nothing of others.
-/// Functions have the same runs exactly where they agree at each of these, and a canonical list is the list of
+/// Functions have the same runs exactly if they agree at each of these, and a canonical list is the list of
 /// the runs of what it says.
 pub fn runs_decide_the_function<K>()
     ensures canonical { (same : K → K → Bool) → TestsEquality same → (f : ℕ → Option K) (a n : ℕ)

@@ -9,7 +9,7 @@ ghost use Rattle.vm_memory_base.specs.declared.iotlb.Reason.TheVariants.{Missing
 use crate::iotlb::Iotlb;
 
 /// A call changes what is said of the addresses that it covers, and of no other; one of length 0 covers none. So
-/// the last call that covers an address decides what is said of it, and where none does nothing is changed.
+/// the last call that covers an address decides what is said of it, and if none does, nothing is changed.
 pub fn last_call_decides()
     ensures elsewhere { (call : TableEvent) (x : ℕ) (old : Option Mapping) → covers call x ≡ false
         → says_after call x old ≡ old }
@@ -34,7 +34,7 @@ pub fn last_call_decides()
 {}
 
 /// A range that is set leads, address by address, to the range from its target on, modulo 2 ^ 64. It is one range
-/// with one behind it whose targets follow its own, with the same permissions, and alone in a new table one run.
+/// with one after it whose targets follow its own, with the same permissions, and one run if the table was new.
 pub fn targets_follow_addresses()
     ensures set { (iova to x : ℕ) (permissions : Permissions) → iova < 2 ^ 64 → iova ≤ x
         → target x (record { difference = difference iova to; permissions = permissions })
@@ -49,7 +49,7 @@ pub fn targets_follow_addresses()
         ≡ record { start = iova; len = len; value = mapping } ∷ [] }
 {}
 
-/// Tables have one canonical list exactly where they say the same of each address. `same_mapping` says whether two
+/// Tables have one canonical list exactly if they say the same of each address. `same_mapping` says whether two
 /// mappings are equal.
 pub fn canonical_list_decides_the_table()
     ensures canonical { (f : Says) → IsCanonical same_mapping (canonical_list f) }
@@ -75,14 +75,14 @@ pub fn kept_list_is_the_canonical_list()
         → canonical_list (says table) ≡ table.ranges }
 {}
 
-/// An access is allowed where it takes no address, and where each address grants it and the end is an address, too.
+/// An access is allowed if it takes no address, and if each address grants it and the end is an address, too.
 pub fn allowed_where_each_address_grants()
     ensures { (f : Says) (a n : ℕ) (access : Permissions)
         → (is_allowed f a n access ≡ true)
         ↔ ((n ≡ 0) ⊎ ((a + n < 2 ^ 64) × ((x : ℕ) → a ≤ x → x < a + n → grants access (f x) ≡ true))) }
 {}
 
-/// An access is refused for a missing mapping where anything is missed, and otherwise for its permissions.
+/// An access is refused for a missing mapping if anything is missed, and otherwise for its permissions.
 pub fn reason_of_a_refusal()
     ensures missing { (f : Says) (a n : ℕ) → (misses f a n ≡ [] → ⊥) → reason f a n ≡ MissingMapping }
     ensures not_allowed { (f : Says) (a n : ℕ) → misses f a n ≡ [] → reason f a n ≡ AccessNotAllowed }
@@ -104,9 +104,9 @@ pub fn pieces_are_cut()
 
 /// The pieces are, address by address, the targets of what is asked for, the misses the addresses with no
 /// mapping, and the failures those whose mapping forbids the access. The pieces and the misses have, together, as
-/// many addresses as are asked for. An access is allowed exactly where its look-up has no miss and no failure; an
+/// many addresses as are asked for. An access is allowed exactly if its look-up has no miss and no failure; an
 /// empty range that begins past the last address is allowed though it is missed. A test passes at each address
-/// exactly where it passes at the addresses one by one.
+/// exactly if it passes at the addresses one by one.
 pub fn look_up_by_addresses()
     ensures targets { (f : Says) (a n : ℕ) → flat_map addresses (pieces f a n)
         ≡ flat_map (λ x. target_if_any x (f x)) (numbers a n) }
@@ -143,8 +143,8 @@ pub fn tables_keep_to_their_limits()
     ensures limit { (calls : List TableEvent) (t : Table) → (changed_by calls t).limit ≡ t.limit }
 {}
 
-/// Two tables of one limit that say the same of each address are equal: they keep the same ranges, and answer every
-/// look-up alike.
+/// Two tables of one limit that say the same of each address are equal: they keep the same ranges, and give every
+/// look-up the same result.
 pub fn tables_that_say_the_same(a: &Iotlb, b: &Iotlb)
     ensures same { a.now.limit ≡ b.now.limit → ((x : ℕ) → x < 2 ^ 64 → says a.now x ≡ says b.now x)
         → a.now ≡ b.now }

@@ -13,8 +13,8 @@ ghost use Rattle.std.specs.declared.io.ErrorKind.TheVariants.{Interrupted, Other
 use crate::io::{ReadVolatile, WriteVolatile};
 
 /// What a source does not give at one try it gives at the next, and after a failure its scribble stays. 64
-/// interruptions in a row are tried again, and the 65th is answered. A buffer is filled by tries in turn. Where the
-/// source ends before, what is filled may have changed, and all where a try was interrupted or failed. A source that
+/// interruptions in a row are tried again, and the 65th is returned. A buffer is filled by repeated tries. If the
+/// source ends early, what is filled may have changed, and all of it if a try was interrupted or failed. A source that
 /// knows that it is short refuses at once.
 pub fn what_sources_give()
     ensures short { tried 4 (Gives (1 ∷ 2 ∷ []) ∷ Fails [] (IOError Other) ∷ [])
@@ -52,8 +52,8 @@ pub fn what_sources_give()
         } }
 {}
 
-/// A sink takes at most what it has room for. Bytes are sent by tries in turn, with up to 64 interruptions in a row,
-/// and a sink that takes none of those that are left ends it.
+/// A sink takes at most what it has room for. Bytes are sent by repeated tries, with up to 64 interruptions in a row,
+/// and a sink that takes none of the rest ends it.
 pub fn what_sinks_take()
     ensures most { offered 5 (record { next = Takes 3 ∷ []; room = Some 4 })
         ≡ record { answer = Ok 3; left = record { next = []; room = Some 1 } } }
@@ -73,7 +73,7 @@ pub fn what_sinks_take()
         (again (offered 2) (record { next = next; room = None })).answer ≡ Err (IOError Interrupted) }
 {}
 
-/// Where a source tells what it does next, a buffer that it fills by reads in turn is computed, and so are the answer
+/// If what a source does next is known, a buffer that it fills by repeated reads is computed, and so are the result
 /// and what it does then.
 pub fn fills_are_computed<S: ReadVolatile>()
     ensures { (old new : _) (buf after : List ℕ) (answer : Result (Unit {0}) ReadExactFault)
@@ -81,8 +81,8 @@ pub fn fills_are_computed<S: ReadVolatile>()
         → FillsAs (S.known_left old) (S.source old) buf answer after (S.source new) }
 {}
 
-/// Where a sink tells what it does next, what comes of bytes that are offered by tries is computed, or its allocation
-/// failed, and what it keeps are the first bytes. A sink that may want no memory does not come to want some.
+/// If what a sink does next is known, what comes of bytes that are offered by tries is computed, or its allocation
+/// failed, and what it keeps are the first bytes. A sink that never fails to allocate does not come to do so.
 pub fn offers_are_computed<S: WriteVolatile>()
     ensures { (old new : _) (bytes : List ℕ) (answer : Answer)
         → Again (TakesOnce S.sink S.taken S.may_want S.writes bytes) old answer new
@@ -90,7 +90,7 @@ pub fn offers_are_computed<S: WriteVolatile>()
         × Keeps (S.taken old) bytes (count_of answer) (S.taken new) × (S.may_want new → S.may_want old) }
 {}
 
-/// The same of bytes that are sent by tries of what is left of them.
+/// The same for bytes that are sent by tries of the rest.
 pub fn sends_are_computed<S: WriteVolatile>()
     ensures { (old new : _) (bytes : List ℕ) (count : ℕ) (answer : Result (Unit {0}) VolatileMemoryError)
         → SendsBy (TakesOnce S.sink S.taken S.may_want S.writes) old bytes count answer new
@@ -98,7 +98,7 @@ pub fn sends_are_computed<S: WriteVolatile>()
         × Keeps (S.taken old) bytes count (S.taken new) × (S.may_want new → S.may_want old) }
 {}
 
-/// A vector that is sent bytes has all of them more, or none where their allocation failed. So it holds whole pieces.
+/// A vector that is sent bytes gets all of them, or none if the allocation failed. So it holds whole pieces.
 pub fn vectors_take_whole_pieces()
     ensures { let w = ⟦<Vec<u8> as WriteVolatile>⟧ in (old new : _) (bytes : List ℕ) (count : ℕ)
         (answer : Result (Unit {0}) VolatileMemoryError)

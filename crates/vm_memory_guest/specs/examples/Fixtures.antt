@@ -68,7 +68,7 @@ window_marking block offset size bitmap base = record {
 abbrev pub zeros : ℕ → List ℕ
 zeros len = replicate len 0
 
--- so many clean pages of one size
+-- N clean pages of one size
 abbrev pub clean_pages : ℕ → ℕ → PageSet
 clean_pages page_size count = pages_with page_size (replicate count false)
 
@@ -116,7 +116,7 @@ memory_switched on regions table space = record {
 abbrev pub memory_with_iommu : List Region → ℕ → ℕ → Memory
 memory_with_iommu regions table space = memory_switched true regions table space
 
--- a piece of a translation: so many addresses from one on
+-- a piece of a translation: N addresses from one on
 abbrev pub piece : ℕ → ℕ → MappedRange
 piece base len = record { base = record { 0 = base }; length = len }
 
@@ -124,15 +124,15 @@ piece base len = record { base = record { 0 = base }; length = len }
 abbrev pub memory_without_iommu : List Region → Memory
 memory_without_iommu regions = record { regions = regions; iommu = None }
 
--- the answer to an access: how many bytes it reached, or why none
+-- the result of an access: how many bytes it reached, or why none
 abbrev pub counted_access : Access → Result ℕ AccessFault
 counted_access access = ended (length access.path) access.fault
 
--- the answer to an access that wants all n bytes
+-- the result of an access that wants all n bytes
 abbrev pub exact_access : Access → ℕ → Result (Unit {0}) GuestMemoryError
 exact_access access n = all_of PartialBuffer n (ended (length access.path) (option_map error_of access.fault))
 
--- the error that tells that the translation of len addresses from base on was refused
+-- the error that says that the translation of len addresses from base on was refused
 abbrev pub cannot_resolve : ℕ → ℕ → Reason → GuestMemoryError
 cannot_resolve base len reason = IommuError (CannotResolve (record {
   base = record { 0 = base };
@@ -143,7 +143,7 @@ cannot_resolve base len reason = IommuError (CannotResolve (record {
 abbrev pub itself : Region → Region
 itself r = r
 
--- a callback that handles all that it is given, one that always answers the same number, and one that is called
+-- a callback that handles all that it is given, one that always returns the same number, and one that is called
 -- with no byte, at the offset 2, and handles none
 abbrev pub AnswersLength : Unit {0} → ℕ → ℕ → ℕ → Region → Result ℕ GuestMemoryError → Unit {0} → Type 0
 AnswersLength f total len offset r given g = given ≡ Ok len

@@ -10,7 +10,7 @@ use Rattle.vm_memory_guest.specs.Window.{Window, part, subslice_of}
 use Rattle.vm_memory_guest.specs.declared.region.error.GuestMemoryError.{GuestMemoryError}
 use Rattle.vm_memory_guest.specs.declared.region.error.GuestMemoryError.TheVariants.{InvalidBackendAddress}
 
--- what holds of what either answer gives holds of what the chosen one gives
+-- what holds of what either result gives holds of what the chosen one gives
 chosen : {T E : Type 0} (P : T → Type 0) (b : Bool) (r s : Result T E) → (b ≡ true → IfOk r P)
     → (b ≡ false → IfOk s P) → IfOk (cond b r s) P
 chosen P true r s t f = t refl

@@ -30,7 +30,7 @@ ghost use Rattle.vm_memory_guest.specs.Walk.{items_of, reach_of, walk_of, GivesA
 ghost use Rattle.vm_memory_guest.specs.Window.{block_window, cells, span, subslice_of, Writes};
 ghost use Rattle.vm_memory_guest.specs.declared.region.error.GuestMemoryError.TheVariants.{HostAddressNotAvailable, InvalidBackendAddress, InvalidGuestAddress, PartialBuffer};
 
-/// A part of a window keeps its place, and what passes the end is refused with the place that passes it. An access
+/// A part of a window keeps its place, and what passes the end is refused with the offset that passes it. An access
 /// of a window moves what the window has from the offset on; at its end it is refused, unless it is empty. Each
 /// window of a write has its bytes, and its bitmap is marked for them; a window of no bytes marks nothing.
 pub fn windows_of_a_block()
@@ -62,9 +62,9 @@ pub fn windows_of_a_block()
         Writes MarksExactly (block_window 0 2 0 ∷ []) [] host host }
 {}
 
-/// An access goes on over regions that touch, and behind the greatest address at 0. It ends at a hole, and where a
-/// region has no host bytes, and is refused where it begins there, unless it is empty. Of each block the pages of
-/// the bytes that were written are dirty. A byte that is met twice is left as it was written last.
+/// An access goes on over regions that touch, and after the greatest address at 0. It ends at a hole, and where a
+/// region has no host bytes, and is refused if it begins there, unless it is empty. Of each block the pages of
+/// the bytes that were written are dirty. A byte that is met twice keeps what was written last.
 pub fn accesses_of_regions()
     ensures over_two_regions { let reached = access_of touching_regions Direct 3 3 Write in
         (path_cells reached.path ≡ cell_of 0 3 ∷ cell_of 1 0 ∷ cell_of 1 1 ∷ [])
@@ -130,8 +130,8 @@ pub fn accesses_of_regions()
         × (exact_access reached 0 ≡ Ok tt) }
 {}
 
-/// With an IOMMU an access that one of its addresses does not permit, or that has no mapping, is refused as a
-/// whole, unless it is empty. It ends where a mapping leads to no region, and goes on at 0 where one leads over the
+/// With an IOMMU an access is refused as a whole if one of its addresses does not permit it or has no mapping,
+/// unless it is empty. It ends where a mapping leads to no region, and goes on at 0 where one leads over the
 /// greatest address. A write marks the memory's space at the I/O address, if there is such a page, and with the
 /// IOMMU off the block.
 pub fn accesses_through_an_iommu()
@@ -194,7 +194,7 @@ pub fn accesses_through_an_iommu()
 
 /// Windows are cut where the region changes, though the bytes lie side by side, and where the difference or the
 /// permissions of the mapping change. A walk over pieces gives the windows of each, up to the first fault, and two
-/// windows also where pieces touch. Its items are the windows, and then the error of what stopped it.
+/// windows also where pieces touch. Its items are the windows, and then the error that stopped it.
 pub fn windows_and_walks()
     ensures one_region { let reached = access_of (one_region 8) Direct 1 6 Read in
         windows reached.path ≡ block_window 0 1 6 ∷ [] }

@@ -20,9 +20,9 @@ ghost use Rattle.vm_memory_guest.specs.declared.mmap.FromRangesError.TheVariants
 ghost use Rattle.vm_memory_guest.specs.declared.host.MmapRegionError.TheVariants.{InvalidSize};
 ghost use Rattle.vm_memory_guest.specs.declared.region.error.GuestRegionCollectionError.TheVariants.{MemoryRegionOverlap, NoMemoryRegion, UnsortedMemoryRegions};
 
-/// A host holds a place of a block that ends with the block, and none that goes past it; a window is held where
-/// its place and its bitmap are. A memory names the places of its regions' bytes, and its table and its space, also
-/// where its IOMMU is off.
+/// A host holds a place of a block that ends with the block, and none that goes past it; a window is held if
+/// its place and its bitmap are. A memory names the places of its regions' bytes, and its table and its space, even
+/// if its IOMMU is off.
 pub fn what_a_host_holds()
     ensures inside { IsHeld one_block_shape (Place 0 1 3) }
     ensures past_the_end { IsHeld one_block_shape (Place 0 1 4) → ⊥ }
@@ -39,9 +39,9 @@ pub fn what_a_host_holds()
         ≡ Place 0 2 4 ∷ Tlb 3 ∷ names.Space 5 ∷ [] }
 {}
 
-/// Regions make a layout where each begins above the end of the one before; of two neighbours it is tested first
+/// Regions make a layout if each begins above the end of the one before; of two neighbours it is tested first
 /// that they ascend, then that they are apart. A region may end at the greatest address. One that is put in stands
-/// behind each that starts no higher, and one is taken out by its start and its length.
+/// after each that starts no higher, and one is taken out by its start and its length.
 pub fn layouts_of_regions()
     ensures greatest { IsRegion (backed_region (2 ^ 64 - 4) 4 1 0) }
     ensures past_the_greatest { IsRegion (backed_region (2 ^ 64 - 3) 4 1 0) → ⊥ }
@@ -64,7 +64,7 @@ pub fn layouts_of_regions()
     ensures digits_of_a_power { binary_digits 1024 ≡ 11 }
 {}
 
-/// Of a range the size is tested before the end. Ranges that fit are regions over the next blocks, which are
+/// The size of a range is tested before its end. Ranges that fit are regions over the next blocks, which are
 /// zeroed.
 pub fn ranges_of_addresses()
     ensures size_first { range_error (address_of (2 ^ 64 - 1)) (2 ^ 63) ≡ Some (MmapRegion InvalidSize) }

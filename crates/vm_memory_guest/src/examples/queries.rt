@@ -1,4 +1,4 @@
-//! What questions about addresses and accesses by a callback are answered in small cases: each function here
+//! What questions about addresses, and accesses by a callback, return in small cases: each function here
 //! is a theorem, and does nothing.
 #![tactic(auto, unfolding(vm_memory_base::specs::Table::each, crate::specs::Access::path, crate::specs::Access::first_fault))]
 
@@ -23,8 +23,8 @@ ghost use Rattle.vm_memory_guest.specs.declared.region.error.GuestMemoryError.Th
   InvalidGuestAddress,
 };
 
-/// A region has an address at each offset below its length. A layout answers for an address as the region that holds
-/// it does, and without one with the address. Its last address is the greatest of its regions, also if an earlier
+/// A region has an address at each offset below its length. A layout says of an address what the region that holds
+/// it says, and without one names the address. Its last address is the greatest of its regions, even if an earlier
 /// one ended higher, and 0 without a region.
 pub fn addresses_that_are_asked()
     ensures last_offset { offset_in (backed_region 100 4 0 2) 3 ≡ Some (record { 0 = 3 }) }
@@ -42,9 +42,9 @@ pub fn addresses_that_are_asked()
     ensures first_is_higher { greatest_last (backed_region 8 4 0 0 ∷ backed_region 0 4 1 0 ∷ []) ≡ 11 }
 {}
 
-/// A range is whole where each byte of it has a byte of the host and may be accessed so, and an empty one is
-/// everywhere. Where the error of a walk comes first, it is the answer; later it ends the windows silently. An
-/// access of a region by offset is that of the window of all its bytes, and refused where there is none, also if it
+/// A range is whole if each byte of it has a byte of the host and may be accessed so, and an empty one is
+/// everywhere. If the error of a walk comes first, it is returned; later it ends the windows silently. An
+/// access of a region by offset is one of the window of all its bytes, and refused if there is none, even if it
 /// is empty.
 pub fn ranges_and_regions()
     ensures inside { is_whole (access_of regions_with_hole Direct 1 3 Read).path 3 ≡ true }
@@ -71,8 +71,8 @@ pub fn ranges_and_regions()
 {}
 
 /// Eight bytes from the last four of a region on, before a hole: a callback that handles all that it is given
-/// handles four of them. One that says nine, of eight, is out of range, and so is a move over the greatest
-/// address. Of no byte it is called once, where there is a region.
+/// handles four of them. One that returns nine of eight is out of range, and so is a move over the greatest
+/// address. For no byte it is called once, if there is a region.
 pub fn accesses_by_a_callback()
     ensures before_a_hole { TryAccess itself regions_with_hole AnswersLength 0 8 tt 0 0 (Ok 4) tt }
     ensures all { TryAccess itself regions_with_hole AnswersLength 8 2 tt 0 8 (Ok 2) tt }

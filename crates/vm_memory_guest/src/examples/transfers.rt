@@ -16,10 +16,10 @@ ghost use Rattle.vm_memory_guest.specs.Transfer.{all_of};
 ghost use Rattle.vm_memory_guest.specs.declared.region.error.GuestMemoryError.TheVariants.{IOError, InvalidGuestAddress, PartialBuffer};
 
 /// Two touching regions of four bytes, with pages of one byte. A transfer stops at the first window that the source
-/// does not fill, and the exact form goes on until each is full; where the source ends before, the error says how
+/// does not fill, and the exact form goes on until each is full; if the source ends early, the error says how
 /// many bytes came. A failed or interrupted try leaves its scribble, and marks all of the window that it was lent.
-/// 64 interruptions in a row are tried again, and the 65th is answered. Over an empty path the source is asked
-/// nothing, and a transfer of no byte answers 0.
+/// 64 interruptions in a row are tried again, and the 65th is returned. Over an empty path the source is asked for
+/// nothing, and a transfer of no byte returns 0.
 pub fn transfers_into_two_regions()
     ensures short { let ws = windows (access_of touching_regions Direct 0 8 Write).path in
         let before = two_zero_blocks in
@@ -87,8 +87,8 @@ pub fn transfers_into_two_regions()
         ≡ record { answer = Ok 0; left = source; host = before } }
 {}
 
-/// A transfer out offers each window until all of its bytes are taken. A sink that takes none of bytes that are
-/// left fails, and one over an empty path is asked nothing.
+/// A transfer out offers each window until all of its bytes are taken. A sink that takes none of the bytes that are
+/// left fails, and a sink over an empty path is offered nothing.
 pub fn transfers_out_of_two_regions()
     ensures whole { let ws = windows (access_of touching_regions Direct 0 8 Read).path in
         given_out of_window None ws 0 (record { next = Takes 3 ∷ []; room = None })

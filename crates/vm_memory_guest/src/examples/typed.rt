@@ -28,8 +28,8 @@ ghost use Rattle.vm_memory_guest.specs.declared.region.error.GuestMemoryError.Th
 };
 
 /// A value is loaded or stored at a place of its block that is a multiple of its size, wherever the window begins,
-/// and in one window: not in two regions, also where these are neighbours in one block, nor over a hole or two
-/// mappings. With an IOMMU a store marks the space, and is refused where it is not permitted.
+/// and in one window: not in two regions, even if these are neighbours in one block, nor over a hole or two
+/// mappings. With an IOMMU a store marks the space, and is refused if it is not permitted.
 pub fn loads_and_stores_that_are_cut()
     ensures aligned { aligned_of (block_window 0 0x11 8) 1 2 ≡ Ok (block_window 0 0x12 2) }
     ensures misaligned { aligned_of (block_window 0 0x10 8) 1 2 ≡ Err (Misaligned 0x11 2) }
@@ -59,7 +59,7 @@ pub fn loads_and_stores_that_are_cut()
         (pages_with 4 (false ∷ false ∷ true ∷ []) ∷ []) [] }
 {}
 
-/// Bytes are copied as they were, also over one another, and the pages of those that were copied to are dirty. An
+/// Bytes are copied as they were, even over one another, and the pages that were copied to are dirty. An
 /// array has the window of its values' bytes. One whose values or bytes are too many is refused as such, wherever it
 /// is.
 pub fn copies_and_arrays()

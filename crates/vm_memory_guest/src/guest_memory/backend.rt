@@ -47,7 +47,7 @@ pub trait GuestMemoryBackend: Named + Drop {
         self.num_regions();
     }
 
-    /// The region that holds an address. Regions are disjoint, so that it is the only one.
+    /// The region that holds an address. Regions are disjoint, so it is the only one.
     fn find_region(&self, addr: GuestAddress) -> Option<&Self::R>
         ensures found { option_copied result ≡ containing_in Self.R.region (regions self.now) addr.0 }
         ensures layout { IsLayout (map Self.R.region (regions self.now)) };
@@ -64,7 +64,7 @@ pub trait GuestMemoryBackend: Named + Drop {
         RegionIter::new(self)
     }
 
-    /// The greatest address that a region holds, or 0 where there is no region.
+    /// The greatest address that a region holds, or 0 if there is no region.
     #[inline]
     final fn last_addr(&self) -> GuestAddress
         ensures { result.0 ≡ greatest_last (map Self.R.region (regions self.now)) }
@@ -96,7 +96,7 @@ pub trait GuestMemoryBackend: Named + Drop {
         self.find_region(addr).is_some()
     }
 
-    /// The address, where a region holds it, and otherwise `None`.
+    /// The address, if a region holds it, and otherwise `None`.
     #[inline]
     final fn check_address(&self, addr: GuestAddress) -> Option<GuestAddress>
         ensures { result ≡ address_in Self.R.region (regions self.now) addr.0 }
@@ -105,7 +105,7 @@ pub trait GuestMemoryBackend: Named + Drop {
         Some(addr)
     }
 
-    /// The address that lies `offset` above `base`, where that is an address and a region holds it, and
+    /// The address that lies `offset` above `base`, if that is an address and a region holds it, and
     /// otherwise `None`.
     #[inline]
     final fn checked_offset(&self, base: GuestAddress, offset: usize) -> Option<GuestAddress>
@@ -116,7 +116,7 @@ pub trait GuestMemoryBackend: Named + Drop {
     }
 
     /// Whether each of `len` bytes from an address on has a byte of the host. After the greatest address comes
-    /// 0. Of no byte it is true.
+    /// 0. For no bytes it is true.
     #[inline]
     final fn check_range(&self, base: GuestAddress, len: usize) -> bool
     where
@@ -130,11 +130,11 @@ pub trait GuestMemoryBackend: Named + Drop {
     /// Handles `count` bytes from an address on by a callback, which has to be one that may always be called.
     ///
     /// The callback is given the bytes handled so far, how many of the rest lie in the region of the next
-    /// address, the offset there and the region. It answers how many it handled. The access answers the bytes
-    /// handled where the callback answers 0, where all are handled, and where no region holds the next address.
-    /// An error of the callback is answered. `CallbackOutOfRange` where it handled more than `count` bytes in
-    /// all, `GuestAddressOverflow` where they go past the greatest address, to another than 0, and
-    /// `InvalidGuestAddress` where no region holds the first address.
+    /// address, the offset there and the region. It returns how many it handled. The call returns the number of bytes
+    /// handled if the callback returns 0, if all are handled, and if no region holds the next address.
+    /// An error of the callback is returned. `CallbackOutOfRange` if it handled more than `count` bytes in
+    /// all, `GuestAddressOverflow` if the next address is above 2^64, which is 0 again, and
+    /// `InvalidGuestAddress` if no region holds the first address.
     final fn try_access<F>(
         &self,
         count: usize,
@@ -166,8 +166,8 @@ pub trait GuestMemoryBackend: Named + Drop {
         Ok(total)
     }
 
-    /// Where the byte at an address is in the host: `InvalidGuestAddress` where no region holds it, and
-    /// otherwise what its region answers.
+    /// Where the byte at an address is in the host: `InvalidGuestAddress` if no region holds it, and
+    /// otherwise what its region returns.
     #[inline]
     final fn get_host_address(&self, addr: GuestAddress) -> GuestMemoryResult<HostAddress>
         ensures { result ≡ host_address_at Self.R.region (regions self.now) addr.0 }
@@ -178,8 +178,8 @@ pub trait GuestMemoryBackend: Named + Drop {
         region.get_host_address(offset)
     }
 
-    /// The window of `count` bytes from an address on, all in one region: `InvalidGuestAddress` where no region
-    /// holds the address, and otherwise what its region answers.
+    /// The window of `count` bytes from an address on, all in one region: `InvalidGuestAddress` if no region
+    /// holds the address, and otherwise what its region returns.
     #[inline]
     final fn get_slice(&self, addr: GuestAddress, count: usize) -> GuestMemoryResult<VolatileSlice>
         ensures { result ≡ slice_at Self.R.region (regions self.now) addr.0 count }
@@ -191,7 +191,7 @@ pub trait GuestMemoryBackend: Named + Drop {
     }
 
     /// The windows of `count` bytes from an address on, and then the error of the first address that has no
-    /// byte: `InvalidGuestAddress` where no region holds it, `HostAddressNotAvailable` where its region has no
+    /// byte: `InvalidGuestAddress` if no region holds it, `HostAddressNotAvailable` if its region has no
     /// host bytes. After the greatest address comes 0.
     #[inline]
     final fn get_slices(
@@ -212,7 +212,7 @@ pub trait GuestMemoryBackend: Named + Drop {
     ghost names_regions: { (m : Self) → Self.names m ≡ flat_map region_names (map Self.R.region (regions m)) };
 }
 
-/// The walk through a backend: docs/DEFINITIONS.md, "Accesses". After its end or an error it stays ended.
+/// The walk through a backend: the crate's README.md, "Accesses". After its end or an error it stays ended.
 #[derive(Debug, Drop)]
 pub struct GuestMemoryBackendSliceIterator<'a, M: GuestMemoryBackend> {
     mem: &'a M,

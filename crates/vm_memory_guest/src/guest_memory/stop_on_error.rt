@@ -11,7 +11,7 @@ use crate::region::error::GuestMemoryResult;
 use crate::volatile_memory::slice::VolatileSlice;
 use std::marker::Model;
 
-/// The windows of an access, one after the other, and then the error of what stopped it. After its end or
+/// The windows of an access, one after the other, and then the error that stopped it. After its end or
 /// an error it stays ended.
 ///
 /// ```text
@@ -20,10 +20,10 @@ use std::marker::Model;
 /// }
 /// ```
 pub trait GuestMemorySliceIterator: Iterator<Item = GuestMemoryResult<VolatileSlice>> {
-    /// The windows that it has left, and what stops it behind them.
+    /// The windows that are left, and what stops it after them.
     ghost left: { Self → Reach AccessFault };
 
-    /// The windows alone. Where the error comes first, it is the answer. Where it comes later, it ends
+    /// The windows without the error. If the error comes first, it is returned. If it comes later, it ends
     /// them silently.
     #[inline]
     final fn stop_on_error(mut self) -> GuestMemoryResult<StopOnError<Self>>
@@ -44,18 +44,18 @@ pub trait GuestMemorySliceIterator: Iterator<Item = GuestMemoryResult<VolatileSl
         }
     }
 
-    /// A walk may always be asked for its next item.
+    /// A walk can always be asked for its next item.
     ghost can: { (it : Self) → Self.can_next it };
 
     /// A walk ends.
     ghost ends: { (it : Self) → IsFinite (Self.remaining it) };
 
-    /// A walk gives the windows that it has left, in order, and then its error.
+    /// A walk gives the windows that are left, in order, and then its error.
     ghost gives: { (old : Self) (item : Option (Result Window GuestMemoryError)) (new : Self)
         → Self.next_gives old item new → YieldsFirst (λ it. items_of (left it)) old item new };
 }
 
-/// Windows that are left, without the error that may come behind them. After its end it stays ended.
+/// Windows that are left, without the error that may come after them. After its end it stays ended.
 #[derive(Drop)]
 pub struct StopOnError<I: GuestMemorySliceIterator> {
     next: Option<VolatileSlice>,

@@ -112,7 +112,7 @@ impl<B> HostMemory<B> {
     }
 
     /// Lends a source a window, and again after each interruption, at most 64 times in a row. Each try marks
-    /// what it filled, or the whole window where it failed.
+    /// what it filled, or the whole window if it failed.
     pub(crate) fn read_from<S: ReadVolatile>(
         &mut self,
         window: &VolatileSlice,
@@ -138,7 +138,7 @@ impl<B> HostMemory<B> {
     }
 
     /// Lends a source the rest of a window that it has not filled, until the window is full or the source
-    /// gives none. Each try marks what it filled, or all that it was lent where it failed.
+    /// gives nothing. Each try marks what it filled, or all that it was lent if it failed.
     pub(crate) fn fill_from<S: ReadVolatile>(
         &mut self,
         window: &VolatileSlice,
@@ -184,7 +184,7 @@ impl<B> HostMemory<B> {
     }
 
     /// Lends a source a window, which it fills by itself. All of the window is marked, or what the source
-    /// touched where it failed.
+    /// touched if it failed.
     pub(crate) fn fill_whole<S: ReadVolatile>(
         &mut self,
         window: &VolatileSlice,

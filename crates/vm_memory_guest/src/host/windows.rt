@@ -145,7 +145,7 @@ impl<B> HostMemory<B> {
         put_values_in(&mut self.blocks, window.place(), values);
     }
 
-    /// Moves the bytes of values, one after the other, into a window of as many, and marks them, unless there
+    /// Moves the bytes of values, one after the other, into a window of the same length, and marks them, unless there
     /// are none.
     pub(crate) fn write_values<T: ByteValued>(&mut self, window: &VolatileSlice, values: &[T])
     where
@@ -188,7 +188,7 @@ impl<B> HostMemory<B> {
         copy_in(&mut self.blocks, from.host_address(), to.place());
     }
 
-    /// Moves the bytes of a window to another of as many, as they were, also where the two overlap, and marks
+    /// Moves the bytes of a window to another of the same length, as they were, even if they overlap, and marks
     /// the other's, unless there are none.
     pub(crate) fn copy(&mut self, from: &VolatileSlice, to: &VolatileSlice)
     where

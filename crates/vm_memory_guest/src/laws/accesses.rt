@@ -59,8 +59,8 @@ pub fn writes_to_the_windows_of_a_path_are_by_bytes<B: ExactBitmap>()
     mark_is_by_bytes();
 }
 
-/// What keeps an allowed access from going on is what its first byte that it does not reach meets. One that
-/// reaches no byte leaves everything, and answers what stopped it. Nothing stops an empty one.
+/// An allowed access is stopped by what its first unreached byte meets. One that
+/// reaches no byte leaves everything as it was, and returns what stopped it. Nothing stops an empty one.
 pub fn accesses_stop_at_the_first_fault<E>()
     ensures first { (regions : List Region) (route : Route) (a n : ℕ) (access : Permissions) (fault : AccessFault)
         → allowed route a n access ≡ true → (access_of regions route a n access).fault ≡ Some fault

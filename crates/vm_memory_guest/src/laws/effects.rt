@@ -12,7 +12,7 @@ ghost use Rattle.vm_memory_guest.specs.Window.{Window, Writes, span};
 use vm_memory_base::Bitmap;
 use vm_memory_base::laws::pages::{mark_keeps_shape, marked_bytes_are_dirty};
 
-/// What was written is read back, where each cell is met once.
+/// What was written is read back, if each cell is met once.
 pub fn written_is_read_back()
     ensures { (cells : List Cell) (bytes : List ℕ) (blocks : List (List ℕ))
         → AllPairs (λ (c d : Cell). c ≢ d) cells
@@ -50,7 +50,7 @@ pub fn writes_keep_shapes<B: Bitmap>()
         → Writes B.marks (ws ++ vs) (bytes ++ more) old new }
 {}
 
-/// What is written to a path is read back over the same path, in a host with exact bitmaps: where the path
+/// What is written to a path is read back over the same path, in a host with exact bitmaps: if the path
 /// meets each cell once, each of its cells is a byte of its block, and there is a byte for each of them.
 /// Bytes past the path are ignored.
 pub fn path_writes_are_read_back()

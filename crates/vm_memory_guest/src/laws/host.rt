@@ -14,14 +14,14 @@ pub fn blocks_are_short<B>(host: &HostMemory<B>)
     host.known();
 }
 
-/// Names are held where each of them is, and two lists one after the other where both are.
+/// Names are held if each of them is, and two lists one after the other if both are.
 pub fn names_are_held_one_by_one()
     ensures each { (shape : Shape) (xs : List Name) → Holds shape xs ↔ All (IsHeld shape) xs }
     ensures joined { (shape : Shape) (xs ys : List Name)
         → Holds shape (xs ++ ys) ↔ (Holds shape xs × Holds shape ys) }
 {}
 
-/// Regions are held where each of them is, and so are any of those that are held, in any order.
+/// Regions are held if each of them is, and so are any of those that are held, in any order.
 pub fn regions_are_held_one_by_one()
     ensures each { (shape : Shape) (regions : List Region)
         → Holds shape (flat_map region_names regions) ↔ All (λ r. Holds shape (region_names r)) regions }
@@ -30,7 +30,7 @@ pub fn regions_are_held_one_by_one()
         → Holds shape (flat_map region_names some) }
 {}
 
-/// Of a block that is held all bytes are held, and of a block with a held place all bytes that end no later.
+/// If a block is held, all its bytes are; if a place of a block is held, so are all bytes that end no later.
 pub fn parts_of_a_block_are_held<B>()
     ensures whole { (host : Host B) (block : ℕ) → IsHeld (shape_of host) (names.Block block)
         → IsHeld (shape_of host) (names.Place block 0 (length (block_at host.blocks block))) }

@@ -18,7 +18,7 @@ use vm_memory_base::laws::table::{
     allowed_where_each_address_grants, canonical_list_decides_the_table,
 };
 
-/// A path's windows cover exactly its bytes and marks. Inside one region they are one window, and a host that
+/// A path's windows cover exactly its bytes and marks. In one region they are one window, and a host that
 /// holds the regions and the space holds them.
 pub fn windows_are_the_path()
     ensures bytes { (regions : List Region) (route : Route) (a n : ℕ) → All IsRegion regions
@@ -48,7 +48,7 @@ pub fn accesses_reach_all_unless_stopped()
         MatchOption reached.fault (length reached.path ≡ n) (λ fault. length reached.path < n) }
 {}
 
-/// A range is whole exactly where it is allowed and each byte of it has a byte of the host.
+/// A range is whole exactly if it is allowed and each byte of it has a byte of the host.
 pub fn ranges_are_whole_by_bytes()
     ensures { (regions : List Region) (route : Route) (a n : ℕ) (access : Permissions)
         → (is_whole (access_of regions route a n access).path n ≡ true)

@@ -14,7 +14,7 @@ pub fn one_region_holds_an_address()
 {}
 
 /// The regions that pass the tests are the layouts of at least one region, and a layout is ascending and
-/// disjoint: each region ends below the start of every later one. The fault of regions is the first of neighbours.
+/// disjoint: each region ends below the start of every later one. The error of regions is the first one of neighbours.
 pub fn layouts_pass_the_tests()
     ensures passes { (rs : List Region) → All IsRegion rs →
         (layout_error rs ≡ None) ↔ ((0 < length rs) × IsLayout rs) }
@@ -25,7 +25,7 @@ pub fn layouts_pass_the_tests()
         neighbours_of (slice_index_or rs i d) (slice_index_or rs (i + 1) d) ≡ Err e → layout_error rs ≡ Some e }
 {}
 
-/// The home of an address in a layout is the region that holds it, and there is none where no region does.
+/// The home of an address in a layout is the region that holds it, if one does.
 pub fn home_holds_the_address()
     ensures held { (rs : List Region) → All IsRegion rs → IsLayout rs → (i a : ℕ) (d : Region) →
         i < length rs → has_address (slice_index_or rs i d) a ≡ true
@@ -34,7 +34,7 @@ pub fn home_holds_the_address()
         ((k : ℕ) → k < length rs → has_address (slice_index_or rs k d) a ≡ false) → containing_region rs a ≡ None }
 {}
 
-/// A region that is put into a layout stands behind each that starts no higher and before each that starts
+/// A region that is put into a layout stands after each that starts no higher and before each that starts
 /// above it: where a stable sort by starts leaves one that was appended.
 pub fn inserted_regions_stand_in_order()
     ensures { (rs : List Region) (new : Region) → All IsRegion rs → IsLayout rs →
@@ -44,7 +44,7 @@ pub fn inserted_regions_stand_in_order()
 {}
 
 /// The region that is taken out is one with just these addresses, and the others stay in order. None is taken
-/// out only where no region has just these addresses.
+/// out only if no region has just these addresses.
 pub fn one_region_is_removed()
     ensures taken { (rs others : List Region) (base size : ℕ) (r : Region) →
         removed (λ r. r) rs base size ≡ Some (others, r) → (r.start ≡ base) × (r.len ≡ size)

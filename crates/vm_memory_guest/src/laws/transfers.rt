@@ -19,7 +19,7 @@ use vm_memory_base::laws::pages::{mark_is_by_bytes, mark_keeps_shape, marked_byt
 use vm_memory_base::{Bitmap, ExactBitmap, ReadVolatile, VolatileMemoryError, WriteVolatile};
 
 /// A transfer in from a source that says what it does next, into a host with exact bitmaps. What the source was to do
-/// determines its answer, what the source does next, and the bytes and the pages of the host.
+/// determines its result, what the source does next, and the bytes and the pages of the host.
 pub fn transfers_in_are_computed<S: ReadVolatile, B: ExactBitmap>()
     ensures { (until_full : Bool) (fault : Option GuestMemoryError) (ws : List Window) (total : ℕ)
         (next : List Next) (source after : S) (old new : Host B) (answer : Result ℕ GuestMemoryError)
@@ -42,7 +42,7 @@ pub fn transfers_in_mark_what_they_change()
     marked_bytes_are_dirty();
 }
 
-/// A transfer in that answers an error answers a failure of its source, or what kept it from reaching any byte. In
+/// A transfer in that returns an error returns a failure of its source, or what kept it from reaching any byte. In
 /// the second case nothing changed. After a failure, what came before it and what it wrote over stay.
 pub fn refused_transfers_in_change_nothing()
     ensures { (test : VolatileMemoryError → Bool) (fault : Option GuestMemoryError) (until_full : Bool)
@@ -53,7 +53,7 @@ pub fn refused_transfers_in_change_nothing()
         ⊎ ((fault ≡ Some e) × (dealt.host ≡ host)) }
 {}
 
-/// A transfer in that lends each window until it is full, and answers no fewer bytes than its windows have, answers
+/// A transfer in that lends each window until it is full, and returns no fewer bytes than its windows have, returns
 /// just as many. It filled each window whole, one after the other. This holds of any source, known or not.
 pub fn whole_transfers_in_fill_each_window<S: ReadVolatile, B: Bitmap>()
     ensures { (fault : Option GuestMemoryError) (ws : List Window) (n : ℕ) (source after : S) (old new : Host B)
@@ -62,7 +62,7 @@ pub fn whole_transfers_in_fill_each_window<S: ReadVolatile, B: Bitmap>()
         → (n ≡ span ws) × AllWhole Moves ws (beside source old) (beside after new) }
 {}
 
-/// Every error of a transfer in is an error of its source, or the fault that ended the walk: where each error of a
+/// Every error of a transfer in is an error of its source, or the fault that ended the walk: if each error of a
 /// read passes a test, the transfer's is one that passes. So over a file, whose errors are I/O errors, no allocation
 /// of its own fails.
 pub fn transfers_in_fail_as_reads_do<S: ReadVolatile, B: Bitmap>()
@@ -75,8 +75,8 @@ pub fn transfers_in_fail_as_reads_do<S: ReadVolatile, B: Bitmap>()
         → ((v : VolatileMemoryError) × (test v ≡ true) × (e ≡ of_window v)) ⊎ (fault ≡ Some e) }
 {}
 
-/// Every error of a transfer out is an error of its sink, or the fault that ended the walk, likewise. A sink that
-/// takes nothing of bytes that are left is `WriteZero`.
+/// Likewise, every error of a transfer out is an error of its sink, or the fault that ended the walk. A sink that
+/// takes none of the bytes that are left is `WriteZero`.
 pub fn transfers_out_fail_as_writes_do<S: WriteVolatile>()
     ensures { (test : VolatileMemoryError → Bool) (fault : Option GuestMemoryError) (ws : List Window) (old new : S)
         (blocks : List (List ℕ)) (e : GuestMemoryError)
@@ -87,7 +87,7 @@ pub fn transfers_out_fail_as_writes_do<S: WriteVolatile>()
         → ((v : VolatileMemoryError) × (test v ≡ true) × (e ≡ of_window v)) ⊎ (fault ≡ Some e) }
 {}
 
-/// Each byte of a window that any source filled whole is dirty then, where the bitmaps are exact.
+/// Each byte of a window that any source filled whole is dirty then, if the bitmaps are exact.
 pub fn filled_windows_are_dirty<S: ReadVolatile, B: ExactBitmap>()
     ensures { (ws : List Window) (source after : S) (old new : Host B)
         → AllWhole (Fills S.source S.reads S.known_left B.marks UntilWhole) ws (beside source old) (beside after new)
@@ -98,8 +98,8 @@ pub fn filled_windows_are_dirty<S: ReadVolatile, B: ExactBitmap>()
     marked_bytes_are_dirty();
 }
 
-/// A transfer out to a sink that says what it does next. What the sink was to do determines the answer and what the
-/// sink does next. Or the sink's allocation failed, where it may.
+/// A transfer out to a sink that says what it does next. What the sink was to do determines the result and what the
+/// sink does next. Or the sink's allocation failed, if it may.
 pub fn transfers_out_are_computed<S: WriteVolatile>()
     ensures { (fault : Option GuestMemoryError) (ws : List Window) (total : ℕ) (state : Sink) (old new : S)
         (blocks : List (List ℕ)) (answer : Result ℕ GuestMemoryError) → S.sink old ≡ Some state
@@ -110,7 +110,7 @@ pub fn transfers_out_are_computed<S: WriteVolatile>()
 {}
 
 /// A transfer out to a sink that says what it does next, and keeps what it takes. What the sink was to do determines
-/// how many of the windows' first bytes it took. Or the sink's allocation failed, where it may.
+/// how many of the windows' first bytes it took. Or the sink's allocation failed, if it may.
 pub fn sinks_take_what_is_computed<S: WriteVolatile>()
     ensures { (fault : Option GuestMemoryError) (ws : List Window) (total : ℕ) (state : Sink) (before : List ℕ)
         (old new : S) (blocks : List (List ℕ)) (answer : Result ℕ GuestMemoryError) → S.sink old ≡ Some state
@@ -123,7 +123,7 @@ pub fn sinks_take_what_is_computed<S: WriteVolatile>()
 {}
 
 /// A transfer out to a sink that keeps what it takes: it took the first bytes of the windows, in order, and as many as
-/// the answer counts, if it does.
+/// the result counts, if it is a count.
 pub fn sinks_take_the_first_bytes<S: WriteVolatile>()
     ensures { (fault : Option GuestMemoryError) (ws : List Window) (total : ℕ) (before : List ℕ) (old new : S)
         (blocks : List (List ℕ)) (answer : Result ℕ GuestMemoryError) → S.taken old ≡ Some before
@@ -132,8 +132,8 @@ pub fn sinks_take_the_first_bytes<S: WriteVolatile>()
         × IfOk answer (λ n. n ≡ total + count) }
 {}
 
-/// A transfer out to a vector: it has the bytes of the first windows more, each whole. Where the answer is a count, it
-/// has those of all windows.
+/// A transfer out to a vector: it gets the bytes of the first windows, each whole. If the result is a count, it
+/// gets those of all windows.
 pub fn vectors_take_whole_windows()
     ensures { let w = ⟦<Vec<u8> as WriteVolatile>⟧ in (fault : Option GuestMemoryError) (ws : List Window) (total : ℕ)
         (old new : _) (blocks : List (List ℕ)) (answer : Result ℕ GuestMemoryError)

@@ -18,7 +18,7 @@ use vm_memory_base::{
 };
 
 /// A region whose bytes are accessed by their offsets, as those of the window of all its bytes:
-/// docs/DEFINITIONS.md, "Accesses". A region without host bytes answers `HostAddressNotAvailable`, also where no
+/// the crate's README.md, "Accesses". A region without host bytes returns `HostAddressNotAvailable`, even if no
 /// byte is asked for.
 ///
 /// ```text

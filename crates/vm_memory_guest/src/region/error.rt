@@ -21,7 +21,7 @@ pub enum GuestMemoryError {
     /// The region has no host bytes.
     #[error("Guest memory error: host virtual address not available")]
     HostAddressNotAvailable,
-    /// A callback of `try_access` answered more than was left.
+    /// A callback of `try_access` returned more than was left.
     #[error("The length returned by the callback passed to `try_access` is outside the address range.")]
     CallbackOutOfRange,
     /// A callback of `try_access` went past the greatest address.
@@ -65,7 +65,7 @@ impl From<VolatileMemoryError> for GuestMemoryError {
     }
 }
 
-/// Why regions make no layout.
+/// Why regions do not make a layout.
 #[derive(Debug, Drop, Error)]
 pub enum GuestRegionCollectionError {
     /// There is no region.

@@ -132,7 +132,7 @@ impl<T: ByteValued> VolatileArrayRef<T> {
         self.ref_at(index).store(host, value);
     }
 
-    /// Copies values out, from the first on, those that the buffer has room for, and answers how many. A value has to
+    /// Copies values out, from the first on, as many as the buffer has room for, and returns how many. A value has to
     /// have a byte or more, and the host to hold the window.
     #[inline]
     pub fn copy_to<B: Bitmap>(&self, host: &HostMemory<B>, buf: &mut [T]) -> usize
@@ -147,7 +147,7 @@ impl<T: ByteValued> VolatileArrayRef<T> {
         count
     }
 
-    /// Copies values in, from the first on, those that there is room for, and marks their bytes. A value has to have
+    /// Copies values in, from the first on, as many as there is room for, and marks their bytes. A value has to have
     /// a byte or more, and the host to hold the window.
     #[inline]
     pub fn copy_from<B: Bitmap>(&self, host: &mut HostMemory<B>, buf: &[T])

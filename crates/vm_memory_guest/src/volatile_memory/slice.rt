@@ -111,8 +111,8 @@ impl VolatileSlice {
         }
     }
 
-    /// `count` bytes from `offset` on. `Overflow` where their sum is no 64-bit number, `OutOfBounds` at the
-    /// sum where it passes the length.
+    /// `count` bytes from `offset` on. `Overflow` if their sum is not a 64-bit number, `OutOfBounds` at the
+    /// sum if it passes the length.
     #[inline]
     pub fn subslice(&self, offset: usize, count: usize) -> VolatileMemoryResult<Self>
         ensures { result ≡ subslice_of self.now offset count }
@@ -129,8 +129,8 @@ impl VolatileSlice {
         Ok(self.part(offset, count))
     }
 
-    /// The bytes from `count` on. `Overflow` where the place in the block plus `count` is no 64-bit number,
-    /// `OutOfBounds` at that sum where `count` passes the length.
+    /// The bytes from `count` on. `Overflow` if the place in the block plus `count` is not a 64-bit number,
+    /// `OutOfBounds` at that sum if `count` passes the length.
     #[inline]
     pub fn offset(&self, count: usize) -> VolatileMemoryResult<Self>
         ensures { result ≡ window_from self.now count }
@@ -236,7 +236,7 @@ impl VolatileSlice {
     }
 
     /// Copies its first bytes to the front of another window, up to the length of the shorter. The bytes are copied as
-    /// they were, also where the two overlap, and marked in the other. The host has to hold both.
+    /// they were, even if the two overlap, and marked in the other. The host has to hold both.
     #[inline]
     pub fn copy_to_volatile_slice<B: Bitmap>(&self, host: &mut HostMemory<B>, slice: VolatileSlice)
         requires from { Holds (shape_of host.old) (window_names self.now) }
@@ -248,7 +248,7 @@ impl VolatileSlice {
         host.copy(&self.front(count), &slice.front(count));
     }
 
-    /// Copies values out of its first bytes: those that it has whole and that the buffer has room for. It answers how
+    /// Copies values out of its first bytes: those that it has whole and that the buffer has room for. It returns how
     /// many. A value has to have a byte or more, and the host to hold the window.
     #[inline]
     pub fn copy_to<T: ByteValued, B: Bitmap>(&self, host: &HostMemory<B>, buf: &mut [T]) -> usize
@@ -264,7 +264,7 @@ impl VolatileSlice {
         count
     }
 
-    /// Copies the bytes of values to its front, those that it has room for whole, and marks these bytes. A value has to
+    /// Copies the bytes of values to its front, as many values as fit whole, and marks these bytes. A value has to
     /// have a byte or more, and the host to hold the window.
     #[inline]
     pub fn copy_from<T: ByteValued, B: Bitmap>(&self, host: &mut HostMemory<B>, buf: &[T])

@@ -32,7 +32,7 @@ impl MarkerBitmap {
         }
     }
 
-    /// As `TrackedBitmap::meet`: the harvester has to be the bitmap's. Where the marker was handed back, it does
+    /// As `TrackedBitmap::meet`: the harvester has to be the bitmap's. If the marker was handed back, it does
     /// nothing.
     pub fn meet(&mut self, harvester: &mut Harvester)
         requires own { MatchOption (held_of self.old) ⊤ (λ h. harvester_table harvester.old ≡ table_of h.0) }

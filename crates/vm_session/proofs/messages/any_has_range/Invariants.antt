@@ -1,5 +1,5 @@
 use Rattle.std.proofs.Common.{◌≡◌, drop, map}
-use Rattle.vhost_iotlb.specs.UserMemory.{guest_of}
+use Rattle.vhost_message.specs.Regions.{guest_of}
 use Rattle.vm_session.specs.Messages.{region_in}
 use Rattle.vm_session.proofs.messages.any_has_range.Given as goal
 

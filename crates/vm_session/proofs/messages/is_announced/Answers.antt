@@ -1,5 +1,5 @@
 use Rattle.std.proofs.Common.{◌∙◌, ap, drop, is_some, sym, ℕ, List}
-use Rattle.vhost_iotlb.specs.UserMemory.{guest_of}
+use Rattle.vhost_message.specs.Regions.{guest_of}
 use Rattle.vhost_message.specs.declared.iotlb.IotlbMessage.{IotlbMessage}
 use Rattle.vm_session.specs.Messages.{is_announced, regions_in}
 use Rattle.vm_session.proofs.messages.is_announced.Goals as goal

@@ -1,8 +1,0 @@
-use Rattle.std.proofs.Common.{◌≡◌, drop}
-use Rattle.vhost_message.specs.Regions.{guest_of}
-use Rattle.vhost_message.proofs.regions.MemoryTable.guest_of.Given as goal
-
--- no region before this one has the range
-abbrev pub invariant-loop-region : goal.invariant-loop-region
-invariant-loop-region l = guest_of l.region-items l.user_address l.size
-    ≡ guest_of (drop l.region-index l.region-items) l.user_address l.size
