@@ -365,7 +365,7 @@ compare_counts() {
     grep -q ' 0 errors$' <<< "$said" || echo "the back end had errors" >> "$room/why"
     [ "$work" = read ] && return
     if [ "$flush" = 1 ]; then
-        { [ "$flushes" -gt 0 ] || [ -n "$ending" ]; } && [ "$syncs" = "$flushes" ] || echo "$flushes flushes, $syncs syncs" >> "$room/why"
+        { [ "$flushes" -gt 0 ] || [ -n "$ending" ] || [ "$work" = move ]; } && [ "$syncs" = "$flushes" ] || echo "$flushes flushes, $syncs syncs" >> "$room/why"
     else
         [ "$flushes" = 0 ] && [ "$syncs" -gt 0 ] || echo "$flushes flushes, $syncs syncs" >> "$room/why"
     fi
