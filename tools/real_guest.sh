@@ -154,13 +154,13 @@ start_qemu() {
     local disk=(-chardev "socket,id=disk,path=$room/socket$part${ending:+,reconnect=1}") place=""
     if [ -n "$iommu" ]; then
         # The device has to keep a copy of mappings of its own, and to be told what is taken back: behind a root port.
-        disk=(-device intel-iommu,device-iotlb=on "${disk[@]}" -device pcie-root-port,id=port,chassis=1,slot=1)
-        place=,bus=port,iommu_platform=on,ats=on,disable-legacy=on
+        disk=(-device intel-iommu,device-iotlb=on "${disk[@]}" -device pcie-root-port,id=root,chassis=1,slot=1)
+        place=,bus=root,iommu_platform=on,ats=on,disable-legacy=on
         words+=" intel_iommu=on iommu.passthrough=0 iommu.strict=$([ "$iommu" = strict ] && echo 1 || echo 0)"
     fi
     disk+=(-device "vhost-user-blk-pci,chardev=disk,num-queues=$queues$place${device:+,$device}")
     if [ "$device" = qemu ]; then
-        disk=(${iommu:+-device intel-iommu,device-iotlb=on -device pcie-root-port,id=port,chassis=1,slot=1})
+        disk=(${iommu:+-device intel-iommu,device-iotlb=on -device pcie-root-port,id=root,chassis=1,slot=1})
         disk+=(-drive "file=$room/disk.img,format=raw,if=none,id=disk,cache=writeback")
         disk+=(-device "virtio-blk-pci,drive=disk,serial=disk.img$place")
     fi
@@ -365,7 +365,7 @@ compare_counts() {
     grep -q ' 0 errors$' <<< "$said" || echo "the back end had errors" >> "$room/why"
     [ "$work" = read ] && return
     if [ "$flush" = 1 ]; then
-        { [ "$flushes" -gt 0 ] || [ -n "$ending" ]; } && [ "$syncs" = "$flushes" ] || echo "$flushes flushes, $syncs syncs" >> "$room/why"
+        { [ "$flushes" -gt 0 ] || [ -n "$ending" ] || [ "$work" = move ]; } && [ "$syncs" = "$flushes" ] || echo "$flushes flushes, $syncs syncs" >> "$room/why"
     else
         [ "$flushes" = 0 ] && [ "$syncs" -gt 0 ] || echo "$flushes flushes, $syncs syncs" >> "$room/why"
     fi

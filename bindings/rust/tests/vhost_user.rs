@@ -813,6 +813,7 @@ fn the_header_has_the_texts_of_this_crate() {
         ("NO_SIZE", NoSize),
         ("NO_ADDRESS", NoAddress),
         ("USER_ADDRESS", UserAddress),
+        ("LOG", Log),
     ];
     let wanted = named.map(|(name, refusal)| (name, refusal.to_string()));
     assert_eq!(texts.len(), wanted.len());

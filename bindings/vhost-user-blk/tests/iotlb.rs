@@ -57,11 +57,12 @@ fn requests_go_through_the_table() {
             }
         }
         assert!(front.io().forbidden.is_empty());
-        // A table with room for all was asked for nothing twice but what was taken back. That of 8 ranges gave some up.
+        // A table that keeps all ranges misses nothing twice but what was taken back. One with a limit is emptied for a call
+        // that misses twice, and gives ranges up.
         let misses = front.io().misses.len();
         match words.get(1) {
-            Some(&"8") => assert!(misses > 80, "{misses}"),
-            _ => assert!((60..80).contains(&misses), "{misses}"),
+            Some(_) => assert!(misses > 80, "{misses}"),
+            None => assert!((60..80).contains(&misses), "{misses}"),
         }
         front.write(front.places(0, 0).0, &[7; 512]);
         front.remap(data_page(&front), Some((front.places(0, 0).0 as u64, READ)));
@@ -99,7 +100,8 @@ fn what_the_front_end_does_not_map_fails() {
     let page = data_page(&front);
     // The front end has no mapping of the data, for a read and for a write of the disk.
     front.remap(page, None);
-    assert_eq!(front.request(0, 0, 3, 512), (1, 1));
+    // The data before the status were not written: no byte counts.
+    assert_eq!(front.request(0, 0, 3, 512), (1, 0));
     assert_eq!(front.request(0, 1, 3, 512), (1, 1));
     // A mapping that only lets them be read: the disk can be written, and not read.
     let data = front.places(0, 0).0;
@@ -107,7 +109,7 @@ fn what_the_front_end_does_not_map_fails() {
     front.remap(page, Some((data as u64, READ)));
     assert_eq!(front.request(0, 1, 4, 512), (0, 1));
     assert!(front.io().forbidden.is_empty());
-    assert_eq!(front.request(0, 0, 3, 512), (1, 1));
+    assert_eq!(front.request(0, 0, 3, 512), (1, 0));
     front.serve_table();
     assert_eq!(front.io().forbidden, [(page, WRITE)]);
     assert_eq!(front.read(data, 512), [9; 512]);

@@ -135,8 +135,8 @@ fn writes_are_marked_as_long_as_it_was_asked_for() {
 fn a_log_that_is_too_short_ends_the_connection() {
     let program = Program::start("log_short", LEN, &[]);
     let mut front = started(&program, USUAL);
-    // Bits for the first 512 pages: the ring has some, and the data do not.
-    begin(&mut front, USUAL, 32);
+    // Bits for the first 272 pages: the used ring lies in one of them, and the data do not.
+    begin(&mut front, USUAL, 34);
     front.put_request(0, 0, 0, 1, 512);
     front.publish(0, 0);
     front.kick(0);
