@@ -173,7 +173,7 @@ start_qemu() {
     qemu_pid=$!
     watch_guest &
     watch_pid=$!
-    exec 3> "$room/in$part"
+    exec {guest_in}> "$room/in$part"
 }
 
 # The milliseconds that QEMU had of a processor, and those and the ones for which it waited for a processor.
@@ -238,7 +238,7 @@ end_backend() {
         start_backend
     done
     wait_for_lines round 1 || return
-    echo enough >&3
+    echo enough >&"$guest_in"
 }
 
 # Has QEMU's monitor do something.
@@ -261,10 +261,11 @@ wait_for_move() {
 
 # The guest moves under load: to a file, which another QEMU reads, or to another QEMU. That has a back end of its own.
 move_guest() {
-    local first_qemu first_watch first_backend=$backend_pid way="unix:$room/way" incoming
-    wait_for_lines round 2 || return
+    local first_qemu first_watch first_backend=$backend_pid first_in=$guest_in way="unix:$room/way" incoming incoming_in
+    wait_for_lines round 1 || return
     if [ "$moving" = -file ]; then
         way="exec:cat > $room/state"
+        announce_move || return
         order "migrate -d \"$way\""
         wait_for_move || { echo "the guest did not move" >> "$room/why"; return; }
         end_first "$qemu_pid" "$watch_pid" "$first_backend"
@@ -276,19 +277,32 @@ move_guest() {
         part=2
         [ "$device" = qemu ] || start_backend
         start_qemu -incoming "$way"
-        incoming=$qemu_pid qemu_pid=$first_qemu part=""
+        incoming=$qemu_pid incoming_in=$guest_in qemu_pid=$first_qemu guest_in=$first_in part=""
         for _ in $(seq 300); do
             [ -S "$room/way" ] && break
             sleep 0.1
         done
+        announce_move || return
         order "migrate -d $way"
         wait_for_move || { echo "the guest did not move" >> "$room/why"; kill -KILL "$incoming"; return; }
         end_first "$first_qemu" "$first_watch" "$first_backend"
-        qemu_pid=$incoming part=2
+        qemu_pid=$incoming guest_in=$incoming_in part=2
     fi
+    exec {first_in}>&-
     sleep 1
     # In a process of its own, which a QEMU that has ended may end.
-    (echo moved >&3) 2> /dev/null
+    (echo moved >&"$guest_in") 2> /dev/null
+}
+
+# Says to the guest that it is about to move, and waits until it is ready.
+announce_move() {
+    order migrate_set_parameter max-bandwidth 32M
+    echo moving >&"$guest_in"
+    until grep -q '^ready' "$room/console"; do
+        kill -0 "$qemu_pid" 2> /dev/null || return 1
+        sleep 0.2
+    done
+    sleep 1
 }
 
 # Ends the QEMU that the guest left, and its back end.
@@ -373,7 +387,7 @@ compare_counts() {
 }
 
 run_variant() {
-    local name=$1 starts=0 backend_pid="" qemu_pid="" watch_pid begun status
+    local name=$1 starts=0 backend_pid="" qemu_pid="" watch_pid guest_in begun status
     local work device backend ending queues ops files iommu moving flush=1 part=""
     variant "$name"
     [ "$name" = no-flush ] && flush=0
@@ -391,7 +405,7 @@ run_variant() {
     [ "$work" = move ] && move_guest
     wait "$qemu_pid" 2> /dev/null
     status=$?
-    exec 3>&-
+    exec {guest_in}>&-
     wait "$watch_pid"
     qemu_pid="" watch_pid=""
     [ "$status" = 0 ] || [ -s "$room/why" ] || [ -s "$room/slow" ] ||
