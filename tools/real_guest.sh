@@ -53,13 +53,12 @@ variant() {
     strict | lazy) iommu=$1 ops=10 files=2 ;;
     move | move-file) work=move moving=${1#move} ops=4 ;;
     strict-move | strict-move-file) work=move moving=${1#strict-move} iommu=strict backend="--iotlb-limit 64" ops=4 ;;
-    lazy-move | lazy-move-file) work=move moving=${1#lazy-move} iommu=lazy backend="--iotlb-limit 64" ops=4 ;;
     *) return 1 ;;
     esac
 }
 VARIANTS=(default no-event-idx no-indirect queue-16 queue-256 queue-1024 two-queues read-only no-flush sigterm sigkill
     strict-8 strict-64 strict lazy-8 lazy-64 lazy
-    move move-file strict-move strict-move-file lazy-move lazy-move-file)
+    move move-file strict-move strict-move-file)
 
 missing() {
     local found=()
@@ -174,7 +173,7 @@ start_qemu() {
     qemu_pid=$!
     watch_guest &
     watch_pid=$!
-    exec 3> "$room/in$part"
+    exec {guest_in}> "$room/in$part"
 }
 
 # The milliseconds that QEMU had of a processor, and those and the ones for which it waited for a processor.
@@ -239,12 +238,13 @@ end_backend() {
         start_backend
     done
     wait_for_lines round 1 || return
-    echo enough >&3
+    echo enough >&"$guest_in"
 }
 
 # Has QEMU's monitor do something.
 order() {
-    echo "$*" > "$room/monitor$part.in"
+    # This way it does not wait for a QEMU that has ended.
+    echo "$*" 1<> "$room/monitor$part.in"
 }
 
 # Waits until QEMU has moved its guest away, and returns whether it did.
@@ -261,10 +261,11 @@ wait_for_move() {
 
 # The guest moves under load: to a file, which another QEMU reads, or to another QEMU. That has a back end of its own.
 move_guest() {
-    local first_qemu first_watch first_backend=$backend_pid way="unix:$room/way" incoming
-    wait_for_lines round 2 || return
+    local first_qemu first_watch first_backend=$backend_pid first_in=$guest_in way="unix:$room/way" incoming incoming_in
+    wait_for_lines round 1 || return
     if [ "$moving" = -file ]; then
         way="exec:cat > $room/state"
+        announce_move || return
         order "migrate -d \"$way\""
         wait_for_move || { echo "the guest did not move" >> "$room/why"; return; }
         end_first "$qemu_pid" "$watch_pid" "$first_backend"
@@ -276,18 +277,32 @@ move_guest() {
         part=2
         [ "$device" = qemu ] || start_backend
         start_qemu -incoming "$way"
-        incoming=$qemu_pid qemu_pid=$first_qemu part=""
+        incoming=$qemu_pid incoming_in=$guest_in qemu_pid=$first_qemu guest_in=$first_in part=""
         for _ in $(seq 300); do
             [ -S "$room/way" ] && break
             sleep 0.1
         done
+        announce_move || return
         order "migrate -d $way"
         wait_for_move || { echo "the guest did not move" >> "$room/why"; kill -KILL "$incoming"; return; }
         end_first "$first_qemu" "$first_watch" "$first_backend"
-        qemu_pid=$incoming part=2
+        qemu_pid=$incoming guest_in=$incoming_in part=2
     fi
+    exec {first_in}>&-
     sleep 1
-    echo moved >&3
+    # In a process of its own, which a QEMU that has ended may end.
+    (echo moved >&"$guest_in") 2> /dev/null
+}
+
+# Says to the guest that it is about to move, and waits until it is ready.
+announce_move() {
+    order migrate_set_parameter max-bandwidth 32M
+    echo moving >&"$guest_in"
+    until grep -q '^ready' "$room/console"; do
+        kill -0 "$qemu_pid" 2> /dev/null || return 1
+        sleep 0.2
+    done
+    sleep 1
 }
 
 # Ends the QEMU that the guest left, and its back end.
@@ -372,7 +387,7 @@ compare_counts() {
 }
 
 run_variant() {
-    local name=$1 starts=0 backend_pid="" qemu_pid="" watch_pid begun status
+    local name=$1 starts=0 backend_pid="" qemu_pid="" watch_pid guest_in begun status
     local work device backend ending queues ops files iommu moving flush=1 part=""
     variant "$name"
     [ "$name" = no-flush ] && flush=0
@@ -390,7 +405,7 @@ run_variant() {
     [ "$work" = move ] && move_guest
     wait "$qemu_pid" 2> /dev/null
     status=$?
-    exec 3>&-
+    exec {guest_in}>&-
     wait "$watch_pid"
     qemu_pid="" watch_pid=""
     [ "$status" = 0 ] || [ -s "$room/why" ] || [ -s "$room/slow" ] ||

@@ -5,7 +5,7 @@
 #   work=full    raw accesses and files, and the driver and the device are taken away and found again
 #   work=read    the disk is only read
 #   work=load    accesses and files until a line comes on the console
-#   work=move    accesses, and memory that only the disk fills, until a line comes on the console: the guest has moved
+#   work=move    accesses while the guest moves, and memory that the disk alone fills meanwhile
 #   size=N id=TEXT           the disk's sectors and its name
 #   ops=N files=N            how many accesses each of the four workers makes, and how many files it writes
 #   flush=1      the disk has a cache to flush
@@ -237,44 +237,54 @@ load() {
     done
 }
 
-# The beginning of the disk is read again and again, into pages that had other bytes. It is compared with what it was, from
-# the pages and not from the disk: so is memory that was read while the guest moved, and that nothing else wrote.
-read_part() {
-    echo 3 > /proc/sys/vm/drop_caches
-    dd if=/dev/zero of=/tmp/fill bs=1M count=16 status=none
-    rm /tmp/fill
-    head -c "$PART" "/dev/$disk" > /dev/null
-    # Time for the guest to move.
-    sleep 2
-    cmp -s -n "$PART" "/dev/$disk" /tmp/part && return
-    fail "$(cmp -l -n "$PART" "/dev/$disk" /tmp/part | awk '{ print int(($1 - 1) / 4096) }' | uniq | wc -l) pages of memory have other bytes"
-}
-
-# Load while the guest moves: it ends after a line on the console.
+# Load until the guest has moved, and memory that the disk alone fills while it moves: a back end that forgets to mark what
+# it writes leaves other bytes there. A line on the console says that the guest is about to move, and another that it has.
 move_away() {
     AREA=$((1 << 20))
     check_disk 0
     take_areas
     head -c "$PART" "/dev/$disk" > /tmp/part
-    (read -r _ < /dev/console; touch /tmp/moved) &
+    { read -r _; touch /tmp/moving; read -r _; touch /tmp/moved; } < /dev/console &
     (
         local round=0
         while [ ! -e /tmp/is_over ]; do
             round=$((round + 1))
             raw "$round"
+            echo "round $round"
         done
     ) &
-    local load=$! round=0
-    while [ ! -e /tmp/moved ]; do
-        round=$((round + 1))
-        read_part
-        echo "round $round"
-    done
+    local load=$!
+    wait_for_file /tmp/moving
+    # The pages that are free now have other bytes, and are not written by the processor again.
+    echo 3 > /proc/sys/vm/drop_caches
+    dd if=/dev/zero of=/tmp/fill bs=1M count=24 status=none
+    rm /tmp/fill
+    echo "ready"
+    read_slowly
+    wait_for_file /tmp/moved
     echo "moved $(cut -d' ' -f1 /proc/uptime)"
-    read_part
+    # From memory, and not from the disk.
+    cmp -s -n "$PART" "/dev/$disk" /tmp/part ||
+        fail "$(cmp -l -n "$PART" "/dev/$disk" /tmp/part | awk '{ print int(($1 - 1) / 4096) }' | uniq | wc -l) pages of memory have other bytes"
     touch /tmp/is_over
     wait "$load" || fail "the load ended with status $?"
     check_areas "after it moved"
+}
+
+wait_for_file() {
+    while [ ! -e "$1" ]; do
+        usleep 100000
+    done
+}
+
+# Reads the beginning of the disk into memory, for as long as a move takes.
+read_slowly() {
+    local at=0
+    while [ "$at" -lt "$PART" ]; do
+        dd if="/dev/$disk" of=/dev/null bs=64k count=1 iflag=skip_bytes skip="$at" status=none
+        at=$((at + 65536))
+        usleep 20000
+    done
 }
 
 main() {
