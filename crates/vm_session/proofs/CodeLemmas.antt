@@ -14,11 +14,6 @@ use Rattle.vm_session.specs.declared.call.Call.{Call}
 use Rattle.vm_session.specs.declared.call.Kind.{Kind}
 use Rattle.vm_session.specs.declared.call.Kind.TheVariants as kind
 
-pub served-listed : (b : Bool) (old : State) (o : Option commands.Command) (out : List ℕ) (a : Answer) (out' : List ℕ)
-    (new : State) → DoesIf b old o out a out' new → DoesListed old o out a out' new
-served-listed true old o out a out' new h = h
-served-listed false old o out a out' new h = inl h
-
 -- a call that accesses bytes sets nothing up
 no-setup : (kind : Kind) → IsTrue (is_access kind) → sets_up kind ≡ false
 no-setup kind.Block h = absurd (false≢true h)
