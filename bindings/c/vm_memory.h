@@ -192,7 +192,7 @@ static inline vmm_answer vmm_translator(vmm_session *s, size_t table) {
     return vmm_asked(s, &call, NULL, 0, NULL, 0);
 }
 
-/* Commands. A list of numbers has eight bytes for each, the lowest first. */
+/* Commands. A list of numbers has eight bytes for each, the lowest first; its size is in bytes. */
 
 static inline vmm_answer vmm_layout(vmm_session *s, const void *regions, size_t regions_size) {
     vmm_request call = vmm_of_kind(VMM_LAYOUT);
@@ -353,7 +353,7 @@ static inline vmm_answer vmm_lookup(vmm_session *s, size_t table, uint64_t addre
     return vmm_asked(s, &call, NULL, 0, list, list_size);
 }
 
-/* Pages go to `list`, eight bytes each. */
+/* Pages go to `list`, eight bytes each. `list_size` is in bytes. */
 static inline vmm_answer vmm_dirty_block(vmm_session *s, size_t block, void *list, size_t list_size) {
     vmm_request call = vmm_at(VMM_DIRTY_BLOCK, block, 0, 0);
     return vmm_asked(s, &call, NULL, 0, list, list_size);
