@@ -106,7 +106,10 @@ static int in_flight(void) {
         vmm_read(&session, 0, DATA + 0x103, bytes, 5).count != 5 || memcmp(bytes, "answ\0", 5) != 0) {
         return 25;
     }
-    if (vmm_add_used(&session, 0, 0, 1, 0).code != VMM_NOT_IN_FLIGHT || !done(vmm_add_used(&session, 0, 0, 0, 7))) {
+    if (vmm_add_used(&session, 0, 0, 1, 0).code != VMM_NOT_IN_FLIGHT ||
+        !is(vmm_complete_chain(&session, 0, 0, 0, 3, "answer", 6, 9), VMM_PARTIAL_BUFFER, 4, 6, 0) ||
+        vmm_used_idx(&session, 0, 0).value != 0 || !done(vmm_complete_chain(&session, 0, 0, 0, 3, "done", 4, 7)) ||
+        vmm_read(&session, 0, DATA + 0x103, bytes, 5).count != 5 || memcmp(bytes, "done\0", 5) != 0) {
         return 26;
     }
     if (vmm_used_idx(&session, 0, 0).value != 1 || vmm_load(&session, 0, 4, USED + 4).value != 0 ||

@@ -35,7 +35,7 @@ enum vmm_kind {
     VMM_SET_QUEUE, VMM_RESET_QUEUE, VMM_QUEUE_STATE, VMM_FORGET, VMM_QUEUE_IS_VALID, VMM_AVAIL_IDX,
     VMM_USED_IDX, VMM_POP, VMM_READ_CHAIN, VMM_WRITE_CHAIN, VMM_ADD_USED, VMM_NEEDS_NOTIFICATION,
     VMM_ENABLE_NOTIFICATION, VMM_DISABLE_NOTIFICATION, VMM_BEGIN_REQUEST, VMM_FINISH_REQUEST,
-    VMM_IOTLB_MESSAGE
+    VMM_IOTLB_MESSAGE, VMM_COMPLETE_CHAIN
 };
 
 /* An access. */
@@ -533,6 +533,16 @@ static inline vmm_answer vmm_add_used(vmm_session *s, size_t queue, size_t memor
     return vmm_asked(s, &call, NULL, 0, NULL, 0);
 }
 
+/* vmm_write_chain and then vmm_add_used, in one call. If the chain does not take all `size` bytes, it stays in flight, and
+ * the code is that of the write, or VMM_PARTIAL_BUFFER: `count` is how many it took, and `value` is `size`. */
+static inline vmm_answer vmm_complete_chain(vmm_session *s, size_t queue, size_t memory, size_t head, uint64_t offset,
+                                            const void *bytes, size_t size, uint32_t written) {
+    vmm_request call = vmm_on(VMM_COMPLETE_CHAIN, queue, memory, head);
+    call.address = offset;
+    call.value = written;
+    return vmm_asked(s, &call, bytes, size, NULL, 0);
+}
+
 /* Drops a chain in flight, and returns nothing to the driver. */
 static inline vmm_answer vmm_forget(vmm_session *s, size_t queue, size_t head) {
     vmm_request call = vmm_on(VMM_FORGET, queue, 0, head);
@@ -588,9 +598,10 @@ static inline vmm_answer vmm_finish_request(vmm_session *s, size_t queue, size_t
     return vmm_asked(s, &call, NULL, 0, NULL, 0);
 }
 
-/* A vhost-user back end's side of the protocol: docs/VHOST_USER.md. A connection holds what was negotiated, and what the
- * front end said of its memory and its rings. The caller receives messages, does what they ask for, and sends replies.
- * A connection is opened before it is called, and closed once; one call at a time is made of it, from any thread. */
+/* A vhost-user back end's side of the protocol: crates/vhost_user/README.md. A connection holds what was negotiated, and
+ * what the front end said of its memory and its rings. The caller receives messages, does what they ask for, and sends
+ * replies. A connection is opened before it is called, and closed once; one call at a time is made of it, from any
+ * thread. */
 
 /* The handle of a connection. One that is zero is closed. */
 typedef struct vmm_vhost {

@@ -56,6 +56,18 @@ fn request(
     queue.add_used(memory, chain.head_index(), 512)
 }
 
+// The same by three calls.
+fn completed(
+    queue: &Queue<'_>,
+    memory: &GuestMemory<'_>,
+    asked: &mut [u8; 16],
+    reply: &[u8; 512],
+) -> Result<(), QueueError> {
+    let chain = queue.pop_descriptor_chain(memory)?.ok_or(QueueError::NotInFlight)?;
+    chain.read_at(memory, 0, black_box(asked))?;
+    chain.complete_at(memory, 0, black_box(reply), 512)
+}
+
 fn row(
     name: &str,
     queue: &Queue<'_>,
@@ -108,6 +120,9 @@ fn main() -> Result<(), Box<dyn std::error::Error>> {
             |queue, memory| request(queue, memory, &mut asked, &reply),
         )?;
     }
+    row("pop, read 16, write 512 and return", &queue, &plain, |queue, memory| {
+        completed(queue, memory, &mut asked, &reply)
+    })?;
     row("the same, and whether to notify", &queue, &plain, |queue, memory| {
         request(queue, memory, &mut asked, &reply)?;
         black_box(queue.needs_notification(memory)?);

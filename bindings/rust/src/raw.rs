@@ -96,6 +96,7 @@ pub mod kind {
     pub const BEGIN_REQUEST: u32 = 50;
     pub const FINISH_REQUEST: u32 = 51;
     pub const IOTLB_MESSAGE: u32 = 52;
+    pub const COMPLETE_CHAIN: u32 = 53;
 }
 
 /// The parts of a queue that `SET_QUEUE` sets.

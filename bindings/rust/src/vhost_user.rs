@@ -1,4 +1,4 @@
-//! A back end's side of the vhost-user protocol: docs/VHOST_USER.md of the repository.
+//! A back end's side of the vhost-user protocol: crates/vhost_user/README.md of the repository.
 //!
 //! The program receives messages and descriptors, has [`Backend::handle`] say what each message asks for, does that, and
 //! sends the bytes of [`Backend::reply`] or [`Backend::refuse`]. Nothing here opens, keeps or maps anything.

@@ -217,6 +217,42 @@ impl<'a> Beside<'a> {
         self.compare();
     }
 
+    // Writes and returns the chain by one call, and pops it again. It stays in flight if it does not take all bytes.
+    fn complete(
+        &mut self,
+        chain: DescriptorChain<'a>,
+        segments: &[Segment],
+        offset: u64,
+        count: usize,
+    ) -> DescriptorChain<'a> {
+        let bytes: Vec<u8> = (0..count).map(|_| self.numbers.any() as u8).collect();
+        let wanted = self.model.call(segments, offset, count, Permissions::Write);
+        let len = self.numbers.any() as u32;
+        let used = self.driver.used_idx();
+        let completed = chain.complete_at(&self.memory, offset as usize, &bytes, len);
+        for (addr, byte) in wanted.iter().flatten().zip(&bytes) {
+            self.model.image.set(*addr, *byte);
+        }
+        self.compare();
+        match (completed, wanted) {
+            (Ok(()), Ok(addrs)) => {
+                assert_eq!(addrs.len(), count);
+                assert_eq!(self.driver.take(), Some((0, len)));
+                assert!(matches!(self.queue.forget(0), Err(QueueError::NotInFlight)));
+                self.driver.publish(0);
+                return self.queue.pop_descriptor_chain(&self.memory).unwrap().unwrap();
+            }
+            (Err(QueueError::GuestMemory(GuestMemoryError::PartialBuffer { expected, completed })), Ok(addrs)) => {
+                assert_eq!((expected, completed), (count, addrs.len()));
+                assert!(addrs.len() < count);
+            }
+            (Err(error), wanted) => assert_eq!(Err(fault_of(error)), wanted),
+            (Ok(()), Err(fault)) => panic!("{fault:?}"),
+        }
+        assert_eq!(self.driver.used_idx(), used);
+        chain
+    }
+
     // All bytes are those of the model.
     fn compare(&self) {
         for (addr, bytes) in self.model.image.ranges() {
@@ -228,7 +264,7 @@ impl<'a> Beside<'a> {
 
     // Reads and writes a chain at each offset, up to past its end, or at some of them if they are many.
     fn each_offset(&mut self, segments: &[Segment], direct: usize) {
-        let chain = self.chain(segments, direct);
+        let mut chain = self.chain(segments, direct);
         for is_written in [false, true] {
             let len = total(segments, is_written);
             let offsets: Vec<u64> = match len {
@@ -241,11 +277,15 @@ impl<'a> Beside<'a> {
                         false => self.read(&chain, segments, offset, count),
                         true => self.write(&chain, segments, offset, count),
                     }
+                    if is_written && count % 3 != 1 {
+                        chain = self.complete(chain, segments, offset, count);
+                    }
                 }
             }
         }
         self.streams(&chain, segments);
         self.queue.add_used(&self.memory, 0, 0).unwrap();
+        assert_eq!(self.driver.take(), Some((0, 0)));
     }
 
     // A reader and a writer move on by what each call moves, and stay where one is refused.

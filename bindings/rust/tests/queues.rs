@@ -221,6 +221,10 @@ fn plain_calls_that_mean_nothing_change_nothing() {
         (call(kind::FORGET, 0, 0, 0x1_0000, 0), no_chain),
         (call(kind::ADD_USED, 0, 0, 0, 1 << 32), bad),
         (call(kind::ADD_USED, 0, 0, 3, 0), no_chain),
+        (call(kind::COMPLETE_CHAIN, 0, 0, 0, 1 << 32), bad),
+        (call(kind::COMPLETE_CHAIN, 0, 0, 0, u64::MAX), bad),
+        (call(kind::COMPLETE_CHAIN, 0, 0, 3, 0), no_chain),
+        (call(kind::COMPLETE_CHAIN, 0, 0, 0x1_0000, 0), no_chain),
         (call(kind::ADD_USED, 0, 0, 0x1_0000, 0), no_chain),
         (call(kind::READ_CHAIN, 0, 0, 1, 0), no_chain),
         (call(kind::WRITE_CHAIN, 0, 0, usize::MAX, 0), no_chain),
@@ -229,7 +233,7 @@ fn plain_calls_that_mean_nothing_change_nothing() {
         assert_eq!(machine.call(&call, &[], &mut [0; 72]).code, code, "{call:?}");
     }
     // On a queue or a memory that is none.
-    for kind in kind::QUEUE_IS_VALID..=kind::FINISH_REQUEST {
+    for kind in (kind::QUEUE_IS_VALID..=kind::FINISH_REQUEST).chain([kind::COMPLETE_CHAIN]) {
         for (first, second) in [(1, 0), (0, 1), (usize::MAX, 0), (0, usize::MAX)] {
             let call = call(kind, first, second, 0, 0);
             assert_eq!(machine.call(&call, &[], &mut []).code, none, "{call:?}");
@@ -238,6 +242,29 @@ fn plain_calls_that_mean_nothing_change_nothing() {
     assert_eq!((queue.state(), driver.used_idx()), (state, 0));
     queue.add_used(&memory, 0, u32::MAX).unwrap();
     assert_eq!(driver.take(), Some((0, u32::MAX)));
+}
+
+// The return of a chain that took all bytes is refused: they stay written, and it stays in flight.
+#[test]
+fn a_chain_whose_return_is_refused_keeps_its_bytes() {
+    let (machine, id) = machine_and_memory();
+    let memory = machine.memory(id).unwrap();
+    let mut driver = Driver::new(memory, BASE, 4);
+    let queue = driver.queue(4);
+    driver.put_chain(0, &[(DATA, 8, false), (DATA + 8, 8, true)]);
+    driver.publish(0);
+    let chain = queue.pop_descriptor_chain(&memory).unwrap().unwrap();
+    let used = queue.used_ring();
+    queue.try_set_used_ring_address(at(0x10_0000)).unwrap();
+    assert_refused!(chain.complete_at(&memory, 2, b"reply", 7), QueueError::InvalidUsedEntry);
+    assert_eq!(memory.read_obj::<[u8; 8]>(at(DATA + 8)).unwrap(), *b"\0\0reply\0");
+    queue.try_set_used_ring_address(at(used)).unwrap();
+    assert_eq!(driver.take(), None);
+    chain.complete_at(&memory, 7, b"!", 8).unwrap();
+    assert_eq!(driver.take(), Some((0, 8)));
+    assert_eq!(memory.read_obj::<[u8; 8]>(at(DATA + 8)).unwrap(), *b"\0\0reply!");
+    assert_refused!(chain.complete_at(&memory, 0, b"", 0), QueueError::NotInFlight);
+    assert_eq!(queue.next_used(), 1);
 }
 
 #[test]

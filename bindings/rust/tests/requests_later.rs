@@ -11,7 +11,7 @@ use ring::{at, Numbers};
 use slow::{addresses, Segment};
 use vm_memory_proved::block::*;
 use vm_memory_proved::queue::{DescriptorChain, QueueError};
-use vm_memory_proved::{GuestMemory, Machine, Permissions, Reason};
+use vm_memory_proved::{GuestMemory, GuestMemoryError, Machine, Permissions, Reason};
 
 // ---- each access
 
@@ -105,6 +105,39 @@ fn returned_late(guest: &mut Guest<'_>, len: u32) {
     assert_eq!(returned, ((), vec![(used + 4, 8), (used + 2, 2)]));
     assert_eq!(guest.driver.take(), Some((0, len)));
     guest.compare();
+}
+
+// A chain that is completed waits for its data, the used entry and the index. It is written anew when they came.
+#[test]
+fn a_completed_chain_waits_for_its_mappings() {
+    let machine = Machine::new().unwrap();
+    let guest = &mut Guest::new(&machine, Way::Behind(None));
+    guest.publish(&[read(0x1000, 4), written(0x3000, 3), written(0x3100, 2)], 3);
+    let (memory, queue, used) = (guest.memory, guest.queue, guest.driver.used_ring);
+    let (chain, _) = late(guest, || queue.pop_descriptor_chain(&memory));
+    let chain = chain.unwrap();
+    let before = bytes_at(guest, 0x3000, 3);
+    let error = chain.complete_at(&memory, 0, b"abc", 3).unwrap_err();
+    let (range, reason) = missing(&error).unwrap();
+    assert_eq!((range.base.0, reason), (0x3000, Reason::MissingMapping));
+    assert_eq!(bytes_at(guest, 0x3000, 3), before);
+    assert_eq!(machine.take_miss().unwrap().access, Permissions::Write);
+    let (_, refused) = late(guest, || chain.write_at(&memory, 0, b"x"));
+    assert_eq!(refused, [(0x3000, 1)]);
+    let error = chain.write_at(&memory, 1, b"bc").unwrap_err();
+    guest.map_just(missing(&error).unwrap().0, Permissions::Write);
+    // The second segment is missed after the first was written.
+    match chain.complete_at(&memory, 0, b"abcde", 5).unwrap_err() {
+        QueueError::GuestMemory(GuestMemoryError::PartialBuffer { expected, completed }) => {
+            assert_eq!((expected, completed), (5, 3));
+        }
+        error => panic!("{error}"),
+    }
+    assert_eq!(bytes_at(guest, 0x3000, 3), b"abc");
+    let completed = late(guest, || chain.complete_at(&memory, 3, b"de", 5));
+    assert_eq!(completed, ((), vec![(0x3100, 2), (used + 4, 8), (used + 2, 2)]));
+    assert_eq!(bytes_at(guest, 0x3100, 2), b"de");
+    assert_eq!(guest.driver.take(), Some((0, 5)));
 }
 
 // ---- a device that begins a request again

@@ -20,6 +20,7 @@ pub mod BitmapLemmas
 pub mod FlagsLemmas
 pub mod WordLemmas
 pub mod NotesLemmas
+pub mod MarkerCounts
 pub mod TrackedRule
 pub mod TrackedSeats
 pub mod PieceLemmas

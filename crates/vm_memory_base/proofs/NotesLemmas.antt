@@ -63,7 +63,7 @@ after_harvests-more round xs x v =
     ap (λ l. gathered 0 (round + 1) l v.rounds) (map-append (λ (_ : ℕ). 0) xs (x ∷ []))
     ∙ gathered-more 0 (round + 1) (map (λ (_ : ℕ). 0) xs) 0 v.rounds
     ∙ ap (λ w. note w (round + 1) 0 ∷ gathered 0 (round + 1) (map (λ (_ : ℕ). 0) xs) v.rounds) there in
-    λ i. record { count = v.count; marks = v.marks; sightings = v.sightings; harvests = harvests i; rounds = rounds i }
+    λ i. record v { harvests = harvests i; rounds = rounds i }
 
 -- ---- two lists of notes
 

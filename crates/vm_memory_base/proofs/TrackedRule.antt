@@ -14,9 +14,10 @@ use Rattle.std.proofs.Math.Decide.{dec_lt}
 use lib.ListN.{get_elem?}
 use Rattle.atomic_table.specs.Table.{step, keeps, Allows}
 use Rattle.atomic_table.proofs.Lists.{at_set, set_else, set_again}
+use Rattle.vm_memory_base.proofs.MarkerCounts.{put_counted}
 use Rattle.vm_memory_base.specs.Notes.{Note, note, IsNoted, rounds_of, greatest_of}
 use Rattle.vm_memory_base.specs.declared.bitmap.tracked.view.View.{View}
-use Rattle.vm_memory_base.specs.Tracked.{set_pages, round_of, rounds_before, seen_of, words_for, IsWordBelow, AreWordsBelow, IsPage, IsMarked, IsTrue, HasHarvests, IsRuled, KeepsRule, after_mark, after_look, after_harvest, Marks, Looks, Harvests, Counts}
+use Rattle.vm_memory_base.specs.Tracked.{set_pages, round_of, rounds_before, seen_of, words_for, IsWordBelow, AreWordsBelow, IsPage, IsMarked, IsTrue, HasHarvests, IsRuled, AreCounted, KeepsRule, after_mark, after_look, after_harvest, Marks, Looks, Harvests, Counts}
 
 -- ---- lists
 
@@ -283,28 +284,37 @@ module _ (count : ℕ) (words : List ℕ) (views : List View) (kept : IsRuled co
     set_now p (inr h) = absurd (not_yet i (round_of here) p kept.harvests (kept.rounds i) h)
 
 module _ (count slots id i : ℕ) (fits : i < words_for count) (v : View) (c : List (ℕ × Unit {0})) where
-  pub marks_allowed : (m : ℕ) → m < 2 ^ 32 → IsWordBelow count i m
+  pub marks_allowed : (m : ℕ) → m < 2 ^ 32 → IsWordBelow count i m → 0 < v.markers
       → Allows (KeepsRule count) slots id (v, c) i (λ n. bit_or n m) (Marks (step slots i m 0 none) (v, c))
-  marks_allowed m small m_below s kept homes at word_fits = (
-    after_mark i (round_of (slice_index s.words i)) m v,
-    keeps,
-    tt,
-    marked_keeps count s.words s.views kept id v at i fits m small m_below,
-    ((kept.true_of id v at).rounds i, refl),
-  )
+  marks_allowed m small m_below counts s kept homes at word_fits =
+      let marked = after_mark i (round_of (slice_index s.words i)) m v in (
+        marked,
+        keeps,
+        tt,
+        (
+          marked_keeps count s.words s.views kept.0 id v at i fits m small m_below,
+          put_counted s.views id v marked at (λ _. refl) (λ idle none_there. absurd (omega (arith, counts, none_there)))
+              refl kept.1,
+        ),
+        ((kept.0.true_of id v at).rounds i, refl),
+      )
 
   pub looks_allowed : Allows (KeepsRule count) slots id (v, c) i (λ n. n) (Looks (step slots i 0 0 none) (v, c))
   looks_allowed s kept homes at word_fits =
-      let own = kept.true_of id v at in
-      let round = round_of (slice_index s.words i) in (
-        after_look i (slice_index s.words i) v,
+      let own = kept.0.true_of id v at in
+      let round = round_of (slice_index s.words i) in
+      let seen = after_look i (slice_index s.words i) v in (
+        seen,
         keeps,
         tt,
-        looked_keeps count s.words s.views kept id v at i fits,
+        (
+          looked_keeps count s.words s.views kept.0 id v at i fits,
+          put_counted s.views id v seen at (λ _. refl) (λ idle. idle) refl kept.1,
+        ),
         (
           own.rounds i,
           (λ p h.
-              set_now count s.words s.views kept id v at i fits p
+              set_now count s.words s.views kept.0 id v at i fits p
               (⊎_elim (λ k. own.marks i round p k) (λ k. own.sightings i round p k) h)),
           refl,
         ),
@@ -425,14 +435,19 @@ harvests_first : (count slots i : ℕ) → i < words_for count → (v : View) (c
     → m ≡ (length (rounds_of i v.harvests) + 1) * 2 ^ 32
     → Allows (KeepsRule count) slots 0 (v, c) i (λ _. m) (Harvests (step slots i m 0 none) (v, c))
 harvests_first count slots i fits v c m m_is s kept homes at word_fits =
-    let n : ℕ = slice_index s.words i in (
-      after_harvest i (round_of n) (set_pages n) v,
+    let n : ℕ = slice_index s.words i in
+    let taken = after_harvest i (round_of n) (set_pages n) v in (
+      taken,
       keeps,
       tt,
-      harvested_keeps count s.words s.views kept v at i fits m m_is,
       (
-        rounds_told count s.words s.views kept v at i,
-        subst (λ k. IsWordBelow k i (set_pages n)) (sym (own_count count s.words s.views kept v at)) (kept.below i),
+        harvested_keeps count s.words s.views kept.0 v at i fits m m_is,
+        put_counted s.views 0 v taken at (λ _. refl) (λ idle. idle) refl kept.1,
+      ),
+      (
+        rounds_told count s.words s.views kept.0 v at i,
+        subst (λ k. IsWordBelow k i (set_pages n)) (sym (own_count count s.words s.views kept.0 v at))
+            (kept.0.below i),
         refl,
       ),
     )
@@ -455,11 +470,11 @@ counts_first count slots i v c s kept homes at word_fits =
       v,
       keeps,
       tt,
-      subst (λ (y : List ℕ × List View). IsRuled count y.0 y.1) (λ j. (sym words j, sym views j)) kept,
+      subst (λ (y : List ℕ × List View). IsRuled count y.0 y.1 × AreCounted y.1) (λ j. (sym words j, sym views j)) kept,
       (
         (λ w.
-            subst (λ k. seen_of w v ≤ k) (sym (rounds_told count s.words s.views kept v at w))
-            ((kept.true_of 0 v at).rounds w)),
+            subst (λ k. seen_of w v ≤ k) (sym (rounds_told count s.words s.views kept.0 v at w))
+            ((kept.0.true_of 0 v at).rounds w)),
         refl,
       ),
     )

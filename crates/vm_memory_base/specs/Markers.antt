@@ -3,7 +3,7 @@ use Rattle.std.specs.Prelude.{◌≡◌, ℕ, List, All, length}
 use Rattle.atomic_table.specs.Seated.{TableId}
 use Rattle.vm_memory_base.specs.Notes.{rounds_of}
 use Rattle.vm_memory_base.specs.Paging.{count_of}
-use Rattle.vm_memory_base.specs.Tracked.{newcomer}
+use Rattle.vm_memory_base.specs.Tracked.{new_marker}
 use Rattle.vm_memory_base.specs.declared.bitmap.paging.Paging.{Paging}
 use Rattle.vm_memory_base.specs.declared.bitmap.tracked.Harvester.{Harvester}
 use Rattle.vm_memory_base.specs.declared.bitmap.tracked.Marker.{Marker}
@@ -35,6 +35,6 @@ known_by h = h.seat.me.0
 abbrev pub harvests_of : Harvester → ℕ
 harvests_of h = length (rounds_of 0 (known_by h).harvests)
 
--- markers of this table, which know no more yet than the number of pages
+-- markers of this table that were just dealt
 abbrev pub AreNew : TableId × ℕ → List Marker → Type 0
-AreNew table markers = All (λ m. (marker_table m ≡ table) × (known_to m ≡ newcomer table.1)) markers
+AreNew table markers = All (λ m. (marker_table m ≡ table) × (known_to m ≡ new_marker table.1)) markers

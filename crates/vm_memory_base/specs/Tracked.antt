@@ -1,7 +1,8 @@
 -- The rule of a bitmap that several threads mark while one harvests, and what each step reveals.
 -- The low half of a word has 32 pages as bits, and its high half the number of its harvests, its round.
-use Rattle.std.specs.Prelude.{ℕ, zero, suc, ◌+◌, ◌-◌, ◌*◌, ◌/◌, ◌%◌, ◌^◌, ◌<◌, ◌≤◌, ◌≡◌, ◌≢◌, ◌⊎◌, List, [], ◌∷◌, ◌++◌, map, length, slice_index, max, Bool, false, ◌==◌}
+use Rattle.std.specs.Prelude.{ℕ, zero, suc, ◌+◌, ◌-◌, ◌*◌, ◌/◌, ◌%◌, ◌^◌, ◌<◌, ◌≤◌, ◌≡◌, ◌≢◌, ◌⊎◌, List, [], ◌∷◌, ◌++◌, All, map, length, slice_index, max, Bool, false, ◌==◌}
 use Rattle.std.specs.Int.{bit_at, div_ceil}
+use Rattle.std.specs.List.{sum_by}
 use mathlib.Core.Option.{some}
 use lib.ListN.{get_elem?}
 use Rattle.atomic_table.specs.Table.{State, Me, Step}
@@ -23,7 +24,20 @@ rounds_before (suc round) = round ∷ rounds_before round
 
 -- who knows no more yet than the number of pages
 abbrev pub newcomer : ℕ → View
-newcomer count = record { count = count; marks = []; sightings = []; harvests = []; rounds = [] }
+newcomer count =
+    record { count = count; dealt = 0; markers = 0; marks = []; sightings = []; harvests = []; rounds = [] }
+
+-- a harvester that dealt so many markers, and knows nothing else
+abbrev pub new_harvester : ℕ → ℕ → View
+new_harvester count dealt = record (newcomer count) { dealt = dealt }
+
+-- a marker that was just dealt
+abbrev pub new_marker : ℕ → View
+new_marker count = record (newcomer count) { markers = 1 }
+
+-- the view after so many more markers were dealt
+abbrev pub after_deals : ℕ → View → View
+after_deals markers v = record v { dealt = v.dealt + markers }
 
 -- the greatest round that was seen of a word
 abbrev pub seen_of : ℕ → View → ℕ
@@ -76,8 +90,15 @@ pub record IsRuled (count : ℕ) (words : List ℕ) (views : List View) : Type 0
   pub marked : (word round page : ℕ) → IsPage words harvests word round page → IsMarked views word round page
   pub below : (word : ℕ) → IsWordBelow count word (set_pages (slice_index words word))
 
+-- The first seat dealt as many markers as there are: each is counted by the one seat that has its notes. Of the other
+-- seats, one that counts none has no marks
+abbrev pub AreCounted : List View → Type 0
+AreCounted [] = ⊥
+AreCounted (v ∷ vs) =
+    (v.dealt ≡ v.markers + sum_by (λ w. w.markers) vs) × All (λ w. w.markers ≡ 0 → w.marks ≡ []) vs
+
 abbrev pub KeepsRule : ℕ → State (Unit {0}) View → Type 0
-KeepsRule count s = IsRuled count s.words s.views
+KeepsRule count s = IsRuled count s.words s.views × AreCounted s.views
 
 -- the view after these pages of a word were marked in this round
 abbrev pub after_mark : ℕ → ℕ → ℕ → View → View
@@ -122,12 +143,13 @@ Harvests s me found after =
 
 -- what a note of the rounds that were seen says, and no more
 abbrev pub note_of : View → View
-note_of v = record { count = 0; marks = []; sightings = []; harvests = []; rounds = v.rounds }
+note_of v = record (newcomer 0) { rounds = v.rounds }
 
 -- what the first of two then knows
 abbrev pub both : View → View → View
 both v w =
     record v {
+      markers = v.markers + w.markers;
       marks = w.marks ++ v.marks;
       sightings = w.sightings ++ v.sightings;
       rounds = w.rounds ++ v.rounds;
@@ -170,7 +192,9 @@ Counts s me found after =
 
 -- the same except for the rounds that were seen
 abbrev pub HasSameRecords : View → View → Type 0
-HasSameRecords v w = (w.marks ≡ v.marks) × (w.sightings ≡ v.sightings) × (w.harvests ≡ v.harvests)
+HasSameRecords v w =
+    (w.marks ≡ v.marks) × (w.sightings ≡ v.sightings) × (w.harvests ≡ v.harvests)
+    × (w.markers ≡ v.markers) × (w.dealt ≡ v.dealt)
 
 -- A look at a page: some round of its word is seen, no earlier than the last that was seen, with the pages that are
 -- then set. If the page is reported clean, it was not marked and not seen set in that round
@@ -188,6 +212,18 @@ IsLeft v words =
     (word round page : ℕ) → word < length words → IsNoted word round page v.marks ⊎ IsNoted word round page v.sightings
     → IsNoted word round page v.harvests
     ⊎ ((round ≡ length (rounds_of word v.harvests)) × (bit_at (slice_index words word) page ≡ 1))
+
+-- each marker that this harvester dealt was joined
+abbrev pub HasAllMarkers : View → Type 0
+HasAllMarkers v = v.markers ≡ v.dealt
+
+-- Each page that is in a harvest or, in the open round, left, is noted as marked in its round
+abbrev pub WereMarked : View → List ℕ → Type 0
+WereMarked v words =
+    (word round page : ℕ)
+    → IsNoted word round page v.harvests
+    ⊎ ((round ≡ length (rounds_of word v.harvests)) × (bit_at (slice_index words word) page ≡ 1))
+    → IsNoted word round page v.marks
 
 -- Some state keeps the rule, with this view at the harvester's seat, and these are the pages of its words, from the
 -- first on

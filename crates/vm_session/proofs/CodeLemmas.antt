@@ -49,6 +49,7 @@ no-work kind.EnableNotification h = absurd (false≢true h)
 no-work kind.DisableNotification h = absurd (false≢true h)
 no-work kind.BeginRequest h = absurd (false≢true h)
 no-work kind.FinishRequest h = absurd (false≢true h)
+no-work kind.CompleteChain h = absurd (false≢true h)
 no-work k h = refl
 
 no-queue : (kind : Kind) → IsTrue (is_access kind) → is_queue kind ≡ false

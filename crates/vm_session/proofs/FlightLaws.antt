@@ -1,5 +1,5 @@
 -- Chains in flight stay there.
-use Rattle.std.proofs.Common.{◌≡◌, ◌∙◌, ◌⊎◌, ◌==◌, ◌+◌, ◌^◌, ℕ, zero, suc, Bool, true, false, IsTrue, nat_lt, cond, is_some, List, [], ◌∷◌, ◌++◌, All, drop, length, slice_get, slice_set, get_or, Option, Some, None, MatchBool, MatchOption, Result, Ok, Err, refl, sym, ap, subst, inl, inr, arith}
+use Rattle.std.proofs.Common.{◌≡◌, ◌∙◌, ◌⊎◌, ◌==◌, ◌+◌, ◌^◌, ◌&&◌, ℕ, zero, suc, Bool, true, false, IsTrue, nat_lt, cond, is_some, List, [], ◌∷◌, ◌++◌, All, drop, length, slice_get, slice_set, get_or, Option, Some, None, MatchBool, MatchOption, Result, Ok, Err, refl, sym, ap, subst, inl, inr, arith}
 use Rattle.std.specs.Option.{option_and_then}
 use Rattle.std.proofs.lemmas.Bool.{false≢true}
 use Rattle.std.proofs.lemmas.Bool.Decides.{nat_tests}
@@ -15,7 +15,7 @@ use Rattle.vm_session.specs.Kinds.{is_queue, is_work, kinds}
 use Rattle.vm_session.specs.QueueCodes.{answer_of_done, in_flight, no_such, not_in_flight, too_many}
 use Rattle.vm_session.specs.Codes.{bad_call, coded, no_memory}
 use Rattle.vm_session.specs.Answers.{valued}
-use Rattle.vm_session.specs.Queues.{AnswersQueue, Forgets, MakesQueue, OnBoth, OneQueue, OnQueue, Refuses, Returns, ReturnsIf, Works, WorksOn, after_popped, after_popped_if, after_returned, forgotten, marks_pages, refusal_of_chain, unused}
+use Rattle.vm_session.specs.Queues.{AnswersQueue, Completes, CompletesIf, Forgets, MakesQueue, OnBoth, OneQueue, OnQueue, Refuses, Returns, ReturnsIf, Works, WorksOn, after_popped, after_popped_if, after_returned, forgotten, marks_pages, refusal_of_chain, unfinished, unused}
 use Rattle.vm_session.proofs.RetryLemmas.{readies_queues, told_as, told_done}
 use Rattle.vm_session.specs.Messages.{regions_in}
 use Rattle.vm_session.specs.Retries.{WholeSession, message_at}
@@ -151,6 +151,21 @@ module _ (call : Call) (head : ℕ) (chain : List Segment) where
         at true k = returns_keeps q old a q' new k ends
         at false k = same_keeps q q' head chain k.1
 
+    completes_if_keeps : (input : List ℕ) (q : DeviceQueue) (old : Host B) (a : Answer) (q' : DeviceQueue) (new : Host B)
+        → CompletesIf marks m call input q old a q' new → ((call.third == head) ≡ true → a.code ≡ 0 → ⊥)
+        → Keeps q head chain q'
+    completes_if_keeps input q old a q' new h ends = at (nat_lt call.value (2 ^ 32)) h
+      where
+        whole : (told : Answer) (mid : Host B) (b : Bool) → MatchBool b
+            (Returns marks m q call.third call.value mid a q' new)
+            ((a ≡ unfinished (length input) told) × (q' ≡ q) × (new ≡ mid)) → Keeps q head chain q'
+        whole told mid true k = returns_keeps q mid a q' new k ends
+        whole told mid false k = same_keeps q q' head chain k.1
+        at : (b : Bool) → MatchBool b (Completes marks m call input q old a q' new)
+            ((a ≡ bad_call) × (q' ≡ q) × (new ≡ old)) → Keeps q head chain q'
+        at true k = whole k.0 k.1 (k.0.code == 0 && k.0.count == length input) k.3
+        at false k = same_keeps q q' head chain k.1
+
     works_keeps : (k : Kind) (input : List ℕ) (q : DeviceQueue) (old : Host B) (out : List ℕ) (a : Answer)
         (q' : DeviceQueue) (new : Host B) (out' : List ℕ) → Works marks m k call input q old out a q' new out'
         → (ends_flight k call.third head ≡ true → a.code ≡ 0 → ⊥) → Keeps q head chain q'
@@ -161,6 +176,7 @@ module _ (call : Call) (head : ℕ) (chain : List Segment) where
     works_keeps kind.ReadChain input q old out a q' new out' h ends = same_keeps q q' head chain h.1
     works_keeps kind.WriteChain input q old out a q' new out' h ends = same_keeps q q' head chain h.1
     works_keeps kind.AddUsed input q old out a q' new out' h ends = returns_if_keeps q old a q' new h.0 ends
+    works_keeps kind.CompleteChain input q old out a q' new out' h ends = completes_if_keeps input q old a q' new h.0 ends
     works_keeps kind.NeedsNotification input q old out a q' new out' h ends = λ here.
         ap (λ (x : DeviceQueue). chain_of x head) h.0.3 ∙ here
     works_keeps kind.EnableNotification input q old out a q' new out' h ends = same_keeps q q' head chain h.1

@@ -23,7 +23,7 @@ use Rattle.virtio_blk.specs.Texts.{WritesAt}
 use Rattle.virtio_blk.specs.declared.request.Terms.{Terms}
 use Rattle.vm_session.specs.Codes.{bad_call}
 use Rattle.vm_session.specs.QueueCodes.{answer_of_bytes, answer_of_done, answer_of_length, not_in_flight}
-use Rattle.vm_session.specs.Queues.{BeginsRequest, FinishesIf, FinishesRequest, Returns, ReturnsIf, Works, WritesChain, after_returned, marks_pages, terms_of}
+use Rattle.vm_session.specs.Queues.{BeginsRequest, Completes, CompletesIf, FinishesIf, FinishesRequest, Returns, ReturnsIf, Works, WritesChain, after_returned, marks_pages, terms_of, unfinished}
 use Rattle.vm_session.specs.SessionState.{DeviceQueue, chain_of}
 use Rattle.vm_session.specs.declared.call.Answer.{Answer}
 use Rattle.vm_session.specs.declared.call.Call.{Call}
@@ -163,6 +163,30 @@ module _ {B : Type 0} (marks : B → ℕ → ℕ → B → Type 0) (pages : B �
         at true h = returns_seen q call.third call.value old a q' new h
         at false h = (h.0, h.1, ap seen h.2)
 
+    completes_if : (call : Call) (input : List ℕ) (q : DeviceQueue) (old : Host B) (a : Answer) (q' : DeviceQueue)
+        (new : Host B) → CompletesIf marks m call input q old a q' new
+        → CompletesIf marks_pages m call input q (seen old) a q' (seen new)
+    completes_if call input q old a q' new h = at (nat_lt call.value (2 ^ 32)) h
+      where
+        whole : (told : Answer) (mid : Host B) (b : Bool) → MatchBool b
+            (Returns marks m q call.third call.value mid a q' new)
+            ((a ≡ unfinished (length input) told) × (q' ≡ q) × (new ≡ mid)) → MatchBool b
+            (Returns marks_pages m q call.third call.value (seen mid) a q' (seen new))
+            ((a ≡ unfinished (length input) told) × (q' ≡ q) × (seen new ≡ seen mid))
+        whole told mid true k = returns_seen q call.third call.value mid a q' new k
+        whole told mid false k = (k.0, k.1, ap seen k.2)
+        at : (b : Bool) → MatchBool b (Completes marks m call input q old a q' new)
+            ((a ≡ bad_call) × (q' ≡ q) × (new ≡ old))
+            → MatchBool b (Completes marks_pages m call input q (seen old) a q' (seen new))
+            ((a ≡ bad_call) × (q' ≡ q) × (seen new ≡ seen old))
+        at true k = (
+          k.0,
+          seen k.1,
+          chain_seen q call.third call.address input old k.0 k.1 k.2,
+          whole k.0 k.1 (k.0.code == 0 && k.0.count == length input) k.3,
+        )
+        at false k = (k.0, k.1, ap seen k.2)
+
     -- the status of a request
     at_seen : (es : List Entry) (bytes : List ℕ) (old new : Host B) → WritesAt marks m es bytes old new
         → WritesAt marks_pages m es bytes (seen old) (seen new)
@@ -246,6 +270,8 @@ module _ {B : Type 0} (marks : B → ℕ → ℕ → B → Type 0) (pages : B �
     work_seen kind.WriteChain call input q old out a q' new out' h =
         (chain_seen q call.third call.address input old a new h.0, h.1, h.2)
     work_seen kind.AddUsed call input q old out a q' new out' h = (returns_if call q old a q' new h.0, h.1)
+    work_seen kind.CompleteChain call input q old out a q' new out' h =
+        (completes_if call input q old a q' new h.0, h.1)
     work_seen kind.NeedsNotification call input q old out a q' new out' h = (h.0, ap seen h.1, h.2)
     work_seen kind.EnableNotification call input q old out a q' new out' h =
         ((h.0.0, enables_seen q.queue.state old h.0.0 new h.0.1, h.0.2), h.1, h.2)

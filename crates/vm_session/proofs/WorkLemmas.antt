@@ -13,11 +13,12 @@ use Rattle.vm_memory.specs.Parts.{Parts, state_of}
 use Rattle.vm_memory.specs.declared.machine.refusal.Refusal.{Refusal}
 use Rattle.vm_session.proofs.PageLemmas.{work_seen}
 use Rattle.vm_session.specs.QueueCodes.{no_such}
-use Rattle.vm_session.specs.Queues.{NeedsNotification, Pops, ReadsInto, ReturnsIf, Works, WorksOn, WritesChain, marks_pages}
+use Rattle.vm_session.specs.Queues.{CompletesIf, NeedsNotification, Pops, ReadsInto, ReturnsIf, Works, WorksOn, WritesChain, marks_pages}
 use Rattle.vm_session.specs.SessionState.{DeviceQueue}
 use Rattle.vm_session.specs.declared.call.Answer.{Answer}
 use Rattle.vm_session.specs.declared.call.Call.{Call}
 use Rattle.vm_session.specs.declared.call.Kind.{Kind}
+use Rattle.vm_session.specs.declared.requests.CompleteWork.{CompleteWork}
 use Rattle.vm_session.specs.declared.requests.PopWork.{PopWork}
 use Rattle.vm_session.specs.declared.requests.ReadWork.{ReadWork}
 use Rattle.vm_session.specs.declared.requests.WriteWork.{WriteWork}
@@ -101,6 +102,11 @@ module _ {B : Type 0} (marks : B → ℕ → ℕ → B → Type 0) where
   UsedDoes w m host after host' = (after.queue.ghost_name ≡ w.queue.ghost_name)
       × (after.answer.ghost_name ≡ w.answer.ghost_name)
       × ReturnsIf marks m w.call.now w.queue.now host after.answer.now after.queue.now host'
+
+  abbrev pub CompleteDoes : CompleteWork → Memory → Host B → CompleteWork → Host B → Type 0
+  CompleteDoes w m host after host' = (after.queue.ghost_name ≡ w.queue.ghost_name)
+      × (after.answer.ghost_name ≡ w.answer.ghost_name)
+      × CompletesIf marks m w.call.now w.input.now w.queue.now host after.answer.now after.queue.now host'
 
   abbrev pub NotifyDoes : NotifyWork → Memory → Host B → NotifyWork → Host B → Type 0
   NotifyDoes w m host after host' = (after.queue.ghost_name ≡ w.queue.ghost_name)

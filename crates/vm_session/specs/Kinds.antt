@@ -21,7 +21,7 @@ kinds = kind.Block ∷ kind.Space ∷ kind.Table ∷ kind.LimitedTable ∷ kind.
     ∷ kind.Queue ∷ kind.SetQueue ∷ kind.ResetQueue ∷ kind.QueueState ∷ kind.Forget
     ∷ kind.QueueIsValid ∷ kind.AvailIdx ∷ kind.UsedIdx ∷ kind.Pop ∷ kind.ReadChain ∷ kind.WriteChain ∷ kind.AddUsed
     ∷ kind.NeedsNotification ∷ kind.EnableNotification ∷ kind.DisableNotification
-    ∷ kind.BeginRequest ∷ kind.FinishRequest ∷ kind.IotlbMessage ∷ []
+    ∷ kind.BeginRequest ∷ kind.FinishRequest ∷ kind.IotlbMessage ∷ kind.CompleteChain ∷ []
 
 -- an access by its number
 abbrev pub access_at : ℕ → Option Permissions
@@ -92,6 +92,7 @@ is_work kind.EnableNotification = true
 is_work kind.DisableNotification = true
 is_work kind.BeginRequest = true
 is_work kind.FinishRequest = true
+is_work kind.CompleteChain = true
 is_work k = false
 
 -- whether it is one that takes and gives no bytes and leaves the queue as it is

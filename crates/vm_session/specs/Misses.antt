@@ -51,6 +51,7 @@ access_of s kind.NeedsNotification call a = Some permissions.Read
 access_of s kind.BeginRequest call a = Some permissions.Read
 access_of s kind.WriteChain call a = Some permissions.Write
 access_of s kind.AddUsed call a = Some permissions.Write
+access_of s kind.CompleteChain call a = Some permissions.Write
 access_of s kind.DisableNotification call a = Some permissions.Write
 access_of s kind.FinishRequest call a = Some permissions.Write
 access_of s kind.EnableNotification call a = notified s call.first a

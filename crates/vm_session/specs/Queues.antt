@@ -19,7 +19,8 @@ use Rattle.virtio_blk.specs.Steps.{Begins, Finishes}
 use Rattle.virtio_blk.specs.declared.request.Request.{Request}
 use Rattle.virtio_blk.specs.declared.request.Terms.{Terms}
 use Rattle.vm_memory.specs.State.{State}
-use Rattle.vm_session.specs.Answers.{number_of_truth, valued}
+use Rattle.vm_memory.specs.declared.machine.command.Fault.TheVariants as fault
+use Rattle.vm_session.specs.Answers.{answer_of_fault, number_of_truth, valued}
 use Rattle.vm_session.specs.Codes.{bad_call, coded, no_memory, short_of}
 use Rattle.vm_session.specs.Kinds.{part_at, read_only_at, switch_at}
 use Rattle.vm_session.specs.QueueCodes.{answer_of_begun, answer_of_bytes, answer_of_done, answer_of_length, answer_of_number, answer_of_queue, answer_of_truth, in_flight, no_chain, no_such, not_in_flight, popped_as, too_many}
@@ -217,8 +218,25 @@ ReadsInto m call q host out a out' = ((length out < call.length) × (a ≡ short
     ⊎ ((call.length ≤ length out) × ((buf : List ℕ)
     × ReadsChain m host q call.third call.address (take call.length out) a buf × (out' ≡ buf ++ drop call.length out)))
 
+-- the answer to a write of bytes that a chain did not take whole
+abbrev pub unfinished : ℕ → Answer → Answer
+unfinished n a = if a.code == 0 then answer_of_fault (fault.PartialBuffer n a.count) else a
+
 module _ {B : Type 0} (marks : B → ℕ → ℕ → B → Type 0) (m : Memory) where
+  -- bytes go to a chain in flight, which is returned if it took them all
+  abbrev pub Completes : Call → List ℕ → DeviceQueue → Host B → Answer → DeviceQueue → Host B → Type 0
+  Completes call bytes q old a q' new = (told : Answer) × (mid : Host B)
+      × WritesChain marks m q call.third call.address bytes old told mid
+      × MatchBool (told.code == 0 && told.count == length bytes)
+      (Returns marks m q call.third call.value mid a q' new)
+      ((a ≡ unfinished (length bytes) told) × (q' ≡ q) × (new ≡ mid))
+
   -- how many bytes were written is a number of 32 bits
+  abbrev pub CompletesIf : Call → List ℕ → DeviceQueue → Host B → Answer → DeviceQueue → Host B → Type 0
+  CompletesIf call bytes q old a q' new = MatchBool (nat_lt call.value (2 ^ 32))
+      (Completes call bytes q old a q' new) ((a ≡ bad_call) × (q' ≡ q) × (new ≡ old))
+
+  -- so it is of a chain that is returned
   abbrev pub ReturnsIf : Call → DeviceQueue → Host B → Answer → DeviceQueue → Host B → Type 0
   ReturnsIf call q old a q' new = MatchBool (nat_lt call.value (2 ^ 32))
       (Returns marks m q call.third call.value old a q' new) ((a ≡ bad_call) × (q' ≡ q) × (new ≡ old))
@@ -253,6 +271,8 @@ module _ {B : Type 0} (marks : B → ℕ → ℕ → B → Type 0) (m : Memory) 
       BeginsRequest m host q call.third (terms_of call) a × (q' ≡ q) × (host' ≡ host) × (out' ≡ out)
   Works kind.FinishRequest call input q host out a q' host' out' =
       FinishesIf call q host a host' × (q' ≡ q) × (out' ≡ out)
+  Works kind.CompleteChain call input q host out a q' host' out' =
+      CompletesIf call input q host a q' host' × (out' ≡ out)
   Works k call input q host out a q' host' out' = ⊥
 
 -- marks of a bitmap whose pages are all that is known of it

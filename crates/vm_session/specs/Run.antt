@@ -153,6 +153,7 @@ chain_at s number head = option_and_then (λ q. chain_of q head) (slice_get s.qu
 -- a call of a kind ends the flight of a chain of this head
 abbrev pub ends_flight : Kind → ℕ → ℕ → Bool
 ends_flight kind.AddUsed third head = third == head
+ends_flight kind.CompleteChain third head = third == head
 ends_flight kind.Forget third head = third == head
 ends_flight kind.ResetQueue third head = true
 ends_flight k third head = false

@@ -180,6 +180,10 @@ pub enum Kind {
     /// message's 32 bytes, and then a row of 24 for each part of the memory that the front end announced: where the part
     /// begins in the front end's memory, where in guest memory, and how many bytes it has. An INVALIDATE needs no rows.
     IotlbMessage,
+    /// `WriteChain` and then `AddUsed` in one call: writes the bytes of the input to the chain in flight of the head
+    /// `third`, from the offset `address` of its writable bytes on, and returns it to the driver with `value` bytes
+    /// written. A chain that did not take all of the input stays in flight: the answer says why, or how many bytes it took.
+    CompleteChain,
 }
 
 /// A part of a queue that a transport sets as the driver asks.
@@ -257,6 +261,7 @@ impl Kind {
                 | Kind::DisableNotification
                 | Kind::BeginRequest
                 | Kind::FinishRequest
+                | Kind::CompleteChain
         )
     }
 
@@ -277,7 +282,7 @@ impl Kind {
     }
 }
 
-const KINDS: [Kind; 53] = [
+const KINDS: [Kind; 54] = [
     Kind::Block,
     Kind::Space,
     Kind::Table,
@@ -331,6 +336,7 @@ const KINDS: [Kind; 53] = [
     Kind::BeginRequest,
     Kind::FinishRequest,
     Kind::IotlbMessage,
+    Kind::CompleteChain,
 ];
 
 // The kind of a number, if it is one.
@@ -382,6 +388,7 @@ pub(crate) fn work_kind(number: u32) -> Option<Kind>
         48 => Some(Kind::EnableNotification),
         50 => Some(Kind::BeginRequest),
         51 => Some(Kind::FinishRequest),
+        53 => Some(Kind::CompleteChain),
         _ => None,
     }
 }

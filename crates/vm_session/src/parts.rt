@@ -19,7 +19,9 @@ use crate::marks::mark;
 use crate::messages::{message_in, take_message};
 use crate::miss::look_up;
 use crate::queue::{SessionQueue, make_queue};
-use crate::requests::{add_used, needs_notification, pop, read_chain, write_chain};
+use crate::requests::{
+    add_used, complete_chain, needs_notification, pop, read_chain, write_chain,
+};
 use crate::setup::set_up;
 use crate::work::work_on;
 use std::alloc::Global;
@@ -143,7 +145,8 @@ impl SessionParts {
             | Kind::WriteChain
             | Kind::AddUsed
             | Kind::DisableNotification
-            | Kind::FinishRequest => Some(Permissions::Write),
+            | Kind::FinishRequest
+            | Kind::CompleteChain => Some(Permissions::Write),
             Kind::EnableNotification => self.notified(call.first, address),
             _ => None,
         }
@@ -219,6 +222,7 @@ impl SessionParts {
             Kind::ReadChain => self.read_chain(call, output, answer),
             Kind::WriteChain => self.write_chain(call, input, answer),
             Kind::AddUsed => self.add_used(call, answer),
+            Kind::CompleteChain => self.complete_chain(call, input, answer),
             Kind::NeedsNotification => self.needs_notification(call, answer),
             _ => self.work_on(kind, call, answer),
         }
@@ -264,6 +268,17 @@ impl SessionParts {
     {
         match self.queues.get_mut(call.first) {
             Some(queue) => add_used(&mut self.machine, queue, call, answer),
+            None => refuse(code::NO_SUCH, answer),
+        }
+    }
+
+    // Writes to a chain in flight, and returns it.
+    #[inline(never)]
+    fn complete_chain(&mut self, call: &Call, input: &[u8], answer: &mut Answer)
+        ensures { (out : List ℕ) → OnBoth Kind.CompleteChain self.old call.now input.now out answer.new self.new out }
+    {
+        match self.queues.get_mut(call.first) {
+            Some(queue) => complete_chain(&mut self.machine, queue, call, input, answer),
             None => refuse(code::NO_SUCH, answer),
         }
     }
@@ -383,7 +398,8 @@ impl SessionParts {
             | Kind::DisableNotification
             | Kind::BeginRequest
             | Kind::FinishRequest
-            | Kind::IotlbMessage => *answer = Answer::of_code(code::BAD_CALL),
+            | Kind::IotlbMessage
+            | Kind::CompleteChain => *answer = Answer::of_code(code::BAD_CALL),
         }
     }
 

@@ -3,14 +3,14 @@
 ghost use Rattle.std.specs.Prelude.{◌≡◌, List, ℕ};
 ghost use Rattle.vm_memory_guest.specs.Host.{shape_of, Holds};
 ghost use Rattle.vm_memory.specs.Parts.{state_of};
-ghost use Rattle.vm_session.specs.Queues.{NeedsNotification, Pops, ReadsInto, ReturnsIf, WorksOn, WritesChain};
+ghost use Rattle.vm_session.specs.Queues.{CompletesIf, NeedsNotification, Pops, ReadsInto, ReturnsIf, WorksOn, WritesChain, unfinished};
 
-use crate::answer::refuse;
+use crate::answer::{faulted, refuse};
 use crate::call::{Answer, Call, Kind};
 use crate::code;
 use crate::queue::SessionQueue;
 use std::alloc::Global;
-use vm_memory::{Machine, Work};
+use vm_memory::{Fault, Machine, Work};
 use vm_memory_base::{Bitmap, ExactBitmap};
 use vm_memory_device::Iommu;
 use vm_memory_guest::{GuestMemory, GuestMemoryRegion, HostMemory};
@@ -227,6 +227,93 @@ pub(crate) fn add_used<R: GuestMemoryRegion, I: Iommu, B: ExactBitmap>(
     let mut work = UsedWork {
         call,
         queue,
+        answer,
+    };
+    match machine.lend(call.second, &mut work) {
+        Ok(()) => (),
+        Err(_) => refuse(code::NO_SUCH, work.answer),
+    }
+}
+
+// The answer to a write that a chain did not take whole.
+#[cold]
+#[inline(never)]
+fn unfinished(asked: usize, answer: &mut Answer)
+    ensures { answer.new ≡ unfinished asked answer.old }
+{
+    if answer.code == code::DONE {
+        *answer = faulted(Fault::PartialBuffer {
+            expected: asked,
+            completed: answer.count,
+        });
+    }
+}
+
+// Writes to a chain in flight, and returns it if it took all bytes.
+#[inline(always)]
+fn complete_if<M: GuestMemory, B: Bitmap>(
+    queue: &mut SessionQueue,
+    mem: &M,
+    host: &mut HostMemory<B>,
+    call: &Call,
+    input: &[u8],
+    answer: &mut Answer,
+)
+    requires { Holds (shape_of host.old) (M.names mem.now) }
+    ensures completed { CompletesIf B.marks (M.memory mem.now) call.now input.now queue.old host.old answer.new
+        queue.new host.new }
+    ensures shape { shape_of host.new ≡ shape_of host.old }
+{
+    let Ok(len) = u32::try_from(call.value) else {
+        refuse(code::BAD_CALL, answer);
+        return;
+    };
+    queue.write(mem, host, call.third, call.address as usize, input, answer);
+    if answer.code == code::DONE && answer.count == input.len() {
+        queue.add_used(mem, host, call.third, len, answer);
+    } else {
+        unfinished(input.len(), answer);
+    }
+}
+
+// A write to a chain that is returned then.
+#[derive(Drop)]
+struct CompleteWork<'a> {
+    call: &'a Call,
+    queue: &'a mut SessionQueue,
+    input: &'a [u8],
+    answer: &'a mut Answer,
+}
+
+impl<B: Bitmap> Work<B> for CompleteWork<'_> {
+    // It keeps its references: what they point to is what the caller finds then.
+    ghost does = { λ w m host after host'. (after.queue.ghost_name ≡ w.queue.ghost_name)
+        × (after.answer.ghost_name ≡ w.answer.ghost_name)
+        × CompletesIf B.marks m w.call.now w.input.now w.queue.now host after.answer.now after.queue.now host' };
+
+    #[inline(always)]
+    fn work<M: GuestMemory>(&mut self, mem: &M, host: &mut HostMemory<B>) {
+        complete_if(self.queue, mem, host, self.call, self.input, self.answer);
+    }
+}
+
+// Writes to a chain in flight, and returns it.
+#[inline(always)]
+pub(crate) fn complete_chain<R: GuestMemoryRegion, I: Iommu, B: ExactBitmap>(
+    machine: &mut Machine<R, I, B>,
+    queue: &mut SessionQueue,
+    call: &Call,
+    input: &[u8],
+    answer: &mut Answer,
+)
+    ensures { (out : List ℕ) → WorksOn Kind.CompleteChain call.now input.now
+        (state_of R.region I.number B.pages machine.old) queue.old out answer.new
+        (state_of R.region I.number B.pages machine.new) queue.new out }
+{
+    let mut work = CompleteWork {
+        call,
+        queue,
+        input,
         answer,
     };
     match machine.lend(call.second, &mut work) {

@@ -8,7 +8,8 @@ use std::io;
 
 /// A chain that was popped: bytes that the device reads, and then bytes that it writes.
 ///
-/// It is in flight until [`Queue::add_used`] returns its head or [`Queue::forget`] drops it. Dropping this value does
+/// It is in flight until [`Queue::add_used`] or [`complete_at`](Self::complete_at) returns its head, or
+/// [`Queue::forget`] drops it. Dropping this value does
 /// neither. A call on a chain that is in flight no more is refused with `NotInFlight`; if its head was popped again, it
 /// reaches the new chain.
 #[derive(Clone, Debug)]
@@ -81,6 +82,17 @@ impl<'a> DescriptorChain<'a> {
         let mut answer = Answer::default();
         self.queue.make(&call, buf, &mut [], &mut answer)?;
         Ok(answer.count)
+    }
+
+    /// Writes the buffer to its writable bytes from `offset` on, and returns the chain to the driver, to which `len` bytes
+    /// were written in all: `write_at` and `add_used` in one call of the machine. If the chain does not take the whole
+    /// buffer, it stays in flight, and the error is that of the write, or `PartialBuffer` with how many bytes it took.
+    #[inline]
+    pub fn complete_at(&self, mem: &GuestMemory<'_>, offset: usize, buf: &[u8], len: u32) -> Result<(), QueueError> {
+        let mut call = self.call_at(kind::COMPLETE_CHAIN, mem, offset);
+        call.value = len.into();
+        let mut answer = Answer::default();
+        self.queue.make(&call, buf, &mut [], &mut answer)
     }
 
     /// A reader of its readable bytes, from the first on.

@@ -1,5 +1,5 @@
 //! Messages of a vhost-user front end, and a slow reading of them: each rule of the protocol by itself, in the words of
-//! docs/VHOST_USER.md.
+//! crates/vhost_user/README.md.
 #![allow(dead_code)]
 
 use vm_memory_proved::vhost_user::{ConfigSpace, Notifier, Offer, Refusal, Region, Request, Vring, Wanted};

@@ -1,5 +1,5 @@
 //! A bitmap that several threads mark while one harvests.
-ghost use Rattle.std.specs.Prelude.{◌≡◌, ℕ, ◌+◌, ◌-◌, ◌/◌, ◌^◌, ◌<◌, ◌≤◌, ◌↔◌, [], false, length, IfOk, OnErr, Err};
+ghost use Rattle.std.specs.Prelude.{◌≡◌, ℕ, ◌+◌, ◌-◌, ◌/◌, ◌^◌, ◌<◌, ◌≤◌, ◌↔◌, [], false, length, IfOk, OnOk, OnErr, Err};
 ghost use Rattle.std.specs.NonZero.{non_zero_usize_get};
 ghost use Rattle.std.specs.Int.{div_ceil};
 ghost use Rattle.vm_memory_base.specs.Notes.{rounds_of};
@@ -11,7 +11,7 @@ mod plays;
 mod view;
 
 pub use self::marker_bitmap::MarkerBitmap;
-use self::plays::{Both, Counts, Harvests, Looks, Marks, Newcomer, Note, Rounds};
+use self::plays::{Both, Counts, Deal, Harvests, Looks, Marks, Note, Rounds};
 use self::view::View;
 use super::paging::Paging;
 use atomic_table::{Seat, Shared, Table};
@@ -33,7 +33,7 @@ pub struct TrackedBitmap {
 #[derive(Drop)]
 pub struct Marker {
     seat: Seat<(), View>,
-    ghost marks_only: { (seat.me.1 ≡ []) × (seat.me.0.harvests ≡ []) },
+    ghost marks_only: { (seat.me.1 ≡ []) × (seat.me.0.harvests ≡ []) × (seat.me.0.markers ≡ 1) },
 }
 
 /// What a thread harvests a `TrackedBitmap` with. There is one.
@@ -81,7 +81,7 @@ impl TrackedBitmap {
         ensures pages { IfOk result (λ r. (bytes_of (paging_of r.0) ≡ byte_size)
             × (page_size_of (paging_of r.0) ≡ non_zero_usize_get page_size)) }
         ensures harvester { IfOk result (λ r. (harvester_table r.1 ≡ table_of r.0)
-            × (known_by r.1 ≡ tracked.newcomer (count_of (paging_of r.0)))) }
+            × (known_by r.1 ≡ tracked.new_harvester (count_of (paging_of r.0)) markers)) }
         ensures markers { IfOk result (λ r. (length r.2.items ≡ markers)
             × AreNew (table_of r.0) r.2.items) }
     {
@@ -238,12 +238,14 @@ impl TrackedBitmap {
         *round += 1;
     }
 
-    /// Hands what a marker knows to the harvester. Both have to be this bitmap's.
+    /// Hands what a marker knows to the harvester, which then has the notes of one marker more. Both have to be this
+    /// bitmap's.
     pub fn join(&self, harvester: &mut Harvester, marker: Marker)
         requires own { (harvester_table harvester.old ≡ table_of self.now)
             × (marker_table marker ≡ table_of self.now) }
         ensures same { harvester_table harvester.new ≡ harvester_table harvester.old }
         ensures joins { known_by harvester.new ≡ tracked.both (known_by harvester.old) (known_to marker) }
+        ensures counted { (known_by harvester.new).markers ≡ (known_by harvester.old).markers + 1 }
     {
         let Marker { seat } = marker;
         self.table
@@ -283,8 +285,9 @@ impl TrackedBitmap {
         self.table.shared.join_seat::<Both>(hearer, told);
     }
 
-    /// Ends the bitmap, and returns the pages that are set, as `get_and_reset` does. If the allocation of the
-    /// result fails, bitmap and harvester come back. The harvester has to be this bitmap's.
+    /// Ends the bitmap, and returns the pages that are set, as `get_and_reset` does. If each marker was joined before,
+    /// these are pages that markers marked, and no others. If the allocation of the result fails, bitmap and harvester
+    /// come back. The harvester has to be this bitmap's.
     pub fn close(
         self,
         harvester: Harvester,
@@ -293,6 +296,8 @@ impl TrackedBitmap {
         requires own { harvester_table harvester ≡ table_of self }
         ensures left { IfOk result (λ words. (length words.items ≡ div_ceil (count_of (paging_of self)) 32)
             × tracked.IsLeft (known_by harvester) words.items) }
+        ensures marked { tracked.HasAllMarkers (known_by harvester)
+            → IfOk result (λ words. tracked.WereMarked (known_by harvester) words.items) }
         ensures last { IfOk result (λ words. tracked.AreLastPages (count_of (paging_of self)) (known_by harvester)
             words.items) }
         ensures within { IfOk result (λ words. tracked.AreWordsBelow (count_of (paging_of self)) words.items) }
@@ -316,7 +321,7 @@ impl TrackedBitmap {
 impl Marker {
     ghost use Rattle.vm_memory_base.specs.Markers.{AreNew};
 
-    // As many markers as are asked for, which know the number of pages and no more.
+    // As many markers as are asked for.
     fn deal(
         alloc: Global,
         shared: &Shared<(), View, usize, Rounds>,
@@ -324,16 +329,17 @@ impl Marker {
         count: usize,
     ) -> Result<Vec<Marker>, AllocError>
         requires own { seat.old.table_id ≡ shared.now.table_id }
+        requires first { seat.old.id ≡ 0 }
         requires some { 0 < shared.now.table_id.words }
-        ensures same { (seat.new.table_id ≡ seat.old.table_id) × (seat.new.id ≡ seat.old.id)
-            × (seat.new.me ≡ seat.old.me) }
+        ensures same { (seat.new.table_id ≡ seat.old.table_id) × (seat.new.id ≡ seat.old.id) }
+        ensures dealt { OnOk result (seat.new.me ≡ (tracked.after_deals count seat.old.me.0, seat.old.me.1)) }
         ensures markers { IfOk result (λ markers. (length markers.items ≡ count)
             × AreNew (shared.now.table_id, seat.old.me.0.count) markers.items) }
     {
         let mut markers = Vec::with_capacity(alloc, count)?;
         for _ in 0..count {
             markers.push(Marker {
-                seat: shared.split_seat::<Newcomer>(seat),
+                seat: shared.split_seat::<Deal>(seat),
             })?;
         }
         Ok(markers)

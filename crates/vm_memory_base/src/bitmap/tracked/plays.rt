@@ -37,13 +37,13 @@ impl Play<(), View> for Counts {
     ghost then = { tracked.Counts };
 }
 
-// A seat that knows no more than the number of pages.
-pub struct Newcomer;
+// A seat that marks.
+pub struct Deal;
 
-impl Split<View> for Newcomer {
-    ghost left = { λ v. v };
+impl Split<View> for Deal {
+    ghost left = { λ v. tracked.after_deals 1 v };
 
-    ghost right = { λ v. tracked.newcomer v.count };
+    ghost right = { λ v. tracked.new_marker v.count };
 }
 
 // A note of the rounds that were seen.

@@ -10,6 +10,10 @@ use std::marker::Model;
 pub struct View {
     // The number of pages that there are.
     pub ghost count: { ℕ } by { coded_ℕ },
+    // How many markers it dealt.
+    pub ghost dealt: { ℕ } by { coded_ℕ },
+    // Of how many markers these are the notes: of one, or of those that were joined.
+    pub ghost markers: { ℕ } by { coded_ℕ },
     // The pages that it marked.
     pub ghost marks: { List Note } by { notes_coded },
     // The pages that it saw set.

@@ -12,6 +12,9 @@ returns-in-WriteChain c = rw c.in-WriteChain.is (c.write_chain.ensures c.args.ou
 pub returns-in-AddUsed : goal.returns-in-AddUsed
 returns-in-AddUsed c = rw c.in-AddUsed.is (c.add_used.ensures c.args.input.now c.args.output.now)
 
+pub returns-in-CompleteChain : goal.returns-in-CompleteChain
+returns-in-CompleteChain c = rw c.in-CompleteChain.is (c.complete_chain.ensures c.args.output.now)
+
 pub returns-in-NeedsNotification : goal.returns-in-NeedsNotification
 returns-in-NeedsNotification c =
     rw c.in-NeedsNotification.is (c.needs_notification.ensures c.args.input.now c.args.output.now)

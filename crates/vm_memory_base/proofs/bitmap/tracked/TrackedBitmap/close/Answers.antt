@@ -5,7 +5,7 @@ use Rattle.std.specs.Prelude.{slice_index}
 use Rattle.vm_memory_base.specs.Paging.{count_of}
 use Rattle.vm_memory_base.specs.Tracked.{set_pages, AreLastPages, AreWordsBelow}
 use Rattle.vm_memory_base.proofs.TrackedRule.{put_more}
-use Rattle.vm_memory_base.proofs.TrackedSeats.{elem_index, closes, closes_last, closes_below}
+use Rattle.vm_memory_base.proofs.TrackedSeats.{elem_index, closes, closes_marked, closes_last, closes_below}
 use Rattle.vm_memory_base.proofs.bitmap.tracked.TrackedBitmap.close.Goals as goal
 
 pub loop-word-preserved : goal.loop-word-preserved
@@ -31,6 +31,14 @@ returns-clause-left c =
           c.args.harvester.seat.me.0 _ c.close_with-closed.result.slots.items c.close_with-closed.ensures.values.2
           c.loop-word.pages.items (λ k h. inv.1 k (omega (arith, inv.0, least, h))),
     )
+
+pub returns-clause-marked : goal.returns-clause-marked
+returns-clause-marked c all =
+    let inv = c.loop-word.invariant in
+    let least = c.loop-word-test.false in
+    closes_marked c.args.self.table.shared.key c.args.harvester.seat.id c.args.harvester.harvests_all.0
+    c.args.harvester.seat.me.0 _ c.close_with-closed.result.slots.items c.close_with-closed.ensures.values.2
+    c.loop-word.pages.items (λ k h. inv.1 k (omega (arith, inv.0, least, h))) all
 
 pub returns-clause-last : goal.returns-clause-last
 returns-clause-last c =

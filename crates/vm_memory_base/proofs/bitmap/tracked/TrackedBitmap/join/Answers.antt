@@ -14,7 +14,8 @@ join_seat-requires c =
       plain.0,
       omega (arith, fits.1),
       joins_allowed c.args.self.now.table.shared.key c.args.harvester.now.seat.id c.args.marker.seat.id
-          c.args.harvester.now.seat.me.0 c.args.marker.seat.me.0 plain.1 (inl c.args.harvester.now.harvests_all.0),
+          c.args.harvester.now.seat.me.0 c.args.marker.seat.me.0 plain.1 (inl c.args.harvester.now.harvests_all.0)
+          (λ none_there. absurd (omega (arith, none_there, plain.2))),
     )
 
 pub invariant_of-harvester : goal.invariant_of-harvester

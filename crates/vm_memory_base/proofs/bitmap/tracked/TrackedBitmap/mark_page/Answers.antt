@@ -16,5 +16,6 @@ fetch_or-requires c =
       omega (arith, fits.1, c.requires.inside),
       marks_allowed table.key table.table_id.slots seat.id (page / 32)
           (omega (arith, fits.0, fits.1, c.requires.inside)) seat.me.0 seat.me.1 bit (omega (arith, small))
-          (one_page table.key page bit (omega (arith, fits.0, c.requires.inside)) (omega (arith, small))),
+          (one_page table.key page bit (omega (arith, fits.0, c.requires.inside)) (omega (arith, small)))
+          (omega (arith, c.args.marker.now.marks_only.2)),
     )

@@ -20,7 +20,7 @@ join_seat-requires c =
       ap (λ m. m.1) note.4,
       omega (arith, bitmap.fits.1),
       joins_allowed bitmap.table.shared.key hearer.id told.id hearer.me.0 told.me.0 (ap (λ m. m.0.harvests) note.4)
-          (inr (ap (λ m. m.0.count) note.4)),
+          (inr (ap (λ m. m.0.count) note.4, ap (λ m. m.0.dealt) note.4)) (λ _. ap (λ m. m.0.marks) note.4),
     )
 
 pub returns-clause-hears : goal.returns-clause-hears
