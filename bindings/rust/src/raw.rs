@@ -39,6 +39,8 @@ pub(crate) struct Miss {
 }
 
 /// What is called, in the order of the lines of a script, and then what no script has a line for.
+///
+/// These are the rows of bindings/commands.txt.
 #[allow(missing_docs)]
 pub mod kind {
     pub const BLOCK: u32 = 0;
@@ -160,8 +162,6 @@ pub mod code {
     pub const UNSORTED_MEMORY_REGIONS: u32 = 52;
     pub const IOTLB_TOO_SMALL: u32 = 53;
     pub const NO_IOTLB: u32 = 54;
-    pub const MESSAGE_VERSION: u32 = 55;
-    pub const MESSAGE_PAYLOAD_SIZE: u32 = 56;
     pub const MESSAGE_KIND: u32 = 57;
     pub const MESSAGE_EMPTY_RANGE: u32 = 58;
     pub const MESSAGE_RANGE: u32 = 59;
