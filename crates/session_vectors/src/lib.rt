@@ -1,4 +1,4 @@
-//! Tests of sessions: what each kind of call is answered, by numbers.
+//! Tests of sessions: a call, and that one may go to another thread.
 #![tactic(auto)]
 
 #[cfg(test)]
