@@ -1,6 +1,6 @@
 //! Scripts of many lines, long lines and great numbers.
 
-use crate::scripts::told;
+use crate::ends::told;
 use std::alloc::{AllocError, Global};
 use std::test::Fail;
 

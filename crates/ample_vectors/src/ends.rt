@@ -1,11 +1,29 @@
 //! How scripts end: at a bad line, and where a read or a write fails.
 
-use crate::scripts::{text_of, told};
+use std::alloc::Global;
 use std::io;
 use std::io::{Read, Write};
 use std::test::Fail;
 use test_text::expect_text;
-use vm_memory::drive;
+use vm_memory::{DriveFault, drive};
+
+/// What a script tells.
+pub fn told(alloc: Global, script: &[u8]) -> Result<String, Fail> {
+    let mut input = script;
+    let mut output = Vec::new(alloc);
+    let outcome = drive(alloc, &mut input, &mut output);
+    text_of(output, outcome)
+}
+
+// Replies, and after them the status and the text of a fault.
+fn text_of(replies: Vec<u8>, outcome: Result<(), DriveFault>) -> Result<String, Fail> {
+    let mut text = String::from_utf8(replies)?;
+    if let Err(fault) = outcome {
+        let status = fault.status();
+        write!(text, "{status} {fault}")?;
+    }
+    Ok(text)
+}
 
 // Lines that are bad before the first command and after it, one for each way to be so. That every other is refused
 // is the contract of `drive`.
