@@ -6,8 +6,8 @@
 # --install installs the packages that it needs, by apt-get, --list prints the variants, and --keep keeps the files of
 # each run. Without a VARIANT it runs all. Each prints one line: its name, ok, FAILED or SLOW, the seconds, and what the
 # back end served. The status is 0 if all are ok, 1 if one failed, 3 if a package is missing, which is named, and 4 if
-# none failed but one was too slow. Two more variants run only if they are named: quick is a shorter default, and qemu
-# has QEMU's own device in place of ours.
+# none failed but one was too slow. More variants run only if they are named: quick is a shorter default, and qemu,
+# qemu-lazy and qemu-move have QEMU's own device in place of ours.
 #
 # The guest is Debian's kernel with an initial RAM disk of busybox, made here: tools/real_guest_init.sh is its first
 # process. QEMU emulates the processor, so no KVM is needed.
@@ -28,10 +28,10 @@ SIZE=$((SECTORS * 512))
 PATTERN_SIZE=$((4 << 20))
 HALF=$((32 << 20))
 
-# A variant: what the guest does, the words of the device, those of the back end, and how the back end is ended
-# meanwhile.
+# A variant: what the guest does, the words of the device, those of the back end, how the back end is ended meanwhile, how
+# the guest runs its IOMMU, if it has one, and by which way it moves to another QEMU.
 variant() {
-    work=full device="" backend="" ending="" queues=1 ops=40 files=6
+    work=full device="" backend="" ending="" queues=1 ops=40 files=6 iommu="" moving=""
     case $1 in
     default) ;;
     quick) ops=10 files=2 ;;
@@ -46,10 +46,20 @@ variant() {
     sigterm) work=load ending=TERM ;;
     sigkill) work=load ending=KILL ;;
     qemu) device=qemu ;;
+    qemu-lazy) device=qemu iommu=lazy ops=10 files=2 ;;
+    qemu-move) device=qemu work=move moving="" ops=4 ;;
+    strict-8 | lazy-8) iommu=${1%-8} backend="--iotlb-limit 8" ops=10 files=2 ;;
+    strict-64 | lazy-64) iommu=${1%-64} backend="--iotlb-limit 64" ops=10 files=2 ;;
+    strict | lazy) iommu=$1 ops=10 files=2 ;;
+    move | move-file) work=move moving=${1#move} ops=4 ;;
+    strict-move | strict-move-file) work=move moving=${1#strict-move} iommu=strict backend="--iotlb-limit 64" ops=4 ;;
+    lazy-move | lazy-move-file) work=move moving=${1#lazy-move} iommu=lazy backend="--iotlb-limit 64" ops=4 ;;
     *) return 1 ;;
     esac
 }
-VARIANTS=(default no-event-idx no-indirect queue-16 queue-256 queue-1024 two-queues read-only no-flush sigterm sigkill)
+VARIANTS=(default no-event-idx no-indirect queue-16 queue-256 queue-1024 two-queues read-only no-flush sigterm sigkill
+    strict-8 strict-64 strict lazy-8 lazy-64 lazy
+    move move-file strict-move strict-move-file lazy-move lazy-move-file)
 
 missing() {
     local found=()
@@ -115,14 +125,14 @@ build_backend() {
 }
 
 start_backend() {
-    rm -f "$room/socket"
+    rm -f "$room/socket$part"
     # shellcheck disable=SC2086
-    "$VHOST_USER_BLK" --socket "$room/socket" --image "$room/disk.img" --stats 5 $backend >> "$room/backend" 2>&1 &
+    "$VHOST_USER_BLK" --socket "$room/socket$part" --image "$room/disk.img" --stats 5 $backend >> "$room/backend" 2>&1 &
     backend_pid=$!
     echo "$backend_pid" > "$room/pid"
     starts=$((starts + 1))
     for _ in $(seq 100); do
-        [ -S "$room/socket" ] && return
+        [ -S "$room/socket$part" ] && return
         sleep 0.05
     done
     echo "the back end does not listen" >> "$room/why"
@@ -141,22 +151,30 @@ stop_backend() {
 
 start_qemu() {
     local words="console=ttyS0 quiet panic=-1 mitigations=off no_timer_check disk=vda work=$work size=$SECTORS ops=$ops files=$files flush=$flush"
-    local disk=(-chardev "socket,id=disk,path=$room/socket${ending:+,reconnect=1}")
-    disk+=(-device "vhost-user-blk-pci,chardev=disk,num-queues=$queues${device:+,$device}")
-    if [ "$device" = qemu ]; then
-        disk=(-drive "file=$room/disk.img,format=raw,if=none,id=disk,cache=writeback")
-        disk+=(-device "virtio-blk-pci,drive=disk,serial=disk.img")
+    local disk=(-chardev "socket,id=disk,path=$room/socket$part${ending:+,reconnect=1}") place=""
+    if [ -n "$iommu" ]; then
+        # The device has to keep a copy of mappings of its own, and to be told what is taken back: behind a root port.
+        disk=(-device intel-iommu,device-iotlb=on "${disk[@]}" -device pcie-root-port,id=root,chassis=1,slot=1)
+        place=,bus=root,iommu_platform=on,ats=on,disable-legacy=on
+        words+=" intel_iommu=on iommu.passthrough=0 iommu.strict=$([ "$iommu" = strict ] && echo 1 || echo 0)"
     fi
-    mkfifo "$room/in"
-    : > "$room/console"
+    disk+=(-device "vhost-user-blk-pci,chardev=disk,num-queues=$queues$place${device:+,$device}")
+    if [ "$device" = qemu ]; then
+        disk=(${iommu:+-device intel-iommu,device-iotlb=on -device pcie-root-port,id=root,chassis=1,slot=1})
+        disk+=(-drive "file=$room/disk.img,format=raw,if=none,id=disk,cache=writeback")
+        disk+=(-device "virtio-blk-pci,drive=disk,serial=disk.img$place")
+    fi
+    mkfifo "$room/in$part" "$room/monitor$part.in" "$room/monitor$part.out"
+    cat "$room/monitor$part.out" > "$room/monitor$part" &
     qemu-system-x86_64 -accel tcg,thread=multi -machine q35,memory-backend=ram -smp 2 \
         -m 256M -object memory-backend-memfd,id=ram,size=256M,share=on -nodefaults -no-user-config -display none \
+        -chardev "pipe,id=monitor,path=$room/monitor$part" -mon chardev=monitor "$@" \
         -no-reboot -kernel "$(kernel)" -initrd "$shared/initrd" -append "$words id=disk.img" "${disk[@]}" \
-        -serial stdio < "$room/in" > "$room/console" 2> "$room/qemu" &
+        -serial stdio < "$room/in$part" >> "$room/console" 2>> "$room/qemu" &
     qemu_pid=$!
     watch_guest &
     watch_pid=$!
-    exec 3> "$room/in"
+    exec 3> "$room/in$part"
 }
 
 # The milliseconds that QEMU had of a processor, and those and the ones for which it waited for a processor.
@@ -222,6 +240,67 @@ end_backend() {
     done
     wait_for_lines round 1 || return
     echo enough >&3
+}
+
+# Has QEMU's monitor do something.
+order() {
+    echo "$*" > "$room/monitor$part.in"
+}
+
+# Waits until QEMU has moved its guest away, and returns whether it did.
+wait_for_move() {
+    for _ in $(seq "$LIMIT"); do
+        kill -0 "$qemu_pid" 2> /dev/null || return 1
+        order info migrate
+        sleep 1
+        grep -aq 'status: completed' "$room/monitor$part" && return 0
+        grep -aq 'status: failed' "$room/monitor$part" && return 1
+    done
+    return 1
+}
+
+# The guest moves under load: to a file, which another QEMU reads, or to another QEMU. That has a back end of its own.
+move_guest() {
+    local first_qemu first_watch first_backend=$backend_pid way="unix:$room/way" incoming
+    wait_for_lines round 2 || return
+    if [ "$moving" = -file ]; then
+        way="exec:cat > $room/state"
+        order "migrate -d \"$way\""
+        wait_for_move || { echo "the guest did not move" >> "$room/why"; return; }
+        end_first "$qemu_pid" "$watch_pid" "$first_backend"
+        part=2
+        [ "$device" = qemu ] || start_backend
+        start_qemu -incoming "exec:cat $room/state"
+    else
+        first_qemu=$qemu_pid first_watch=$watch_pid
+        part=2
+        [ "$device" = qemu ] || start_backend
+        start_qemu -incoming "$way"
+        incoming=$qemu_pid qemu_pid=$first_qemu part=""
+        for _ in $(seq 300); do
+            [ -S "$room/way" ] && break
+            sleep 0.1
+        done
+        order "migrate -d $way"
+        wait_for_move || { echo "the guest did not move" >> "$room/why"; kill -KILL "$incoming"; return; }
+        end_first "$first_qemu" "$first_watch" "$first_backend"
+        qemu_pid=$incoming part=2
+    fi
+    sleep 1
+    echo moved >&3
+}
+
+# Ends the QEMU that the guest left, and its back end.
+end_first() {
+    local status
+    order quit
+    wait "$1" 2> /dev/null
+    wait "$2"
+    [ -n "$3" ] || return
+    kill -TERM "$3"
+    wait "$3"
+    status=$?
+    [ "$status" = 0 ] || echo "the first back end ended with status $status" >> "$room/why"
 }
 
 # The second half of the disk is what it was, with what the guest wrote.
@@ -294,12 +373,13 @@ compare_counts() {
 
 run_variant() {
     local name=$1 starts=0 backend_pid="" qemu_pid="" watch_pid begun status
-    local work device backend ending queues ops files flush=1
+    local work device backend ending queues ops files iommu moving flush=1 part=""
     variant "$name"
     [ "$name" = no-flush ] && flush=0
     room=$shared/$name
     mkdir -p "$room"
     : > "$room/why"
+    : > "$room/console"
     cp --sparse=never "$shared/disk.img" "$room/disk.img"
     # QEMU's own device takes a part of a sector for a whole one.
     [ "$device" = qemu ] && truncate -s "$SIZE" "$room/disk.img"
@@ -307,6 +387,7 @@ run_variant() {
     [ "$device" = qemu ] || start_backend
     start_qemu
     [ -n "$ending" ] && end_backend
+    [ "$work" = move ] && move_guest
     wait "$qemu_pid" 2> /dev/null
     status=$?
     exec 3>&-
@@ -334,17 +415,30 @@ compare() {
     grep -q '^guest ok' "$room/said" || echo "the guest did not end: $(grep -a '^guest' "$room/said" | tail -n 1)" >> "$room/why"
     [ "$starts" = 0 ] || compare_counts
     compare_raw
-    [ "$work" = read ] && compare_reads || compare_files
+    case $work in
+    read) compare_reads ;;
+    move) grep -q '^moved ' "$room/said" || echo "the guest did not move" >> "$room/why" ;;
+    *) compare_files ;;
+    esac
+    if [ -n "$iommu" ] && [ "$device" != qemu ]; then
+        grep -aq '^I/O table: [1-9][0-9]* misses' "$room/backend" || echo "no mapping was asked for" >> "$room/why"
+    fi
+    if [ "$work" = move ] && [ "$device" != qemu ]; then
+        grep -aq '^log: [1-9]' "$room/backend" || echo "no page was logged" >> "$room/why"
+    fi
 }
 
 report() {
-    local took said verdict=ok status=0
+    local took said verdict=ok status=0 word
     took=$(awk -v begun="$begun" -v now="$(date +%s.%N)" 'BEGIN { printf "%.0f", now - begun }')
     [ -s "$room/slow" ] && verdict=SLOW status=4
     [ -s "$room/why" ] && verdict=FAILED status=1
     said=$(grep -a '^served' "$room/backend" 2> /dev/null | tail -n 1)
     [ "$starts" -lt 2 ] || said="$starts back ends, of which the last $said"
-    printf '%-13s %-6s %4s s  %s\n' "$name" "$verdict" "$took" "$said"
+    for word in 'I/O table' log; do
+        said+=$(grep -a "^$word: " "$room/backend" 2> /dev/null | tail -n 1 | sed 's/^/; /')
+    done
+    printf '%-16s %-6s %4s s  %s\n' "$name" "$verdict" "$took" "$said"
     [ "$status" = 0 ] && return
     cat "$room/slow" "$room/why" 2> /dev/null | sed 's/^/    /'
     grep -av '^wrote \|^file \|^sha256 ' "$room/said" | tail -n 5 | sed 's/^/    console: /'
@@ -379,7 +473,10 @@ main() {
         echo "packages of Debian are missing: $wanted (--install gets them)"
         exit 3
     fi
-    [ "${names[*]}" = qemu ] || build_backend
+    case " ${names[*]} " in
+    *" qemu"*) ;;
+    *) build_backend ;;
+    esac
     shared=$(mktemp -d "${TMPDIR:-/tmp}/real_guest.XXXXXX")
     [ -z "$keep" ] || echo "files: $shared"
     trap clean_up EXIT

@@ -5,6 +5,7 @@
 #   work=full    raw accesses and files, and the driver and the device are taken away and found again
 #   work=read    the disk is only read
 #   work=load    accesses and files until a line comes on the console
+#   work=move    accesses, and memory that only the disk fills, until a line comes on the console: the guest has moved
 #   size=N id=TEXT           the disk's sectors and its name
 #   ops=N files=N            how many accesses each of the four workers makes, and how many files it writes
 #   flush=1      the disk has a cache to flush
@@ -20,6 +21,7 @@ mount -t tmpfs tmp /tmp
 WORKERS="0 1 2 3"
 AREA=$((4 << 20))
 HALF=$((32 << 20))
+PART=$((8 << 20))
 PATTERN=$(stat -c %s /pattern)
 
 fail() {
@@ -235,6 +237,46 @@ load() {
     done
 }
 
+# The beginning of the disk is read again and again, into pages that had other bytes. It is compared with what it was, from
+# the pages and not from the disk: so is memory that was read while the guest moved, and that nothing else wrote.
+read_part() {
+    echo 3 > /proc/sys/vm/drop_caches
+    dd if=/dev/zero of=/tmp/fill bs=1M count=16 status=none
+    rm /tmp/fill
+    head -c "$PART" "/dev/$disk" > /dev/null
+    # Time for the guest to move.
+    sleep 2
+    cmp -s -n "$PART" "/dev/$disk" /tmp/part && return
+    fail "$(cmp -l -n "$PART" "/dev/$disk" /tmp/part | awk '{ print int(($1 - 1) / 4096) }' | uniq | wc -l) pages of memory have other bytes"
+}
+
+# Load while the guest moves: it ends after a line on the console.
+move_away() {
+    AREA=$((1 << 20))
+    check_disk 0
+    take_areas
+    head -c "$PART" "/dev/$disk" > /tmp/part
+    (read -r _ < /dev/console; touch /tmp/moved) &
+    (
+        local round=0
+        while [ ! -e /tmp/is_over ]; do
+            round=$((round + 1))
+            raw "$round"
+        done
+    ) &
+    local load=$! round=0
+    while [ ! -e /tmp/moved ]; do
+        round=$((round + 1))
+        read_part
+        echo "round $round"
+    done
+    echo "moved $(cut -d' ' -f1 /proc/uptime)"
+    read_part
+    touch /tmp/is_over
+    wait "$load" || fail "the load ended with status $?"
+    check_areas "after it moved"
+}
+
 main() {
     while read -r module; do
         insmod "/modules/$module" || fail "insmod $module"
@@ -245,6 +287,7 @@ main() {
     full) full ;;
     read) read_only ;;
     load) load ;;
+    move) move_away ;;
     *) fail "no such work: $work" ;;
     esac
     sync

@@ -71,7 +71,7 @@ enum vmm_code {
     VMM_VHOST_REGION_RANGE = 115, VMM_VHOST_REGION_OVERLAP = 116, VMM_VHOST_CONFIG_RANGE = 117,
     VMM_VHOST_CONFIG_READ_ONLY = 118,
     VMM_VHOST_STOPPED = 120, VMM_VHOST_DISABLED = 121, VMM_VHOST_NO_SIZE = 122, VMM_VHOST_NO_ADDRESS = 123,
-    VMM_VHOST_USER_ADDRESS = 124
+    VMM_VHOST_USER_ADDRESS = 124, VMM_VHOST_LOG = 125
 };
 
 /* The parts of a queue that VMM_SET_QUEUE sets. */
@@ -640,14 +640,20 @@ typedef struct vmm_vhost_region_row {
 } vmm_vhost_region_row;
 
 /* A ring that is to be served: how many descriptors it has, the index of the next available one from which it was
- * started, and its addresses in guest memory, or I/O addresses if ACCESS_PLATFORM was accepted. If `is_logged` is 1,
- * writes to the used ring are marked in the log at `log`. `kick` and `call`: 0 if no message said so, 1 for no
- * descriptor, 2 for one. */
+ * started, and its addresses in guest memory, or I/O addresses if ACCESS_PLATFORM was accepted. The used ring has
+ * `used_size` bytes. If `is_logged` is 1, writes to it are marked in the log at the address `log`. `kick` and `call`: 0 if
+ * no message said so, 1 for no descriptor, 2 for one. */
 typedef struct vmm_vhost_vring {
     uint32_t size, base;
-    uint64_t descriptor, available, used, log;
+    uint64_t descriptor, available, used, used_size, log;
     uint32_t is_logged, kick, call;
 } vmm_vhost_vring;
+
+/* Pages of guest memory that are marked in the log of dirty pages, of which the first has the number `first`: its address by
+ * 4,096. The bit of page p is bit p % 8 of the byte p / 8 of the log. */
+typedef struct vmm_vhost_pages {
+    uint64_t first, count;
+} vmm_vhost_pages;
 
 /* What was accepted, how many rings and regions there are, and whether a front end said that it owns the connection. */
 typedef struct vmm_vhost_negotiated {
@@ -685,6 +691,21 @@ uint32_t vmm_vhost_running(vmm_vhost *connection, uint32_t index, vmm_vhost_vrin
 
 /* A region of the memory, from 0, or VMM_NO_SUCH. */
 uint32_t vmm_vhost_region(vmm_vhost *connection, size_t number, vmm_vhost_region_row *region);
+
+/* The pages to mark in the log for `size` bytes of guest memory that were written, from `address` on: none if LOG_ALL was
+ * not accepted or no log was shared. VMM_VHOST_LOG if the log has no bit for one of them. */
+uint32_t vmm_vhost_logged(vmm_vhost *connection, uint64_t address, uint64_t size, vmm_vhost_pages *pages);
+
+/* The messages on the back end's own channel, as vmm_vhost_reply gives a reply: a MISS, which asks for the mapping of an
+ * address and for a reply, and an ACCESS_FAIL, which says that a mapping forbids an access. The access is VMM_R, VMM_W or
+ * VMM_RW, and otherwise there is no message. They need no connection. */
+size_t vmm_vhost_miss(uint64_t iova, uint32_t access, uint8_t *output, size_t output_size);
+size_t vmm_vhost_access_fail(uint64_t iova, uint32_t access, uint8_t *output, size_t output_size);
+
+/* The number in a reply that came on that channel, which has 20 bytes: 0 if what was asked for was done. VMM_VHOST_HEADER
+ * if there are fewer bytes than a header has, VMM_VHOST_VERSION, VMM_VHOST_DIRECTION, VMM_VHOST_REQUEST if the back end sends
+ * no such message, and VMM_VHOST_PAYLOAD_SIZE. */
+uint32_t vmm_vhost_answered(const uint8_t *message, size_t message_size, uint64_t *value);
 
 void vmm_vhost_state(vmm_vhost *connection, vmm_vhost_negotiated *state);
 
@@ -762,6 +783,7 @@ static inline const char *vmm_vhost_text(uint32_t code) {
     case VMM_VHOST_NO_SIZE: return "ring has no size";
     case VMM_VHOST_NO_ADDRESS: return "ring has no addresses";
     case VMM_VHOST_USER_ADDRESS: return "no region has the ring";
+    case VMM_VHOST_LOG: return "the log has no bit for a page";
     default: return NULL;
     }
 }

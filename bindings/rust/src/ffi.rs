@@ -2,7 +2,7 @@
 
 use crate::raw::{Answer, Call, Miss};
 use crate::vhost_user::raw::{Negotiated, Request, Vring};
-use crate::vhost_user::{Offer, Region, Wanted};
+use crate::vhost_user::{LogPages, Offer, Region, Wanted};
 use std::cell::Cell;
 use std::ffi::{c_char, c_int, c_long, c_uint};
 use std::ptr::null_mut;
@@ -64,6 +64,14 @@ unsafe extern "C" {
     fn vmm_vhost_running(connection: *mut Handle, index: u32, vring: *mut Vring) -> u32;
 
     fn vmm_vhost_region(connection: *mut Handle, number: usize, region: *mut Region) -> u32;
+
+    fn vmm_vhost_logged(connection: *mut Handle, address: u64, size: u64, pages: *mut LogPages) -> u32;
+
+    fn vmm_vhost_miss(iova: u64, access: u32, output: *mut u8, output_size: usize) -> usize;
+
+    fn vmm_vhost_access_fail(iova: u64, access: u32, output: *mut u8, output_size: usize) -> usize;
+
+    fn vmm_vhost_answered(message: *const u8, message_size: usize, value: *mut u64) -> u32;
 
     fn vmm_vhost_state(connection: *mut Handle, state: *mut Negotiated);
 
@@ -182,6 +190,28 @@ pub(crate) fn vhost_wanted(start: &[u8]) -> Result<Wanted, u32> {
     done(code, wanted)
 }
 
+/// Puts the message of a MISS to the front of the output, and returns how many bytes it has.
+pub(crate) fn vhost_miss(iova: u64, access: u32, output: &mut [u8]) -> usize {
+    // SAFETY: the declaration fits the library's function, and the pointer and the length are those of a `&mut [u8]`, which
+    // is borrowed for the call.
+    unsafe { vmm_vhost_miss(iova, access, output.as_mut_ptr(), output.len()) }
+}
+
+/// Puts the message of an ACCESS_FAIL to the front of the output, and returns how many bytes it has.
+pub(crate) fn vhost_access_fail(iova: u64, access: u32, output: &mut [u8]) -> usize {
+    // SAFETY: as `vhost_miss`.
+    unsafe { vmm_vhost_access_fail(iova, access, output.as_mut_ptr(), output.len()) }
+}
+
+/// The number in a reply that came on the back end's own channel, or a code.
+pub(crate) fn vhost_answered(message: &[u8]) -> Result<u64, u32> {
+    let mut value = 0;
+    // SAFETY: the declaration fits the library's function, and the pointers and the length are those of a `&[u8]` and a
+    // `&mut u64`, which are borrowed for the call.
+    let code = unsafe { vmm_vhost_answered(message.as_ptr(), message.len(), &mut value) };
+    done(code, value)
+}
+
 // What a call gave, if it was done.
 fn done<T>(code: u32, given: T) -> Result<T, u32> {
     if code == 0 {
@@ -254,6 +284,13 @@ impl Connection {
         // SAFETY: see `Connection`.
         let code = unsafe { vmm_vhost_region(self.handle.as_ptr(), number, &mut region) };
         done(code, region)
+    }
+
+    pub(crate) fn logged(&self, address: u64, size: u64) -> Result<LogPages, u32> {
+        let mut pages = LogPages::default();
+        // SAFETY: see `Connection`.
+        let code = unsafe { vmm_vhost_logged(self.handle.as_ptr(), address, size, &mut pages) };
+        done(code, pages)
     }
 
     pub(crate) fn state(&self) -> Negotiated {

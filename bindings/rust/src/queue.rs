@@ -56,7 +56,7 @@
 mod chain;
 mod error;
 
-pub use chain::{DescriptorChain, Reader, Writer};
+pub use chain::{ChainId, DescriptorChain, Reader, Writer};
 pub use error::{ChainFault, QueueError};
 
 use crate::machine::Machine;

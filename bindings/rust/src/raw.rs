@@ -209,4 +209,5 @@ pub mod code {
     pub const VHOST_NO_SIZE: u32 = 122;
     pub const VHOST_NO_ADDRESS: u32 = 123;
     pub const VHOST_USER_ADDRESS: u32 = 124;
+    pub const VHOST_LOG: u32 = 125;
 }

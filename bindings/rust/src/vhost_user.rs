@@ -18,7 +18,8 @@
 //! # Ok::<(), Box<dyn std::error::Error>>(())
 //! ```
 
-use crate::ffi::{vhost_wanted, Connection};
+use crate::ffi::{vhost_access_fail, vhost_answered, vhost_miss, vhost_wanted, Connection};
+use crate::machine::Permissions;
 use crate::raw::code;
 use std::{error, fmt};
 
@@ -33,6 +34,9 @@ pub const MAX_CONFIG: usize = 256;
 
 /// How many descriptors come with a message at most.
 pub const MAX_DESCRIPTORS: usize = 8;
+
+/// How many bytes a reply on the back end's own channel has.
+pub const ANSWER_LEN: usize = 20;
 
 /// What a back end offers.
 #[repr(C)]
@@ -74,6 +78,17 @@ pub struct Region {
     pub user_address: u64,
     /// The place of its first byte in its file.
     pub mmap_offset: u64,
+}
+
+/// Pages of guest memory that are marked in the log of dirty pages. The bit of page `p` is bit `p % 8` of the byte `p / 8`
+/// of the log.
+#[repr(C)]
+#[derive(Clone, Copy, Debug, Default, PartialEq, Eq)]
+pub struct LogPages {
+    /// The number of the first: its address by 4,096.
+    pub first: u64,
+    /// How many there are.
+    pub count: u64,
 }
 
 /// A part of the device's configuration.
@@ -174,6 +189,8 @@ pub struct Vring {
     pub available: u64,
     /// The address of the used ring.
     pub used: u64,
+    /// How many bytes the used ring has.
+    pub used_len: u64,
     /// The address in the log of the used ring, if writes to it are marked.
     pub log: Option<u64>,
     /// How the driver notifies the back end.
@@ -243,10 +260,12 @@ pub enum Refusal {
     NoAddress,
     /// No region has the ring.
     UserAddress,
+    /// The log has no bit for a page.
+    Log,
 }
 
 // Each refusal, its code and its text.
-const REFUSALS: [(Refusal, u32, &str); 29] = [
+const REFUSALS: [(Refusal, u32, &str); 30] = [
     (Refusal::Memory, code::MEMORY, "out of memory"),
     (Refusal::Offer, code::VHOST_OFFER, "invalid offer"),
     (Refusal::Header, code::VHOST_HEADER, "the message ends in its header"),
@@ -312,6 +331,7 @@ const REFUSALS: [(Refusal, u32, &str); 29] = [
     (Refusal::NoSize, code::VHOST_NO_SIZE, "ring has no size"),
     (Refusal::NoAddress, code::VHOST_NO_ADDRESS, "ring has no addresses"),
     (Refusal::UserAddress, code::VHOST_USER_ADDRESS, "no region has the ring"),
+    (Refusal::Log, code::VHOST_LOG, "the log has no bit for a page"),
 ];
 
 impl Refusal {
@@ -350,6 +370,7 @@ pub(crate) mod raw {
         pub(crate) descriptor: u64,
         pub(crate) available: u64,
         pub(crate) used: u64,
+        pub(crate) used_len: u64,
         pub(crate) log: u64,
         pub(crate) is_logged: u32,
         pub(crate) kick: u32,
@@ -433,6 +454,25 @@ pub fn wanted(start: &[u8]) -> Result<Wanted, Refusal> {
     vhost_wanted(start).map_err(Refusal::of)
 }
 
+/// A MISS for the back end's own channel: it asks for the mapping of an address and for a reply. Without an access there
+/// is no such message, and no bytes.
+pub fn miss(iova: u64, access: Permissions, room: &mut [u8; MAX_MESSAGE]) -> &[u8] {
+    let count = vhost_miss(iova, access as u32, room);
+    &room[..count]
+}
+
+/// An ACCESS_FAIL for the back end's own channel: a mapping forbids an access. It asks for no reply.
+pub fn access_fail(iova: u64, access: Permissions, room: &mut [u8; MAX_MESSAGE]) -> &[u8] {
+    let count = vhost_access_fail(iova, access as u32, room);
+    &room[..count]
+}
+
+/// The number in a reply that came on the back end's own channel, of [`ANSWER_LEN`] bytes: 0 if what the back end asked
+/// for was done.
+pub fn answered(message: &[u8]) -> Result<u64, Refusal> {
+    vhost_answered(message).map_err(Refusal::of)
+}
+
 /// A connection with a front end: what was negotiated, and what the front end said of its memory and its rings.
 pub struct Backend {
     connection: Connection,
@@ -478,6 +518,7 @@ impl Backend {
             descriptor: vring.descriptor,
             available: vring.available,
             used: vring.used,
+            used_len: vring.used_len,
             log: (vring.is_logged == 1).then_some(vring.log),
             kick: notifier_of(vring.kick),
             call: notifier_of(vring.call),
@@ -487,6 +528,12 @@ impl Backend {
     /// The regions of the memory, in the order in which they came.
     pub fn regions(&self) -> Vec<Region> {
         (0..).map_while(|number| self.connection.region(number).ok()).collect()
+    }
+
+    /// The pages to mark in the log for `len` bytes of guest memory that were written, from `address` on: none if LOG_ALL
+    /// was not accepted or no log was shared. Refused with `Log` if the log has no bit for one of them.
+    pub fn logged(&self, address: u64, len: u64) -> Result<LogPages, Refusal> {
+        self.connection.logged(address, len).map_err(Refusal::of)
     }
 
     /// The features that the front end accepted.

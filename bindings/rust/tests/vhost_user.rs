@@ -6,8 +6,10 @@ use front_end::*;
 use std::fs;
 use std::path::Path;
 use vm_memory_proved::vhost_user::{
-    Backend, ConfigSpace, Notifier, Offer, Refusal, Region, Request, Vring, MAX_CONFIG, MAX_MESSAGE,
+    access_fail, answered, miss, Backend, ConfigSpace, LogPages, Notifier, Offer, Refusal, Region, Request, Vring,
+    ANSWER_LEN, MAX_CONFIG, MAX_MESSAGE,
 };
+use vm_memory_proved::Permissions;
 
 // What a device offers whose disk has a write cache that a driver may turn off: the byte 32 of its configuration.
 const OFFER: Offer = Offer {
@@ -205,6 +207,8 @@ fn booted_vring(log: Option<u64>) -> Vring {
         descriptor: 0x1000,
         available: 0x1800,
         used: 0x1_0000_2000,
+        // Flags, index, 128 entries and the index of an event.
+        used_len: 1030,
         log,
         kick: Notifier::Descriptor,
         call: Notifier::Descriptor,
@@ -219,6 +223,70 @@ fn booted() -> Backend {
     let enabled = Request::SetVringEnable { index: 0, enable: true };
     expect(&mut backend, vec![(enable, 0, Ok(enabled), Vec::new())]);
     backend
+}
+
+#[test]
+fn each_page_that_is_written_has_a_bit_in_the_log() {
+    let mut backend = booted();
+    let pages = |first, count| Ok(LogPages { first, count });
+    // A log of 4 bytes has bits for 32 pages. LOG_ALL is not accepted yet.
+    let log = message(SET_LOG_BASE, 0, &longs(&[4, 0]));
+    assert_eq!(backend.handle(&log, 1), Ok(Request::SetLogBase { size: 4, offset: 0 }));
+    assert_eq!(backend.logged(0x1000, 1), pages(0, 0));
+    let bits = message(SET_FEATURES, 0, &longs(&[ACCEPTED | LOG_ALL]));
+    assert_eq!(backend.handle(&bits, 0), Ok(Request::SetFeatures(ACCEPTED | LOG_ALL)));
+    for (address, len, expected) in [
+        (0x1000, 1, pages(1, 1)),
+        (0x1fff, 1, pages(1, 1)),
+        (0x1fff, 2, pages(1, 2)),
+        (0x1000, 0x1000, pages(1, 1)),
+        (0xfff, 0x1002, pages(0, 3)),
+        (0, 0x2_0000, pages(0, 32)),
+        (0x1_ffff, 1, pages(31, 1)),
+        (0x1_ffff, 0, pages(0, 0)),
+        (u64::MAX, 0, pages(0, 0)),
+        (0x1_ffff, 2, Err(Refusal::Log)),
+        (0x2_0000, 1, Err(Refusal::Log)),
+        (u64::MAX, 1, Err(Refusal::Log)),
+        (u64::MAX, 2, Err(Refusal::Log)),
+        (1, u64::MAX, Err(Refusal::Log)),
+    ] {
+        assert_eq!(backend.logged(address, len), expected, "{len} bytes at {address:#x}");
+    }
+    let bits = message(SET_FEATURES, 0, &longs(&[ACCEPTED]));
+    assert_eq!(backend.handle(&bits, 0), Ok(Request::SetFeatures(ACCEPTED)));
+    assert_eq!(backend.logged(0x2_0000, 1), pages(0, 0));
+}
+
+#[test]
+fn the_back_end_asks_on_its_own_channel() {
+    let mut room = [0; MAX_MESSAGE];
+    let asked = |flags: u32, access: u8, kind: u8| {
+        let payload = [&longs(&[0xffff_f000, 0, 0])[..], &[access, kind, 0, 0, 0, 0, 0, 0]].concat();
+        [words(&[1, flags, 32]), payload].concat()
+    };
+    for access in [Permissions::Read, Permissions::Write, Permissions::ReadWrite] {
+        // A MISS asks for a reply.
+        assert_eq!(miss(0xffff_f000, access, &mut room), asked(9, access as u8, 1));
+        assert_eq!(access_fail(0xffff_f000, access, &mut room), asked(1, access as u8, 4));
+    }
+    assert!(miss(0, Permissions::No, &mut room).is_empty());
+    assert!(access_fail(0, Permissions::No, &mut room).is_empty());
+    let reply = |header: [u32; 3], value: u64| [words(&header), longs(&[value])].concat();
+    for (bytes, expected) in [
+        (reply([1, 5, 8], 0), Ok(0)),
+        (reply([1, 5, 8], u64::MAX), Ok(u64::MAX)),
+        (reply([2, 5, 8], 7), Ok(7)),
+        (reply([1, 6, 8], 0), Err(Refusal::Version)),
+        (reply([1, 1, 8], 0), Err(Refusal::Direction)),
+        (reply([3, 5, 8], 0), Err(Refusal::Request)),
+        (reply([1, 5, 9], 0), Err(Refusal::PayloadSize)),
+        (reply([1, 5, 8], 0)[..19].to_vec(), Err(Refusal::PayloadSize)),
+        (reply([1, 5, 8], 0)[..11].to_vec(), Err(Refusal::Header)),
+    ] {
+        assert_eq!(answered(&bytes), expected, "{bytes:02x?}");
+    }
+    assert_eq!(ANSWER_LEN, reply([1, 5, 8], 0).len());
 }
 
 #[test]
@@ -428,6 +496,7 @@ fn a_device_behind_an_iommu_has_io_addresses() {
         base: 0xffff,
         descriptor: places[0],
         used: places[1],
+        used_len: 8196,
         available: places[2],
         log: None,
         kick: Notifier::Polled,

@@ -1,12 +1,15 @@
 //! A connection: the front end's messages, and the rings that it has started.
 
+use crate::channel::{Answer, Channel};
 use crate::disk::Disk;
 use crate::features;
+use crate::log::{Log, Logger};
 use crate::memory::{Files, Memory};
 use crate::options::Options;
 use crate::say;
-use crate::serve::{Fault, Server};
-use crate::system::{self, Epoll, Watch, Watched};
+use crate::serve::{Fault, Place, Server, Step, Turn};
+use crate::stats::TableStats;
+use crate::system::{self, Epoll, SharedBits, Watch, Watched};
 use std::fmt;
 use std::fs::File;
 use std::io::{self, Write};
@@ -14,13 +17,15 @@ use std::os::fd::OwnedFd;
 use std::os::unix::net::UnixStream;
 use std::time::{Duration, Instant};
 use vm_memory_proved::queue::{Queue, QueueError, QueueState};
-use vm_memory_proved::vhost_user::{self, Backend, Refusal, Request, Vring, MAX_DESCRIPTORS, MAX_MESSAGE};
-use vm_memory_proved::{GuestAddress, QueueId};
+use vm_memory_proved::vhost_user::{self, Backend, Refusal, Request, Vring, HEADER_LEN, MAX_DESCRIPTORS, MAX_MESSAGE};
+use vm_memory_proved::{GuestAddress, GuestMemoryError, IommuError, Miss, QueueId, Reason};
 
-/// The number of the descriptor by which the program is ended, and of the socket. Rings come after them.
+/// The number of the descriptor by which the program is ended, and of the socket. The back end's own channel and the rings
+/// come after them.
 pub const ENDING: u64 = 0;
 pub const SOCKET: u64 = 1;
-const RINGS: u64 = 2;
+const CHANNEL: u64 = 2;
+const RINGS: u64 = 3;
 
 // All chains in flight have at most so many descriptors. One chain has them: an indirect table has 65,535 at most.
 const MAX_CHAIN: usize = 65_535 + 1;
@@ -62,7 +67,6 @@ struct Incoming {
     descriptors: Vec<OwnedFd>,
 }
 
-#[derive(Default)]
 struct Ring {
     kick: Option<Watched>,
     call: Option<File>,
@@ -71,6 +75,7 @@ struct Ring {
     is_set_up: bool,
     // Where it is while there is no memory.
     kept: Option<QueueState>,
+    step: Step,
     // It is to be served now.
     is_running: bool,
     is_polled: bool,
@@ -80,10 +85,21 @@ struct Ring {
     has_more: bool,
 }
 
+// A ring whose step misses a mapping. Until that came, or does not come, no other ring is served: so the table has room for
+// what this one needs.
+struct Waiting {
+    ring: usize,
+    miss: Miss,
+    // The step is to be made again, or was refused.
+    is_due: bool,
+    is_refused: bool,
+}
+
 pub struct Connection<'a> {
     socket: &'a UnixStream,
     epoll: &'a Epoll,
     stats: Option<Duration>,
+    iotlb_limit: Option<usize>,
     backend: Backend,
     // The names of what was acknowledged when it was last said.
     said: (u64, u64),
@@ -93,6 +109,12 @@ pub struct Connection<'a> {
     queues: Vec<QueueId>,
     rings: Vec<Ring>,
     features: u64,
+    channel: Option<Channel>,
+    log: Option<Log>,
+    // Writes are marked in it.
+    is_logging: bool,
+    waiting: Option<Waiting>,
+    table: TableStats,
     server: Server<'a>,
 }
 
@@ -107,6 +129,7 @@ impl<'a> Connection<'a> {
             socket,
             epoll,
             stats: options.stats,
+            iotlb_limit: options.iotlb_limit,
             backend: Backend::new(&features::offer(options), &features::config(disk, options))?,
             said: (0, 0),
             incoming: Incoming {
@@ -116,8 +139,13 @@ impl<'a> Connection<'a> {
             },
             memory: None,
             queues: Vec::new(),
-            rings: (0..options.queues).map(|_| Ring::default()).collect(),
+            rings: (0..options.queues).map(|_| Ring::new()).collect(),
             features: 0,
+            channel: None,
+            log: None,
+            is_logging: false,
+            waiting: None,
+            table: TableStats::default(),
             server: Server::new(disk),
         })
     }
@@ -126,7 +154,7 @@ impl<'a> Connection<'a> {
     pub fn run(&mut self) -> End {
         let end = self.turns().expect_err("turns end by an error");
         if self.stats.is_some() {
-            say!("served {}", self.server.stats);
+            self.say_stats();
         }
         end
     }
@@ -137,34 +165,59 @@ impl<'a> Connection<'a> {
         loop {
             let waited = self.epoll.wait(self.time_to_wait(next), &mut ready);
             waited.map_err(|error| End::Failed("waiting", error.into()))?;
+            // An UPDATE comes before the reply to its MISS.
+            ready.sort_unstable();
             for &number in &ready {
                 match number {
                     ENDING => return Err(End::Terminated),
                     SOCKET => self.receive()?,
+                    CHANNEL => self.receive_answer()?,
                     number => self.rings[(number - RINGS) as usize].has_more = true,
                 }
             }
             for index in 0..self.rings.len() {
-                let ring = &self.rings[index];
-                if ring.is_running && (ring.has_more || ring.is_polled) {
+                if self.is_due(index) {
                     self.serve(index)?;
                 }
             }
             if let (Some(every), Some(time)) = (self.stats, next) {
                 if Instant::now() >= time {
-                    say!("served {}", self.server.stats);
+                    self.say_stats();
                     next = Some(Instant::now() + every);
                 }
             }
         }
     }
 
+    fn say_stats(&self) {
+        say!("served {}", self.server.stats);
+        if !self.table.is_empty() {
+            say!("I/O table: {}", self.table);
+        }
+        if let Some(log) = &self.log {
+            say!("log: {} pages", log.marked());
+        }
+    }
+
+    // Whether a ring is to be served now.
+    fn is_due(&self, index: usize) -> bool {
+        let ring = &self.rings[index];
+        ring.is_running
+            && match &self.waiting {
+                Some(waiting) => waiting.ring == index && waiting.is_due,
+                None => ring.has_more || ring.is_polled,
+            }
+    }
+
     fn time_to_wait(&self, next: Option<Instant>) -> Option<Duration> {
+        let left = next.map(|time| time.saturating_duration_since(Instant::now()));
+        if let Some(waiting) = &self.waiting {
+            return if waiting.is_due { Some(Duration::ZERO) } else { left };
+        }
         let mut running = self.rings.iter().filter(|it| it.is_running);
         if running.clone().any(|it| it.has_more) {
             return Some(Duration::ZERO);
         }
-        let left = next.map(|time| time.saturating_duration_since(Instant::now()));
         if running.any(|it| it.is_polled) {
             return Some(left.map_or(POLL, |left| left.min(POLL)));
         }
@@ -204,7 +257,12 @@ impl<'a> Connection<'a> {
         let (bytes, len) = (self.incoming.bytes, std::mem::take(&mut self.incoming.len));
         let message = &bytes[..len];
         // Descriptors of a message that is refused are closed here.
+        let mut is_mapping = false;
         let done = match self.backend.handle(message, descriptors.len()) {
+            Ok(Request::IotlbMsg) => {
+                is_mapping = true;
+                self.apply(message)
+            }
             Ok(request) => self.perform(request, descriptors),
             Err(refusal) => Err(self.refused(refusal)),
         };
@@ -218,7 +276,11 @@ impl<'a> Connection<'a> {
             sent.map_err(|error| End::Failed("replying", error.into()))?;
         }
         done?;
+        if is_mapping {
+            return Ok(());
+        }
         self.features = self.backend.features();
+        self.refresh_log();
         for index in 0..self.rings.len() {
             self.refresh(index)?;
         }
@@ -235,6 +297,13 @@ impl<'a> Connection<'a> {
                 self.set_memory(descriptors)?;
             }
             Request::GetVringBase { index } => self.stop(index),
+            Request::SetBackendReqFd => {
+                // A descriptor came, as the request has one.
+                let descriptor = descriptor.ok_or(io::ErrorKind::NotFound.into()).map_err(failed)?;
+                // One that came before is watched no more before this one is.
+                self.channel = None;
+                self.channel = Some(Channel::new(descriptor, self.epoll, CHANNEL).map_err(failed)?);
+            }
             Request::SetVringKick { index, .. } => {
                 let ring = &mut self.rings[index as usize];
                 ring.let_go_of_kick();
@@ -254,6 +323,23 @@ impl<'a> Connection<'a> {
             Request::SetVringErr { index, .. } => {
                 self.rings[index as usize].err = file_of(descriptor).map_err(failed)?;
             }
+            Request::SetLogBase { size, offset } => {
+                let descriptor = descriptor.ok_or(io::ErrorKind::NotFound.into()).map_err(failed)?;
+                let call = self.log.as_mut().and_then(Log::take_call);
+                // One that came before is unmapped first.
+                self.log = None;
+                let bits = SharedBits::new(&descriptor, offset, size);
+                self.log = Some(Log::new(
+                    bits.map_err(|error| End::Failed("the log", error.into()))?,
+                    call,
+                ));
+            }
+            Request::SetLogFd => {
+                let call = file_of(descriptor).map_err(failed)?;
+                if let Some(log) = &mut self.log {
+                    log.set_call(call);
+                }
+            }
             // The protocol's state has all that these ask for.
             _ => (),
         }
@@ -262,12 +348,15 @@ impl<'a> Connection<'a> {
 
     // The same parts of the same files change nothing. Nothing is in flight: a request is served as a whole.
     fn set_memory(&mut self, descriptors: Vec<OwnedFd>) -> Result<(), End> {
-        let files = Files::new(&self.backend.regions(), descriptors);
+        let regions = self.backend.regions();
+        let files = Files::new(&regions, descriptors);
         let files = files.map_err(|error| End::Failed("the table of memory", error.into()))?;
-        if self.memory.as_ref().is_some_and(|it| it.has(&files)) {
+        if let Some(memory) = self.memory.as_mut().filter(|it| it.has(&files)) {
+            memory.announce(&regions);
             return Ok(());
         }
         for index in 0..self.rings.len() {
+            self.give_back(index);
             if let Some(queue) = self.queue(index) {
                 self.rings[index].kept = Some(queue.state());
             }
@@ -277,7 +366,9 @@ impl<'a> Connection<'a> {
         if files.is_empty() {
             return Ok(());
         }
-        let memory = Memory::new(files).map_err(|error| End::Failed("the table of memory", error))?;
+        let memory = Memory::new(files, self.iotlb_limit);
+        let mut memory = memory.map_err(|error| End::Failed("the table of memory", error))?;
+        memory.announce(&regions);
         for ring in &mut self.rings {
             let queue = memory.machine().queue(features::MAX_QUEUE_SIZE, MAX_CHAIN);
             let queue = queue.map_err(|error| End::Failed("a queue", error.into()))?;
@@ -290,15 +381,99 @@ impl<'a> Connection<'a> {
         Ok(())
     }
 
+    // ---- the I/O table
+
+    // Whether writes are marked in the log from now on. What was written before is none of the log's.
+    fn refresh_log(&mut self) {
+        let was_logging = self.is_logging;
+        // The first page is marked, or has no place in the log.
+        self.is_logging = self.log.is_some() && self.backend.logged(0, 1).map_or(true, |pages| pages.count > 0);
+        if let Some(memory) = self.memory.as_ref().filter(|_| self.is_logging && !was_logging) {
+            memory.take_dirty();
+        }
+    }
+
+    // Applies a message to the table. No access runs meanwhile, and the reply is sent after it.
+    fn apply(&mut self, message: &[u8]) -> Result<(), End> {
+        let Some(payload) = message[HEADER_LEN..].first_chunk() else {
+            return Err(self.refused(Refusal::PayloadSize));
+        };
+        let Some(memory) = &self.memory else {
+            return Ok(());
+        };
+        let before = memory.unmapped();
+        let applied = memory.apply(payload);
+        applied.map_err(|error| End::Failed("a mapping", error.into()))?;
+        self.table.count(payload, &before, &memory.unmapped());
+        if let Some(waiting) = &mut self.waiting {
+            waiting.is_due = true;
+        }
+        Ok(())
+    }
+
+    fn receive_answer(&mut self) -> Result<(), End> {
+        let failed = |error: io::Error| End::Failed("the back end's channel", error.into());
+        let Some(channel) = &mut self.channel else {
+            return Ok(());
+        };
+        let is_done = match channel.receive().map_err(failed)? {
+            Answer::Nothing => return Ok(()),
+            Answer::Last(is_done) => is_done,
+            Answer::Gone => {
+                self.channel = None;
+                false
+            }
+        };
+        if let Some(waiting) = &mut self.waiting {
+            waiting.is_due = true;
+            waiting.is_refused = !is_done;
+        }
+        Ok(())
+    }
+
+    // Asks for the mapping that the step of a ring misses.
+    fn ask(&mut self, index: usize, miss: Miss) -> Result<(), End> {
+        let asked = self.channel.as_mut().map(|it| it.ask(miss)).transpose();
+        let asked = asked.map_err(|error| End::Failed("the back end's channel", error.into()))?;
+        self.table.misses += u64::from(asked == Some(true));
+        self.waiting = Some(Waiting {
+            ring: index,
+            miss,
+            is_due: asked.is_none(),
+            is_refused: asked.is_none(),
+        });
+        Ok(())
+    }
+
     // ---- rings
+
+    // A ring stops in the middle of a turn. The request that is under way becomes the next one again.
+    fn give_back(&mut self, index: usize) {
+        let ring = &mut self.rings[index];
+        let step = ring.step;
+        ring.step = step.first();
+        if let Some(id) = step.chain() {
+            if let Some(queue) = self.queue(index) {
+                let head = queue.chain_by_id(id).head_index();
+                queue.forget(head).expect("its chain is in flight");
+                queue.set_next_avail(queue.next_avail().wrapping_sub(1));
+            }
+        }
+        if self.waiting.as_ref().is_some_and(|it| it.ring == index) {
+            self.waiting = None;
+            // Requests may have been returned of which the driver does not know.
+            self.rings[index].interrupt();
+        }
+    }
 
     fn queue(&self, index: usize) -> Option<Queue<'_>> {
         self.memory.as_ref()?.machine().queue_by_id(*self.queues.get(index)?)
     }
 
-    // The ring stops, and its next available index is told.
+    // The ring stops, and its next available index is told. Without a ring the device is stopped, and its table empty.
     fn stop(&mut self, index: u32) {
         let ring = index as usize;
+        self.give_back(ring);
         if self.rings[ring].is_set_up {
             let kept = self.rings[ring].kept.map(|it| it.next_avail);
             if let Some(base) = self.queue(ring).map(|it| it.next_avail()).or(kept) {
@@ -309,6 +484,13 @@ impl<'a> Connection<'a> {
         let ring = &mut self.rings[ring];
         ring.let_go_of_kick();
         ring.is_set_up = false;
+        if let Some(memory) = self
+            .memory
+            .as_ref()
+            .filter(|_| self.rings.iter().all(|it| !it.is_set_up))
+        {
+            memory.forget_mappings();
+        }
     }
 
     // Asks the protocol's state whether a ring is to be served and where it lies, and sets its queue up if it was started.
@@ -319,17 +501,14 @@ impl<'a> Connection<'a> {
         };
         let Some((vring, queue)) = running else {
             self.rings[index].is_running = false;
+            self.give_back(index);
             return Ok(());
         };
-        let memory = self.memory.as_ref().expect("a queue has a memory");
         let starts = !self.rings[index].is_set_up;
         if self.rings[index].is_broken && !starts {
             return Ok(());
         }
-        let set = set_up(&queue, memory, &vring, self.features & features::EVENT_IDX != 0, starts);
-        if memory.is_lost() {
-            return Err(End::MemoryLost);
-        }
+        let set = set_up(&queue, &vring, self.features & features::EVENT_IDX != 0, starts);
         if starts {
             self.say_negotiated();
             say!(
@@ -339,6 +518,9 @@ impl<'a> Connection<'a> {
             );
         }
         let ring = &mut self.rings[index];
+        if starts {
+            ring.step = Step::Start;
+        }
         ring.is_set_up = true;
         ring.is_broken = false;
         if let Err(error) = set {
@@ -362,24 +544,59 @@ impl<'a> Connection<'a> {
     fn serve(&mut self, index: usize) -> Result<(), End> {
         let memory = self.memory.as_ref().expect("a ring that runs has a memory");
         let queue = memory.machine().queue_by_id(self.queues[index]);
-        let queue = queue.expect("the machine has the queue that it made");
-        let (turn, ended) = self.server.turn(&queue, memory, self.features);
+        let is_translated = self.features & features::ACCESS_PLATFORM != 0;
+        let logger = self.log.as_ref().filter(|_| self.is_logging).map(|log| Logger {
+            backend: &self.backend,
+            log,
+            is_translated,
+        });
+        let at = Place {
+            queue: queue.expect("the machine has the queue that it made"),
+            memory,
+            guest: memory.guest(is_translated),
+            terms: self.server.terms(self.features),
+            logger,
+        };
         let ring = &mut self.rings[index];
-        ring.has_more = turn.more;
+        let refused = self.waiting.take().filter(|it| it.is_refused);
+        if let Some(waiting) = refused {
+            match self.server.failed(ring.step, unreached(waiting.miss)) {
+                Ok(step) => ring.step = step,
+                Err(_) => {
+                    ring.fail(index, &unreached(waiting.miss));
+                    return Ok(());
+                }
+            }
+        }
+        let channel = self.channel.as_ref();
+        // The access has failed already if the front end cannot be told.
+        let mut forbidden = |miss| channel.map_or((), |it| it.say_forbidden(miss).unwrap_or(()));
+        let turned = self.server.turn(&at, &mut ring.step, &mut forbidden);
+        // Before any message, which may change where the addresses lead.
+        if let (Some(logger), Ok(vring)) = (&logger, self.backend.running(index as u32)) {
+            let marked = logger.wrote_ring(memory, &vring).and_then(|()| logger.take(memory));
+            marked.map_err(|refusal| End::Failed("the log", refusal.into()))?;
+        }
         if memory.is_lost() {
             return Err(End::MemoryLost);
         }
-        if turn.interrupt {
-            ring.interrupt();
-        }
-        match ended {
-            Ok(()) => Ok(()),
-            Err(Fault::Lost) => Err(End::MemoryLost),
+        match turned {
+            Ok(Turn::Over { more, interrupt }) => {
+                ring.has_more = more;
+                if interrupt {
+                    ring.interrupt();
+                }
+            }
+            Ok(Turn::Misses(miss)) => self.ask(index, miss)?,
+            Err(Fault::Lost) => return Err(End::MemoryLost),
+            Err(Fault::Log(refusal)) => return Err(End::Failed("the log", refusal.into())),
             Err(Fault::Queue(error)) => {
+                // Requests may have been returned before.
+                ring.interrupt();
                 ring.fail(index, &error);
-                Ok(())
             }
         }
+        Ok(())
     }
 }
 
@@ -395,6 +612,21 @@ impl Incoming {
 }
 
 impl Ring {
+    fn new() -> Ring {
+        Ring {
+            kick: None,
+            call: None,
+            err: None,
+            is_set_up: false,
+            kept: None,
+            step: Step::Start,
+            is_running: false,
+            is_polled: false,
+            is_broken: false,
+            has_more: false,
+        }
+    }
+
     // The front end goes on reading its notifications by itself, and finds none of those that were meant for this program.
     fn let_go_of_kick(&mut self) {
         if let Some(kick) = self.kick.take() {
@@ -434,7 +666,7 @@ fn file_of(descriptor: Option<OwnedFd>) -> io::Result<Option<File>> {
 }
 
 // Gives a queue the addresses of a ring, and if it starts also its size and where it begins.
-fn set_up(queue: &Queue<'_>, memory: &Memory, vring: &Vring, event_idx: bool, starts: bool) -> Result<(), QueueError> {
+fn set_up(queue: &Queue<'_>, vring: &Vring, event_idx: bool, starts: bool) -> Result<(), QueueError> {
     if starts {
         queue.reset();
         queue.set_size(vring.size.try_into().map_err(|_| QueueError::InvalidSize)?)?;
@@ -445,10 +677,16 @@ fn set_up(queue: &Queue<'_>, memory: &Memory, vring: &Vring, event_idx: bool, st
     queue.try_set_avail_ring_address(GuestAddress(vring.available))?;
     queue.try_set_used_ring_address(GuestAddress(vring.used))?;
     queue.set_ready(true);
-    if starts {
-        queue.set_next_used(queue.used_idx(&memory.guest())?);
-    }
     Ok(())
+}
+
+// The front end does not map what a step needs.
+fn unreached(miss: Miss) -> QueueError {
+    let (iova_range, reason) = (miss.iova_range, Reason::MissingMapping);
+    QueueError::GuestMemory(GuestMemoryError::IommuError(IommuError::CannotResolve {
+        iova_range,
+        reason,
+    }))
 }
 
 // Makes a queue go on where another one was.

@@ -12,23 +12,37 @@ const SEG_MAX: u32 = 126;
 
 pub const EVENT_IDX: u64 = 1 << 29;
 
+/// Writes are marked in the front end's log.
+pub const LOG_ALL: u64 = 1 << 26;
+
+/// Rings and buffers have I/O addresses.
+pub const ACCESS_PLATFORM: u64 = 1 << 33;
+
 const RO: u64 = 1 << 5;
 const FLUSH: u64 = 1 << 9;
 const MQ: u64 = 1 << 12;
 
-const FEATURES: [(u64, &str); 9] = [
+const FEATURES: [(u64, &str); 11] = [
     (1 << 2, "SEG_MAX"),
     (RO, "RO"),
     (1 << 6, "BLK_SIZE"),
     (FLUSH, "FLUSH"),
     (MQ, "MQ"),
+    (LOG_ALL, "LOG_ALL"),
     (1 << 28, "INDIRECT_DESC"),
     (EVENT_IDX, "EVENT_IDX"),
     (1 << 30, "PROTOCOL_FEATURES"),
     (1 << 32, "VERSION_1"),
+    (ACCESS_PLATFORM, "ACCESS_PLATFORM"),
 ];
 
-const PROTOCOL_FEATURES: [(u64, &str); 3] = [(1, "MQ"), (1 << 3, "REPLY_ACK"), (1 << 9, "CONFIG")];
+const PROTOCOL_FEATURES: [(u64, &str); 5] = [
+    (1, "MQ"),
+    (1 << 1, "LOG_SHMFD"),
+    (1 << 3, "REPLY_ACK"),
+    (1 << 5, "BACKEND_REQ"),
+    (1 << 9, "CONFIG"),
+];
 
 fn all(features: &[(u64, &str)]) -> u64 {
     features.iter().map(|(bit, _)| bit).sum()

@@ -4,9 +4,11 @@
 //! proved library. The rest moves bytes and descriptors.
 #![deny(unsafe_op_in_unsafe_fn)]
 
+mod channel;
 mod connection;
 mod disk;
 mod features;
+mod log;
 mod memory;
 mod options;
 mod serve;

@@ -6,9 +6,9 @@ use std::io::{self, Read};
 use std::mem::{size_of, zeroed, MaybeUninit};
 use std::os::fd::{AsRawFd, FromRawFd, OwnedFd, RawFd};
 use std::os::unix::net::UnixStream;
-use std::ptr::{addr_of_mut, null_mut};
+use std::ptr::{addr_of_mut, null_mut, NonNull};
 use std::rc::Rc;
-use std::sync::atomic::{AtomicBool, AtomicUsize, Ordering::SeqCst};
+use std::sync::atomic::{AtomicBool, AtomicU8, AtomicUsize, Ordering::SeqCst};
 use std::time::Duration;
 use vm_memory_proved::vhost_user::MAX_DESCRIPTORS;
 
@@ -228,8 +228,11 @@ pub fn termination() -> io::Result<OwnedFd> {
 
 // ---- memory that goes away
 
-// The blocks of the machine that is called: where each begins, and its length, or 0. The handler reads them.
-static BLOCKS: [(AtomicUsize, AtomicUsize); MOST] = [const { (AtomicUsize::new(0), AtomicUsize::new(0)) }; MOST];
+// The blocks of the machine that is called, and behind them the log: where each begins, and its length, or 0. The handler
+// reads them.
+static BLOCKS: [(AtomicUsize, AtomicUsize); MOST + 1] =
+    [const { (AtomicUsize::new(0), AtomicUsize::new(0)) }; MOST + 1];
+const LOG: usize = MOST;
 static LOST: AtomicBool = AtomicBool::new(false);
 
 // Called by the system on the thread that touched memory which its file has no more.
@@ -241,8 +244,8 @@ extern "C" fn memory_lost(_signal: c_int, info: *mut libc::siginfo_t, _context: 
         if place.wrapping_sub(at) < len {
             let access = libc::PROT_READ | libc::PROT_WRITE;
             let flags = libc::MAP_PRIVATE | libc::MAP_ANONYMOUS | libc::MAP_FIXED | libc::MAP_NORESERVE;
-            // SAFETY: these are the bytes of a shared block, which the machine keeps no reference to and reads and writes
-            // as memory that a guest changes. Its mapping may be replaced by one of the same length. The call may be made
+            // SAFETY: these are the bytes of a shared block or of the log, to which nothing has a reference, and which are
+            // read and written as memory that another process changes. Its mapping may be replaced by one of the same length. The call may be made
             // in a handler: it is one call of the system, and takes no lock of this process.
             if unsafe { libc::mmap(at as *mut c_void, len, access, flags, -1, 0) } != libc::MAP_FAILED {
                 LOST.store(true, SeqCst);
@@ -273,7 +276,7 @@ impl Guarded {
     /// Takes where each block begins and how long it is.
     pub fn new(blocks: impl Iterator<Item = (usize, usize)>) -> Guarded {
         LOST.store(false, SeqCst);
-        for (place, (at, len)) in BLOCKS.iter().zip(blocks) {
+        for (place, (at, len)) in BLOCKS[..LOG].iter().zip(blocks) {
             place.0.store(at, SeqCst);
             place.1.store(len, SeqCst);
         }
@@ -288,8 +291,55 @@ impl Guarded {
 
 impl Drop for Guarded {
     fn drop(&mut self) {
-        for (_, len) in &BLOCKS {
+        for (_, len) in &BLOCKS[..LOG] {
             len.store(0, SeqCst);
         }
+    }
+}
+
+// ---- the log
+
+/// Bits in a file that another process reads and clears. There are some at one time at most.
+pub struct SharedBits {
+    at: NonNull<u8>,
+    len: usize,
+}
+
+impl SharedBits {
+    /// Maps so many bytes of a file, from an offset on, which is a multiple of a page.
+    pub fn new(file: &OwnedFd, offset: u64, size: u64) -> io::Result<SharedBits> {
+        let len = usize::try_from(size).map_err(io::Error::other)?;
+        let offset = libc::off_t::try_from(offset).map_err(io::Error::other)?;
+        let access = libc::PROT_READ | libc::PROT_WRITE;
+        // SAFETY: the system takes addresses that nothing has.
+        let at = unsafe { libc::mmap(null_mut(), len, access, libc::MAP_SHARED, file.as_raw_fd(), offset) };
+        if at == libc::MAP_FAILED {
+            return Err(io::Error::last_os_error());
+        }
+        let at = NonNull::new(at.cast()).ok_or(io::ErrorKind::AddrNotAvailable)?;
+        BLOCKS[LOG].0.store(at.as_ptr() as usize, SeqCst);
+        BLOCKS[LOG].1.store(len, SeqCst);
+        Ok(SharedBits { at, len })
+    }
+
+    /// Sets a bit, and returns whether it was not set. A bit past the end is none.
+    pub fn set(&self, bit: u64) -> bool {
+        let place = (bit / 8) as usize;
+        if place >= self.len {
+            return false;
+        }
+        let mask = 1 << (bit % 8);
+        // SAFETY: the mapping has this byte as long as `self` is there, and this process reads and writes it by atomic
+        // operations alone.
+        let byte = unsafe { AtomicU8::from_ptr(self.at.as_ptr().add(place)) };
+        byte.fetch_or(mask, SeqCst) & mask == 0
+    }
+}
+
+impl Drop for SharedBits {
+    fn drop(&mut self) {
+        BLOCKS[LOG].1.store(0, SeqCst);
+        // SAFETY: this mapping is its own, and nothing points there.
+        unsafe { libc::munmap(self.at.as_ptr().cast(), self.len) };
     }
 }

@@ -49,8 +49,8 @@ fn requests_reach_the_image() {
 fn the_configuration_tells_the_disk() {
     let program = Program::start("configuration", LEN, &["--queues", "3"]);
     let mut front = program.connect();
-    assert_eq!(front.ask_u64(GET_FEATURES), 0x1_7000_1244);
-    assert_eq!(front.ask_u64(GET_PROTOCOL_FEATURES), 0x209);
+    assert_eq!(front.ask_u64(GET_FEATURES), 0x3_7400_1244);
+    assert_eq!(front.ask_u64(GET_PROTOCOL_FEATURES), 0x22b);
     front.negotiate(USUAL | 1 << 12);
     assert_eq!(front.ask_u64(GET_QUEUE_NUM), 3);
     let mut asked = [0, 60, 0].map(u32::to_le_bytes).concat();

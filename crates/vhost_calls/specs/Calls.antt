@@ -10,14 +10,17 @@ use Rattle.vhost_message.specs.declared.regions.MemoryRegion.{MemoryRegion}
 use Rattle.vhost_message.specs.declared.requests.Expected.{Expected}
 use Rattle.vhost_user.specs.Connection as connection
 use Rattle.vhost_user.specs.Connection.{Connection, Connects, Steps, with_rest}
+use Rattle.vhost_user.specs.Log.{logged}
 use Rattle.vhost_user.specs.Reply.{refused, reply_to}
 use Rattle.vhost_user.specs.Running.{running}
 use Rattle.vhost_user.specs.declared.backend_req_handler.OfferError.{OfferError}
+use Rattle.vhost_user.specs.declared.log.LogPages.{LogPages}
 use Rattle.vhost_user.specs.declared.vring.NotRunning.{NotRunning}
 use Rattle.vhost_user.specs.declared.vring.RunningVring.{RunningVring}
 use Rattle.vhost_calls.specs.Codes.{code_of_not_running, code_of_offer, code_of_refusal, code_of_step}
-use Rattle.vhost_calls.specs.Values.{asked_by, offer_of, region_row, vring_row}
+use Rattle.vhost_calls.specs.Values.{asked_by, offer_of, pages_row, region_row, vring_row}
 use Rattle.vhost_calls.specs.declared.values.VhostOffer.{VhostOffer}
+use Rattle.vhost_calls.specs.declared.values.VhostPages.{VhostPages}
 use Rattle.vhost_calls.specs.declared.values.VhostRegion.{VhostRegion}
 use Rattle.vhost_calls.specs.declared.values.VhostRequest.{VhostRequest}
 use Rattle.vhost_calls.specs.declared.values.VhostVring.{VhostVring}
@@ -88,7 +91,7 @@ reply_of s message = if nat_lt (length message) 12 then [] else payload_reply s 
 abbrev pub refusal_of : Connection → List ℕ → List ℕ
 refusal_of s message = if nat_lt (length message) 12 then [] else refused s (header_in message)
 
--- ---- memory and rings
+-- ---- memory
 
 abbrev pub row_if : Option MemoryRegion → Result VhostRegion ℕ
 row_if None = Err 1
@@ -96,6 +99,17 @@ row_if (Some r) = Ok (region_row r)
 
 abbrev pub region_at : Connection → ℕ → Result VhostRegion ℕ
 region_at s number = row_if (slice_get s.memory number)
+
+-- ---- the log
+
+abbrev pub pages_if : Option LogPages → Result VhostPages ℕ
+pages_if None = Err 125
+pages_if (Some p) = Ok (pages_row p)
+
+abbrev pub pages_at : Connection → ℕ → ℕ → Result VhostPages ℕ
+pages_at s address len = pages_if (logged s address len)
+
+-- ---- rings
 
 abbrev pub vring_if : Result RunningVring NotRunning → Result VhostVring ℕ
 vring_if (Ok v) = Ok (vring_row v)

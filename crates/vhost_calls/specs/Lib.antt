@@ -1,3 +1,4 @@
 pub mod Calls
+pub mod Channel
 pub mod Codes
 pub mod Values

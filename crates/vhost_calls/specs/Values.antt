@@ -6,10 +6,12 @@ use Rattle.vhost_message.specs.declared.frontend_req.FrontendReq.TheVariants.{Se
 use Rattle.vhost_message.specs.declared.regions.MemoryRegion.{MemoryRegion}
 use Rattle.vhost_user.specs.Connection.{Connection}
 use Rattle.vhost_user.specs.declared.backend_req_handler.Offer.{Offer}
+use Rattle.vhost_user.specs.declared.log.LogPages.{LogPages}
 use Rattle.vhost_user.specs.declared.vring.Notifier.{Notifier}
 use Rattle.vhost_user.specs.declared.vring.Notifier.TheVariants.{Unset, Polled, Descriptor}
 use Rattle.vhost_user.specs.declared.vring.RunningVring.{RunningVring}
 use Rattle.vhost_calls.specs.declared.values.VhostOffer.{VhostOffer}
+use Rattle.vhost_calls.specs.declared.values.VhostPages.{VhostPages}
 use Rattle.vhost_calls.specs.declared.values.VhostRegion.{VhostRegion}
 use Rattle.vhost_calls.specs.declared.values.VhostRequest.{VhostRequest}
 use Rattle.vhost_calls.specs.declared.values.VhostState.{VhostState}
@@ -93,11 +95,17 @@ vring_row v = record {
   descriptor = v.descriptor;
   available = v.available;
   used = v.used;
+  used_len = v.used_len;
   log = address_in v.log;
   is_logged = number_if_any v.log;
   kick = number_of_notifier v.kick;
   call = number_of_notifier v.call;
 }
+
+-- ---- the log
+
+abbrev pub pages_row : LogPages → VhostPages
+pages_row p = record { first = p.first; count = p.count }
 
 abbrev pub connection_state : Connection → VhostState
 connection_state s = record {

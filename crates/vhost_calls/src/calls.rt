@@ -1,7 +1,7 @@
 //! The calls.
 ghost use Rattle.std.specs.Prelude.{◌≡◌, Ok};
 ghost use Rattle.vhost_message.specs.Stream.{wanted};
-ghost use Rattle.vhost_calls.specs.Calls.{Gives, Handles, Opens, Sends, Stops, Takes, answer_of, payload_reply, refusal_of, region_at, reply_if, reply_of, vring_at, wanted_of};
+ghost use Rattle.vhost_calls.specs.Calls.{Gives, Handles, Opens, Sends, Stops, Takes, answer_of, pages_at, payload_reply, refusal_of, region_at, reply_if, reply_of, vring_at, wanted_of};
 ghost use Rattle.vhost_calls.specs.Values.{connection_state};
 
 use crate::code;
@@ -99,7 +99,7 @@ pub fn handle(
 }
 
 // Puts bytes to the front of an output if they fit, and says how many they are.
-fn send(bytes: &[u8], output: &mut [u8]) -> usize
+pub(crate) fn send(bytes: &[u8], output: &mut [u8]) -> usize
     ensures { Sends bytes.now output.old result output.new }
 {
     if bytes.len() <= output.len() {
@@ -190,6 +190,20 @@ pub fn region(backend: &BackendReqHandler, number: usize, region: &mut VhostRegi
             code::DONE
         }
         None => code::NO_SUCH,
+    }
+}
+
+/// The pages that are marked in the log for `len` bytes of guest memory that were written, from `address` on: none if
+/// writes are not logged. `VHOST_LOG` if the log has no bit for one of them.
+pub fn logged(backend: &BackendReqHandler, address: u64, len: u64, pages: &mut VhostPages) -> u32
+    ensures { Gives (pages_at backend.now address len) pages.old result pages.new }
+{
+    match backend.logged(address, len) {
+        Some(found) => {
+            *pages = pages_row(&found);
+            code::DONE
+        }
+        None => code::VHOST_LOG,
     }
 }
 

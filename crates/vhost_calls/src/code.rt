@@ -71,3 +71,6 @@ pub const VHOST_NO_SIZE: u32 = 122;
 pub const VHOST_NO_ADDRESS: u32 = 123;
 
 pub const VHOST_USER_ADDRESS: u32 = 124;
+
+/// The log of dirty pages has no bit for a page.
+pub const VHOST_LOG: u32 = 125;

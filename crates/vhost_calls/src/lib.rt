@@ -3,10 +3,16 @@
 #![tactic(auto)]
 
 mod calls;
+mod channel;
 pub mod code;
 mod refused;
 mod values;
 
-pub use calls::{config, handle, open, refuse, region, reply, running, state, stop, wanted};
-pub use values::{VhostOffer, VhostRegion, VhostRequest, VhostState, VhostVring, VhostWanted};
+pub use calls::{
+    config, handle, logged, open, refuse, region, reply, running, state, stop, wanted,
+};
+pub use channel::{access_fail, answered, miss};
+pub use values::{
+    VhostOffer, VhostPages, VhostRegion, VhostRequest, VhostState, VhostVring, VhostWanted,
+};
 pub use vhost_user::BackendReqHandler;

@@ -1,9 +1,10 @@
 //! What crosses to C, as plain numbers.
 ghost use Rattle.std.specs.Prelude.{◌≡◌};
-ghost use Rattle.vhost_calls.specs.Values.{asked_by, connection_state, no_request, number_of_notifier, offer_of, on_config, on_ring, region_row, switched, valued, vring_row};
+ghost use Rattle.vhost_calls.specs.Values.{asked_by, connection_state, no_request, number_of_notifier, offer_of, on_config, on_ring, pages_row, region_row, switched, valued, vring_row};
 
 use vhost_user::{
-    BackendReqHandler, ConfigSpace, FrontendReq, MemoryRegion, Notifier, Offer, RunningVring,
+    BackendReqHandler, ConfigSpace, FrontendReq, LogPages, MemoryRegion, Notifier, Offer,
+    RunningVring,
 };
 
 /// What a back end offers.
@@ -81,6 +82,8 @@ pub struct VhostVring {
     pub available: u64,
     /// The address of the used ring.
     pub used: u64,
+    /// How many bytes the used ring has.
+    pub used_len: u64,
     /// The address in the log of the used ring.
     pub log: u64,
     /// Whether writes to the used ring are marked in the log: 1 or 0.
@@ -89,6 +92,17 @@ pub struct VhostVring {
     pub kick: u32,
     /// How the back end notifies the driver: 0 no message said so, 1 not at all, 2 by the descriptor that came last.
     pub call: u32,
+}
+
+/// Pages of guest memory that are marked in the log of dirty pages. The bit of page `p` is bit `p % 8` of the byte `p / 8`
+/// of the log.
+#[repr(C)]
+#[derive(Clone, Copy, Debug, PartialEq, Eq)]
+pub struct VhostPages {
+    /// The number of the first: its address by 4,096.
+    pub first: u64,
+    /// How many there are.
+    pub count: u64,
 }
 
 /// What was negotiated, and how much there is of what other calls name by its number.
@@ -235,10 +249,22 @@ pub(crate) fn vring_row(vring: &RunningVring) -> VhostVring
         descriptor: vring.descriptor,
         available: vring.available,
         used: vring.used,
+        used_len: vring.used_len,
         log: vring.log.unwrap_or(0),
         is_logged: vring.log.is_some() as u32,
         kick: number_of_notifier(vring.kick),
         call: number_of_notifier(vring.call),
+    }
+}
+
+// ---- the log
+
+pub(crate) fn pages_row(pages: &LogPages) -> VhostPages
+    ensures { result ≡ pages_row pages.now }
+{
+    VhostPages {
+        first: pages.first,
+        count: pages.count,
     }
 }
 

@@ -30,6 +30,8 @@ pub record Connection : Type 0 where
   pub features : ℕ
   pub protocol_features : ℕ
   pub memory : List MemoryRegion
+  -- how many bytes the log of dirty pages has that was shared last
+  pub log : Option ℕ
   pub vrings : List Vring
 
 -- ---- features
@@ -59,6 +61,11 @@ with_protocol_features s features = needed s.offer.features feature.protocol_fea
 
 abbrev pub with_memory : Connection → List MemoryRegion → Result Connection Refusal
 with_memory s table = tested table >>= λ _. Ok (record s { memory = table })
+
+-- ---- the log
+
+abbrev pub with_log : Connection → ℕ → Result Connection Refusal
+with_log s size = needed s.protocol_features feature.log_shmfd >>= λ _. Ok (record s { log = Some size })
 
 -- ---- rings
 
@@ -154,7 +161,7 @@ served s (SetConfig space) payload = with_config s space (drop 12 payload)
 served s (GetConfig space) payload = in_config s space.offset space.size >>= λ _. Ok s
 served s GetProtocolFeatures payload = needed s.offer.features feature.protocol_features >>= λ _. Ok s
 served s GetQueueNum payload = needed s.protocol_features feature.mq >>= λ _. Ok s
-served s (SetLogBase size offset) payload = needed s.protocol_features feature.log_shmfd >>= λ _. Ok s
+served s (SetLogBase size offset) payload = with_log s size
 served s SetLogFd payload = needed s.offer.features feature.log_all >>= λ _. Ok s
 served s SetBackendReqFd payload = needed s.protocol_features feature.backend_req >>= λ _. Ok s
 served s (IotlbMsg message) payload = needed s.features feature.access_platform >>= λ _. Ok s
@@ -192,6 +199,7 @@ connected offer queues config = record {
   features = 0;
   protocol_features = 0;
   memory = [];
+  log = None;
   vrings = replicate queues new_vring;
 }
 

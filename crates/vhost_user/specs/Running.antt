@@ -25,21 +25,23 @@ place s address len = if has s.features feature.access_platform then Some addres
 abbrev pub log_of : VringAddr → Option ℕ
 log_of a = if a.flags == 1 then Some a.log else None
 
-abbrev pub with_places : Vring → VringAddr → Option ℕ → Option ℕ → Option ℕ → Result RunningVring NotRunning
-with_places v a (Some descriptor) (Some used) (Some available) = Ok (record {
+abbrev pub with_places : Connection → Vring → VringAddr → Option ℕ → Option ℕ → Option ℕ
+    → Result RunningVring NotRunning
+with_places s v a (Some descriptor) (Some used) (Some available) = Ok (record {
   num = v.num;
   base = v.base;
   descriptor = descriptor;
   used = used;
+  used_len = used_len s.features v.num;
   available = available;
   log = log_of a;
   kick = v.kick;
   call = v.call;
 })
-with_places v a _ _ _ = Err UserAddress
+with_places s v a _ _ _ = Err UserAddress
 
 abbrev pub placed_vring : Connection → Vring → VringAddr → Result RunningVring NotRunning
-placed_vring s v a = with_places v a (place s a.descriptor (table_len v.num))
+placed_vring s v a = with_places s v a (place s a.descriptor (table_len v.num))
     (place s a.used (used_len s.features v.num)) (place s a.available (available_len s.features v.num))
 
 abbrev pub with_address : Connection → Vring → Option VringAddr → Result RunningVring NotRunning

@@ -1,6 +1,6 @@
 //! The state of a connection, and the requests that change it.
 ghost use Rattle.std.specs.Prelude.{◌≡◌, ◌<◌, ◌≤◌, length, drop, OnOk, true};
-ghost use Rattle.vhost_user.specs.Connection.{Handles, Steps, Connects, can_offer, in_config, is_any_started, is_writable, needed, served, stopped_at, vring_at, with_address, with_base, with_call, with_config, with_enabled, with_err, with_features, with_kick, with_memory, with_num, with_protocol_features, with_rest, with_vring, without_kick, vring_served};
+ghost use Rattle.vhost_user.specs.Connection.{Handles, Steps, Connects, can_offer, in_config, is_any_started, is_writable, needed, served, stopped_at, vring_at, with_address, with_base, with_call, with_config, with_enabled, with_err, with_features, with_kick, with_log, with_memory, with_num, with_protocol_features, with_rest, with_vring, without_kick, vring_served};
 ghost use Rattle.vhost_user.specs.Features.{has};
 ghost use Rattle.vhost_user.specs.Running.{is_disabled, log_of, place, placed_vring, running};
 
@@ -57,6 +57,8 @@ pub struct BackendReqHandler {
     features: u64,
     protocol_features: u64,
     memory: MemoryTable,
+    // How many bytes the log of dirty pages has that was shared last.
+    log: Option<u64>,
     vrings: Vec<Vring>,
 }
 
@@ -73,6 +75,7 @@ impl Model for BackendReqHandler {
       features = h.features;
       protocol_features = h.protocol_features;
       memory = h.memory;
+      log = h.log;
       vrings = h.vrings.items;
     } };
 
@@ -158,6 +161,7 @@ impl BackendReqHandler {
             features: 0,
             protocol_features: 0,
             memory: MemoryTable::new(),
+            log: None,
             vrings,
         })
     }
@@ -210,6 +214,13 @@ impl BackendReqHandler {
         ensures { result.now ≡ self.now.memory }
     {
         &self.memory
+    }
+
+    /// How many bytes the log of dirty pages has, if the front end shared one.
+    pub fn log(&self) -> Option<u64>
+        ensures { result ≡ self.now.log }
+    {
+        self.log
     }
 
     /// What was said of a ring. `Index` if there is none of this number.
@@ -287,6 +298,14 @@ impl BackendReqHandler {
     {
         table.test()?;
         self.memory = table.copy();
+        Ok(())
+    }
+
+    fn set_log_base(&mut self, size: u64) -> Result<(), Refusal>
+        ensures { Steps self.old (with_log self.old size) result self.new }
+    {
+        needs(self.protocol_features, VHOST_USER_PROTOCOL_F_LOG_SHMFD)?;
+        self.log = Some(size);
         Ok(())
     }
 
@@ -464,9 +483,7 @@ impl BackendReqHandler {
                 needs(self.offer.features, VHOST_USER_F_PROTOCOL_FEATURES)
             }
             FrontendReq::GetQueueNum => needs(self.protocol_features, VHOST_USER_PROTOCOL_F_MQ),
-            FrontendReq::SetLogBase { .. } => {
-                needs(self.protocol_features, VHOST_USER_PROTOCOL_F_LOG_SHMFD)
-            }
+            FrontendReq::SetLogBase { size, .. } => self.set_log_base(*size),
             FrontendReq::SetLogFd => needs(self.offer.features, VHOST_F_LOG_ALL),
             FrontendReq::SetBackendReqFd => {
                 needs(self.protocol_features, VHOST_USER_PROTOCOL_F_BACKEND_REQ)
@@ -532,7 +549,8 @@ impl BackendReqHandler {
         let Some(descriptor) = self.place(address.descriptor, table_len(num)) else {
             return Err(NotRunning::UserAddress);
         };
-        let Some(used) = self.place(address.used, used_len(self.features, num)) else {
+        let used_len = used_len(self.features, num);
+        let Some(used) = self.place(address.used, used_len) else {
             return Err(NotRunning::UserAddress);
         };
         let Some(available) = self.place(address.available, available_len(self.features, num))
@@ -544,6 +562,7 @@ impl BackendReqHandler {
             base: vring.base,
             descriptor,
             used,
+            used_len,
             available,
             log: log_of(address),
             kick: vring.kick,

@@ -4,6 +4,8 @@
 
 mod backend_req_handler;
 mod features;
+pub mod laws;
+mod log;
 mod reply;
 mod vring;
 
@@ -14,6 +16,7 @@ pub use features::{
     VHOST_USER_PROTOCOL_F_LOG_SHMFD, VHOST_USER_PROTOCOL_F_MQ, VHOST_USER_PROTOCOL_F_REPLY_ACK,
     VIRTIO_F_ACCESS_PLATFORM, VIRTIO_F_RING_EVENT_IDX, VIRTIO_F_RING_PACKED,
 };
+pub use log::{LOG_PAGE, LogPages};
 pub use vhost_message::{
     BackendReply, BackendReq, ConfigSpace, FrontendReq, Header, Incoming, IotlbMessage, Malformed,
     MemoryRegion, MemoryTable, Message, Refusal, VringAddr, expects,

@@ -58,6 +58,8 @@ pub struct RunningVring {
     pub descriptor: u64,
     /// The address of the used ring.
     pub used: u64,
+    /// How many bytes the used ring has.
+    pub used_len: u64,
     /// The address of the available ring.
     pub available: u64,
     /// The address in the log of the used ring, if writes to it are marked.

@@ -153,7 +153,7 @@ pub(crate) static LOGGING: Part = Part {
         ),
     ],
     running: [
-        "RunningVring { num: 128, base: 0, descriptor: 4096, used: 4294975488, available: 6144, log: Some(4294975488), kick: Descriptor, call: Descriptor }",
+        "RunningVring { num: 128, base: 0, descriptor: 4096, used: 4294975488, used_len: 1030, available: 6144, log: Some(4294975488), kick: Descriptor, call: Descriptor }",
         "Stopped",
         "Index",
     ],
@@ -414,7 +414,7 @@ pub(crate) static REFUSED: Part = Part {
         ("010000000100000000000000", 1, "refused Descriptors", ""),
     ],
     running: [
-        "RunningVring { num: 128, base: 0, descriptor: 4096, used: 4294975488, available: 6144, log: Some(4294975488), kick: Descriptor, call: Descriptor }",
+        "RunningVring { num: 128, base: 0, descriptor: 4096, used: 4294975488, used_len: 1030, available: 6144, log: Some(4294975488), kick: Descriptor, call: Descriptor }",
         "Stopped",
         "Index",
     ],
@@ -560,7 +560,7 @@ pub(crate) static IOMMU: Part = Part {
     ],
     running: [
         "Stopped",
-        "RunningVring { num: 1024, base: 65535, descriptor: 4294963200, used: 4294959104, available: 4294955008, log: None, kick: Polled, call: Unset }",
+        "RunningVring { num: 1024, base: 65535, descriptor: 4294963200, used: 4294959104, used_len: 8196, available: 4294955008, log: None, kick: Polled, call: Unset }",
         "Index",
     ],
 };

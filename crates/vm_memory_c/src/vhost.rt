@@ -1,7 +1,8 @@
 //! A back end's connection with a vhost-user front end, for C: opens one, calls it, and closes it.
 ghost use Rattle.std.specs.Prelude.{◌≡◌, Some, None, IsSome, Ok};
 ghost use Rattle.vhost_message.specs.Stream.{wanted};
-ghost use Rattle.vhost_calls.specs.Calls.{Gives, Handles, Sends, Stops, refusal_of, region_at, reply_of, vring_at, wanted_of};
+ghost use Rattle.vhost_calls.specs.Calls.{Gives, Handles, Sends, Stops, pages_at, refusal_of, region_at, reply_of, vring_at, wanted_of};
+ghost use Rattle.vhost_calls.specs.Channel.{access_at, access_fail_of, answered, miss_of};
 ghost use Rattle.vhost_calls.specs.Values.{connection_state};
 ghost use Rattle.vm_memory_c.specs.Vhost.{OpensAt, StaysOpen};
 
@@ -10,8 +11,8 @@ use crate::loose::Loose;
 use std::alloc::Global;
 use std::mem;
 use vhost_calls::{
-    BackendReqHandler, VhostOffer, VhostRegion, VhostRequest, VhostState, VhostVring, VhostWanted,
-    code,
+    BackendReqHandler, VhostOffer, VhostPages, VhostRegion, VhostRequest, VhostState, VhostVring,
+    VhostWanted, code,
 };
 
 // Takes the connection of an open handle, which is closed until it is put back.
@@ -171,6 +172,51 @@ pub extern "C" fn vmm_vhost_region(
     let code = vhost_calls::region(&held, number, region);
     put(connection, held);
     code
+}
+
+/// Puts the pages that are marked in the log for so many bytes of guest memory from an address on into `pages`, or says
+/// that the log has no bit for one of them.
+#[unsafe(no_mangle)]
+pub extern "C" fn vmm_vhost_logged(
+    alloc: Global,
+    connection: &mut Backend,
+    address: u64,
+    len: u64,
+    pages: &mut VhostPages,
+) -> u32
+    requires { IsSome connection.old.state }
+    ensures { StaysOpen connection.old.state connection.new.state
+        (λ old new. (new ≡ old) × Gives (pages_at old address len) pages.old result pages.new) }
+{
+    let held = take(alloc, connection);
+    let code = vhost_calls::logged(&held, address, len, pages);
+    put(connection, held);
+    code
+}
+
+/// Puts the message of a MISS for an address and an access, 1 to read, 2 to write, 3 for both, to the front of the output,
+/// as `vmm_vhost_reply`. It needs no connection.
+#[unsafe(no_mangle)]
+pub extern "C" fn vmm_vhost_miss(iova: u64, access: u32, output: &mut [u8]) -> usize
+    ensures { Sends (miss_of iova (access_at access)) output.old result output.new }
+{
+    vhost_calls::miss(iova, access, output)
+}
+
+/// Puts the message of an ACCESS_FAIL to the front of the output, as `vmm_vhost_miss`.
+#[unsafe(no_mangle)]
+pub extern "C" fn vmm_vhost_access_fail(iova: u64, access: u32, output: &mut [u8]) -> usize
+    ensures { Sends (access_fail_of iova (access_at access)) output.old result output.new }
+{
+    vhost_calls::access_fail(iova, access, output)
+}
+
+/// Puts the number in a reply that came on the back end's own channel into `value`, or says why it is none.
+#[unsafe(no_mangle)]
+pub extern "C" fn vmm_vhost_answered(message: &[u8], value: &mut u64) -> u32
+    ensures { Gives (answered message.now) value.old result value.new }
+{
+    vhost_calls::answered(message, value)
 }
 
 /// Puts what was negotiated into `state`.

@@ -21,6 +21,26 @@ pub struct DescriptorChain<'a> {
     writable: usize,
 }
 
+/// What a program keeps of a chain in flight, if it goes on with it later. [`Queue::chain_by_id`] gives the chain.
+#[derive(Clone, Copy, Debug, PartialEq, Eq)]
+pub struct ChainId {
+    head: u16,
+    readable: usize,
+    writable: usize,
+}
+
+impl<'a> Queue<'a> {
+    /// A chain that this queue popped. It is in flight until it is returned or forgotten.
+    pub fn chain_by_id(&self, id: ChainId) -> DescriptorChain<'a> {
+        DescriptorChain {
+            queue: *self,
+            head: id.head,
+            readable: id.readable,
+            writable: id.writable,
+        }
+    }
+}
+
 impl<'a> DescriptorChain<'a> {
     // The one of an answer to POP.
     #[inline]
@@ -30,6 +50,15 @@ impl<'a> DescriptorChain<'a> {
             head: answer.value as u16,
             readable: answer.count,
             writable: answer.address as usize,
+        }
+    }
+
+    /// What a program keeps of it.
+    pub fn id(&self) -> ChainId {
+        ChainId {
+            head: self.head,
+            readable: self.readable,
+            writable: self.writable,
         }
     }
 

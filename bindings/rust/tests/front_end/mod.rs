@@ -547,6 +547,7 @@ impl Slow {
             base: ring.base,
             descriptor: placed[0],
             used: placed[1],
+            used_len: lengths[1],
             available: placed[2],
             log: (flags == 1).then_some(log),
             kick: ring.kick,

@@ -1,6 +1,7 @@
 //! The program, and a front end with a driver: its guest memory is a memfd.
 #![allow(dead_code)]
 
+use std::collections::BTreeMap;
 use std::fs::{self, File};
 use std::io::{BufRead, BufReader, Read, Write};
 use std::mem::{size_of, size_of_val, zeroed};
@@ -30,6 +31,8 @@ pub const GET_PROTOCOL_FEATURES: u32 = 15;
 pub const SET_PROTOCOL_FEATURES: u32 = 16;
 pub const GET_QUEUE_NUM: u32 = 17;
 pub const SET_VRING_ENABLE: u32 = 18;
+pub const SET_BACKEND_REQ_FD: u32 = 21;
+pub const IOTLB_MSG: u32 = 22;
 pub const GET_CONFIG: u32 = 24;
 
 pub const NEED_REPLY: u32 = 8;
@@ -39,6 +42,8 @@ pub const INDIRECT_DESC: u64 = 1 << 28;
 pub const EVENT_IDX: u64 = 1 << 29;
 pub const PROTOCOL_FEATURES: u64 = 1 << 30;
 pub const VERSION_1: u64 = 1 << 32;
+pub const ACCESS_PLATFORM: u64 = 1 << 33;
+pub const LOG_ALL: u64 = 1 << 26;
 pub const USUAL: u64 = FLUSH | INDIRECT_DESC | PROTOCOL_FEATURES | VERSION_1;
 
 /// What the guest sees at 0 lies here in the front end.
@@ -267,8 +272,27 @@ pub struct Ring {
     base: u64,
 }
 
+/// A page of I/O addresses, and of guest memory.
+pub const PAGE: u64 = 0x1000;
+
+pub const READ: u8 = 1;
+pub const WRITE: u8 = 2;
+
+/// The I/O table of a front end, and the channel on which the back end asks for its mappings.
+pub struct IoTable {
+    pub channel: UnixStream,
+    /// Where each page of I/O addresses leads, and for which access.
+    pub pages: BTreeMap<u64, (u64, u8)>,
+    /// The addresses that were asked for, with their access, and those of which an access was forbidden.
+    pub misses: Vec<(u64, u8)>,
+    pub forbidden: Vec<(u64, u8)>,
+}
+
 pub struct FrontEnd {
     pub socket: UnixStream,
+    pub io: Option<IoTable>,
+    /// The I/O address of the guest address 0.
+    pub shift: u64,
     pub ram: OwnedFd,
     at: *mut u8,
     pub rings: Vec<Ring>,
@@ -293,6 +317,8 @@ impl FrontEnd {
         socket.set_read_timeout(Some(LONG)).unwrap();
         FrontEnd {
             socket,
+            io: None,
+            shift: 0,
             ram,
             at: at.cast(),
             rings: Vec::new(),
@@ -353,6 +379,81 @@ impl FrontEnd {
         self.send(SET_FEATURES, 0, &features.to_le_bytes(), &[]);
     }
 
+    // ---- the I/O table
+
+    /// Has the device reach rings and buffers by I/O addresses, which lie this far behind the guest's. Each page leads to
+    /// its own, to read and write.
+    pub fn translate(&mut self, shift: u64) {
+        let (mine, other) = UnixStream::pair().unwrap();
+        assert!(self.is_done(SET_BACKEND_REQ_FD, &[], &[&other.into()]));
+        mine.set_nonblocking(true).unwrap();
+        let pages = (0..RAM as u64 / PAGE).map(|page| (shift + page * PAGE, (page * PAGE, READ | WRITE)));
+        self.shift = shift;
+        self.io = Some(IoTable {
+            channel: mine,
+            pages: pages.collect(),
+            misses: Vec::new(),
+            forbidden: Vec::new(),
+        });
+    }
+
+    pub fn io(&mut self) -> &mut IoTable {
+        self.io.as_mut().unwrap()
+    }
+
+    /// The payload of a message on the table: UPDATE is 2, INVALIDATE 3.
+    pub fn iotlb(iova: u64, size: u64, user: u64, permissions: u8, kind: u8) -> Vec<u8> {
+        [
+            &[iova, size, user].map(u64::to_le_bytes).concat()[..],
+            &[permissions, kind],
+            &[0; 6],
+        ]
+        .concat()
+    }
+
+    /// Has a page lead elsewhere, or nowhere.
+    pub fn remap(&mut self, iova: u64, to: Option<(u64, u8)>) {
+        match to {
+            Some(to) => self.io().pages.insert(iova, to),
+            None => self.io().pages.remove(&iova),
+        };
+        assert!(self.is_done(IOTLB_MSG, &FrontEnd::iotlb(iova, PAGE, 0, 0, 3), &[]));
+    }
+
+    /// The message of 44 bytes that waits on the back end's channel, if there is one.
+    pub fn asked(&mut self) -> Option<Vec<u8>> {
+        let mut message = vec![0; 44];
+        self.io().channel.read_exact(&mut message).ok().map(|()| message)
+    }
+
+    /// Answers what the back end asks for.
+    pub fn serve_table(&mut self) {
+        while self.io.is_some() {
+            let Some(message) = self.asked() else {
+                return;
+            };
+            let (iova, access) = (u64::from_le_bytes(message[12..20].try_into().unwrap()), message[36]);
+            // The request is 1, and only the other fields of a MISS or an ACCESS_FAIL are not 0.
+            assert_eq!(message[..4], 1_u32.to_le_bytes());
+            assert_eq!(message[20..36], [0; 16]);
+            if message[37] == 4 {
+                assert_eq!(message[4..8], 1_u32.to_le_bytes());
+                self.io().forbidden.push((iova, access));
+                continue;
+            }
+            assert_eq!((message[4], message[37]), (9, 1));
+            self.io().misses.push((iova, access));
+            let page = iova / PAGE * PAGE;
+            let to = self.io().pages.get(&page).copied();
+            if let Some((to, permissions)) = to {
+                assert!(self.is_done(IOTLB_MSG, &FrontEnd::iotlb(page, PAGE, USER + to, permissions, 2), &[]));
+            }
+            let value = u64::from(to.is_none());
+            let reply = [&[1, 5, 8].map(u32::to_le_bytes).concat()[..], &value.to_le_bytes()].concat();
+            self.io().channel.write_all(&reply).unwrap();
+        }
+    }
+
     /// The whole memory, as one region at the address 0.
     pub fn table(regions: &[(u64, u64, u64)]) -> Vec<u8> {
         let mut payload = two(regions.len() as u32, 0);
@@ -390,12 +491,10 @@ impl FrontEnd {
 
     /// Starts a ring that was stopped.
     pub fn restart_ring(&mut self, index: usize, base: u16) {
-        let (number, size, place) = (index as u32, self.rings[index].size, self.rings[index].base);
+        let (number, size) = (index as u32, self.rings[index].size);
         assert!(self.is_done(SET_VRING_NUM, &two(number, size.into()), &[]));
         assert!(self.is_done(SET_VRING_BASE, &two(number, base.into()), &[]));
-        let user = |from: u64| (USER + place + from).to_le_bytes();
-        let addresses = [&two(number, 0)[..], &user(0), &user(USED), &user(AVAIL), &[0; 8]].concat();
-        assert!(self.is_done(SET_VRING_ADDR, &addresses, &[]));
+        assert!(self.is_done(SET_VRING_ADDR, &self.addresses(index, false), &[]));
         let value = u64::from(number).to_le_bytes();
         let [kick, call, err] = [&self.rings[index].kick, &self.rings[index].call, &self.rings[index].err].map(again);
         assert!(self.is_done(SET_VRING_CALL, &value, &[&call]));
@@ -403,6 +502,28 @@ impl FrontEnd {
         assert!(self.is_done(SET_VRING_KICK, &value, &[&kick]));
         assert!(self.is_done(SET_VRING_ENABLE, &two(number, 1), &[]));
         take(&self.rings[index].call);
+    }
+
+    /// The payload of a SET_VRING_ADDR: where a ring lies, and whether its writes are logged.
+    pub fn addresses(&self, index: usize, is_logged: bool) -> Vec<u8> {
+        let place = self.rings[index].base;
+        let base = if self.io.is_some() { self.shift } else { USER };
+        let at = |from: u64| (base + place + from).to_le_bytes();
+        // Without a table the log has the guest's addresses.
+        let log = (self.shift + place + USED).to_le_bytes();
+        [
+            &two(index as u32, is_logged.into())[..],
+            &at(0),
+            &at(USED),
+            &at(AVAIL),
+            &log,
+        ]
+        .concat()
+    }
+
+    /// The guest address of the used ring.
+    pub fn used_ring(&self, index: usize) -> u64 {
+        self.rings[index].base + USED
     }
 
     /// Stops a ring, and returns its next available index.
@@ -438,7 +559,7 @@ impl FrontEnd {
 
     fn put(&self, index: usize, place: u16, addr: u64, len: u32, flags: u16, next: u16) {
         let bytes = [
-            &addr.to_le_bytes()[..],
+            &(addr + self.shift).to_le_bytes()[..],
             &len.to_le_bytes(),
             &flags.to_le_bytes(),
             &next.to_le_bytes(),
@@ -509,6 +630,7 @@ impl FrontEnd {
         let begun = Instant::now();
         while self.used_idx(index) == self.rings[index].next_used {
             assert!(begun.elapsed() < LONG, "no request comes back");
+            self.serve_table();
             can_read(&self.rings[index].call, Duration::from_millis(5));
             take(&self.rings[index].call);
         }

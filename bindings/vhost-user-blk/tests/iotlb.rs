@@ -1,0 +1,222 @@
+//! The program behind an I/O table, which a front end fills as it is asked.
+
+mod front_end;
+
+use front_end::*;
+use std::thread::sleep;
+use std::time::{Duration, Instant};
+
+const LEN: usize = 1 << 20;
+const SHIFT: u64 = 0xffff_0000_0000;
+const BEHIND: u64 = USUAL | ACCESS_PLATFORM;
+
+// A ring whose addresses and buffers go through a table of so many ranges.
+fn started(program: &Program, features: u64) -> FrontEnd {
+    let mut front = program.connect();
+    front.negotiate(features);
+    front.set_memory();
+    front.translate(SHIFT);
+    front.start_ring(64, 0);
+    front
+}
+
+// The page of I/O addresses of the data of the first request.
+fn data_page(front: &FrontEnd) -> u64 {
+    SHIFT + front.places(0, 0).0 as u64
+}
+
+#[test]
+fn requests_go_through_the_table() {
+    for (name, words) in [
+        ("iotlb_8", &["--iotlb-limit", "8"][..]),
+        ("iotlb_64", &["--iotlb-limit", "64"]),
+        ("iotlb", &[]),
+    ] {
+        let program = Program::start(name, LEN, words);
+        let mut front = started(&program, BEHIND | EVENT_IDX);
+        for turn in 0..20_u64 {
+            // Twelve kibibytes, and of each page another one of guest memory.
+            let page = data_page(&front);
+            for at in 0..3 {
+                let to = (8 << 20) + PAGE * ((7 * turn + 5 * at) % 64);
+                front.remap(page + PAGE * at, Some((to, READ | WRITE)));
+            }
+            let (head, sector) = (0, 8 * turn);
+            front.put_request(0, head, 0, sector, 3 * PAGE as u32);
+            front.publish(0, head);
+            front.kick(0);
+            assert_eq!(front.take_used(0), (0, 3 * PAGE as u32 + 1));
+            let wanted = image_of(LEN);
+            for at in 0..3 {
+                let to = (8 << 20) + PAGE * ((7 * turn + 5 * at) % 64);
+                let from = (512 * sector + PAGE * at) as usize;
+                assert_eq!(
+                    front.read(to as usize, PAGE as usize),
+                    wanted[from..from + PAGE as usize]
+                );
+            }
+        }
+        assert!(front.io().forbidden.is_empty());
+        // A table that keeps all ranges misses nothing twice but what was taken back. One with a limit is emptied for a call
+        // that misses twice, and gives ranges up.
+        let misses = front.io().misses.len();
+        match words.get(1) {
+            Some(_) => assert!(misses > 80, "{misses}"),
+            None => assert!((60..80).contains(&misses), "{misses}"),
+        }
+        front.write(front.places(0, 0).0, &[7; 512]);
+        front.remap(data_page(&front), Some((front.places(0, 0).0 as u64, READ)));
+        assert_eq!(front.request(0, 1, 100, 512), (0, 1));
+        assert_eq!(bytes_at(&program.image, 51_200, 512), [7; 512]);
+    }
+}
+
+#[test]
+fn nothing_goes_through_what_was_taken_back() {
+    let program = Program::start("invalidated", LEN, &[]);
+    let mut front = started(&program, BEHIND);
+    front.read_disk(0, 3, 512);
+    let (data, page) = (front.places(0, 0).0, data_page(&front));
+    front.write(data, &[0xee; 512]);
+    let other = 9 << 20;
+    front.remap(page, Some((other, WRITE)));
+    assert_eq!(front.request(0, 0, 5, 512), (0, 513));
+    assert_eq!(front.read(data, 512), [0xee; 512]);
+    assert_eq!(front.read(other as usize, 512), image_of(LEN)[5 * 512..6 * 512]);
+    // All addresses are taken back: the rings are asked for again, too.
+    front.io().misses.clear();
+    assert!(front.is_done(IOTLB_MSG, &FrontEnd::iotlb(0, 0, 0, 0, 3), &[]));
+    assert_eq!(front.request(0, 0, 6, 512), (0, 513));
+    let asked: Vec<u64> = front.io().misses.iter().map(|(iova, _)| iova / PAGE * PAGE).collect();
+    for wanted in [page, SHIFT + (1 << 20), SHIFT + front.used_ring(0)] {
+        assert!(asked.contains(&wanted), "{wanted:#x} is not among {asked:x?}");
+    }
+}
+
+#[test]
+fn what_the_front_end_does_not_map_fails() {
+    let program = Program::start("unmapped", LEN, &["--iotlb-limit", "8"]);
+    let mut front = started(&program, BEHIND);
+    let page = data_page(&front);
+    // The front end has no mapping of the data, for a read and for a write of the disk.
+    front.remap(page, None);
+    // The data before the status were not written: no byte counts.
+    assert_eq!(front.request(0, 0, 3, 512), (1, 0));
+    assert_eq!(front.request(0, 1, 3, 512), (1, 1));
+    // A mapping that only lets them be read: the disk can be written, and not read.
+    let data = front.places(0, 0).0;
+    front.write(data, &[9; 512]);
+    front.remap(page, Some((data as u64, READ)));
+    assert_eq!(front.request(0, 1, 4, 512), (0, 1));
+    assert!(front.io().forbidden.is_empty());
+    assert_eq!(front.request(0, 0, 3, 512), (1, 0));
+    front.serve_table();
+    assert_eq!(front.io().forbidden, [(page, WRITE)]);
+    assert_eq!(front.read(data, 512), [9; 512]);
+    // The ring goes on.
+    front.remap(page, Some((data as u64, WRITE)));
+    assert_eq!(front.read_disk(0, 4, 512), [9; 512]);
+}
+
+// Waits for a message on the back end's channel, and leaves it unanswered.
+fn wait_for_miss(front: &mut FrontEnd) -> u64 {
+    let begun = Instant::now();
+    loop {
+        assert!(begun.elapsed() < LONG, "no miss comes");
+        if let Some(message) = front.asked() {
+            return u64::from_le_bytes(message[12..20].try_into().unwrap());
+        }
+        sleep(Duration::from_millis(1));
+    }
+}
+
+fn reply_to_miss(front: &mut FrontEnd, value: u64) {
+    use std::io::Write;
+    let reply = [&[1, 5, 8].map(u32::to_le_bytes).concat()[..], &value.to_le_bytes()].concat();
+    front.io().channel.write_all(&reply).unwrap();
+}
+
+#[test]
+fn a_ring_that_waits_can_be_stopped() {
+    let program = Program::start("waits", LEN, &["--iotlb-limit", "8"]);
+    let mut front = started(&program, BEHIND);
+    front.read_disk(0, 1, 512);
+    let page = data_page(&front);
+    front.remap(page, Some((front.places(0, 0).0 as u64, READ | WRITE)));
+    front.put_request(0, 0, 0, 2, 512);
+    front.publish(0, 0);
+    front.kick(0);
+    assert_eq!(wait_for_miss(&mut front), page);
+    for _ in 0..3 {
+        assert!(front.is_done(SET_VRING_ENABLE, &two(0, 1), &[]));
+    }
+    // The request is the next one still.
+    assert_eq!(front.stop_ring(0), 1);
+    reply_to_miss(&mut front, 0);
+    take(&front.rings[0].kick);
+    assert_eq!(front.used_idx(0), 1);
+    front.restart_ring(0, 1);
+    assert_eq!(front.take_used(0), (0, 513));
+    assert_eq!(front.read(front.places(0, 0).0, 512), image_of(LEN)[2 * 512..3 * 512]);
+    assert_eq!(front.stop_ring(0), 2);
+}
+
+#[test]
+fn a_device_that_is_stopped_has_no_mappings() {
+    let program = Program::start("emptied", LEN, &[]);
+    let mut front = started(&program, BEHIND);
+    front.read_disk(0, 1, 512);
+    front.io().misses.clear();
+    front.read_disk(0, 2, 512);
+    assert!(front.io().misses.is_empty());
+    assert_eq!(front.stop_ring(0), 2);
+    front.restart_ring(0, 2);
+    front.read_disk(0, 3, 512);
+    let page = data_page(&front);
+    assert!(front.io().misses.iter().any(|(iova, _)| iova / PAGE * PAGE == page));
+}
+
+#[test]
+fn a_mapping_outside_of_memory_is_refused() {
+    let program = Program::start("outside", LEN, &[]);
+    let mut front = started(&program, BEHIND);
+    let outside = FrontEnd::iotlb(SHIFT, PAGE, USER + RAM as u64, READ, 2);
+    assert!(!front.is_done(IOTLB_MSG, &outside, &[]));
+    assert!(front.is_let_go());
+    // No front end maps the last address, and none sends a MISS.
+    for payload in [
+        FrontEnd::iotlb(u64::MAX - PAGE + 1, PAGE, USER, READ, 2),
+        FrontEnd::iotlb(SHIFT, 0, 0, READ, 1),
+    ] {
+        let mut front = started(&program, BEHIND);
+        assert!(!front.is_done(IOTLB_MSG, &payload, &[]));
+        assert!(front.is_let_go());
+    }
+    // Without the feature there is no table.
+    let mut front = program.connect();
+    front.negotiate(USUAL);
+    front.set_memory();
+    assert!(!front.is_done(IOTLB_MSG, &FrontEnd::iotlb(0, 0, 0, 0, 3), &[]));
+}
+
+#[test]
+fn two_rings_share_a_table() {
+    let program = Program::start("two_rings", LEN, &["--queues", "2", "--iotlb-limit", "8"]);
+    let mut front = started(&program, BEHIND | 1 << 12);
+    front.start_ring(64, 0);
+    for turn in 0..30 {
+        for index in 0..2 {
+            front.put_request(index, 0, 0, turn + 8 * index as u64, 4096);
+            front.publish(index, 0);
+            front.kick(index);
+        }
+        for index in 0..2 {
+            assert_eq!(front.take_used(index), (0, 4097));
+            let from = 512 * (turn as usize + 8 * index);
+            assert_eq!(
+                front.read(front.places(index, 0).0, 4096),
+                image_of(LEN)[from..from + 4096]
+            );
+        }
+    }
+}
