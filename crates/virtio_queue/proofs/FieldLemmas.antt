@@ -56,8 +56,10 @@ word_answers m host base offset a p r placed at bytes outcome =
     let same : answered (λ w. value (bytes_at host.blocks (cells_of w))) window ≡ answered value (loaded m host a 2) =
     answered_then (λ w. bytes_at host.blocks (cells_of w)) value window ∙ ap (answered value) bytes in
     let wants = MayWant m host base offset 2 permissions.Read in
-    let given = access_answers _ r (λ (n : NeedsPieces m host.tables a 2 permissions.Read). (a, sym placed ∙ at, n)) outcome in
-    answers_at wants p (place base offset 2) a _ (told r) placed at (subst (λ e. Answers wants (told e) (told r)) same given)
+    let given = access_answers _ r (λ (n : NeedsPieces m host.tables a 2 permissions.Read). (a, sym placed ∙ at, n))
+    outcome in
+    answers_at wants p (place base offset 2) a _ (told r) placed at
+    (subst (λ e. Answers wants (told e) (told r)) same given)
 
 -- a read of a descriptor
 pub descriptor_answers : {B : Type 0} (m : Memory) (host : Host B) (table i a : ℕ) (p : Result ℕ QueueError)
@@ -81,8 +83,10 @@ descriptor_answers m host table i a p r placed at (count, same_cells) outcome =
     ∙ ap (λ cs. answered (λ (u : Unit {0}). descriptor_of (bytes_at host.blocks cs)) whole) same_cells
     ∙ answered_then (λ (u : Unit {0}). bytes_at host.blocks (path_cells x.path)) descriptor_of whole in
     let wants = MayWant m host table (16 * i) 16 permissions.Read in
-    let given = access_answers _ r (λ (n : NeedsPieces m host.tables a 16 permissions.Read). (a, sym placed ∙ at, n)) outcome in
-    answers_at wants p (place table (16 * i) 16) a _ (told r) placed at (subst (λ e. Answers wants (told e) (told r)) same given)
+    let given = access_answers _ r (λ (n : NeedsPieces m host.tables a 16 permissions.Read). (a, sym placed ∙ at, n))
+    outcome in
+    answers_at wants p (place table (16 * i) 16) a _ (told r) placed at
+    (subst (λ e. Answers wants (told e) (told r)) same given)
 
 -- a store of a number of 16 bits
 module _ {B : Type 0} (marks : B → ℕ → ℕ → B → Type 0) (m : Memory) (base offset value : ℕ) (old new : Host B) where
@@ -106,4 +110,5 @@ module _ {B : Type 0} (marks : B → ℕ → ℕ → B → Type 0) (m : Memory) 
       (Writes marks (given w) (to_le_bytes w16 value) old new) r)
       → StoresWord marks m base offset value old (told r) new
   word_stores a p placed at r outcome =
-      stored_in a (place_of 2 (reached_at m old a 2 permissions.Write)) (sym placed ∙ at) (rw (← placed, at) refl) r outcome
+      stored_in a (place_of 2 (reached_at m old a 2 permissions.Write)) (sym placed ∙ at) (rw (← placed, at) refl) r
+      outcome

@@ -35,9 +35,9 @@ pub fn chains_are_linked_descriptors()
         → AreLinked descriptor len i ds → length ds ≤ most → followed descriptor len most i ≡ Ok (told_by ds) }
 {}
 
-/// Following `next` from an index is refused where it leads. If as many descriptors as are allowed lead to another index
-/// of the table, and none of them is the last, it is a loop, whatever lies there. If at most so many lead to an index at
-/// which there is no descriptor, the error is the one met there. And it is refused for nothing else.
+/// What is refused while `next` is followed. If as many descriptors as are allowed lead to one more index of the table,
+/// and none of them is the last, it is a loop, whatever lies there. If they lead past the table, or fewer lead to an
+/// index at which no descriptor can be read, the error is the one of that index. Nothing else is refused.
 pub fn chains_are_refused_where_they_lead()
     ensures endless { (descriptor : ℕ → Result Descriptor QueueError) (len most i j : ℕ) (ds : List Descriptor)
         → LeadsTo descriptor len i ds j → length ds ≡ most → j < len

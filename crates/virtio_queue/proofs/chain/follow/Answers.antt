@@ -47,7 +47,8 @@ returns-then-refers_to_indirect_table g c =
     came_to_indirect descriptor c.args.len
     (followed_in m c.args.host.now c.args.table c.args.len c.args.first) c.args.segments.now.items l.segments.items
     l._step l.index l.invariant.came d c.loop-step-test.true c.if-index-len.false
-    (answers_ok (MayWant m c.args.host.now c.args.table (16 * l.index) 16 Read) (descriptor l.index) d c.in_ok-descriptor.ensures)
+    (answers_ok (MayWant m c.args.host.now c.args.table (16 * l.index) 16 Read) (descriptor l.index) d
+    c.in_ok-descriptor.ensures)
     (sym c.refers_to_indirect_table.ensures ∙ c.if-refers_to_indirect_table.true)
 
 pub returns-then-not-has_next : goal.returns-then-not-has_next
@@ -59,7 +60,8 @@ returns-then-not-has_next g c =
     came_to_last descriptor c.args.len
     (followed_in m c.args.host.now c.args.table c.args.len c.args.first) c.args.segments.now.items l.segments.items
     l._step l.index l.invariant.came d c.push.new.self.items c.loop-step-test.true c.if-index-len.false
-    (answers_ok (MayWant m c.args.host.now c.args.table (16 * l.index) 16 Read) (descriptor l.index) d c.in_ok-descriptor.ensures)
+    (answers_ok (MayWant m c.args.host.now c.args.table (16 * l.index) 16 Read) (descriptor l.index) d
+    c.in_ok-descriptor.ensures)
     (sym c.refers_to_indirect_table.ensures ∙ c.if-refers_to_indirect_table.false)
     (sym c.has_next.ensures ∙ c.if-not-has_next.true)
     (rw (← c.segment.ensures) (rw c.if-is_err.ensures.negation at c.push.ensures.items))
