@@ -96,8 +96,8 @@ module _ {B D : Type 0} (bytes : D → Option (List ℕ)) (sectors : D → ℕ) 
       × Stores bytes sectors calls m host given sector len old stored wanted mid
       × MatchBool (stored == 0) (Flushes bytes sectors calls mid status new) ((status ≡ stored) × (new ≡ mid))
 
-  -- what is done for a request whose data lies at one text, or goes to another: the status, whether an allocation failed
-  -- for an access, the data that goes to that text, and the disk afterwards
+  -- what is done for a request whose data lies at one text, or goes to another: the status, whether an allocation
+  -- failed for an access, the data that goes to that text, and the disk afterwards
   abbrev pub Does : Request → List Entry → List Entry → Device D → ℕ → Bool → List ℕ → D → Type 0
   Does (Read sector len) given room old status wanted sent new =
       Loads bytes sectors calls m host room sector len old.disk status wanted sent new

@@ -17,8 +17,8 @@ module _ (m : Memory) (tables : List Table) where
   reached (e ∷ es) = onto (meets m.regions (route m tables) e.address 0) (reached es)
 
 module _ (m : Memory) (tables : List Table) (access : Permissions) where
-  -- a call for at most so many addresses of a text reaches none. The access with which it begins is refused, or its
-  -- first address leads to no byte. Or an allocation failed: an IOMMU is on, and to translate the access may fail to allocate
+  -- a call for at most `most` addresses of a text reaches none. The access with which it begins is refused, or its
+  -- first address leads to no byte. Or an allocation failed: an IOMMU is on, and translating the access may allocate
   pub record Stops (es : List Entry) (most : ℕ) (wanted : Bool) : Type 0 where
     pub some : 0 < length (take most es)
     pub why : MatchBool wanted (MayWantAt m tables access (take most es) 0)

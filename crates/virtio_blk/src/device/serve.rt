@@ -16,7 +16,7 @@ use vm_memory_base::Bitmap;
 use vm_memory_device::{Chain, ChainReader, ChainWriter};
 use vm_memory_guest::{GuestMemory, GuestMemoryResult, HostMemory};
 
-// What a chain asks for, and whether an allocation failed to find that out. Where it cannot be found out, it is refused.
+// What a chain asks for, and whether an allocation failed for that. If it cannot be found out, it is refused.
 fn asked_of(answer: GuestMemoryResult<Request>) -> (Request, bool)
     ensures { result ≡ asked_of answer }
 {
@@ -31,7 +31,8 @@ fn asked_of(answer: GuestMemoryResult<Request>) -> (Request, bool)
     }
 }
 
-// The length of a chain, and whether an allocation failed for its status. Without a status it is what was written before.
+// The length of a chain, and whether an allocation failed for its status. Without a status it is what was written
+// before.
 fn length_of(answer: GuestMemoryResult<u32>, moved: u32) -> (u32, bool)
     ensures { result ≡ length_of answer moved }
 {
