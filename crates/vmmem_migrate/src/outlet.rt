@@ -164,7 +164,7 @@ fn write_all<R: Clock + Wait>(
     Ok(())
 }
 
-/// Writes what is put into an outlet to a stream, at most so many bytes in a second, until it is closed.
+/// Writes what is put into an outlet to a stream, at most a number of bytes in a second, until it is closed.
 pub fn write_out<R: Clock + Wait>(
     rt: &R,
     alloc: Global,
